@@ -1,0 +1,77 @@
+//! A list of values.
+
+ghost use Rattle.std.specs.Prelude.{◌≡◌, ◌+◌, ◌<◌, ◌==◌, [], ◌∷◌, ◌++◌, length, OnErr, OnOk, IfOk, slice_index_or};
+
+use std::alloc::{AllocError, AllocFailed, Global};
+use std::marker::Model;
+
+/// A list that a contract sees as the list of its values, and not as a buffer.
+#[derive(Drop)]
+pub struct Items<T> {
+    values: Vec<T>,
+}
+
+impl<T> Model for Items<T> {
+    ghost use Rattle.std.specs.Prelude.{List};
+
+    ghost Value = { List T };
+
+    ghost view = { λ s. s.values.items };
+}
+
+impl<T> Items<T> {
+    /// The empty list. It takes no memory.
+    pub fn new(alloc: Global) -> Self
+        ensures { result ≡ [] }
+    {
+        Items {
+            values: Vec::new(alloc),
+        }
+    }
+
+    /// The values of a vector.
+    pub fn of(values: Vec<T>) -> Self
+        ensures { result ≡ values.items }
+    {
+        Items { values }
+    }
+
+    /// How many values there are.
+    pub fn len(&self) -> usize
+        ensures { result ≡ length self.now }
+    {
+        self.values.len()
+    }
+
+    pub fn is_empty(&self) -> bool
+        ensures { result ≡ (length self.now == 0) }
+    {
+        self.values.is_empty()
+    }
+
+    pub fn as_slice(&self) -> &[T]
+        ensures { result.now ≡ self.now }
+    {
+        self.values.as_slice()
+    }
+
+    /// Puts a value at the end. It fails only where there is no memory, and then nothing changes.
+    pub fn push(&mut self, value: T) -> Result<(), AllocFailed<T>>
+        ensures ok { OnOk result (self.new ≡ self.old ++ value ∷ []) }
+        ensures err { OnErr result (self.new ≡ self.old) }
+    {
+        self.values.push(value)?;
+        Ok(())
+    }
+}
+
+impl<T: Drop> Items<T> {
+    /// The list of one value.
+    pub fn one(alloc: Global, value: T) -> Result<Self, AllocError>
+        ensures { IfOk result (λ s. s ≡ value ∷ []) }
+    {
+        let mut values = Vec::new(alloc);
+        values.push(value)?;
+        Ok(Items { values })
+    }
+}

@@ -1,0 +1,9 @@
+//! What every crate of the toolset stands on: lists and names that contracts see as plain lists,
+//! and the word for a step that is taken n times.
+#![tactic(auto)]
+
+mod items;
+mod name;
+
+pub use items::Items;
+pub use name::Name;
