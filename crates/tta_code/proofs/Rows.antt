@@ -1,0 +1,137 @@
+-- Small programs of moves, and what the definitions make of them.
+use Rattle.std.specs.Prelude.{◌≡◌, ℕ, ◌*◌, ◌%◌, ◌^◌, List, [], ◌∷◌, ◌++◌, true, false, Some, None, Option, refl}
+use Rattle.tta_ops.specs.Units.{Units}
+use Rattle.tta_machine.specs.declared.ends.Source.{Source}
+use Rattle.tta_machine.specs.declared.ends.Source.TheVariants as source
+use Rattle.tta_machine.specs.declared.ends.Dest.{Dest}
+use Rattle.tta_machine.specs.declared.ends.Dest.TheVariants as dest
+use Rattle.tta_machine.specs.Legal.{can_move}
+use Rattle.tta_machine.proofs.Samples.{three_buses}
+use Rattle.tta_code.specs.declared.code.Move.{Move}
+use Rattle.tta_code.specs.declared.code.Instruction.{Instruction}
+use Rattle.tta_code.specs.declared.code.Code.{Code}
+use Rattle.tta_code.specs.Legal.{is_legal}
+use Rattle.tta_code.specs.Cycle.{cyc, Halted, Fault, next}
+
+-- any units whose operation 2 is the product
+pub record Multiplies (u : Units) : Type 0 where
+  pub product : (a b : ℕ) → u.value 2 a b ≡ a * b % 2 ^ 32
+
+abbrev go : Source → Dest → Option Move
+go src dst = Some (record { guard = None; src = src; dst = dst })
+
+abbrev three : Option Move → Option Move → Option Move → Instruction
+three a b c = record { moves = a ∷ b ∷ c ∷ []; long = None }
+
+abbrev one : Option Move → Instruction
+one a = three a None None
+
+abbrev none : Instruction
+none = three None None None
+
+abbrev r : ℕ → Source
+r i = source.Reg 0 i
+
+abbrev into : ℕ → Dest
+into i = dest.Reg 0 i
+
+abbrev out : Dest
+out = dest.Trigger 3 0
+
+-- ---- two registers change places, since all moves of a cycle read before any writes
+
+abbrev swap : Code
+swap = record {
+  words = one (go (source.Value 1) (into 1))
+      ∷ one (go (source.Value 2) (into 2))
+      ∷ three (go (r 1) (into 2)) (go (r 2) (into 1)) None
+      ∷ one (go (r 1) out)
+      ∷ one (go (r 2) out)
+      ∷ one (go (source.Value 0) dest.Halt)
+      ∷ none ∷ none ∷ [];
+}
+
+swap-output : (u : Units) → (cyc u three_buses swap [] 20).output ≡ 2 ∷ 1 ∷ []
+unfolding next
+swap-output u = refl
+
+swap-ends : (u : Units) → (cyc u three_buses swap [] 20).outcome ≡ Halted
+unfolding next
+swap-ends u = refl
+
+swap-cycles : (u : Units) → (cyc u three_buses swap [] 20).cycle ≡ 8
+unfolding next
+swap-cycles u = refl
+
+swap-legal : is_legal three_buses (three (go (r 1) (into 2)) (go (r 2) (into 1)) None) ≡ true
+unfolding is_legal can_move
+swap-legal = refl
+
+-- ---- a product shows three cycles after its start, and not before
+
+abbrev product : List Instruction → Code
+product waits = record {
+  words = three (go (source.Value 5) (dest.Operand 1)) (go (source.Value 6) (dest.Trigger 1 0)) None
+      ∷ (waits ++ (one (go (source.Shown 1) out) ∷ one (go (source.Value 0) dest.Halt) ∷ none ∷ none ∷ []));
+}
+
+product-output : (u : Units) → (cyc u three_buses (product (none ∷ none ∷ [])) [] 20).output ≡ u.value 2 5 6 ∷ []
+unfolding next
+product-output u = refl
+
+product-cycles : (u : Units) → (cyc u three_buses (product (none ∷ none ∷ [])) [] 20).cycle ≡ 7
+unfolding next
+product-cycles u = refl
+
+early-faults : (u : Units) → (cyc u three_buses (product (none ∷ [])) [] 20).outcome ≡ Fault 61 2
+unfolding next
+early-faults u = refl
+
+-- ---- a guarded jump with two delay slots
+
+abbrev branch : ℕ → Code
+branch condition = record {
+  words = one (go (source.Value condition) (dest.Reg 2 0))
+      ∷ one (Some (record { guard = Some (record { file = 2; index = 0; inverted = false }); src = source.Value 8; dst = dest.Jump }))
+      ∷ one (go (source.Value 10) out)
+      ∷ one (go (source.Value 11) out)
+      ∷ one (go (source.Value 12) out)
+      ∷ one (go (source.Value 0) dest.Halt)
+      ∷ none ∷ none
+      ∷ one (go (source.Value 13) out)
+      ∷ one (go (source.Value 0) dest.Halt)
+      ∷ none ∷ none ∷ [];
+}
+
+branch-taken : (u : Units) → (cyc u three_buses (branch 1) [] 20).output ≡ 10 ∷ 11 ∷ 13 ∷ []
+unfolding next
+branch-taken u = refl
+
+branch-taken-cycles : (u : Units) → (cyc u three_buses (branch 1) [] 20).cycle ≡ 8
+unfolding next
+branch-taken-cycles u = refl
+
+branch-not_taken : (u : Units) → (cyc u three_buses (branch 0) [] 20).output ≡ 10 ∷ 11 ∷ 12 ∷ []
+unfolding next
+branch-not_taken u = refl
+
+branch-not_taken-ends : (u : Units) → (cyc u three_buses (branch 0) [] 20).outcome ≡ Halted
+unfolding next
+branch-not_taken-ends u = refl
+
+-- ---- a word of -1 and a long immediate without moves; then the code ends
+
+abbrev pub wide : Code
+wide = record {
+  words = one (go (source.Value 4294967295) (into 1))
+      ∷ record { moves = None ∷ None ∷ None ∷ []; long = Some (record { template = 0; value = 2147483648 }) }
+      ∷ [];
+}
+
+wide-faults : (u : Units) → (cyc u three_buses wide [] 5).outcome ≡ Fault 65 2
+unfolding next
+wide-faults u = refl
+
+wide-cycles : (u : Units) → (cyc u three_buses wide [] 5).cycle ≡ 2
+unfolding next
+wide-cycles u = refl

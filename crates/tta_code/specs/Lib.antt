@@ -1,0 +1,3 @@
+pub mod Legal
+pub mod Cycle
+pub mod Agrees

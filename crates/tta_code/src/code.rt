@@ -1,0 +1,32 @@
+//! Instructions.
+
+use tta_list::Items;
+use tta_machine::{Dest, GuardRef, Source};
+
+/// A move: one word from a source to a destination, where its guard lets it.
+#[derive(Clone, Copy, Debug, PartialEq, Eq)]
+pub struct Move {
+    pub guard: Option<GuardRef>,
+    pub src: Source,
+    pub dst: Dest,
+}
+
+/// A long immediate: the template that writes it, and its word.
+#[derive(Clone, Copy, Debug, PartialEq, Eq)]
+pub struct Long {
+    pub template: u8,
+    pub value: u32,
+}
+
+/// An instruction: a move or none for each bus, and at most one long immediate.
+#[derive(Drop)]
+pub struct Instruction {
+    pub moves: Items<Option<Move>>,
+    pub long: Option<Long>,
+}
+
+/// The instructions of a machine, from address 0 on.
+#[derive(Drop)]
+pub struct Code {
+    pub words: Items<Instruction>,
+}

@@ -1,0 +1,2 @@
+//! Instructions as bits, and code as the bytes of an image.
+#![tactic(auto)]

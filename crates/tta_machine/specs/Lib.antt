@@ -1,0 +1,6 @@
+pub mod Machine
+pub mod Joins
+pub mod Effects
+pub mod Legal
+pub mod Fields
+pub mod Rules

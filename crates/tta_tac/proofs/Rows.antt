@@ -1,0 +1,133 @@
+-- Small programs, and what the definitions make of them.
+use Rattle.std.specs.Prelude.{◌≡◌, ◌<◌, ℕ, zero, suc, ◌^◌, List, [], ◌∷◌, Some, refl, codes, replicate, if◌then◌else◌, nat_lt, true, false, slice_get}
+use Rattle.std.proofs.Common.{lit<, arith}
+use Rattle.tta_ops.specs.declared.OpId.{OpId}
+use Rattle.tta_ops.specs.Units.{Units}
+use Rattle.tta_tac.specs.declared.operand.Src.TheVariants.{Var, Word}
+use Rattle.tta_tac.specs.declared.operand.Rel.TheVariants.{Ge}
+use Rattle.tta_tac.specs.declared.step.Step.{Step}
+use Rattle.tta_tac.specs.declared.step.Step.TheVariants.{Copy, Apply, Load, Store, Put, Goto, When, Invoke, Return, Halt, End}
+use Rattle.tta_tac.specs.declared.program.Proc.{Proc}
+use Rattle.tta_tac.specs.Program.{Program}
+use Rattle.tta_tac.specs.Sequential.{seq, next, Halted, Running}
+
+abbrev op : ℕ → OpId
+op id = record { 0 = id }
+
+abbrev proc : (params vars : ℕ) → List Step → Proc
+proc params vars steps = record { params = params; vars = vars; steps = steps; lines = [] }
+
+abbrev alone : ℕ → List Step → Program
+alone vars steps = record { procs = proc 0 vars steps ∷ []; main = 0 }
+
+-- ---- a call tree: the squares of 3 and 5, and 3, added up
+
+abbrev squares : Program
+squares = record {
+  procs = proc 1 2 (Apply 1 (op 2) (Var 0) (Var 0) ∷ Return (Some (Var 1)) ∷ End ∷ [])
+      ∷ proc 0 4 (
+      Copy 0 (Word 3) ∷ Invoke (Some 1) 0 (Var 0 ∷ []) ∷ Invoke (Some 2) 0 (Word 5 ∷ [])
+      ∷ Apply 3 (op 0) (Var 0) (Var 1) ∷ Apply 3 (op 0) (Var 3) (Var 2) ∷ Put (Var 3) ∷ Halt ∷ End ∷ [])
+      ∷ [];
+  main = 1;
+}
+
+squares-output : (u : Units) → (seq u squares [] 100).output ≡ u.value 0 (u.value 0 3 (u.value 2 3 3)) (u.value 2 5 5) ∷ []
+unfolding next
+squares-output u = refl
+
+squares-steps : (u : Units) → (seq u squares [] 100).steps ≡ 11
+unfolding next
+squares-steps u = refl
+
+squares-ends : (u : Units) → (seq u squares [] 100).outcome ≡ Halted
+unfolding next
+squares-ends u = refl
+
+-- ---- a copy where a condition holds
+
+less_value : ℕ → ℕ → ℕ
+less_value a b = if nat_lt a b then 1 else 0
+
+less_value-word : (a b : ℕ) → less_value a b < 2 ^ 32
+unfolding less_value
+less_value-word a b = elim (nat_lt a b) as (λ t. (if t then 1 else 0) < 2 ^ 32) [ true ↦ lit< tt | false ↦ lit< tt ]
+
+two : List ℕ
+two = 2 ∷ []
+
+only_two : (k a b : ℕ) → slice_get two k ≡ Some 1 → less_value a b ≡ less_value 0 b
+unfolding two
+only_two zero a b e = cc
+only_two (suc k) a b e = cc
+
+-- units of one operation, lt on small numbers
+less : Units
+unfolding two
+less = record {
+  names = codes "lt" ∷ [];
+  arities = two;
+  value = λ op a b. less_value a b;
+  word = λ op a b. less_value-word a b;
+  ignores = only_two;
+  distinct = λ i j lt below e. omega arith;
+  one_or_two = λ i below. let first : i ≡ 0 = omega arith in rw first (lit< tt, lit< tt);
+  paired = refl;
+  few = lit< tt;
+}
+
+abbrev guarded : ℕ → Program
+guarded b = alone 4 (
+    Copy 0 (Word 1) ∷ Copy 1 (Word 5) ∷ Copy 2 (Word b) ∷ Copy 3 (Word 9) ∷ When Ge (Var 1) (Var 2) 0 (Var 3) ∷ Put (Var 0) ∷ End ∷ [])
+
+guarded-holds : (seq less (guarded 5) [] 100).output ≡ 9 ∷ []
+unfolding next less less_value
+guarded-holds = refl
+
+guarded-fails : (seq less (guarded 6) [] 100).output ≡ 1 ∷ []
+unfolding next less less_value
+guarded-fails = refl
+
+guarded-steps : (seq less (guarded 6) [] 100).steps ≡ 7
+unfolding next less less_value
+guarded-steps = refl
+
+-- ---- a loop without end
+
+forever : Program
+forever = alone 0 (Goto 0 ∷ End ∷ [])
+
+forever-runs : (u : Units) → (seq u forever [] 1000).outcome ≡ Running
+unfolding next forever
+forever-runs u = refl
+
+forever-steps : (u : Units) → (seq u forever [] 1000).steps ≡ 1000
+unfolding next forever
+forever-steps u = refl
+
+-- ---- a store and a load past the last word do nothing and give 0
+
+abbrev edges : Program
+edges = alone 2 (
+    Store (Word 3) (Word 7) ∷ Store (Word 4) (Word 8) ∷ Load 0 (Word 3) ∷ Load 1 (Word 4) ∷ Put (Var 0) ∷ Put (Var 1) ∷ End ∷ [])
+
+edges-output : (u : Units) → (seq u edges (replicate 4 0) 100).output ≡ 7 ∷ 0 ∷ []
+unfolding next
+edges-output u = refl
+
+edges-memory : (u : Units) → (seq u edges (replicate 4 0) 100).memory ≡ 0 ∷ 0 ∷ 0 ∷ 7 ∷ []
+unfolding next
+edges-memory u = refl
+
+edges-steps : (u : Units) → (seq u edges (replicate 4 0) 100).steps ≡ 7
+unfolding next
+edges-steps u = refl
+
+-- a variable that was never assigned is 0, and returning from main halts
+unset-output : (u : Units) → (seq u (alone 1 (Put (Var 0) ∷ End ∷ [])) [] 100).output ≡ 0 ∷ []
+unfolding next
+unset-output u = refl
+
+unset-ends : (u : Units) → (seq u (alone 1 (Put (Var 0) ∷ End ∷ [])) [] 100).outcome ≡ Halted
+unfolding next
+unset-ends u = refl

@@ -1,0 +1,128 @@
+-- What a program does, step by step.
+use Rattle.std.specs.Prelude.{ℕ, ◌+◌, ◌-◌, ◌%◌, ◌==◌, Bool, false, not, if◌then◌else◌, List, [], ◌∷◌, ◌++◌, length, map, replicate, Option, Some, None, slice_get, slice_index, slice_set, codes}
+use Rattle.std.specs.Option.{option_map_or}
+use Rattle.tta_list.specs.Iterate.{iterate}
+use Rattle.tta_ops.specs.Units.{Units, named}
+use Rattle.tta_tac.specs.declared.operand.Src.{Src}
+use Rattle.tta_tac.specs.declared.operand.Src.TheVariants.{Var, Word}
+use Rattle.tta_tac.specs.declared.operand.Rel.{Rel}
+use Rattle.tta_tac.specs.declared.operand.Rel.TheVariants.{Eq, Ne, Lt, Ge, Ltu, Geu}
+use Rattle.tta_tac.specs.declared.step.Step.{Step}
+use Rattle.tta_tac.specs.declared.step.Step.TheVariants.{Copy, Apply, Load, Store, Put, If, Goto, When, Invoke, Return, Halt, End}
+use Rattle.tta_tac.specs.Program.{Program}
+
+-- ---- states
+
+-- a procedure that was called: which it is, the step that comes next, and the words of its variables
+pub record Frame : Type 0 where
+  pub proc : ℕ
+  pub at : ℕ
+  pub vars : List ℕ
+
+pub data Outcome : Type 0 where
+  Running : Outcome
+  Halted : Outcome
+
+-- the calls that are under way, the innermost first; the data words; what was put out; and how many steps were made
+pub record State : Type 0 where
+  pub stack : List Frame
+  pub memory : List ℕ
+  pub output : List ℕ
+  pub steps : ℕ
+  pub outcome : Outcome
+
+-- ---- operands and conditions
+
+-- the word that an operand stands for
+abbrev pub operand : List ℕ → Src → ℕ
+operand vars (Var x) = slice_index vars x
+operand vars (Word w) = w
+
+-- whether the operation of a name is odd on two words
+abbrev pub is_odd : Units → List ℕ → ℕ → ℕ → Bool
+is_odd u name a b = option_map_or (λ op. u.value op a b % 2 == 1) (named u name) false
+
+-- whether a condition holds: by the low bit of the operation eq, lt or ltu
+abbrev pub holds : Units → Rel → ℕ → ℕ → Bool
+holds u Eq a b = is_odd u (codes "eq") a b
+holds u Ne a b = not (is_odd u (codes "eq") a b)
+holds u Lt a b = is_odd u (codes "lt") a b
+holds u Ge a b = not (is_odd u (codes "lt") a b)
+holds u Ltu a b = is_odd u (codes "ltu") a b
+holds u Geu a b = not (is_odd u (codes "ltu") a b)
+
+-- ---- one step
+
+-- a procedure with its arguments, and 0 in every other variable
+abbrev pub enter : Program → ℕ → List ℕ → Frame
+enter p proc args =
+    record { proc = proc; at = 0; vars = args ++ replicate (option_map_or (λ q. q.vars) (slice_get p.procs proc) 0 - length args) 0 }
+
+-- the step at a place, if there is one
+abbrev pub step_at : Program → ℕ → ℕ → Option Step
+step_at p proc at = option_map_or (λ q. slice_get q.steps at) (slice_get p.procs proc) None
+
+-- the innermost call goes on at a step
+abbrev pub goes_to : State → Frame → List Frame → ℕ → State
+goes_to s f rest to = record s { stack = record f { at = to } ∷ rest }
+
+-- the innermost call goes on after an assignment
+abbrev pub assigns : State → Frame → List Frame → ℕ → ℕ → State
+assigns s f rest d v = record s { stack = record f { at = f.at + 1; vars = slice_set f.vars d v } ∷ rest }
+
+abbrev pub halts : State → State
+halts s = record s { outcome = Halted }
+
+-- the caller takes the returned value where its call has a destination, and goes on after the call
+abbrev pub take_value : State → Frame → List Frame → ℕ → Option Step → State
+take_value s caller rest v (Some (Invoke (Some d) callee args)) = assigns s caller rest d v
+take_value s caller rest v (Some (Invoke None callee args)) = goes_to s caller rest (caller.at + 1)
+take_value s caller rest v step = goes_to s caller rest (caller.at + 1)
+
+-- the innermost call ends with a value; where there is no other, the run halts
+abbrev pub returns : Program → State → List Frame → ℕ → State
+returns p s [] v = halts (record s { stack = [] })
+returns p s (caller ∷ rest) v = take_value s caller rest v (step_at p caller.proc caller.at)
+
+-- a step, carried out by the innermost call
+abbrev pub carry_out : Units → Program → State → Frame → List Frame → Step → State
+carry_out u p s f rest (Copy d v) = assigns s f rest d (operand f.vars v)
+carry_out u p s f rest (Apply d op a b) = assigns s f rest d (u.value op.0 (operand f.vars a) (operand f.vars b))
+carry_out u p s f rest (Load d a) = assigns s f rest d (slice_index s.memory (operand f.vars a))
+carry_out u p s f rest (Store a v) =
+    goes_to (record s { memory = slice_set s.memory (operand f.vars a) (operand f.vars v) }) f rest (f.at + 1)
+carry_out u p s f rest (Put v) = goes_to (record s { output = s.output ++ operand f.vars v ∷ [] }) f rest (f.at + 1)
+carry_out u p s f rest (If rel a b to) =
+    goes_to s f rest (if holds u rel (operand f.vars a) (operand f.vars b) then to else f.at + 1)
+carry_out u p s f rest (Goto to) = goes_to s f rest to
+carry_out u p s f rest (When rel a b d v) =
+    if holds u rel (operand f.vars a) (operand f.vars b) then assigns s f rest d (operand f.vars v) else goes_to s f rest (f.at + 1)
+carry_out u p s f rest (Invoke d callee args) =
+    record s { stack = enter p callee (map (operand f.vars) args) ∷ f ∷ rest }
+carry_out u p s f rest (Return (Some v)) = returns p s rest (operand f.vars v)
+carry_out u p s f rest (Return None) = returns p s rest 0
+carry_out u p s f rest Halt = halts s
+carry_out u p s f rest End = returns p s rest 0
+
+-- the step that the innermost call has come to; it counts as one
+abbrev pub go_on : Units → Program → State → List Frame → State
+go_on u p s [] = s
+go_on u p s (f ∷ rest) = option_map_or (carry_out u p (record s { steps = s.steps + 1 }) f rest) (step_at p f.proc f.at) s
+
+abbrev pub next_of : Units → Program → State → Outcome → State
+next_of u p s Running = go_on u p s s.stack
+next_of u p s Halted = s
+
+-- one step of a state that runs; a state that has halted stays
+unfoldable pub next : Units → Program → State → State
+next u p s = next_of u p s s.outcome
+
+-- ---- a run
+
+-- main at its first step, every variable 0
+abbrev pub start : Program → List ℕ → State
+start p memory = record { stack = enter p p.main [] ∷ []; memory = memory; output = []; steps = 0; outcome = Running }
+
+-- the state after n steps
+abbrev pub seq : Units → Program → List ℕ → ℕ → State
+seq u p memory n = iterate n (next u p) (start p memory)

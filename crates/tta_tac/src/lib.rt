@@ -1,0 +1,12 @@
+//! Three-address programs: their procedures and steps, and what they mean step by step.
+#![tactic(auto)]
+
+mod args;
+mod operand;
+mod program;
+mod step;
+
+pub use args::Args;
+pub use operand::{Rel, Src};
+pub use program::{Proc, Program};
+pub use step::Step;
