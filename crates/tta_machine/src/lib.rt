@@ -4,6 +4,7 @@
 mod ends;
 mod machine;
 mod parts;
+mod word;
 
 pub use ends::{Dest, GuardRef, Source};
 pub use machine::Machine;

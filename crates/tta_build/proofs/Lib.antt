@@ -1,0 +1,7 @@
+pub mod Lists
+pub mod Steps
+pub mod Cycles
+pub mod Shapes
+pub mod Legal
+pub mod Joined
+pub mod Agreement
