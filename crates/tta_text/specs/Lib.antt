@@ -1,0 +1,4 @@
+pub mod Tokens
+pub mod Numbers
+pub mod Bytes
+pub mod Reading
