@@ -36,7 +36,7 @@ drop_rest zero byte rest h = absurd (omega arith)
 drop_rest (suc n) byte rest h = let less : suc n - 1 ≡ n = omega arith in rw less refl
 
 -- one piece of bytes: its token, if it is one, and then the tokens of what is left
-tokens_from-piece-cons : (byte : ℕ) (rest : List ℕ) (is_open : Bool) (line at : ℕ)
+pub tokens_from-piece-cons : (byte : ℕ) (rest : List ℕ) (is_open : Bool) (line at : ℕ)
     → 0 < (piece_at byte rest).len
     → (piece_at byte rest).len ≤ length (byte ∷ rest)
     → tokens_from 0 is_open line at (byte ∷ rest)

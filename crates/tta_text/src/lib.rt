@@ -6,11 +6,13 @@
 #![tactic(auto)]
 
 mod bytes;
+mod law;
 mod lexeme;
 mod numbers;
 mod pieces;
 mod scanning;
 
+pub use law::tokens_cover;
 pub use lexeme::{Kind, Token};
 pub use numbers::{negative, number};
 pub use scanning::Scanner;
