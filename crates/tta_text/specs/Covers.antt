@@ -1,6 +1,6 @@
--- What the tokens of a text are, said of the text alone. Each token is as long as any kind allows, and
--- nothing but blanks and comments stands between two of them. Nothing here is made of the scanner's
--- definition.
+-- What the tokens of a text are, said of the text alone. Each token is as long as any kind allows,
+-- and nothing but blanks and comments stands between two of them. Nothing here is made of the
+-- scanner's definition.
 use Rattle.std.specs.Prelude.{◌≡◌, ℕ, ◌+◌, ◌*◌, ◌^◌, ◌==◌, Bool, true, false, ◌&&◌, ◌||◌, not, nat_eq, nat_lt, nat_le, if◌then◌else◌, List, [], ◌∷◌, ◌++◌, length, drop, fold, codes}
 use Rattle.std.specs.List.{list_all, list_any, starts_with}
 use Rattle.std.specs.Char.{is_ascii_digit, is_ascii_alphabetic, is_ascii_alphanumeric, is_ascii_hexdigit, digit_value}

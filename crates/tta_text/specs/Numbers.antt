@@ -11,7 +11,7 @@ value_below base limit digits =
     then Some (digits_value base digits)
     else None
 
--- the same of at least one digit and at most `most`
+-- the same of one to `most` digits
 unfoldable pub digits_of : (base most limit : ℕ) → List ℕ → Option ℕ
 digits_of base most limit digits =
     if nat_lt 0 (length digits) && nat_le (length digits) most

@@ -34,7 +34,7 @@ pub fn negative(word: &[u8]) -> Option<u32>
     Some(magnitude.wrapping_neg())
 }
 
-/// The value of one digit or more of the base, but no more than `most`, where it is below the limit.
+/// The value of one to `most` digits of the base, where it is below the limit.
 #[tactic(auto, unfolding(crate::specs::Numbers::digits_of))]
 fn digits(base: u32, most: usize, limit: u64, word: &[u8]) -> Option<u32>
     requires low { 2 ≤ base }
@@ -49,7 +49,7 @@ fn digits(base: u32, most: usize, limit: u64, word: &[u8]) -> Option<u32>
     value_below(base, limit, word)
 }
 
-/// The value of the digits, where each byte is one of the base and their value is below the limit.
+/// The value of digits of the base, where each byte is one and the value is below the limit.
 fn value_below(base: u32, limit: u64, digits: &[u8]) -> Option<u32>
     requires low { 2 ≤ base }
     requires high { base ≤ 16 }

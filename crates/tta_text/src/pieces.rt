@@ -1,14 +1,14 @@
 //! What stands at the front of some bytes.
 
-ghost use Rattle.std.specs.Prelude.{◌≡◌, ◌+◌, ◌<◌, ◌≤◌, ◌∷◌, length, slice_index, IsTrue, List, ℕ};
+ghost use Rattle.std.specs.Prelude.{◌≡◌, ◌<◌, ◌≤◌, ◌∷◌, length};
 ghost use Rattle.tta_text.specs.Tokens as spec;
-ghost use Rattle.tta_text.specs.Bytes as bytes_spec;
 
 use crate::bytes::{is_blank, is_mark, is_name_start, line_len, run_len, starts_with_digit};
 use crate::lexeme::Kind;
 use crate::numbers::{negative, number};
 
-/// The first bytes of some: a token of the kind, or a blank or a comment where there is none.
+/// As many bytes at the front of some as are a token of a kind, or a blank or a comment, which have
+/// no kind.
 #[derive(Clone, Copy)]
 pub(crate) struct Piece {
     pub(crate) kind: Option<Kind>,
@@ -32,7 +32,7 @@ impl Piece {
     }
 }
 
-/// What stands at the front of bytes, of which there are some.
+/// What stands at the front of at least one byte.
 pub(crate) fn piece_of(bytes: &[u8]) -> Piece
     requires { 0 < length bytes.now }
     ensures piece { result ≡ spec.piece_of bytes.now }
@@ -42,7 +42,7 @@ pub(crate) fn piece_of(bytes: &[u8]) -> Piece
     piece_at(bytes[0], &bytes[1..], bytes)
 }
 
-/// What stands at the front of bytes, given as the first and the rest as well.
+/// The same of bytes whose first byte and rest are given as well.
 #[tactic(auto, unfolding(crate::specs::Tokens::piece_at))]
 fn piece_at(byte: u8, rest: &[u8], bytes: &[u8]) -> Piece
     requires { bytes.now ≡ byte ∷ rest.now }
@@ -61,7 +61,7 @@ fn piece_at(byte: u8, rest: &[u8], bytes: &[u8]) -> Piece
     }
 }
 
-/// A run that begins with a digit, as long as given.
+/// A run that begins with a digit: a number or a bad token of this length.
 #[tactic(auto, unfolding(crate::specs::Tokens::number_piece))]
 fn number_piece(bytes: &[u8], len: usize) -> Piece
     requires { len ≤ length bytes.now }
@@ -75,7 +75,7 @@ fn number_piece(bytes: &[u8], len: usize) -> Piece
     Piece::token(kind, len)
 }
 
-/// A `-` and the run behind it, as long as given.
+/// `-` and a run that begins with a digit: a negative number or a bad token of this length.
 #[tactic(auto, unfolding(crate::specs::Tokens::negative_piece))]
 fn negative_piece(bytes: &[u8], len: usize) -> Piece
     requires { len ≤ length bytes.now }

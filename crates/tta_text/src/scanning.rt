@@ -13,13 +13,13 @@ pub struct Scanner<'a> {
     text: &'a [u8],
     at: usize,
     line: u32,
-    /// Bytes of the line stand before, so it has an end also where the text ends.
+    /// Bytes of the line stand before this place, so the line has an end also where the text ends.
     is_open: bool,
 }
 
 impl<'a> Model for Scanner<'a> {
-    ghost use Rattle.std.specs.Prelude.{◌+◌, ◌^◌, ◌≤◌, length, drop};
-    ghost use Rattle.tta_text.specs.Reading.{Reading};
+    ghost use Rattle.std.specs.Prelude.{drop};
+    ghost use Rattle.tta_text.specs.Reading.{Reading, IsWithin};
     ghost use Rattle.tta_text.specs.Tokens.{tokens_from};
 
     ghost Value = { Reading };
@@ -29,7 +29,7 @@ impl<'a> Model for Scanner<'a> {
       tokens = tokens_from 0 s.is_open s.line s.at (drop s.at s.text.now);
     } };
 
-    ghost invariant = { λ s. (s.at ≤ length s.text.now) × (length s.text.now ≤ 2 ^ 24) × (s.line ≤ s.at + 1) };
+    ghost invariant = { λ s. IsWithin s.text.now s.at s.line };
 }
 
 impl<'a> Scanner<'a> {
