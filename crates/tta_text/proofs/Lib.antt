@@ -1,0 +1,10 @@
+pub mod Values
+pub mod Turns
+pub mod Shapes
+pub mod Places
+pub mod Longest
+pub mod Fronts
+pub mod Taken
+pub mod Marks
+pub mod Covering
+mod Examples

@@ -1,0 +1,5 @@
+use Rattle.tta_text.proofs.Covering.{tokens_of-covers}
+use Rattle.tta_text.proofs.law.tokens_cover.Goals as goal
+
+pub returns : goal.returns
+returns c = tokens_of-covers
