@@ -1,0 +1,14 @@
+//! Names that were declared.
+
+ghost use Rattle.std.specs.Prelude.{◌≡◌, ◌++◌, ◌∷◌, [], length, None, OnOk, OnErr};
+ghost use Rattle.tta_reading.specs.Names.{named_in};
+
+use indexmap::IndexMap;
+use std::alloc::{AllocError, Global};
+use std::marker::Model;
+
+/// Names in the order of their declarations, each with what it names. A look-up does not walk them.
+#[derive(Drop)]
+pub struct Names<P> {
+    by_name: IndexMap<Vec<u8>, P>,
+}
