@@ -4,3 +4,8 @@ pub mod Effects
 pub mod Legal
 pub mod Fields
 pub mod Rules
+pub mod Draft
+pub mod Forms
+pub mod Declarations
+pub mod Text
+pub mod Seen

@@ -4,8 +4,10 @@
 mod ends;
 mod machine;
 mod parts;
+mod reading;
 mod word;
 
 pub use ends::{Dest, GuardRef, Source};
 pub use machine::Machine;
 pub use parts::{Bus, Control, File, Guard, ImmUnit, Op, Socket, Template, Unit, UnitOp};
+pub use reading::{MachineError, Refusal};

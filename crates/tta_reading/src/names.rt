@@ -12,3 +12,11 @@ use std::marker::Model;
 pub struct Names<P> {
     by_name: IndexMap<Vec<u8>, P>,
 }
+
+impl<P> Model for Names<P> {
+    ghost use Rattle.std.specs.Prelude.{ℕ, List, map};
+
+    ghost Value = { List (List ℕ × P) };
+
+    ghost view = { λ s. map (λ e. (e.0.items, e.1)) s.by_name.entries };
+}

@@ -1,0 +1,63 @@
+-- What the code reads, as the definitions see it.
+use Rattle.std.specs.Prelude.{◌≡◌, ℕ, List, map, Option, Result, Ok, Err, option_map}
+use Rattle.tta_reading.specs.declared.word.Word.{Word}
+use Rattle.tta_machine.specs.declared.reading.refusal.Refusal.{Refusal}
+use Rattle.tta_machine.specs.declared.reading.refusal.LineError.{LineError}
+use Rattle.tta_machine.specs.declared.reading.refusal.LineError.TheVariants as line_error
+use Rattle.tta_machine.specs.declared.reading.draft.Draft.{Draft}
+use Rattle.tta_machine.specs.declared.reading.forms.BusForm.{BusForm as BusWords}
+use Rattle.tta_machine.specs.declared.reading.forms.SocketForm.{SocketForm as SocketWords}
+use Rattle.tta_machine.specs.declared.reading.forms.FileForm.{FileForm as FileWords}
+use Rattle.tta_machine.specs.declared.reading.forms.ImmForm.{ImmForm as ImmWords}
+use Rattle.tta_machine.specs.declared.reading.forms.UnitForm.{UnitForm as UnitWords}
+use Rattle.tta_machine.specs.declared.reading.forms.OpForm.{OpForm as OpWords}
+use Rattle.tta_machine.specs.declared.reading.forms.GuardForm.{GuardForm as GuardWords}
+use Rattle.tta_machine.specs.declared.reading.forms.TemplateForm.{TemplateForm as TemplateWords}
+use Rattle.tta_machine.specs.declared.reading.forms.ControlForm.{ControlForm as ControlWords}
+use Rattle.tta_machine.specs.declared.reading.forms.SpaceForm.{SpaceForm as SpaceWords}
+use Rattle.tta_machine.specs.Forms.{BusForm, SocketForm, FileForm, ImmForm, UnitForm, OpForm, GuardForm, TemplateForm, ControlForm, SpaceForm}
+
+-- a line did to the draft what the definition says, or there was no memory
+abbrev pub Declares : {A : Type 0} → Draft → Result A LineError → Result Draft Refusal → Type 0
+Declares new (Ok x) said = said ≡ Ok new
+Declares new (Err (line_error.Refused e)) said = said ≡ Err e
+Declares new (Err line_error.NoMemory) said = Unit {0}
+
+-- the texts of words
+abbrev pub texts : List Word → List (List ℕ)
+texts words = map (λ w. w.text.now) words
+
+abbrev pub bus_seen : BusWords → BusForm
+bus_seen f = record { name = f.name.now; short = f.short; signed = f.signed }
+
+abbrev pub socket_seen : SocketWords → SocketForm
+socket_seen f = record { name = f.name.now; input = f.input; buses = texts f.buses.now }
+
+abbrev pub file_seen : FileWords → FileForm
+file_seen f = record { name = f.name.now; width = f.width; size = f.size; read = f.read; write = f.write; out = f.out.now; into = f.into.now }
+
+abbrev pub imm_seen : ImmWords → ImmForm
+imm_seen f = record { name = f.name.now; size = f.size; out = f.out.now }
+
+abbrev pub unit_seen : UnitWords → UnitForm
+unit_seen f = record {
+  name = f.name.now;
+  operand = option_map (λ b. b.now) f.operand;
+  trigger = f.trigger.now;
+  result = option_map (λ b. b.now) f.result;
+}
+
+abbrev pub op_seen : OpWords → OpForm
+op_seen f = record { unit = f.unit.now; operation = f.operation.now; latency = f.latency }
+
+abbrev pub guard_seen : GuardWords → GuardForm
+guard_seen f = record { bus = f.bus.now; file = f.file.now; index = f.index; inverted = f.inverted }
+
+abbrev pub template_seen : TemplateWords → TemplateForm
+template_seen f = record { name = f.name.now; imm = f.imm.now; index = f.index; buses = texts f.buses.now }
+
+abbrev pub control_seen : ControlWords → ControlForm
+control_seen f = record { delay = f.delay; address = f.address; trigger = f.trigger.now; ra = option_map (λ b. b.now) f.ra }
+
+abbrev pub space_seen : SpaceWords → SpaceForm
+space_seen f = record { is_data = f.is_data; size = f.size }
