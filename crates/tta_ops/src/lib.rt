@@ -1,6 +1,18 @@
 //! Operation units: what an operation is called, how many words it takes and what it gives.
 #![tactic(auto)]
 
+mod error;
+mod operations;
+mod place;
+mod reserved;
+mod set;
+mod table;
+mod unit;
+
+pub use error::OpsError;
+pub use set::UnitSet;
+pub use unit::OpUnit;
+
 /// An operation of a set of units, counted from 0 unit by unit and then by index.
 #[derive(Clone, Copy, Debug, PartialEq, Eq)]
 pub struct OpId(pub u32);

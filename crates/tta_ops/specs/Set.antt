@@ -1,0 +1,17 @@
+-- What a set of units states.
+use Rattle.std.specs.Prelude.{ℕ}
+use Rattle.std.specs.Global.{Global}
+use Rattle.std.specs.declared.dyn_box.DynBox.{DynBox}
+use Rattle.tta_ops.specs.declared.set.UnitSet.{UnitSet}
+use Rattle.tta_ops.specs.Units.{Units}
+use Rattle.tta_ops.specs.Stated.{stated_by}
+
+-- for a signature that has no box of a unit: `stated unit_meaning units.now`
+abbrev pub stated : {I : Type 0} {V : I → Type 0} → ((v : I) × V v → ℕ → ℕ → ℕ → ℕ) → UnitSet I V → Units
+stated meaning s =
+    stated_by (λ b. meaning (b.vtable, b.value)) s.units.items s.table.operations s.table.few s.table.distinct s.table.one_or_two
+
+-- the same where the signature has a box of a unit
+abbrev pub stated_boxed : {I : Type 0} {V : I → Type 0} → (DynBox I Global V → ℕ → ℕ → ℕ → ℕ) → UnitSet I V → Units
+stated_boxed meaning s =
+    stated_by meaning s.units.items s.table.operations s.table.few s.table.distinct s.table.one_or_two

@@ -1,0 +1,70 @@
+//! The operations that units offer, noted once.
+
+ghost use Rattle.std.specs.Prelude.{◌≡◌, ◌<◌, ◌≤◌, ◌+◌, ◌++◌, ◌∷◌, [], None, length, OnOk, OnErr, IfOk, sum_by};
+ghost use Rattle.std.specs.String.{string_bytes};
+ghost use Rattle.tta_ops.specs.Units.{first_at, AreDistinct, AreArities};
+ghost use Rattle.tta_ops.specs.Row.{names_of, arities_of};
+
+use crate::error::OpsError;
+use crate::operations::Operations;
+use crate::place::Place;
+use crate::reserved::is_reserved_word;
+use crate::unit::OpUnit;
+use std::alloc::{AllocError, Global};
+
+/// The operations of some units, with different names, each of which takes 1 or 2 words.
+#[derive(Drop)]
+pub struct Table {
+    pub operations: Operations,
+    ghost few: { length (names_of operations) < 65537 },
+    ghost distinct: { AreDistinct (names_of operations) },
+    ghost one_or_two: { AreArities (arities_of operations) },
+}
+
+impl Table {
+    ghost use Rattle.tta_ops.specs.Offers.{row_of, unit_rows, rows_from};
+    ghost use Rattle.tta_ops.specs.Refusal.{refusal_of, first_refusal, IsWalkResult};
+
+    fn new(alloc: Global) -> Self
+        ensures { result.operations ≡ [] }
+    {
+        Table {
+            operations: Operations::new(alloc),
+        }
+    }
+
+    fn add(&mut self, name: String, place: Place) -> Result<(), AllocError>
+        requires fresh { first_at (string_bytes name) 0 (names_of self.old.operations) ≡ None }
+        requires some { 0 < place.arity }
+        requires two { place.arity < 3 }
+        requires room { length self.old.operations < 65536 }
+        ensures { OnOk result (self.new.operations ≡ self.old.operations ++ record { name = string_bytes name; place = place } ∷ []) }
+    {
+        self.operations.push(name, place)
+    }
+
+    fn add_from<U: OpUnit>(
+        &mut self,
+        alloc: Global,
+        offered: &U,
+        unit: usize,
+        index: usize,
+    ) -> Result<(), OpsError>
+        requires offered { index < U.unit_size offered.now }
+        requires room { length self.old.operations < 65536 }
+        ensures refusal { IsWalkResult (refusal_of (names_of self.old.operations) (row_of U.unit_size U.unit_name U.unit_arity unit offered.now index)) result }
+        ensures ok { OnOk result (self.new.operations ≡ self.old.operations ++ row_of U.unit_size U.unit_name U.unit_arity unit offered.now index ∷ []) }
+    {
+        let text = offered.name(index);
+        if is_reserved_word(text) {
+            return Err(OpsError::Reserved { unit, index });
+        }
+        if self.operations.find(text).is_some() {
+            return Err(OpsError::Twice { unit, index });
+        }
+        let arity = offered.arity(index);
+        let name = String::from_str(alloc, text)?;
+        self.add(name, Place { arity, unit, index })?;
+        Ok(())
+    }
+}
