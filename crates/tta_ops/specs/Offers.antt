@@ -1,8 +1,8 @@
 -- What units offer: their operations, walked unit by unit and then by index.
-use Rattle.std.specs.Prelude.{ℕ, ◌+◌, List, [], ◌∷◌, ◌++◌, ◌≡◌, map, slice_get}
+use Rattle.std.specs.Prelude.{ℕ, ◌+◌, List, [], ◌∷◌, ◌++◌, ◌≡◌, map, option_map, slice_get}
 use Rattle.std.specs.List.{range_with_len}
 use Rattle.tta_ops.specs.Row.{Row, names_of, arities_of}
-use Rattle.tta_ops.specs.Stated.{value_of}
+use Rattle.tta_ops.specs.Stated.{value_at}
 use Rattle.tta_ops.specs.Units.{Units}
 
 module _ {B : Type 0} (size : B → ℕ) (name : B → ℕ → List ℕ) (arity : B → ℕ → ℕ) where
@@ -25,4 +25,4 @@ pub record IsOffered {B : Type 0} (size : B → ℕ) (name : B → ℕ → List 
     (meaning : B → ℕ → ℕ → ℕ → ℕ) (units : List B) (U : Units) : Type 0 where
   pub names : U.names ≡ names_of (rows_from size name arity 0 units)
   pub arities : U.arities ≡ arities_of (rows_from size name arity 0 units)
-  pub value : (op a b : ℕ) → U.value op a b ≡ value_of meaning units (slice_get (rows_from size name arity 0 units) op) a b
+  pub value : (op a b : ℕ) → U.value op a b ≡ value_at meaning units (option_map (λ r. r.place) (slice_get (rows_from size name arity 0 units) op)) a b

@@ -4,6 +4,7 @@ use Rattle.std.proofs.Common.{ap, sym, ◌∙◌}
 use Rattle.std.proofs.lemmas.List.{length-map}
 use Rattle.std.proofs.lemmas.Option.{slice_get-map}
 use Rattle.std.proofs.lemmas.Nat.{mod_below, pow_pos}
+use Rattle.tta_ops.specs.declared.place.Place.{Place}
 use Rattle.tta_ops.specs.Row.{Row, names_of, arities_of}
 use Rattle.tta_ops.specs.Units.{Units, AreDistinct, AreArities}
 
@@ -13,30 +14,31 @@ arity_or None = 0
 arity_or (Some arity) = arity
 
 module _ {B : Type 0} (meaning : B → ℕ → ℕ → ℕ → ℕ) where
-  -- what the unit makes of two words, and 0 where there is no unit
+  -- what a unit makes of two words, and 0 where there is no unit
   abbrev pub given_by : Option B → ℕ → ℕ → ℕ → ℕ
   given_by None index a b = 0
   given_by (Some unit) index a b = meaning unit index a b
 
-  -- the value of an operation is a word: what its unit makes of a and b, with 0 for a where it
-  -- takes one word
-  abbrev pub value_of : List B → Option Row → ℕ → ℕ → ℕ
-  value_of units None a b = 0 % 2 ^ 32
-  value_of units (Some row) a b =
-      given_by (slice_get units row.place.unit) row.place.index (if nat_eq row.place.arity 1 then 0 else a) b % 2 ^ 32
+  -- the value of the operation at a place is a word: what its unit makes of a and b, with 0 for a
+  -- where it takes one word
+  abbrev pub value_at : List B → Option Place → ℕ → ℕ → ℕ
+  value_at units None a b = 0 % 2 ^ 32
+  value_at units (Some place) a b =
+      given_by (slice_get units place.unit) place.index (if nat_eq place.arity 1 then 0 else a) b % 2 ^ 32
 
   -- so every value is a word
-  pub value_of-word : (units : List B) (row : Option Row) (a b : ℕ) → value_of units row a b < 2 ^ 32
-  value_of-word units None a b = mod_below 0 (2 ^ 32) (pow_pos 32)
-  value_of-word units (Some row) a b =
-      mod_below (given_by (slice_get units row.place.unit) row.place.index (if nat_eq row.place.arity 1 then 0 else a) b) (2 ^ 32) (pow_pos 32)
+  pub value_at-word : (units : List B) (place : Option Place) (a b : ℕ) → value_at units place a b < 2 ^ 32
+  value_at-word units None a b = mod_below 0 (2 ^ 32) (pow_pos 32)
+  value_at-word units (Some place) a b =
+      mod_below (given_by (slice_get units place.unit) place.index (if nat_eq place.arity 1 then 0 else a) b) (2 ^ 32) (pow_pos 32)
 
   -- and an operation that takes one word ignores a
-  pub value_of-ignores : (units : List B) (row : Option Row) (a b : ℕ)
-      → option_map (λ r. r.place.arity) row ≡ Some 1 → value_of units row a b ≡ value_of units row 0 b
-  value_of-ignores units None a b one = refl
-  value_of-ignores units (Some row) a b one =
-      let value = λ (x : ℕ) (arity : Option ℕ). given_by (slice_get units row.place.unit) row.place.index (if nat_eq (arity_or arity) 1 then 0 else x) b % 2 ^ 32 in
+  pub value_at-ignores : (units : List B) (row : Option Row) (a b : ℕ) → option_map (λ r. r.place.arity) row ≡ Some 1
+      → value_at units (option_map (λ r. r.place) row) a b ≡ value_at units (option_map (λ r. r.place) row) 0 b
+  value_at-ignores units None a b one = refl
+  value_at-ignores units (Some row) a b one =
+      let value = λ (x : ℕ) (arity : Option ℕ).
+          given_by (slice_get units row.place.unit) row.place.index (if nat_eq (arity_or arity) 1 then 0 else x) b % 2 ^ 32 in
       ap (value a) one ∙ sym (ap (value 0) one)
 
   -- what the units state, where these rows are their operations
@@ -45,9 +47,9 @@ module _ {B : Type 0} (meaning : B → ℕ → ℕ → ℕ → ℕ) where
   stated_by units rows few distinct one_or_two = record {
     names = names_of rows;
     arities = arities_of rows;
-    value = λ op a b. value_of units (slice_get rows op) a b;
-    word = λ op a b. value_of-word units (slice_get rows op) a b;
-    ignores = λ op a b one. value_of-ignores units (slice_get rows op) a b (sym (slice_get-map (λ r. r.place.arity) rows op) ∙ one);
+    value = λ op a b. value_at units (option_map (λ r. r.place) (slice_get rows op)) a b;
+    word = λ op a b. value_at-word units (option_map (λ r. r.place) (slice_get rows op)) a b;
+    ignores = λ op a b one. value_at-ignores units (slice_get rows op) a b (sym (slice_get-map (λ r. r.place.arity) rows op) ∙ one);
     distinct = distinct;
     one_or_two = one_or_two;
     paired = length-map rows (λ r. r.place.arity) ∙ sym (length-map rows (λ r. r.name));

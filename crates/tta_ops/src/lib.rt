@@ -8,6 +8,7 @@ mod reserved;
 mod set;
 mod table;
 mod unit;
+mod value;
 
 pub use error::OpsError;
 pub use set::UnitSet;

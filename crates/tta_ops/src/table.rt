@@ -40,7 +40,8 @@ impl Table {
         requires room { length self.old.operations < 65536 }
         ensures { OnOk result (self.new.operations ≡ self.old.operations ++ record { name = string_bytes name; place = place } ∷ []) }
     {
-        self.operations.push(name, place)
+        self.operations.push(name, place)?;
+        Ok(())
     }
 
     fn add_from<U: OpUnit>(
@@ -66,5 +67,36 @@ impl Table {
         let name = String::from_str(alloc, text)?;
         self.add(name, Place { arity, unit, index })?;
         Ok(())
+    }
+
+    fn add_unit<U: OpUnit>(
+        &mut self,
+        alloc: Global,
+        offered: &U,
+        unit: usize,
+    ) -> Result<(), OpsError>
+        requires { length self.old.operations + U.unit_size offered.now ≤ 65536 }
+        ensures refusal { IsWalkResult (first_refusal (names_of self.old.operations) (unit_rows U.unit_size U.unit_name U.unit_arity unit offered.now)) result }
+        ensures ok { OnOk result (self.new.operations ≡ self.old.operations ++ unit_rows U.unit_size U.unit_name U.unit_arity unit offered.now) }
+    {
+        for index in 0..offered.count() {
+            self.add_from(alloc, offered, unit, index)?;
+        }
+        Ok(())
+    }
+
+    /// The operations of these units, which are at most 65,536, unless one is refused.
+    pub fn of<U: OpUnit>(alloc: Global, units: &[U]) -> Result<Self, OpsError>
+        requires { sum_by U.unit_size units.now ≤ 65536 }
+        ensures refusal { IsWalkResult (first_refusal [] (rows_from U.unit_size U.unit_name U.unit_arity 0 units.now)) result }
+        ensures ok { IfOk result (λ t. t.operations ≡ rows_from U.unit_size U.unit_name U.unit_arity 0 units.now) }
+    {
+        let mut table = Table::new(alloc);
+        let mut unit = 0;
+        for offered in units {
+            table.add_unit(alloc, offered, unit)?;
+            unit += 1;
+        }
+        Ok(table)
     }
 }
