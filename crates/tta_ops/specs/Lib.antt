@@ -6,3 +6,5 @@ pub mod Stated
 pub mod Offers
 pub mod Refusal
 pub mod Set
+pub mod Operation
+pub mod Arithmetic

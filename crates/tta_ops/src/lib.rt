@@ -1,6 +1,7 @@
 //! Operation units: what an operation is called, how many words it takes and what it gives.
 #![tactic(auto)]
 
+mod arithmetic;
 mod error;
 mod operations;
 mod place;
@@ -10,6 +11,7 @@ mod table;
 mod unit;
 mod value;
 
+pub use arithmetic::{Arith, Divide};
 pub use error::OpsError;
 pub use set::UnitSet;
 pub use unit::OpUnit;
