@@ -1,3 +1,4 @@
 pub mod Names
 pub mod Distinct
 pub mod Walk
+pub mod Shifts

@@ -8,3 +8,5 @@ pub mod Refusal
 pub mod Set
 pub mod Operation
 pub mod Arithmetic
+pub mod Bits
+pub mod Comparison

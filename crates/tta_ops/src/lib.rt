@@ -2,6 +2,8 @@
 #![tactic(auto)]
 
 mod arithmetic;
+mod bits;
+mod comparison;
 mod error;
 mod operations;
 mod place;
@@ -12,6 +14,8 @@ mod unit;
 mod value;
 
 pub use arithmetic::{Arith, Divide};
+pub use bits::{Logic, Shift};
+pub use comparison::Compare;
 pub use error::OpsError;
 pub use set::UnitSet;
 pub use unit::OpUnit;
