@@ -2,3 +2,4 @@ pub mod Names
 pub mod Distinct
 pub mod Walk
 pub mod Shifts
+pub mod Examples

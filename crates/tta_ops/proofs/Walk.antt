@@ -32,18 +32,23 @@ first_refusal-append before (x ∷ xs) ys =
       ∙ ap (λ names. option_or (first_refusal (before ++ x.name ∷ []) xs) (first_refusal names ys)) (append_assoc before (x.name ∷ []) (names_of xs)))
     ∙ option_or_assoc (refusal_of before x) (first_refusal (before ++ x.name ∷ []) xs) (first_refusal (before ++ names_of (x ∷ xs)) ys)
 
+-- the rows of two lists after others, one list after the other
+pub rows_later : (all before xs ys : List Row) → before ++ (xs ++ ys) ≡ all → (before ++ xs) ++ ys ≡ all
+rows_later all before xs ys same = append_assoc before xs ys ∙ same
+
 -- where no operation of the first list is refused, the walk goes on with the second
-pub refusal_later : (before xs ys : List Row) → first_refusal (names_of before) xs ≡ None
-    → first_refusal (names_of (before ++ xs)) ys ≡ first_refusal (names_of before) (xs ++ ys)
-refusal_later before xs ys none =
+pub refusal_later : (refusal : Option OpsError) (before xs ys : List Row) → first_refusal (names_of before) xs ≡ None
+    → first_refusal (names_of before) (xs ++ ys) ≡ refusal → first_refusal (names_of (before ++ xs)) ys ≡ refusal
+refusal_later refusal before xs ys none same =
     ap (λ names. first_refusal names ys) (map-append (λ r. r.name) before xs)
-    ∙ sym (first_refusal-append (names_of before) xs ys ∙ ap (λ refusal. option_or refusal (first_refusal (names_of before ++ names_of xs) ys)) none)
+    ∙ sym (first_refusal-append (names_of before) xs ys ∙ ap (λ first. option_or first (first_refusal (names_of before ++ names_of xs) ys)) none)
+    ∙ same
 
 -- the same where the first list is one operation
-pub refusal_next : (before : List Row) (row : Row) (rows : List Row) → refusal_of (names_of before) row ≡ None
-    → first_refusal (names_of (before ++ row ∷ [])) rows ≡ first_refusal (names_of before) (row ∷ rows)
-refusal_next before row rows none =
-    refusal_later before (row ∷ []) rows (ap (λ refusal. option_or refusal None) none)
+pub refusal_next : (refusal : Option OpsError) (before : List Row) (row : Row) (rows : List Row) → refusal_of (names_of before) row ≡ None
+    → first_refusal (names_of before) (row ∷ rows) ≡ refusal → first_refusal (names_of (before ++ row ∷ [])) rows ≡ refusal
+refusal_next refusal before row rows none same =
+    refusal_later refusal before (row ∷ []) rows (ap (λ first. option_or first None) none) same
 
 -- a cause of a refusal is a cause of the walk's, whatever comes later
 pub cause_next : (before : List Row) (row : Row) (rows : List Row) (error : OpsError)

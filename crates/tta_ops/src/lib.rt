@@ -10,6 +10,8 @@ mod place;
 mod reserved;
 mod set;
 mod table;
+#[cfg(test)]
+mod tests;
 mod unit;
 mod value;
 

@@ -1,6 +1,6 @@
 //! A set of units.
 
-ghost use Rattle.std.specs.Prelude.{◌≡◌, ◌<◌, ◌≤◌, ◌==◌, [], Some, length, option_map, slice_get, slice_index, slice_index_or, sum_by, IfSome, IfOk};
+ghost use Rattle.std.specs.Prelude.{◌≡◌, ◌<◌, ◌≤◌, ◌==◌, ◌↔◌, [], Some, IsTrue, length, option_map, slice_get, slice_index, slice_index_or, sum_by, IfSome, IfOk};
 ghost use Rattle.tta_ops.specs.Units.{named};
 ghost use Rattle.tta_ops.specs.Offers.{rows_from, IsOffered};
 ghost use Rattle.tta_ops.specs.Refusal.{first_refusal, IsWalkResult};
@@ -9,7 +9,7 @@ ghost use Rattle.tta_ops.specs.Set.{stated_boxed};
 use crate::OpId;
 use crate::error::OpsError;
 use crate::table::Table;
-use crate::unit::OpUnit;
+use crate::unit::{OpUnit, offer_at_most};
 use crate::value::apply_at;
 use std::alloc::Global;
 
@@ -34,6 +34,13 @@ impl UnitSet {
     {
         let table = Table::of(alloc, units.as_slice())?;
         Ok(UnitSet { units, table })
+    }
+
+    /// Whether the units offer at most 65,536 operations, so that a set may be made of them.
+    pub fn fits(units: &[Box<dyn OpUnit>]) -> bool
+        ensures { IsTrue result ↔ (sum_by (λ b. unit_size b) units.now ≤ 65536) }
+    {
+        offer_at_most(units, 65536)
     }
 
     /// How many operations the units offer.

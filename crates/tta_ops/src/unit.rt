@@ -1,6 +1,6 @@
 //! What a unit of operations is.
 
-ghost use Rattle.std.specs.Prelude.{◌≡◌, ◌<◌, ◌^◌, ℕ, List};
+ghost use Rattle.std.specs.Prelude.{◌≡◌, ◌<◌, ◌≤◌, ◌↔◌, ◌^◌, ℕ, List, IsTrue, sum_by};
 ghost use Rattle.tta_ops.specs.Unit.{AreDifferent};
 
 /// A unit of operations, which are counted from 0.
@@ -65,4 +65,20 @@ impl OpUnit for Box<dyn OpUnit> {
     fn apply(&self, i: usize, a: u32, b: u32) -> u32 {
         (**self).apply(i, a, b)
     }
+}
+
+/// Whether the units offer at most so many operations.
+#[tactic(auto, using(crate::proofs::Walk::size_of_rest))]
+pub fn offer_at_most<U: OpUnit>(units: &[U], most: usize) -> bool
+    ensures { IsTrue result ↔ (sum_by U.unit_size units.now ≤ most) }
+{
+    let mut left = most;
+    for unit in units {
+        let count = unit.count();
+        if count > left {
+            return false;
+        }
+        left -= count;
+    }
+    true
 }

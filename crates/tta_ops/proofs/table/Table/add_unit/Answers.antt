@@ -1,9 +1,10 @@
-use Rattle.std.proofs.Common.{◌≡◌, ◌<◌, ◌+◌, ◌-◌, ◌++◌, ◌∷◌, [], length, length-append, map, ◌∙◌, append_assoc, arith}
+use Rattle.std.proofs.Common.{◌≡◌, ◌<◌, ◌+◌, ◌-◌, ◌++◌, ◌∷◌, [], length, length-append, map, arith}
 use Rattle.std.specs.List.{range_with_len}
 use Rattle.std.proofs.lemmas.Result.{err_from_is_err_and}
 use Rattle.tta_ops.specs.Row.{names_of}
-use Rattle.tta_ops.specs.Offers.{row_of}
-use Rattle.tta_ops.proofs.Walk.{rest_of_unit, refusal_next, cause_next}
+use Rattle.tta_ops.specs.Offers.{row_of, unit_rows}
+use Rattle.tta_ops.specs.Refusal.{first_refusal}
+use Rattle.tta_ops.proofs.Walk.{rest_of_unit, rows_later, refusal_next, cause_next}
 use Rattle.tta_ops.proofs.table.Table.add_unit.Goals as goal
 
 pub returns-in_err-add_from-clause-refusal : goal.returns-in_err-add_from-clause-refusal
@@ -31,8 +32,10 @@ loop-index-preserved g c =
     let walk = rw step at c.loop-index.invariant.refusal in
     let before = c.loop-index.self.operations in
     let size : length (before ++ row index ∷ []) ≡ length before + 1 = length-append before (row index ∷ []) in
+    let all = unit_rows U.unit_size U.unit_name U.unit_arity c.args.unit offered in
+    let was = c.args.self.now.operations in
     rw c.in_ok-add_from.ensures.ok (record {
-      rows = append_assoc before (row index ∷ []) rest ∙ old;
-      refusal = refusal_next before (row index) rest c.in_ok-add_from.ensures.refusal ∙ walk;
+      rows = rows_later (was ++ all) before (row index ∷ []) rest old;
+      refusal = refusal_next (first_refusal (names_of was) all) before (row index) rest c.in_ok-add_from.ensures.refusal walk;
       room = omega (arith, size);
     })

@@ -1,8 +1,9 @@
-use Rattle.std.proofs.Common.{◌≡◌, ◌<◌, ◌+◌, ◌++◌, length, length-append, ◌∙◌, append_assoc, arith, drop}
+use Rattle.std.proofs.Common.{◌≡◌, ◌<◌, ◌+◌, ◌++◌, length, length-append, ◌∙◌, [], arith, drop}
 use Rattle.std.specs.List.{sum_by}
 use Rattle.std.proofs.lemmas.Result.{err_from_is_err_and}
 use Rattle.tta_ops.specs.Offers.{unit_rows, rows_from}
-use Rattle.tta_ops.proofs.Walk.{rest_of_units, size_of_rest, length-unit_rows, refusal_later, cause_later}
+use Rattle.tta_ops.specs.Refusal.{first_refusal}
+use Rattle.tta_ops.proofs.Walk.{rest_of_units, size_of_rest, length-unit_rows, rows_later, refusal_later, cause_later}
 use Rattle.tta_ops.proofs.table.Table.of.Goals as goal
 
 pub returns-in_err-add_unit-clause-refusal : goal.returns-in_err-add_unit-clause-refusal
@@ -28,6 +29,7 @@ loop-offered-preserved g c =
     let before = c.loop-offered.table.operations in
     let here = unit_rows U.unit_size U.unit_name U.unit_arity unit offered in
     let rest = rows_from U.unit_size U.unit_name U.unit_arity (unit + 1) (drop (index + 1) units) in
+    let all = rows_from U.unit_size U.unit_name U.unit_arity 0 units in
     let below : index < length units = omega arith in
     let step = rest_of_units U.unit_size U.unit_name U.unit_arity unit units index offered below c.offered-item.is in
     let old = rw step at c.loop-offered.invariant.rows in
@@ -37,7 +39,7 @@ loop-offered-preserved g c =
         length-append before here ∙ rw (length-unit_rows U.unit_size U.unit_name U.unit_arity unit offered) in
     rw c.in_ok-add_unit.ensures.ok (record {
       number = omega arith;
-      rows = append_assoc before here rest ∙ old;
-      refusal = refusal_later before here rest c.in_ok-add_unit.ensures.refusal ∙ walk;
+      rows = rows_later all before here rest old;
+      refusal = refusal_later (first_refusal [] all) before here rest c.in_ok-add_unit.ensures.refusal walk;
       room = omega (arith, size, fits);
     })
