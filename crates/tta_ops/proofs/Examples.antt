@@ -1,11 +1,11 @@
 -- Values of the standard units, and walks of operations, worked out by hand.
-use Rattle.std.proofs.Common.{◌≡◌, ◌++◌, ◌∷◌, [], ℕ, List, Some, None, length, slice_index_or, refl}
+use Rattle.std.proofs.Common.{◌≡◌, ◌∷◌, [], ℕ, List, Some, None, length, slice_index_or, refl}
 use Rattle.std.specs.Prelude.{codes}
 use Rattle.tta_ops.specs.declared.error.OpsError.TheVariants.{Twice, Reserved}
 use Rattle.tta_ops.specs.Arithmetic.{arith, divide}
 use Rattle.tta_ops.specs.Bits.{logic, shift}
 use Rattle.tta_ops.specs.Comparison.{compare}
-use Rattle.tta_ops.specs.Row.{Row, names_of}
+use Rattle.tta_ops.specs.Row.{Row}
 use Rattle.tta_ops.specs.Offers.{rows_from}
 use Rattle.tta_ops.specs.Refusal.{reserved_words, first_refusal}
 

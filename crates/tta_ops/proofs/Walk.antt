@@ -1,5 +1,5 @@
 -- A walk that is cut in two: what came before, and what is left.
-use Rattle.std.proofs.Common.{◌≡◌, ◌<◌, ◌≤◌, ◌+◌, ◌-◌, ◌++◌, ◌∷◌, [], ℕ, suc, List, Option, Some, None, length, map, drop, get_or, refl, sym, ap, ◌∙◌, arith, add-one, append_assoc}
+use Rattle.std.proofs.Common.{◌≡◌, ◌<◌, ◌+◌, ◌-◌, ◌++◌, ◌∷◌, [], ℕ, suc, List, Option, Some, None, length, map, drop, get_or, refl, sym, ap, ◌∙◌, arith, add-one, append_assoc}
 use Rattle.std.proofs.Math.Seq.{drop-cons}
 use Rattle.std.proofs.lemmas.List.{map-append, append-nil}
 use Rattle.std.proofs.lemmas.List.Sums.{sum_by-cons}
@@ -28,8 +28,8 @@ first_refusal-append : (before : List (List ℕ)) (xs ys : List Row)
 first_refusal-append before [] ys = rw (append-nil before) refl
 first_refusal-append before (x ∷ xs) ys =
     ap (λ later. option_or (refusal_of before x) later)
-      (first_refusal-append (before ++ x.name ∷ []) xs ys
-      ∙ ap (λ names. option_or (first_refusal (before ++ x.name ∷ []) xs) (first_refusal names ys)) (append_assoc before (x.name ∷ []) (names_of xs)))
+    (first_refusal-append (before ++ x.name ∷ []) xs ys
+    ∙ ap (λ names. option_or (first_refusal (before ++ x.name ∷ []) xs) (first_refusal names ys)) (append_assoc before (x.name ∷ []) (names_of xs)))
     ∙ option_or_assoc (refusal_of before x) (first_refusal (before ++ x.name ∷ []) xs) (first_refusal (before ++ names_of (x ∷ xs)) ys)
 
 -- the rows of two lists after others, one list after the other
@@ -60,7 +60,7 @@ pub cause_later : (before xs ys : List Row) (error : OpsError)
     → IsCause (first_refusal (names_of before) xs) error → IsCause (first_refusal (names_of before) (xs ++ ys)) error
 cause_later before xs ys error cause =
     rw (first_refusal-append (names_of before) xs ys)
-      (cause_or (first_refusal (names_of before) xs) (first_refusal (names_of before ++ names_of xs) ys) error cause)
+    (cause_or (first_refusal (names_of before) xs) (first_refusal (names_of before ++ names_of xs) ys) error cause)
 
 -- the operations of a unit that are left at an index below its size
 pub rest_of_unit : (f : ℕ → Row) (i n : ℕ) → i < n → map f (range_with_len i (n - i)) ≡ f i ∷ map f (range_with_len (i + 1) (n - (i + 1)))

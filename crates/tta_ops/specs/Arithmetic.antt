@@ -1,5 +1,5 @@
 -- The units of whole-number arithmetic, modulo 2 ^ 32.
-use Rattle.std.specs.Prelude.{ℕ, ◌+◌, ◌-◌, ◌*◌, ◌/◌, ◌%◌, ◌^◌, List, [], codes, nat_eq, if◌then◌else◌}
+use Rattle.std.specs.Prelude.{ℕ, ◌+◌, ◌-◌, ◌*◌, ◌/◌, ◌%◌, ◌^◌, codes, nat_eq, if◌then◌else◌}
 use Rattle.tta_ops.specs.Operation.{Operation, operation, no_operation}
 
 -- sums and products

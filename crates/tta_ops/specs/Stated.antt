@@ -1,5 +1,5 @@
 -- What units state, over the rows that their names and arities were noted in.
-use Rattle.std.specs.Prelude.{ℕ, ◌<◌, ◌%◌, ◌^◌, ◌≡◌, List, if◌then◌else◌, nat_eq, length, map, Option, Some, None, slice_get, option_map, refl}
+use Rattle.std.specs.Prelude.{ℕ, ◌<◌, ◌%◌, ◌^◌, ◌≡◌, List, if◌then◌else◌, nat_eq, length, Option, Some, None, slice_get, option_map, refl}
 use Rattle.std.proofs.Common.{ap, sym, ◌∙◌}
 use Rattle.std.proofs.lemmas.List.{length-map}
 use Rattle.std.proofs.lemmas.Option.{slice_get-map}
@@ -38,7 +38,7 @@ module _ {B : Type 0} (meaning : B → ℕ → ℕ → ℕ → ℕ) where
   value_at-ignores units None a b one = refl
   value_at-ignores units (Some row) a b one =
       let value = λ (x : ℕ) (arity : Option ℕ).
-          given_by (slice_get units row.place.unit) row.place.index (if nat_eq (arity_or arity) 1 then 0 else x) b % 2 ^ 32 in
+      given_by (slice_get units row.place.unit) row.place.index (if nat_eq (arity_or arity) 1 then 0 else x) b % 2 ^ 32 in
       ap (value a) one ∙ sym (ap (value 0) one)
 
   -- what the units state, where these rows are their operations

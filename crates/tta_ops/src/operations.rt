@@ -1,9 +1,10 @@
 //! The operations of some units, found by name and by number.
 
-ghost use Rattle.std.specs.Prelude.{◌≡◌, ◌<◌, ◌++◌, ◌∷◌, [], None, length, map, option_map, slice_get, IfSome, OnOk, OnErr};
+ghost use Rattle.std.specs.Prelude.{◌≡◌, ◌<◌, ◌++◌, ◌∷◌, [], None, length};
+ghost use Rattle.std.specs.Prelude.{option_map, slice_get, IfSome, OnOk, OnErr};
 ghost use Rattle.std.specs.String.{string_bytes};
 ghost use Rattle.tta_ops.specs.Units.{first_at};
-ghost use Rattle.tta_ops.specs.Row.{names_of};
+ghost use Rattle.tta_ops.specs.Row.{Row, names_of};
 
 use crate::place::Place;
 use indexmap::IndexMap;
@@ -88,7 +89,8 @@ impl Operations {
     /// changes.
     pub fn push(&mut self, name: String, place: Place) -> Result<(), AllocError>
         requires { first_at (string_bytes name) 0 (names_of self.old) ≡ None }
-        ensures ok { OnOk result (self.new ≡ self.old ++ record { name = string_bytes name; place = place } ∷ []) }
+        ensures ok { let row : Row = record { name = string_bytes name; place = place } in
+            OnOk result (self.new ≡ self.old ++ row ∷ []) }
         ensures err { OnErr result (self.new ≡ self.old) }
     {
         self.by_name.insert(name, place)?;

@@ -9,7 +9,22 @@ pub fn is_reserved_word(name: &str) -> bool
 {
     matches!(
         name,
-        "ldw" | "stw" | "ldf" | "stf" | "jump" | "proc" | "end" | "if" | "goto" | "when" | "load"
-            | "store" | "out" | "call" | "return" | "halt" | "data"
+        "ldw"
+            | "stw"
+            | "ldf"
+            | "stf"
+            | "jump"
+            | "proc"
+            | "end"
+            | "if"
+            | "goto"
+            | "when"
+            | "load"
+            | "store"
+            | "out"
+            | "call"
+            | "return"
+            | "halt"
+            | "data"
     )
 }

@@ -1,6 +1,7 @@
 //! A set of units.
 
-ghost use Rattle.std.specs.Prelude.{◌≡◌, ◌<◌, ◌≤◌, ◌==◌, ◌↔◌, [], Some, IsTrue, length, option_map, slice_get, slice_index, slice_index_or, sum_by, IfSome, IfOk};
+ghost use Rattle.std.specs.Prelude.{◌≡◌, ◌<◌, ◌≤◌, ◌==◌, ◌↔◌, [], Some, IsTrue, IfSome, IfOk};
+ghost use Rattle.std.specs.Prelude.{length, option_map, slice_get, slice_index, slice_index_or, sum_by};
 ghost use Rattle.tta_ops.specs.Units.{named};
 ghost use Rattle.tta_ops.specs.Offers.{rows_from, IsOffered};
 ghost use Rattle.tta_ops.specs.Refusal.{first_refusal, IsWalkResult};
@@ -29,8 +30,12 @@ impl UnitSet {
     #[tactic(auto, unfolding(crate::specs::Stated::stated_by))]
     pub fn new(alloc: Global, units: Vec<Box<dyn OpUnit>>) -> Result<Self, OpsError>
         requires few { sum_by (λ b. unit_size b) units.items ≤ 65536 }
-        ensures refusal { IsWalkResult (first_refusal [] (rows_from (λ b. unit_size b) (λ b. unit_name b) (λ b. unit_arity b) 0 units.items)) result }
-        ensures offered { IfOk result (λ s. IsOffered (λ b. unit_size b) (λ b. unit_name b) (λ b. unit_arity b) (λ b. unit_meaning b) units.items (stated_boxed unit_meaning s)) }
+        ensures refusal { let rows = rows_from
+            (λ b. unit_size b) (λ b. unit_name b) (λ b. unit_arity b) 0 units.items in
+            IsWalkResult (first_refusal [] rows) result }
+        ensures offered { IfOk result (λ s. IsOffered
+            (λ b. unit_size b) (λ b. unit_name b) (λ b. unit_arity b) (λ b. unit_meaning b)
+            units.items (stated_boxed unit_meaning s)) }
     {
         let table = Table::of(alloc, units.as_slice())?;
         Ok(UnitSet { units, table })
@@ -62,8 +67,10 @@ impl UnitSet {
     /// The operation of this name, and `None` exactly where no unit offers the name.
     #[tactic(auto, unfolding(crate::specs::Stated::stated_by))]
     pub fn find(&self, name: &str) -> Option<OpId>
-        ensures found { option_map (λ op. op.0) result ≡ named (stated_boxed unit_meaning self.now) name.now }
-        ensures within { IfSome result (λ op. op.0 < length (stated_boxed unit_meaning self.now).names) }
+        ensures found { let U = stated_boxed unit_meaning self.now in
+            option_map (λ op. op.0) result ≡ named U name.now }
+        ensures within { let U = stated_boxed unit_meaning self.now in
+            IfSome result (λ op. op.0 < length U.names) }
     {
         match self.table.operations.find(name) {
             Some(op) => Some(OpId(op as u32)),
@@ -74,8 +81,10 @@ impl UnitSet {
     /// The operation whose name has these bytes, as `find` gives it.
     #[tactic(auto, unfolding(crate::specs::Stated::stated_by))]
     pub fn find_bytes(&self, name: &[u8]) -> Option<OpId>
-        ensures found { option_map (λ op. op.0) result ≡ named (stated_boxed unit_meaning self.now) name.now }
-        ensures within { IfSome result (λ op. op.0 < length (stated_boxed unit_meaning self.now).names) }
+        ensures found { let U = stated_boxed unit_meaning self.now in
+            option_map (λ op. op.0) result ≡ named U name.now }
+        ensures within { let U = stated_boxed unit_meaning self.now in
+            IfSome result (λ op. op.0 < length U.names) }
     {
         match self.table.operations.find_bytes(name) {
             Some(op) => Some(OpId(op as u32)),

@@ -1,9 +1,10 @@
 //! The operations that units offer, noted once.
 
-ghost use Rattle.std.specs.Prelude.{◌≡◌, ◌<◌, ◌≤◌, ◌+◌, ◌++◌, ◌∷◌, [], None, length, OnOk, OnErr, IfOk, sum_by};
+ghost use Rattle.std.specs.Prelude.{◌≡◌, ◌<◌, ◌≤◌, ◌+◌, ◌++◌, ◌∷◌, [], None, length};
+ghost use Rattle.std.specs.Prelude.{OnOk, IfOk, sum_by};
 ghost use Rattle.std.specs.String.{string_bytes};
 ghost use Rattle.tta_ops.specs.Units.{first_at, AreDistinct, AreArities};
-ghost use Rattle.tta_ops.specs.Row.{names_of, arities_of};
+ghost use Rattle.tta_ops.specs.Row.{Row, names_of, arities_of};
 
 use crate::error::OpsError;
 use crate::operations::Operations;
@@ -38,7 +39,8 @@ impl Table {
         requires some { 0 < place.arity }
         requires two { place.arity < 3 }
         requires room { length self.old.operations < 65536 }
-        ensures { OnOk result (self.new.operations ≡ self.old.operations ++ record { name = string_bytes name; place = place } ∷ []) }
+        ensures { let row : Row = record { name = string_bytes name; place = place } in
+            OnOk result (self.new.operations ≡ self.old.operations ++ row ∷ []) }
     {
         self.operations.push(name, place)?;
         Ok(())
@@ -53,8 +55,10 @@ impl Table {
     ) -> Result<(), OpsError>
         requires offered { index < U.unit_size offered.now }
         requires room { length self.old.operations < 65536 }
-        ensures refusal { IsWalkResult (refusal_of (names_of self.old.operations) (row_of U.unit_size U.unit_name U.unit_arity unit offered.now index)) result }
-        ensures ok { OnOk result (self.new.operations ≡ self.old.operations ++ row_of U.unit_size U.unit_name U.unit_arity unit offered.now index ∷ []) }
+        ensures refusal { let row = row_of U.unit_size U.unit_name U.unit_arity unit offered.now index in
+            IsWalkResult (refusal_of (names_of self.old.operations) row) result }
+        ensures ok { let row = row_of U.unit_size U.unit_name U.unit_arity unit offered.now index in
+            OnOk result (self.new.operations ≡ self.old.operations ++ row ∷ []) }
     {
         let text = offered.name(index);
         if is_reserved_word(text) {
@@ -76,8 +80,10 @@ impl Table {
         unit: usize,
     ) -> Result<(), OpsError>
         requires { length self.old.operations + U.unit_size offered.now ≤ 65536 }
-        ensures refusal { IsWalkResult (first_refusal (names_of self.old.operations) (unit_rows U.unit_size U.unit_name U.unit_arity unit offered.now)) result }
-        ensures ok { OnOk result (self.new.operations ≡ self.old.operations ++ unit_rows U.unit_size U.unit_name U.unit_arity unit offered.now) }
+        ensures refusal { let rows = unit_rows U.unit_size U.unit_name U.unit_arity unit offered.now in
+            IsWalkResult (first_refusal (names_of self.old.operations) rows) result }
+        ensures ok { let rows = unit_rows U.unit_size U.unit_name U.unit_arity unit offered.now in
+            OnOk result (self.new.operations ≡ self.old.operations ++ rows) }
     {
         for index in 0..offered.count() {
             self.add_from(alloc, offered, unit, index)?;
@@ -88,8 +94,10 @@ impl Table {
     /// The operations of these units, which are at most 65,536, unless one is refused.
     pub fn of<U: OpUnit>(alloc: Global, units: &[U]) -> Result<Self, OpsError>
         requires { sum_by U.unit_size units.now ≤ 65536 }
-        ensures refusal { IsWalkResult (first_refusal [] (rows_from U.unit_size U.unit_name U.unit_arity 0 units.now)) result }
-        ensures ok { IfOk result (λ t. t.operations ≡ rows_from U.unit_size U.unit_name U.unit_arity 0 units.now) }
+        ensures refusal { let rows = rows_from U.unit_size U.unit_name U.unit_arity 0 units.now in
+            IsWalkResult (first_refusal [] rows) result }
+        ensures ok { let rows = rows_from U.unit_size U.unit_name U.unit_arity 0 units.now in
+            IfOk result (λ table. table.operations ≡ rows) }
     {
         let mut table = Table::new(alloc);
         let mut unit = 0;

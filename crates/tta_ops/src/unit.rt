@@ -38,7 +38,8 @@ pub trait OpUnit: Drop {
     fn apply(&self, i: usize, a: u32, b: u32) -> u32
         ensures value { result ≡ unit_meaning self.now i a b }
         ensures word { unit_meaning self.now i a b < 2 ^ 32 }
-        ensures ignores { i < unit_size self.now → unit_arity self.now i ≡ 1 → unit_meaning self.now i a b ≡ unit_meaning self.now i 0 b };
+        ensures ignores { i < unit_size self.now → unit_arity self.now i ≡ 1
+            → unit_meaning self.now i a b ≡ unit_meaning self.now i 0 b };
 }
 
 impl OpUnit for Box<dyn OpUnit> {

@@ -16,8 +16,8 @@ returns-in_err-add_from-clause-refusal g c =
     let below : index < U.unit_size offered = omega (arith, c.count-index-end.ensures) in
     let error = err_from_is_err_and c.from_residual.result c.from_residual.ensures.1 in
     rw (error.1, error.2, ← c.loop-index.invariant.refusal, rest_of_unit row index (U.unit_size offered) below)
-      (cause_next c.loop-index.self.operations (row index) (map row (range_with_len (index + 1) (U.unit_size offered - (index + 1))))
-        c.in_err-add_from.field-0.0 c.in_err-add_from.ensures.refusal)
+    (cause_next c.loop-index.self.operations (row index) (map row (range_with_len (index + 1) (U.unit_size offered - (index + 1))))
+    c.in_err-add_from.field-0.0 c.in_err-add_from.ensures.refusal)
 
 pub loop-index-preserved : goal.loop-index-preserved
 loop-index-preserved g c =

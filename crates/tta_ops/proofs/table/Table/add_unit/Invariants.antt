@@ -14,5 +14,5 @@ invariant-loop-index g l =
     record {
       rows : l.self.operations ++ rest ≡ l.fn.self.operations ++ all;
       refusal : first_refusal (names_of l.self.operations) rest ≡ first_refusal (names_of l.fn.self.operations) all;
-      room : length l.self.operations + left ≤ 65536
+      room : length l.self.operations + left ≤ 65536;
     }

@@ -14,5 +14,5 @@ invariant-loop-offered g l =
       number : l.unit ≡ l.offered-index;
       rows : l.table.operations ++ rest ≡ all;
       refusal : first_refusal (names_of l.table.operations) rest ≡ first_refusal [] all;
-      room : length l.table.operations + sum_by U.unit_size (drop l.offered-index l.units) ≤ 65536
+      room : length l.table.operations + sum_by U.unit_size (drop l.offered-index l.units) ≤ 65536;
     }
