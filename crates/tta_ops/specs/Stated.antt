@@ -19,26 +19,23 @@ module _ {B : Type 0} (meaning : B → ℕ → ℕ → ℕ → ℕ) where
   given_by None index a b = 0
   given_by (Some unit) index a b = meaning unit index a b
 
-  -- the value of the operation at a place is a word: what its unit makes of a and b, with 0 for a
-  -- where it takes one word
+  -- what the unit at a place makes of a and b, with 0 for a where its operation takes one word
+  abbrev pub meant_at : List B → Option Place → ℕ → ℕ → ℕ
+  meant_at units None a b = 0
+  meant_at units (Some place) a b =
+      given_by (slice_get units place.unit) place.index (if nat_eq place.arity 1 then 0 else a) b
+
+  -- the value of the operation at a place: what its unit makes of a and b, as a word
   abbrev pub value_at : List B → Option Place → ℕ → ℕ → ℕ
-  value_at units None a b = 0 % 2 ^ 32
-  value_at units (Some place) a b =
-      given_by (slice_get units place.unit) place.index (if nat_eq place.arity 1 then 0 else a) b % 2 ^ 32
+  value_at units place a b = meant_at units place a b % 2 ^ 32
 
-  -- so every value is a word
-  pub value_at-word : (units : List B) (place : Option Place) (a b : ℕ) → value_at units place a b < 2 ^ 32
-  value_at-word units None a b = mod_below 0 (2 ^ 32) (pow_pos 32)
-  value_at-word units (Some place) a b =
-      mod_below (given_by (slice_get units place.unit) place.index (if nat_eq place.arity 1 then 0 else a) b) (2 ^ 32) (pow_pos 32)
-
-  -- and an operation that takes one word ignores a
+  -- an operation that takes one word ignores a
   pub value_at-ignores : (units : List B) (row : Option Row) (a b : ℕ) → option_map (λ r. r.place.arity) row ≡ Some 1
       → value_at units (option_map (λ r. r.place) row) a b ≡ value_at units (option_map (λ r. r.place) row) 0 b
   value_at-ignores units None a b one = refl
   value_at-ignores units (Some row) a b one =
       let value = λ (x : ℕ) (arity : Option ℕ).
-      given_by (slice_get units row.place.unit) row.place.index (if nat_eq (arity_or arity) 1 then 0 else x) b % 2 ^ 32 in
+          given_by (slice_get units row.place.unit) row.place.index (if nat_eq (arity_or arity) 1 then 0 else x) b % 2 ^ 32 in
       ap (value a) one ∙ sym (ap (value 0) one)
 
   -- what the units state, where these rows are their operations
@@ -48,7 +45,7 @@ module _ {B : Type 0} (meaning : B → ℕ → ℕ → ℕ → ℕ) where
     names = names_of rows;
     arities = arities_of rows;
     value = λ op a b. value_at units (option_map (λ r. r.place) (slice_get rows op)) a b;
-    word = λ op a b. value_at-word units (option_map (λ r. r.place) (slice_get rows op)) a b;
+    word = λ op a b. mod_below (meant_at units (option_map (λ r. r.place) (slice_get rows op)) a b) (2 ^ 32) (pow_pos 32);
     ignores = λ op a b one. value_at-ignores units (slice_get rows op) a b (sym (slice_get-map (λ r. r.place.arity) rows op) ∙ one);
     distinct = distinct;
     one_or_two = one_or_two;

@@ -5,7 +5,7 @@ ghost use Rattle.std.specs.Prelude.{length, option_map, slice_get, slice_index, 
 ghost use Rattle.tta_ops.specs.Units.{named};
 ghost use Rattle.tta_ops.specs.Offers.{rows_from, IsOffered};
 ghost use Rattle.tta_ops.specs.Refusal.{first_refusal, IsWalkResult};
-ghost use Rattle.tta_ops.specs.Set.{stated_boxed};
+ghost use Rattle.tta_ops.specs.Set.{meant_boxed, stated_boxed};
 
 use crate::OpId;
 use crate::error::OpsError;
@@ -116,7 +116,9 @@ impl UnitSet {
     /// that takes 1 word ignores a.
     #[tactic(auto, unfolding(crate::specs::Stated::stated_by))]
     pub fn apply(&self, op: OpId, a: u32, b: u32) -> u32
-        ensures { result ≡ (stated_boxed unit_meaning self.now).value op.0 a b }
+        ensures value { result ≡ (stated_boxed unit_meaning self.now).value op.0 a b }
+        // What the unit makes of two words is a word, so nothing is cut off.
+        ensures meant { result ≡ meant_boxed unit_meaning self.now op.0 a b }
     {
         apply_at(
             self.units.as_slice(),

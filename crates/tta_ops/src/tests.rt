@@ -76,6 +76,7 @@ fn handed_in_unit_is_found_and_applied(rt: HostRuntime) -> Result<(), Fail> {
     assert!(rt; boxes.push(Box::new(alloc, Bitrev)?).is_ok());
     assert!(rt; UnitSet::fits(boxes.as_slice()));
     let units = UnitSet::new(alloc, boxes).ok().ok_or("refused")?;
+    assert!(rt; !units.is_empty());
     assert_eq!(rt; units.len(), 6);
     assert_eq!(rt; units.find("bitre"), None);
     assert_eq!(rt; units.find_bytes(b"\xffbitrev"), None);
