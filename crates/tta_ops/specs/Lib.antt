@@ -1,1 +1,12 @@
 pub mod Units
+pub mod Unit
+pub mod Row
+pub mod Entries
+pub mod Stated
+pub mod Offers
+pub mod Refusal
+pub mod Set
+pub mod Operation
+pub mod Arithmetic
+pub mod Bits
+pub mod Comparison

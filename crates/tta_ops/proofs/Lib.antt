@@ -1,0 +1,5 @@
+pub mod Names
+pub mod Distinct
+pub mod Walk
+pub mod Shifts
+pub mod Examples
