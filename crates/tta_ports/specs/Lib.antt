@@ -1,0 +1,5 @@
+pub mod Store
+pub mod Faults
+pub mod Files
+pub mod Memory
+pub mod MemFiles
