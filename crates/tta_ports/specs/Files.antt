@@ -1,5 +1,5 @@
 -- What the answers of a read and of a write say of the files.
-use Rattle.std.specs.Prelude.{◌≡◌, ◌≤◌, ◌⊎◌, ℕ, Bool, true, false, List, length, take, Option, Some, None, option_map, IfSome, IsSomeAnd, Result, Ok, Err}
+use Rattle.std.specs.Prelude.{◌≡◌, ◌≤◌, ◌⊎◌, ℕ, Bool, true, false, List, length, take, Option, Some, option_map, IfSome, IsSomeAnd, Result, Ok, Err}
 use Rattle.tta_ports.specs.declared.error.ReadError.{ReadError}
 use Rattle.tta_ports.specs.declared.error.ReadError.TheVariants.{Failed, TooLong, NoMemory}
 use Rattle.tta_ports.specs.declared.error.WriteError.{WriteError}

@@ -4,7 +4,7 @@ ghost use Rattle.std.specs.Prelude.{◌≡◌, ◌<◌, ◌≤◌, ◌^◌, leng
 ghost use Rattle.std.specs.Prelude.{Some};
 ghost use Rattle.tta_ports.specs.declared.fault.Fault.TheVariants.{Read, Write};
 ghost use Rattle.tta_ports.specs.Store.{file_at, with_file};
-ghost use Rattle.tta_ports.specs.MemFiles.{store_of};
+ghost use Rattle.tta_ports.specs.Entries.{store_of};
 
 use crate::fault::{Fault, FaultLog};
 use crate::{Files, ReadError, WriteError};
@@ -32,14 +32,14 @@ pub struct MemFiles {
 
 impl Model for MemFiles {
     ghost use Rattle.std.specs.Prelude.{◌<◌, ◌^◌};
-    ghost use Rattle.tta_ports.specs.Memory.{Disk, disk_code};
+    ghost use Rattle.tta_ports.specs.Disk.{Disk, disk_code};
     ghost use Rattle.tta_ports.specs.contracts.fault.Fault as stored_fault;
 
     ghost Value = { Disk };
 
     ghost coded = { disk_code stored_fault.the_row.coded };
 
-    ghost use Rattle.tta_ports.specs.MemFiles.{store_of};
+    ghost use Rattle.tta_ports.specs.Entries.{store_of};
 
     ghost view = { λ m. record {
         store = store_of m.files.items;
@@ -76,7 +76,7 @@ fn put(alloc: Global, files: &mut Vec<File>, name: &[u8], bytes: &[u8]) -> Resul
 }
 
 impl MemFiles {
-    ghost use Rattle.tta_ports.specs.Memory.{new_disk, called, fails_next, holding};
+    ghost use Rattle.tta_ports.specs.Disk.{new_disk, called, fails_next, holding};
 
     /// No files. `failing` has the numbers of the calls that are to fail.
     pub fn new(alloc: Global, failing: Vec<u64>) -> Self
@@ -124,7 +124,7 @@ impl Files for MemFiles {
     ghost use Rattle.tta_ports.specs.Store.{Store};
     ghost use Rattle.tta_ports.specs.Faults.{CountsFault, TellsFault};
     ghost use Rattle.tta_ports.specs.Files.{Holds, HoldsMore, IfTooLong, WritesFile, read_failed, write_failed};
-    ghost use Rattle.tta_ports.specs.Memory.{read_answer, ReadAnswers, after_read, WriteAnswers};
+    ghost use Rattle.tta_ports.specs.Disk.{read_answer, ReadAnswers, after_read, WriteAnswers};
 
     ghost contents = { λ m. Some m.store };
 

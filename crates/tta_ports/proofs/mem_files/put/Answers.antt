@@ -1,7 +1,4 @@
-use Rattle.std.proofs.Common.{◌≡◌, sym, rules, ◌∙◌, ap}
-use Rattle.tta_ports.specs.declared.mem_files.File.{File}
-use Rattle.tta_ports.specs.Store.{with_file}
-use Rattle.tta_ports.specs.MemFiles.{store_of}
+use Rattle.std.proofs.Common.{rules}
 use Rattle.tta_ports.proofs.Found.{store_of-found_as, store_of-missing_as}
 use Rattle.tta_ports.proofs.mem_files.put.Goals as goal
 

@@ -1,6 +1,6 @@
-use Rattle.std.proofs.Common.{rules, ap, sym, ◌∙◌}
+use Rattle.std.proofs.Common.{rules, ap}
 use Rattle.tta_ports.specs.Store.{file_at}
-use Rattle.tta_ports.specs.Memory.{Disk}
+use Rattle.tta_ports.specs.Disk.{Disk}
 use Rattle.tta_ports.proofs.Found.{file_at-found, file_at-missing}
 use Rattle.tta_ports.proofs.mem_files.MemFiles.get.Goals as goal
 
