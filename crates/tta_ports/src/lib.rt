@@ -19,3 +19,6 @@ pub use mem_sink::MemSink;
 pub use real_files::RealFiles;
 pub use real_sink::RealSink;
 pub use sink_port::Sink;
+
+#[cfg(test)]
+mod tests;

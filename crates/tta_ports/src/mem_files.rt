@@ -1,6 +1,6 @@
 //! Files in memory, for tests: calls fail where they are told to.
 
-ghost use Rattle.std.specs.Prelude.{◌≡◌, ◌<◌, ◌≤◌, ◌^◌, length, OnOk, OnErr, IfOk, option_copied, position, bytes_eq};
+ghost use Rattle.std.specs.Prelude.{◌≡◌, ◌≢◌, ℕ, List, ◌<◌, ◌≤◌, ◌^◌, length, OnOk, OnErr, IfOk, option_copied, position, bytes_eq};
 ghost use Rattle.std.specs.Prelude.{Some};
 ghost use Rattle.tta_ports.specs.declared.fault.Fault.TheVariants.{Read, Write};
 ghost use Rattle.tta_ports.specs.Store.{file_at, with_file};
@@ -94,9 +94,13 @@ impl MemFiles {
     /// Gives it a file, in place of one of that name. This is no numbered call.
     pub fn add(&mut self, name: &str, bytes: &[u8]) -> Result<(), AllocError>
         ensures ok { OnOk result (self.new ≡ holding name.now bytes.now self.old) }
+        ensures held { OnOk result (file_at self.new.store name.now ≡ Some bytes.now) }
+        ensures others { OnOk result ((other : List ℕ) → other ≢ name.now
+            → file_at self.new.store other ≡ file_at self.old.store other) }
         ensures err { OnErr result (self.new ≡ self.old) }
     {
-        put(self.alloc, &mut self.files, name.as_bytes(), bytes)
+        put(self.alloc, &mut self.files, name.as_bytes(), bytes)?;
+        Ok(())
     }
 
     /// The bytes of a name, and none where there is no such file.
