@@ -8,16 +8,20 @@ use Rattle.std.specs.FinMap.{get, get-insert}
 use Rattle.std.specs.Str.{bytes_eq}
 use Rattle.tta_ports.specs.Store.{Store, file_at, with_file}
 
-at-with_file : (files : Store) (name bytes other : List ℕ)
-    → file_at (with_file files name bytes) other ≡ cond (bytes_eq other name) (Some bytes) (file_at files other)
+-- what stands under any name
+pub at-with_file : (files : Store) (name bytes other : List ℕ)
+    → file_at (with_file files name bytes) other
+    ≡ cond (bytes_eq other name) (Some bytes) (file_at files other)
 at-with_file files name bytes other =
     get-insert nat_list_cmp_total files name bytes other
     ∙ ap (λ b. cond b (Some bytes) (get files other)) (is_eq-slice_cmp other name)
 
 -- the name holds the bytes
-pub file_at-with_file : (files : Store) (name bytes : List ℕ) → file_at (with_file files name bytes) name ≡ Some bytes
+pub file_at-with_file : (files : Store) (name bytes : List ℕ)
+    → file_at (with_file files name bytes) name ≡ Some bytes
 file_at-with_file files name bytes =
-    at-with_file files name bytes name ∙ ap (λ b. cond b (Some bytes) (file_at files name)) (nat_list_eq_equiv.refl name)
+    at-with_file files name bytes name
+    ∙ ap (λ b. cond b (Some bytes) (file_at files name)) (nat_list_eq_equiv.refl name)
 
 -- each other name holds what it held
 pub file_at-with_file-other : (files : Store) (name bytes other : List ℕ) → other ≢ name

@@ -3,7 +3,8 @@ use Rattle.std.specs.Prelude.{ℕ, ◌-◌, ◌/◌, ◌==◌, ◌||◌, nat_lt,
 use Rattle.std.specs.List.{list_any}
 use Rattle.tta_ports.specs.Faults.{next_count}
 
--- the bytes taken, how many there is room for, the numbers of the puts that are to fail, and how many puts and faults there were
+-- the bytes taken, how many there is room for, the numbers of the puts that are to fail, and how many
+-- puts and how many faults there were
 pub record Buffer : Type 0 where
   pub taken : List ℕ
   pub room : ℕ
@@ -13,7 +14,8 @@ pub record Buffer : Type 0 where
 
 -- nothing taken yet
 abbrev pub new_buffer : ℕ → List ℕ → Buffer
-new_buffer room failing = record { taken = []; room = room; failing = failing; puts = 0; faults = 0 }
+new_buffer room failing =
+    record { taken = []; room = room; failing = failing; puts = 0; faults = 0 }
 
 -- whether the next put, whose number is one more than those before, is to fail
 abbrev pub put_is_failing : Buffer → Bool
@@ -42,5 +44,5 @@ after_put bytes b = record {
   room = b.room;
   failing = b.failing;
   puts = next_count b.puts;
-  faults = if put_fails b bytes then next_count b.faults else b.faults
+  faults = if put_fails b bytes then next_count b.faults else b.faults;
 }

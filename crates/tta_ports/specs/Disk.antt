@@ -12,7 +12,8 @@ use Rattle.tta_ports.specs.declared.error.WriteError.TheVariants.{Failed as Writ
 use Rattle.tta_ports.specs.Store.{Store, file_at, with_file, no_files, store_code}
 use Rattle.tta_ports.specs.Faults.{next_count}
 
--- the files, the numbers of the calls that are to fail, how many calls and faults there were, and the latest fault
+-- the files, the numbers of the calls that are to fail, how many calls and how many faults there were,
+-- and the latest fault
 pub record Disk : Type 0 where
   pub store : Store
   pub failing : List ℕ
@@ -22,7 +23,8 @@ pub record Disk : Type 0 where
 
 -- no files and no call yet
 abbrev pub new_disk : List ℕ → Disk
-new_disk failing = record { store = no_files; failing = failing; calls = 0; faults = 0; latest = None }
+new_disk failing =
+    record { store = no_files; failing = failing; calls = 0; faults = 0; latest = None }
 
 -- whether the next call, whose number is one more than those before, is to fail
 abbrev pub fails_next : Disk → Bool
@@ -34,7 +36,11 @@ called d = record d { calls = next_count d.calls }
 
 -- one more call, which failed
 abbrev pub faulted : Fault → Disk → Disk
-faulted fault d = record d { calls = next_count d.calls; faults = next_count d.faults; latest = Some fault }
+faulted fault d = record d {
+  calls = next_count d.calls;
+  faults = next_count d.faults;
+  latest = Some fault;
+}
 
 -- the name holds these bytes
 abbrev pub holding : List ℕ → List ℕ → Disk → Disk
@@ -47,7 +53,8 @@ first_half bytes = take (length bytes / 2) bytes
 -- what reading a name's bytes gives: no name is a fault, and more bytes than the limit are too many
 abbrev pub up_to : ℕ → Option (List ℕ) → Result (List ℕ) ReadError
 up_to limit None = Err Failed
-up_to limit (Some bytes) = if nat_le (length bytes) limit then Ok bytes else Err (TooLong (length bytes))
+up_to limit (Some bytes) =
+    if nat_le (length bytes) limit then Ok bytes else Err (TooLong (length bytes))
 
 -- what a read gives, but for want of memory
 abbrev pub read_answer : Disk → List ℕ → ℕ → Result (List ℕ) ReadError
@@ -66,7 +73,8 @@ after_read name true d = faulted (Read name) d
 after_read name false d = called d
 
 -- a write fails exactly where it is to, and then the name holds the first half of the bytes
-abbrev pub WriteAnswers : {T : Type 0} → Disk → Disk → List ℕ → List ℕ → Result T WriteError → Type 0
+abbrev pub WriteAnswers : {T : Type 0}
+    → Disk → Disk → List ℕ → List ℕ → Result T WriteError → Type 0
 WriteAnswers old new name bytes (Ok _) =
     (fails_next old ≡ false) × (new ≡ holding name bytes (called old))
 WriteAnswers old new name bytes (Err WriteFailed) =
@@ -77,7 +85,14 @@ WriteAnswers old new name bytes (Err WriteNoMemory) = new ≡ called old
 abbrev pub disk_code : Coded Fault → Coded Disk
 disk_code fault =
     code_by (Store × (List ℕ × (ℕ × (ℕ × Option Fault))))
-    (coded× store_code (coded× (coded_list coded_ℕ) (coded× coded_ℕ (coded× coded_ℕ (coded_option fault)))))
+    (coded× store_code (coded× (coded_list coded_ℕ)
+    (coded× coded_ℕ (coded× coded_ℕ (coded_option fault)))))
     (λ d. (d.store, (d.failing, (d.calls, (d.faults, d.latest)))))
-    (λ t. record { store = t.0; failing = t.1.0; calls = t.1.1.0; faults = t.1.1.1.0; latest = t.1.1.1.1 })
+    (λ t. record {
+      store = t.0;
+      failing = t.1.0;
+      calls = t.1.1.0;
+      faults = t.1.1.1.0;
+      latest = t.1.1.1.1;
+    })
     (λ _. refl)

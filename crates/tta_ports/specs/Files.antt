@@ -12,7 +12,8 @@ Holds files name bytes = IfSome files (λ s. file_at s name ≡ Some bytes)
 
 -- the name holds that many bytes or more, where the files are told
 abbrev pub HoldsMore : Option Store → List ℕ → ℕ → Type 0
-HoldsMore files name count = IfSome files (λ s. IsSomeAnd (file_at s name) (λ bytes. count ≤ length bytes))
+HoldsMore files name count =
+    IfSome files (λ s. IsSomeAnd (file_at s name) (λ bytes. count ≤ length bytes))
 
 -- the files once the name holds these bytes
 abbrev pub written : List ℕ → List ℕ → Option Store → Option Store
@@ -24,7 +25,8 @@ IsPartlyWritten name bytes old new =
     ((count : ℕ) × (new ≡ written name (take count bytes) old)) ⊎ (new ≡ old)
 
 -- what a write has done, by its answer
-abbrev pub WritesFile : {T : Type 0} → List ℕ → List ℕ → Option Store → Option Store → Result T WriteError → Type 0
+abbrev pub WritesFile : {T : Type 0}
+    → List ℕ → List ℕ → Option Store → Option Store → Result T WriteError → Type 0
 WritesFile name bytes old new (Ok _) = new ≡ written name bytes old
 WritesFile name bytes old new (Err WriteFailed) = IsPartlyWritten name bytes old new
 WritesFile name bytes old new (Err WriteNoMemory) = new ≡ old

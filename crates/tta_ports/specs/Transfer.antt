@@ -8,5 +8,6 @@ use Rattle.tta_ports.specs.declared.error.ReadError.TheVariants.{Failed, TooLong
 abbrev pub ReadsUpTo : Option (List ℕ) → ℕ → Result (Vec ℕ Global) ReadError → Type 0
 ReadsUpTo known limit (Ok v) = (length v.items ≤ limit) × IfSome known (λ bytes. bytes ≡ v.items)
 ReadsUpTo known limit (Err Failed) = Unit {0}
-ReadsUpTo known limit (Err (TooLong count)) = (limit < count) × IfSome known (λ bytes. count ≤ length bytes)
+ReadsUpTo known limit (Err (TooLong count)) =
+    (limit < count) × IfSome known (λ bytes. count ≤ length bytes)
 ReadsUpTo known limit (Err NoMemory) = Unit {0}

@@ -15,7 +15,8 @@ pub struct Failed;
 pub enum ReadError {
     /// The file is missing, or the outside failed.
     Failed,
-    /// There are more bytes than the limit. `count` is how many were read, which is above the limit.
+    /// There are more bytes than the limit. `count` is how many of them were read, which is above
+    /// the limit.
     TooLong { count: u64 },
     /// There was no memory for the name or for the bytes.
     NoMemory,

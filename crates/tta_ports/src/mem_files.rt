@@ -1,7 +1,6 @@
 //! Files in memory, for tests: calls fail where they are told to.
 
-ghost use Rattle.std.specs.Prelude.{◌≡◌, ◌≢◌, ℕ, List, ◌<◌, ◌≤◌, ◌^◌, length, OnOk, OnErr, IfOk, option_copied, position, bytes_eq};
-ghost use Rattle.std.specs.Prelude.{Some};
+ghost use Rattle.std.specs.Prelude.{◌≡◌, ◌≢◌, ℕ, List, ◌<◌, ◌≤◌, ◌^◌, length, OnOk, OnErr, IfOk, Some, option_copied, position, bytes_eq};
 ghost use Rattle.tta_ports.specs.declared.fault.Fault.TheVariants.{Read, Write};
 ghost use Rattle.tta_ports.specs.Store.{file_at, with_file};
 ghost use Rattle.tta_ports.specs.Entries.{store_of};
@@ -21,6 +20,9 @@ struct File {
 
 /// Files in memory. Reads and writes are numbered together from 1, whatever they answer, and those
 /// whose numbers were handed in fail. A read of a missing name fails too, and nothing else does.
+///
+/// A write that fails keeps the first half of the bytes, rounded down. Each read and each write
+/// copies the name first, and answers `NoMemory` where a copy finds no memory.
 #[derive(Drop)]
 pub struct MemFiles {
     alloc: Global,
@@ -42,11 +44,11 @@ impl Model for MemFiles {
     ghost use Rattle.tta_ports.specs.Entries.{store_of};
 
     ghost view = { λ m. record {
-        store = store_of m.files.items;
-        failing = m.failing.items;
-        calls = m.calls;
-        faults = m.log.count;
-        latest = m.log.latest
+      store = store_of m.files.items;
+      failing = m.failing.items;
+      calls = m.calls;
+      faults = m.log.count;
+      latest = m.log.latest;
     } };
 
     ghost invariant = { λ m. m.log.count < 2 ^ 64 };
@@ -61,7 +63,8 @@ fn position_of(files: &[File], name: &[u8]) -> Option<usize>
 
 // Makes the name hold the bytes.
 fn put(alloc: Global, files: &mut Vec<File>, name: &[u8], bytes: &[u8]) -> Result<(), AllocError>
-    ensures ok { OnOk result (store_of files.new.items ≡ with_file (store_of files.old.items) name.now bytes.now) }
+    ensures ok { OnOk result (store_of files.new.items
+        ≡ with_file (store_of files.old.items) name.now bytes.now) }
     ensures err { OnErr result (files.new.items ≡ files.old.items) }
 {
     let file = File {
@@ -92,6 +95,8 @@ impl MemFiles {
     }
 
     /// Gives it a file, in place of one of that name. This is no numbered call.
+    ///
+    /// It fails only where there is no memory, and then the files are as before.
     pub fn add(&mut self, name: &str, bytes: &[u8]) -> Result<(), AllocError>
         ensures ok { OnOk result (self.new ≡ holding name.now bytes.now self.old) }
         ensures held { OnOk result (file_at self.new.store name.now ≡ Some bytes.now) }
@@ -137,7 +142,8 @@ impl Files for MemFiles {
     ghost latest = { λ m. m.latest };
 
     fn read(&mut self, name: &str, limit: u64) -> Result<Vec<u8>, ReadError>
-        // It fails exactly where its number is to fail and where there is no such name.
+        // It fails exactly where its number is to fail and where there is no such name, unless
+        // memory is short.
         ensures exact { ReadAnswers (read_answer self.old name.now limit) result }
         ensures after { self.new ≡ after_read name.now (read_failed result) self.old }
 
@@ -148,7 +154,8 @@ impl Files for MemFiles {
         ensures exceeds { IfTooLong result (λ n. HoldsMore (Some self.old.store) name.now n) }
         ensures unchanged { Some self.new.store ≡ Some self.old.store }
         ensures cause { CountsFault (read_failed result) self.old.faults self.new.faults }
-        ensures blame { TellsFault (read_failed result) (Read name.now) self.old.latest self.new.latest }
+        ensures blame { TellsFault (read_failed result) (Read name.now)
+            self.old.latest self.new.latest }
         ensures later { self.old.faults ≤ self.new.faults }
         ensures bounded { self.new.faults < 2 ^ 64 }
     {
@@ -170,13 +177,16 @@ impl Files for MemFiles {
     }
 
     fn write(&mut self, name: &str, bytes: &[u8]) -> Result<(), WriteError>
-        // It fails exactly where its number is to fail, and then keeps the first half.
+        // It fails exactly where its number is to fail, unless memory is short, and then keeps
+        // the first half.
         ensures exact { WriteAnswers self.old self.new name.now bytes.now result }
 
         // What every kind of files says.
-        ensures written { WritesFile name.now bytes.now (Some self.old.store) (Some self.new.store) result }
+        ensures written { WritesFile name.now bytes.now
+            (Some self.old.store) (Some self.new.store) result }
         ensures cause { CountsFault (write_failed result) self.old.faults self.new.faults }
-        ensures blame { TellsFault (write_failed result) (Write name.now) self.old.latest self.new.latest }
+        ensures blame { TellsFault (write_failed result) (Write name.now)
+            self.old.latest self.new.latest }
         ensures later { self.old.faults ≤ self.new.faults }
         ensures bounded { self.new.faults < 2 ^ 64 }
     {

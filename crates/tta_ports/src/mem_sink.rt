@@ -24,11 +24,11 @@ impl Model for MemSink {
     ghost Value = { Buffer };
 
     ghost view = { λ s. record {
-        taken = s.bytes.items;
-        room = s.room;
-        failing = s.failing.items;
-        puts = s.puts;
-        faults = s.faults
+      taken = s.bytes.items;
+      room = s.room;
+      failing = s.failing.items;
+      puts = s.puts;
+      faults = s.faults;
     } };
 
     ghost invariant = { λ s. (vec_len s.bytes ≤ s.room)
@@ -101,7 +101,11 @@ impl Sink for MemSink {
         ensures bounded { self.new.faults < 2 ^ 64 }
     {
         let must_fail = self.begin_put();
-        let wanted = if must_fail { bytes.len() / 2 } else { bytes.len() };
+        let wanted = if must_fail {
+            bytes.len() / 2
+        } else {
+            bytes.len()
+        };
         let count = wanted.min(self.room - self.bytes.len());
         append(&mut self.bytes, &bytes[..count]);
         if must_fail || count < bytes.len() {

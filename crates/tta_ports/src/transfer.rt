@@ -14,11 +14,7 @@ const PIECE: usize = 4096;
 /// All the bytes of a reader, if there are at most `limit`.
 ///
 /// It stops as soon as it has read more than that. A read that gives nothing ends the input.
-pub fn read_up_to<R: Read>(
-    alloc: Global,
-    reader: &mut R,
-    limit: u64,
-) -> Result<Vec<u8>, ReadError>
+pub fn read_up_to<R: Read>(alloc: Global, reader: &mut R, limit: u64) -> Result<Vec<u8>, ReadError>
     ensures { ReadsUpTo (R.remaining reader.old) limit result }
 {
     let mut bytes = Vec::new(alloc);
@@ -45,7 +41,8 @@ pub fn read_up_to<R: Read>(
 /// A write that takes nothing of what is left is a fault.
 pub fn write_whole<W: Write>(writer: &mut W, bytes: &[u8]) -> Result<(), Failed>
     ensures ok { OnOk result (Appends (W.contents writer.old) (W.contents writer.new) bytes.now) }
-    ensures err { OnErr result ((n : ℕ) × Appends (W.contents writer.old) (W.contents writer.new) (take n bytes.now)) }
+    ensures err { OnErr result ((count : ℕ)
+        × Appends (W.contents writer.old) (W.contents writer.new) (take count bytes.now)) }
 {
     let mut rest = bytes;
     for _ in 0..u64::MAX {

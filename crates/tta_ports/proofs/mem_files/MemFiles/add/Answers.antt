@@ -13,5 +13,6 @@ returns-clause-held c =
 pub returns-clause-others : goal.returns-clause-others
 returns-clause-others c = λ other apart.
     ap (λ (s : Store). file_at s other) (search rules)
-    ∙ file_at-with_file-other (store_of c.self.inside.files.items) c.args.name.now c.args.bytes.now other apart
+    ∙ file_at-with_file-other (store_of c.self.inside.files.items)
+    c.args.name.now c.args.bytes.now other apart
     ∙ ap (λ (d : Disk). file_at d.store other) c.self.view_is
