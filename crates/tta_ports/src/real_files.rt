@@ -11,6 +11,9 @@ use std::{fs, rt};
 use tta_list::Name;
 
 /// The files of the host, which the runtime reaches. What they hold is not told.
+///
+/// Each call copies the name first, and answers `NoMemory` where that copy finds no memory. Every
+/// error of the host is a fault.
 #[derive(Drop)]
 pub struct RealFiles<R> {
     rt: R,

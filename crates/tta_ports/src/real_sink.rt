@@ -8,6 +8,9 @@ use std::io;
 use std::marker::Model;
 
 /// The standard output of the host, which the runtime reaches. What it has taken is not told.
+///
+/// Each put is handed to the host at once, so nothing is left to flush. A put of nothing calls no
+/// host.
 #[derive(Drop)]
 pub struct RealSink<R> {
     rt: R,
