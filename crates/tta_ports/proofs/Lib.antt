@@ -1,0 +1,4 @@
+pub mod Found
+pub mod Transfers
+pub mod StoreLemmas
+pub mod Examples
