@@ -1,3 +1,9 @@
 pub mod Program
 pub mod Sequential
 pub mod Rules
+pub mod Refusals
+pub mod Forms
+pub mod Draft
+pub mod FirstPass
+pub mod SecondPass
+pub mod Text

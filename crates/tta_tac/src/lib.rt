@@ -4,9 +4,11 @@
 mod args;
 mod operand;
 mod program;
+mod reading;
 mod step;
 
 pub use args::Args;
 pub use operand::{Rel, Src};
 pub use program::{Proc, Program};
+pub use reading::{Refusal, TacError};
 pub use step::Step;
