@@ -8,6 +8,9 @@ use std::marker::Model;
 
 /// A sink with room for so many bytes. Puts are numbered from 1, whatever they answer. They fail
 /// exactly where their numbers were handed in, and where the bytes go past the room.
+///
+/// A put whose number was handed in takes the first half of its bytes, rounded down, and no more
+/// than fits. Any other that goes past the room takes what fits.
 #[derive(Drop)]
 pub struct MemSink {
     bytes: Vec<u8>,

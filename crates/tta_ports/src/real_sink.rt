@@ -9,8 +9,8 @@ use std::marker::Model;
 
 /// The standard output of the host, which the runtime reaches. What it has taken is not told.
 ///
-/// Each put is handed to the host at once, so nothing is left to flush. A put of nothing calls no
-/// host.
+/// Each put is handed to the host at once, so nothing is left to flush. A put of no bytes does not
+/// reach the host.
 #[derive(Drop)]
 pub struct RealSink<R> {
     rt: R,
