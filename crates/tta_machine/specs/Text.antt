@@ -12,7 +12,9 @@ use Rattle.tta_machine.specs.declared.parts.Template.{Template}
 use Rattle.tta_machine.specs.declared.parts.Control.{Control}
 use Rattle.tta_machine.specs.Machine.{Machine}
 use Rattle.tta_machine.specs.Fields.{taken_width}
-use Rattle.tta_machine.specs.Draft.{nothing, machine_of}
+use Rattle.tta_machine.specs.declared.reading.refusal.MachineError.{MachineError}
+use Rattle.tta_machine.specs.declared.reading.refusal.MachineError.TheVariants as machine_error
+use Rattle.tta_machine.specs.Draft.{nothing, machine_of, code_of}
 use Rattle.tta_machine.specs.Forms.{bus_form, socket_form, file_form, imm_form, unit_form, op_form, guard_form, template_form, control_form, space_form}
 use Rattle.tta_machine.specs.Declarations.{take_bus, take_socket, take_file, take_imm, take_unit, take_op, take_guard, take_template, take_control, take_space}
 
@@ -71,3 +73,9 @@ complete d = of d.control where
 -- the machine of a text, or its first refusal
 unfoldable pub machine_of_text : Units → List ℕ → Result Machine Refused
 machine_of_text u text = take_lines u 1 nothing (lines_of text) >>= complete
+
+-- what is told of a text that describes no machine; want of memory needs no cause
+abbrev pub HasCause : Units → List ℕ → MachineError → Type 0
+HasCause u text (machine_error.Refused line code) =
+    (refusal : Refusal) × (code ≡ code_of refusal) × (machine_of_text u text ≡ Err (line, refusal))
+HasCause u text machine_error.NoMemory = Unit {0}

@@ -10,4 +10,4 @@ mod word;
 pub use ends::{Dest, GuardRef, Source};
 pub use machine::Machine;
 pub use parts::{Bus, Control, File, Guard, ImmUnit, Op, Socket, Template, Unit, UnitOp};
-pub use reading::{MachineError, Refusal};
+pub use reading::{MachineError, Refusal, read_machine};

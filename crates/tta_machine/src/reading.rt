@@ -2,6 +2,8 @@
 
 mod draft;
 mod forms;
+mod read;
 mod refusal;
 
+pub use read::read_machine;
 pub use refusal::{MachineError, Refusal};

@@ -7,3 +7,4 @@ pub mod Draft
 pub mod FirstPass
 pub mod SecondPass
 pub mod Text
+pub mod Seen

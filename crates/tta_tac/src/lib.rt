@@ -10,5 +10,5 @@ mod step;
 pub use args::Args;
 pub use operand::{Rel, Src};
 pub use program::{Proc, Program};
-pub use reading::{Refusal, TacError};
+pub use reading::{Refusal, TacError, read_program};
 pub use step::Step;

@@ -1,0 +1,54 @@
+-- What the code reads of a line, as the definitions see it.
+use Rattle.std.specs.Prelude.{◌≡◌, ℕ, List, [], ◌∷◌, map, Option, Some, None, Result, Ok, Err, option_map}
+use Rattle.std.specs.List.{filter_map}
+use Rattle.tta_reading.specs.declared.word.Word.{Word}
+use Rattle.tta_reading.specs.Lines.{plain}
+use Rattle.tta_tac.specs.declared.reading.refusal.Refusal.{Refusal}
+use Rattle.tta_tac.specs.declared.reading.refusal.LineError.{LineError}
+use Rattle.tta_tac.specs.declared.reading.refusal.LineError.TheVariants as line_error
+use Rattle.tta_tac.specs.declared.reading.forms.Operand.{Operand as OperandWords}
+use Rattle.tta_tac.specs.declared.reading.forms.Operand.TheVariants as operand_words
+use Rattle.tta_tac.specs.declared.reading.forms.Operands.{Operands as OperandsWords}
+use Rattle.tta_tac.specs.declared.reading.forms.Operands.TheVariants as operands_words
+use Rattle.tta_tac.specs.declared.reading.forms.Form.{Form as FormWords}
+use Rattle.tta_tac.specs.declared.reading.forms.Form.TheVariants as form_words
+use Rattle.tta_tac.specs.Forms.{Operand, Named, Constant, operand_of, Form, ProcForm, LabelForm, CopyForm, ApplyForm, LoadForm, StoreForm, PutForm, IfForm, GotoForm, WhenForm, CallForm, ReturnForm, HaltForm, EndForm}
+use Rattle.tta_tac.specs.Draft.{Draft}
+
+-- a line did to the draft what the definition says, or there was no memory
+abbrev pub Says : {A : Type 0} → Draft → Result A LineError → Result Draft Refusal → Type 0
+Says new (Ok x) said = said ≡ Ok new
+Says new (Err (line_error.Refused e)) said = said ≡ Err e
+Says new (Err line_error.NoMemory) said = Unit {0}
+
+-- the texts of words
+abbrev pub texts : List Word → List (List ℕ)
+texts words = map (λ w. w.text.now) words
+
+-- the operands among words
+abbrev pub operands_in : List Word → List Operand
+operands_in words = filter_map (λ w. operand_of (plain w)) words
+
+abbrev pub operand_seen : OperandWords → Operand
+operand_seen (operand_words.Named name) = Named name.now
+operand_seen (operand_words.Constant n) = Constant n
+
+abbrev pub operands_seen : OperandsWords → List Operand
+operands_seen (operands_words.One b) = operand_seen b ∷ []
+operands_seen (operands_words.Two a b) = operand_seen a ∷ operand_seen b ∷ []
+
+abbrev pub form_seen : FormWords → Form
+form_seen (form_words.Proc name params) = ProcForm name.now (texts params.now)
+form_seen (form_words.Label name) = LabelForm name.now
+form_seen (form_words.Copy d s) = CopyForm d.now (operand_seen s)
+form_seen (form_words.Apply d op operands) = ApplyForm d.now op.now (operands_seen operands)
+form_seen (form_words.Load d a) = LoadForm d.now (operand_seen a)
+form_seen (form_words.Store a v) = StoreForm (operand_seen a) (operand_seen v)
+form_seen (form_words.Put v) = PutForm (operand_seen v)
+form_seen (form_words.If rel a b label) = IfForm rel (operand_seen a) (operand_seen b) label.now
+form_seen (form_words.Goto label) = GotoForm label.now
+form_seen (form_words.When rel a b d s) = WhenForm rel (operand_seen a) (operand_seen b) d.now (operand_seen s)
+form_seen (form_words.Call d callee args) = CallForm (option_map (λ n. n.now) d) callee.now (operands_in args.now)
+form_seen (form_words.Return s) = ReturnForm (option_map operand_seen s)
+form_seen form_words.Halt = HaltForm
+form_seen form_words.End = EndForm
