@@ -5,7 +5,8 @@ use Rattle.std.specs.List.{list_all, prefix_len}
 use Rattle.std.proofs.lemmas.Bool.{cases_Bool, and_parts, and_from, not-true}
 use Rattle.tta_text.specs.declared.lexeme.Kind.{Kind}
 use Rattle.tta_text.specs.Tokens.{piece_at}
-use Rattle.tta_text.specs.Covers.{first_is, is_of_kind, is_gap, newlines, is_open}
+use Rattle.tta_text.specs.Words.{first_is, is_of_kind}
+use Rattle.tta_text.specs.Covers.{is_gap, newlines, is_open}
 use Rattle.tta_text.proofs.Longest.{IsLongest}
 
 -- the bytes at the front that pass a test, and what comes then

@@ -7,4 +7,6 @@ pub mod Fronts
 pub mod Taken
 pub mod Marks
 pub mod Covering
+pub mod OneKind
+pub mod OneReading
 mod Examples

@@ -5,7 +5,7 @@ use Rattle.std.specs.List.{list_all, starts_with}
 use Rattle.std.specs.Char.{is_ascii_digit}
 use Rattle.std.proofs.lemmas.Bool.{and_parts, both_ways, false≢true}
 use Rattle.tta_text.specs.declared.lexeme.Kind.{Kind}
-use Rattle.tta_text.specs.Covers.{first_is, is_letter, is_run, is_of_kind}
+use Rattle.tta_text.specs.Words.{first_is, is_letter, is_run, is_of_kind}
 use Rattle.tta_text.proofs.Shapes.{IsLong, run, minus, arrow, dots, is_run_byte, token_is_long}
 
 -- no longer part of a text is a token, where this word stands at its front and the rest comes then

@@ -6,7 +6,7 @@ use Rattle.std.specs.Char.{is_ascii_digit}
 use Rattle.std.proofs.lemmas.Bool.{cases_Bool, and_parts, or_right, or_from, both_ways, false≢true, false_from_ne_true, eqb-true}
 use Rattle.tta_text.specs.declared.lexeme.Kind.TheVariants.{Mark, Bad}
 use Rattle.tta_text.specs.Tokens.{token, piece_at, mark_piece}
-use Rattle.tta_text.specs.Covers.{first_is, is_letter, is_of_kind, is_blank, is_number, is_mark, is_bad_run, is_bad_negative, is_other}
+use Rattle.tta_text.specs.Words.{first_is, is_letter, is_of_kind, is_blank, is_number, is_mark, is_bad_run, is_bad_negative, is_other}
 use Rattle.tta_text.proofs.Shapes.{number_is_run}
 use Rattle.tta_text.proofs.Longest.{single_is_longest, arrow_is_longest, dots_are_longest}
 use Rattle.tta_text.proofs.Fronts.{Front, quiet}

@@ -1,5 +1,5 @@
 -- Digits have a value where they are those of a number, each counted by its place.
-use Rattle.std.proofs.Common.{◌≡◌, ℕ, ◌+◌, ◌*◌, ◌^◌, ◌<◌, ◌≤◌, Bool, true, false, ◌==◌, ◌&&◌, List, [], ◌∷◌, length, drop, refl, inl, inr, arith, ◌∙◌, sym, lit≤}
+use Rattle.std.proofs.Common.{◌≡◌, ℕ, ◌+◌, ◌*◌, ◌^◌, ◌<◌, ◌≤◌, Bool, true, false, ◌==◌, ◌&&◌, List, [], ◌∷◌, length, drop, refl, inl, inr, arith, ◌∙◌, sym, ap, lit≤}
 use Rattle.std.proofs.Math.Bool.{or-false}
 use Rattle.std.proofs.Math.Nat.{pow-zero, pow-suc, pow-le-pow_right, mul-le-mul_right}
 use Rattle.std.specs.Prelude.{Option, Some, None, is_some, option_map, nat_lt, nat_le, nat_eq, if◌then◌else◌, codes}
@@ -9,7 +9,7 @@ use Rattle.std.specs.Str.Parse.{digits_value, digits_value_after}
 use Rattle.std.proofs.lemmas.Bool.{cases_Bool, and_parts, eqb-true, ltb-true, leb-true, lt-ltb, false_from_ne_true, false≢true}
 use Rattle.std.proofs.lemmas.Bool.Decides.{nat_tests}
 use Rattle.tta_text.specs.Numbers.{value_below, digits_of, number_of, negative_of}
-use Rattle.tta_text.specs.Covers.{first_is, is_decimal, is_hexadecimal, is_number, is_negative, place_value}
+use Rattle.tta_text.specs.Words.{first_is, is_decimal, is_hexadecimal, is_number, is_negative, place_value, IsNumberWorth, IsNegativeWorth}
 
 regrouped : (value base digit place rest : ℕ)
     → (value * base + digit) * place + rest ≡ value * (place * base) + (digit * place + rest)
@@ -130,3 +130,54 @@ is_some-negative_of word =
           rw (sign, ← first, sign, is_some-option_map, is_some-decimal (2 ^ 31 + 1) (drop 1 word)) refl
       | inr none ↦ let first = sign_is_first word in rw (none, ← first, none) refl
     ]
+
+none_is_none : (value : Option ℕ) → is_some value ≡ false → value ≡ None
+none_is_none None h = refl
+none_is_none (Some n) h = absurd (false≢true (sym h))
+
+if_some : (b : Bool) (value : ℕ) → is_some (if b then Some value else None) ≡ true
+    → (if b then Some value else None) ≡ Some value
+if_some true value h = refl
+if_some false value h = absurd (false≢true h)
+
+value_below-place : (base limit : ℕ) (digits : List ℕ) → is_some (value_below base limit digits) ≡ true
+    → value_below base limit digits ≡ Some (place_value base digits)
+unfolding value_below
+value_below-place base limit digits h =
+    let place : digits_value base digits ≡ place_value base digits = rw (digits_value_after-place base 0 digits) (omega arith) in
+    if_some _ (digits_value base digits) h ∙ ap (λ n. Some n) place
+
+digits_of-place : (base most limit : ℕ) (digits : List ℕ) → is_some (digits_of base most limit digits) ≡ true
+    → digits_of base most limit digits ≡ Some (place_value base digits)
+unfolding digits_of
+digits_of-place base most limit digits h =
+    elim (cases_Bool (nat_lt 0 (length digits) && nat_le (length digits) most)) [
+      | inl short ↦ rw short (value_below-place base limit digits (rw short at h))
+      | inr long ↦ absurd (false≢true (rw long at h))
+    ]
+
+-- what numbers are worth
+pub number_of-worth : (word : List ℕ) → IsNumberWorth word (number_of word)
+unfolding number_of
+number_of-worth word =
+    record {
+      decimal = λ h. elim (cases_Bool (starts_with nat_eq word (codes "0x"))) [
+        | inl prefix ↦ absurd (false≢true (sym (prefix_is_no_decimal (2 ^ 32) word prefix) ∙ h))
+        | inr none ↦ rw none (digits_of-place 10 10 (2 ^ 32) word (is_some-decimal (2 ^ 32) word ∙ h))
+      ];
+      hexadecimal = λ h.
+          let parts = and_parts (starts_with nat_eq word (codes "0x")) (is_hexadecimal (drop 2 word)) h in
+          rw parts.0 (digits_of-place 16 8 (2 ^ 32) (drop 2 word) (is_some-hexadecimal (drop 2 word) ∙ parts.1));
+      other = λ h. none_is_none (number_of word) (is_some-number_of word ∙ h);
+    }
+
+pub negative_of-worth : (word : List ℕ) → IsNegativeWorth word (negative_of word)
+unfolding negative_of
+negative_of-worth word =
+    record {
+      negative = λ h.
+          let parts = and_parts (first_is (λ byte. byte == 45) word) (is_decimal (2 ^ 31 + 1) (drop 1 word)) h in
+          let sign : starts_with nat_eq word (codes "-") ≡ true = sign_is_first word ∙ parts.0 in
+          rw (sign, digits_of-place 10 10 (2 ^ 31 + 1) (drop 1 word) (is_some-decimal (2 ^ 31 + 1) (drop 1 word) ∙ parts.1)) refl;
+      other = λ h. none_is_none (negative_of word) (is_some-negative_of word ∙ h);
+    }

@@ -7,7 +7,7 @@ use Rattle.std.proofs.lemmas.Bool.{and_parts, and_from, or_cases, or_left, or_ri
 use Rattle.std.proofs.lemmas.Bool.Decides.{nat_tests}
 use Rattle.tta_text.specs.declared.lexeme.Kind.{Kind}
 use Rattle.tta_text.specs.declared.lexeme.Kind.TheVariants.{Name, Number, Negative, Mark, Eol, Bad}
-use Rattle.tta_text.specs.Covers.{first_is, is_letter, is_run, is_name, is_decimal, is_hexadecimal, is_number, is_negative, is_mark, is_other, is_digit_run, is_bad_run, is_bad_negative, is_bad, is_of_kind}
+use Rattle.tta_text.specs.Words.{first_is, is_letter, is_run, is_name, is_decimal, is_hexadecimal, is_number, is_negative, is_mark, is_other, is_digit_run, is_bad_run, is_bad_negative, is_bad, is_of_kind}
 
 -- a byte of a run
 abbrev pub is_run_byte : ℕ → Bool

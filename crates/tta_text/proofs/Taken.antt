@@ -8,7 +8,8 @@ use Rattle.std.proofs.lemmas.List.{take_at, append-nil}
 use Rattle.tta_text.specs.declared.lexeme.Kind.TheVariants.{Name, Number, Negative, Eol, Bad}
 use Rattle.tta_text.specs.Numbers.{number_of, negative_of}
 use Rattle.tta_text.specs.Tokens.{token, piece_at, number_piece, negative_piece, kind_if}
-use Rattle.tta_text.specs.Covers.{first_is, is_letter, is_run, is_of_kind, is_blank, is_gap, ends_line, is_number, is_negative, is_digit_run, is_bad_run, is_bad_negative, is_other}
+use Rattle.tta_text.specs.Words.{first_is, is_letter, is_run, is_of_kind, is_blank, is_number, is_negative, is_digit_run, is_bad_run, is_bad_negative, is_other}
+use Rattle.tta_text.specs.Covers.{is_gap, ends_line}
 use Rattle.tta_text.proofs.Shapes.{is_run_byte, letter_is_run_byte, digit_is_run_byte, list_all-wider}
 use Rattle.std.proofs.lemmas.Bool.Decides.{nat_tests}
 use Rattle.tta_text.specs.Bytes.{starts_with_digit}

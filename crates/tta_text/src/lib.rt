@@ -12,7 +12,7 @@ mod numbers;
 mod pieces;
 mod scanning;
 
-pub use law::tokens_cover;
+pub use law::{digits_count_by_place, tokens_cover};
 pub use lexeme::{Kind, Token};
 pub use numbers::{negative, number};
 pub use scanning::Scanner;
