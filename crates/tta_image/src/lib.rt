@@ -1,2 +1,4 @@
 //! Instructions as bits, and code as the bytes of an image.
 #![tactic(auto)]
+
+mod sink;
