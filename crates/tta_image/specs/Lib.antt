@@ -1,3 +1,4 @@
 pub mod Bits
 pub mod Image
 pub mod Sink
+pub mod Layout

@@ -1,4 +1,5 @@
 //! Instructions as bits, and code as the bytes of an image.
 #![tactic(auto)]
 
+mod ends;
 mod sink;

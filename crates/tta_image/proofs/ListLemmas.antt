@@ -1,0 +1,32 @@
+-- Lists that a loop makes item by item.
+use Rattle.std.proofs.Common.{◌≡◌, ℕ, zero, suc, ◌+◌, ◌-◌, ◌<◌, ◌≤◌, List, [], ◌∷◌, ◌++◌, length, map, get_or, take, drop, refl, sym, ap, ◌∙◌, arith}
+use Rattle.std.proofs.lemmas.List.{append_assoc, append-nil, drop_more, drop_all}
+use Rattle.std.proofs.lemmas.List.FromFn.{map-range_with_len_more}
+use Rattle.std.specs.List.{flat_map, enumerate_from, range_with_len}
+
+-- one number more
+pub numbered_more : {X : Type 0} (f : ℕ → X) (list list' start : List X) (n : ℕ) → list' ≡ list ++ f n ∷ [] → list ≡ start ++ map f (range_with_len 0 n)
+    → list' ≡ start ++ map f (range_with_len 0 (n + 1))
+numbered_more f list list' start n pushed was =
+    pushed ∙ ap (λ l. l ++ f n ∷ []) was ∙ append_assoc start (map f (range_with_len 0 n)) (f n ∷ [])
+    ∙ ap (λ l. start ++ l) (sym (map-range_with_len_more f 0 n n (omega arith)))
+
+enumerate_more : {X : Type 0} (xs : List X) (i : ℕ) (x : X) → i < length xs → x ≡ get_or xs i x
+    → enumerate_from i (drop i xs) ≡ (i, x) ∷ enumerate_from (i + 1) (drop (i + 1) xs)
+enumerate_more xs i x h is =
+    ap (λ l. enumerate_from i l) (drop_more xs i x h) ∙ ap (λ y. (i, y) ∷ enumerate_from (i + 1) (drop (i + 1) xs)) (sym is)
+
+-- one item more, where what each item gives is put at the end
+pub pieces_more : {X A : Type 0} (g : ℕ × X → List A) (list list' all : List A) (xs : List X) (i : ℕ) (x : X) → i < length xs → x ≡ get_or xs i x
+    → list' ≡ list ++ g (i, x) → list ++ flat_map g (enumerate_from i (drop i xs)) ≡ all
+    → list' ++ flat_map g (enumerate_from (i + 1) (drop (i + 1) xs)) ≡ all
+pieces_more g list list' all xs i x h is pushed was =
+    ap (λ l. l ++ flat_map g (enumerate_from (i + 1) (drop (i + 1) xs))) pushed
+    ∙ append_assoc list (g (i, x)) (flat_map g (enumerate_from (i + 1) (drop (i + 1) xs)))
+    ∙ ap (λ l. list ++ flat_map g l) (sym (enumerate_more xs i x h is)) ∙ was
+
+-- no item left
+pub pieces_end : {X A : Type 0} (g : ℕ × X → List A) (list all : List A) (xs : List X) (i : ℕ) → length xs ≤ i
+    → list ++ flat_map g (enumerate_from i (drop i xs)) ≡ all → list ≡ all
+pieces_end g list all xs i h was =
+    sym (append-nil list) ∙ ap (λ l. list ++ flat_map g (enumerate_from i l)) (sym (drop_all i xs h)) ∙ was
