@@ -1,5 +1,5 @@
 -- The layout of a machine's instructions as one value.
-use Rattle.std.specs.Prelude.{ℕ, List, [], ◌∷◌, ◌++◌, length, map}
+use Rattle.std.specs.Prelude.{ℕ, ◌+◌, Bool, true, false, ◌%◌, ◌^◌, ◌-◌, if◌then◌else◌, Option, Some, None, replicate, take, drop, List, [], ◌∷◌, ◌++◌, length, map}
 use Rattle.std.specs.Option.{option_map_or}
 use Rattle.std.specs.List.{flat_map, enumerate_from}
 use Rattle.tta_machine.specs.declared.parts.File.{File}
@@ -9,7 +9,36 @@ use Rattle.tta_machine.specs.declared.ends.Source.{Source}
 use Rattle.tta_machine.specs.declared.ends.Source.TheVariants as source
 use Rattle.tta_machine.specs.declared.ends.Dest.{Dest}
 use Rattle.tta_machine.specs.declared.ends.Dest.TheVariants as dest
-use Rattle.tta_machine.specs.Fields.{numbers}
+use Rattle.tta_machine.specs.Machine.{Machine}
+use Rattle.tta_machine.specs.Joins.{has_socket, source_socket}
+use Rattle.tta_machine.specs.Fields.{numbers, guards_on, sources_on, dests_on, guard_width, short_width, payload_width, dest_width, bus_width, template_width, word_width}
+use Rattle.tta_image.specs.declared.layout.BusFields.{BusFields}
+use Rattle.tta_image.specs.declared.layout.Layout.{Layout}
+
+-- ---- the layout
+
+-- the fields of a bus
+abbrev pub fields_of : Machine → (bus : ℕ) → BusFields
+fields_of m bus = record {
+  guards = guards_on m bus;
+  sources = sources_on m bus;
+  dests = dests_on m bus;
+  guard_width = guard_width m bus;
+  short_width = short_width m bus;
+  payload_width = payload_width m bus;
+  dest_width = dest_width m bus;
+  width = bus_width m bus;
+}
+
+-- the layout of a machine: how wide the template's field is, the fields of each bus, and how wide an instruction is
+abbrev pub layout_of : Machine → Layout
+layout_of m = record { template_width = template_width m; buses = map (fields_of m) (numbers (length m.buses)); width = word_width m }
+
+-- ---- the ends of moves, part by part
+
+-- whether the socket of a source that is no short word leads onto a bus
+abbrev pub has_source_socket : Machine → (bus : ℕ) → Source → Bool
+has_source_socket m bus src = has_socket m false (source_socket m src) bus
 
 -- the registers of these files, as sources
 abbrev pub file_sources : List File → List Source

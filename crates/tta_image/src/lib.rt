@@ -2,4 +2,8 @@
 #![tactic(auto)]
 
 mod ends;
+mod joins;
+mod layout;
 mod sink;
+
+pub use layout::{BusFields, Layout};
