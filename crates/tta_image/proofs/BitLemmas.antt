@@ -2,7 +2,7 @@
 use Rattle.std.proofs.Common.{◌≡◌, ℕ, zero, suc, ◌+◌, ◌-◌, ◌*◌, ◌/◌, ◌%◌, ◌^◌, ◌<◌, ◌≤◌, ◌==◌, Bool, true, false, List, [], ◌∷◌, ◌++◌, length, replicate, take, drop, refl, sym, ap, ◌∙◌, arith, add-one}
 use Rattle.std.proofs.lemmas.List.{append_assoc, append-nil, replicate_more}
 use Rattle.std.proofs.lemmas.List.Concat.{flat_map-append}
-use Rattle.std.proofs.lemmas.Nat.{shr-shr, pow-add, pow_pos, div_below}
+use Rattle.std.proofs.lemmas.Nat.{shr-shr, shr_split, pow-add, pow_pos, div_below}
 use Rattle.std.proofs.lemmas.Bool.Decides.{nat_tests}
 use Rattle.std.specs.List.{flat_map, AllByRecursion}
 use Rattle.tta_image.specs.Bits.{bits_of}
@@ -123,3 +123,42 @@ no_high n w k small h =
     let below : n < 1 * 2 ^ k = rw p (grind arith) in
     let quotient : n / 2 ^ k < 1 = div_below n (2 ^ k) 1 (pow_pos k) below in
     omega arith
+
+-- a number without the bits above its own
+pub low_whole : (n w k : ℕ) → n < 2 ^ w → w ≤ k → n % 2 ^ k ≡ n
+low_whole n w k small h =
+    let split = shr_split n k in
+    let product : n / 2 ^ k * 2 ^ k ≡ 0 * 2 ^ k = ap (λ q. q * 2 ^ k) (no_high n w k small h) in
+    omega arith
+
+-- the low bits of a number without its low bits
+pub shifted_bit : (n k v : ℕ) → n / 2 ^ (k + v) ≡ n / 2 ^ k / 2 ^ v
+shifted_bit n k v = sym (shr-shr n k v)
+
+-- the highest bits of a number are those of the number without its low bits
+pub take-bits_of : (w k n : ℕ) → take w (bits_of (w + k) n) ≡ bits_of w (n / 2 ^ k)
+take-bits_of zero k n = refl
+take-bits_of (suc w) k n =
+    let e : suc w + k ≡ suc (w + k) = omega arith in
+    let f : w + k ≡ k + w = omega arith in
+    ap (λ x. take (suc w) (bits_of x n)) e
+    ∙ ap (λ x. (n / 2 ^ x % 2 == 1) ∷ take w (bits_of (w + k) n)) f
+    ∙ ap (λ x. (x % 2 == 1) ∷ take w (bits_of (w + k) n)) (shifted_bit n k w)
+    ∙ ap (λ l. (n / 2 ^ k / 2 ^ w % 2 == 1) ∷ l) (take-bits_of w k n)
+
+-- the others are its low bits
+pub drop-bits_of : (w k n : ℕ) → drop w (bits_of (w + k) n) ≡ bits_of k n
+drop-bits_of zero k n = let e : 0 + k ≡ k = omega arith in ap (λ x. bits_of x n) e
+drop-bits_of (suc w) k n =
+    let e : suc w + k ≡ suc (w + k) = omega arith in ap (λ x. drop (suc w) (bits_of x n)) e ∙ drop-bits_of w k n
+
+-- both, where so many bits are left
+pub take_left : (w left n : ℕ) → w ≤ left → take w (bits_of left n) ≡ bits_of w (n / 2 ^ (left - w))
+take_left w left n h =
+    let e : left ≡ w + (left - w) = omega arith in
+    ap (λ x. take w (bits_of x n)) e ∙ take-bits_of w (left - w) n
+
+pub drop_left : (w left n : ℕ) → w ≤ left → drop w (bits_of left n) ≡ bits_of (left - w) n
+drop_left w left n h =
+    let e : left ≡ w + (left - w) = omega arith in
+    ap (λ x. drop w (bits_of x n)) e ∙ drop-bits_of w (left - w) n

@@ -1,19 +1,22 @@
 -- The layout of a machine's instructions as one value.
-use Rattle.std.specs.Prelude.{ℕ, ◌+◌, Bool, true, false, ◌%◌, ◌^◌, ◌-◌, if◌then◌else◌, Option, Some, None, replicate, take, drop, List, [], ◌∷◌, ◌++◌, length, map}
+use Rattle.std.specs.Prelude.{ℕ, ◌+◌, ◌-◌, ◌%◌, ◌^◌, Bool, true, false, if◌then◌else◌, List, [], ◌∷◌, ◌++◌, length, map, take, replicate, Option, Some, None}
 use Rattle.std.specs.Option.{option_map_or}
-use Rattle.std.specs.List.{flat_map, enumerate_from}
+use Rattle.std.specs.List.{flat_map, enumerate_from, position_or_len, sum_by}
 use Rattle.tta_machine.specs.declared.parts.File.{File}
 use Rattle.tta_machine.specs.declared.parts.ImmUnit.{ImmUnit}
 use Rattle.tta_machine.specs.declared.parts.Unit.{Unit as OpUnit}
+use Rattle.tta_machine.specs.declared.ends.GuardRef.{GuardRef}
 use Rattle.tta_machine.specs.declared.ends.Source.{Source}
 use Rattle.tta_machine.specs.declared.ends.Source.TheVariants as source
 use Rattle.tta_machine.specs.declared.ends.Dest.{Dest}
 use Rattle.tta_machine.specs.declared.ends.Dest.TheVariants as dest
 use Rattle.tta_machine.specs.Machine.{Machine}
-use Rattle.tta_machine.specs.Joins.{has_socket, source_socket}
-use Rattle.tta_machine.specs.Fields.{numbers, guards_on, sources_on, dests_on, guard_width, short_width, payload_width, dest_width, bus_width, template_width, word_width}
+use Rattle.tta_machine.specs.Joins.{has_bit, has_socket, source_socket, is_same_guard}
+use Rattle.tta_machine.specs.Fields.{numbers, guards_on, sources_on, dests_on, guard_width, short_width, payload_width, dest_width, bus_width, template_width, word_width, same_source, same_dest}
+use Rattle.tta_code.specs.declared.code.Move.{Move}
 use Rattle.tta_image.specs.declared.layout.BusFields.{BusFields}
 use Rattle.tta_image.specs.declared.layout.Layout.{Layout}
+use Rattle.tta_image.specs.Bits.{bits_of}
 
 -- ---- the layout
 
@@ -63,3 +66,37 @@ dests_of_unit unit u = option_map_or (λ o. dest.Operand unit ∷ []) u.operand 
 -- the operand ports and operations of these units
 abbrev pub unit_dests : List OpUnit → List Dest
 unit_dests units = flat_map (λ u. dests_of_unit u.0 u.1) (enumerate_from 0 units)
+
+-- ---- fields read off a layout
+
+-- the code of a guard on a bus, 0 for none
+abbrev pub guard_number : BusFields → Option GuardRef → ℕ
+guard_number f None = 0
+guard_number f (Some on) = 1 + position_or_len (λ g. is_same_guard g.on on) f.guards
+
+-- the code of a destination on a bus
+abbrev pub dest_number : BusFields → Dest → ℕ
+dest_number f dst = 1 + position_or_len (same_dest dst) f.dests
+
+-- a source field
+abbrev pub source_field : BusFields → Source → List Bool
+source_field f (source.Value word) = true ∷ bits_of f.payload_width (word % 2 ^ f.short_width)
+source_field f src = false ∷ bits_of f.payload_width (position_or_len (same_source src) f.sources)
+
+-- the three fields of a slot
+abbrev pub slot_field : BusFields → Option Move → List Bool
+slot_field f (Some v) =
+    bits_of f.guard_width (guard_number f v.guard) ++ (source_field f v.src ++ bits_of f.dest_width (dest_number f v.dst))
+slot_field f None = replicate f.width false
+
+-- what a bus has in an instruction: the highest bits that are left of the long immediate where it is taken, else its slot
+abbrev pub bus_field : BusFields → (is_taken : Bool) → (left value : ℕ) → Option Move → List Bool
+bus_field f is_taken left value slot = if is_taken then take f.width (bits_of left value) else slot_field f slot
+
+-- how many bits of the long immediate are left after a bus
+abbrev pub left_after : BusFields → (is_taken : Bool) → (left : ℕ) → ℕ
+left_after f is_taken left = if is_taken then left - f.width else left
+
+-- how many bits the buses of a set have
+abbrev pub width_of_set : Layout → (taken : ℕ) → ℕ
+width_of_set l taken = sum_by (λ b. if has_bit taken b.0 then b.1.width else 0) (enumerate_from 0 l.buses)

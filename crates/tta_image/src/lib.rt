@@ -2,6 +2,7 @@
 #![tactic(auto)]
 
 mod ends;
+mod fields;
 mod joins;
 mod layout;
 mod sink;

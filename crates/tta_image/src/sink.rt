@@ -32,7 +32,7 @@ impl Model for BitSink {
 }
 
 /// A number without its `count` low bits.
-fn without_low(number: u64, count: u32) -> u64
+pub fn without_low(number: u64, count: u32) -> u64
     ensures { result ≡ number / 2 ^ count }
 {
     if count < u64::BITS { number >> count } else { 0 }
