@@ -1,5 +1,5 @@
 -- The layout of a machine's instructions as one value.
-use Rattle.std.specs.Prelude.{ℕ, ◌+◌, ◌-◌, ◌%◌, ◌^◌, Bool, true, false, if◌then◌else◌, List, [], ◌∷◌, ◌++◌, length, map, take, replicate, Option, Some, None}
+use Rattle.std.specs.Prelude.{ℕ, ◌+◌, ◌-◌, ◌%◌, ◌^◌, Bool, true, false, if◌then◌else◌, List, [], ◌∷◌, ◌++◌, length, map, take, replicate, Option, Some, None, slice_get}
 use Rattle.std.specs.Option.{option_map_or}
 use Rattle.std.specs.List.{flat_map, enumerate_from, position_or_len, sum_by}
 use Rattle.tta_machine.specs.declared.parts.File.{File}
@@ -14,6 +14,7 @@ use Rattle.tta_machine.specs.Machine.{Machine}
 use Rattle.tta_machine.specs.Joins.{has_bit, has_socket, source_socket, is_same_guard}
 use Rattle.tta_machine.specs.Fields.{numbers, guards_on, sources_on, dests_on, guard_width, short_width, payload_width, dest_width, bus_width, template_width, word_width, same_source, same_dest}
 use Rattle.tta_code.specs.declared.code.Move.{Move}
+use Rattle.tta_code.specs.declared.code.Long.{Long}
 use Rattle.tta_image.specs.declared.layout.BusFields.{BusFields}
 use Rattle.tta_image.specs.declared.layout.Layout.{Layout}
 use Rattle.tta_image.specs.Bits.{bits_of}
@@ -100,3 +101,11 @@ left_after f is_taken left = if is_taken then left - f.width else left
 -- how many bits the buses of a set have
 abbrev pub width_of_set : Layout → (taken : ℕ) → ℕ
 width_of_set l taken = sum_by (λ b. if has_bit taken b.0 then b.1.width else 0) (enumerate_from 0 l.buses)
+
+-- the buses that a long immediate's template takes, none where there is no long immediate
+abbrev pub buses_of : Machine → Option Long → ℕ
+buses_of m long = option_map_or (λ l. option_map_or (λ t. t.buses) (slice_get m.templates l.template) 0) long 0
+
+-- the word of a long immediate, 0 for none
+abbrev pub value_of : Option Long → ℕ
+value_of long = option_map_or (λ l. l.value) long 0

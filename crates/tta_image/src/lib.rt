@@ -6,5 +6,7 @@ mod fields;
 mod joins;
 mod layout;
 mod sink;
+mod write;
 
 pub use layout::{BusFields, Layout};
+pub use write::write_image;
