@@ -4,9 +4,11 @@
 mod ends;
 mod fields;
 mod joins;
+mod laws;
 mod layout;
 mod sink;
 mod write;
 
+pub use laws::one_image;
 pub use layout::{BusFields, Layout};
 pub use write::write_image;
