@@ -1,2 +1,14 @@
 //! Instructions as bits, and code as the bytes of an image.
 #![tactic(auto)]
+
+mod ends;
+mod fields;
+mod joins;
+mod laws;
+mod layout;
+mod sink;
+mod write;
+
+pub use laws::one_image;
+pub use layout::{BusFields, Layout};
+pub use write::write_image;

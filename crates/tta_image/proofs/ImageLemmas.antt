@@ -1,0 +1,66 @@
+-- The parts of an image, and what legal code says of them.
+use Rattle.std.proofs.Common.{◌≡◌, ℕ, ◌^◌, ◌<◌, ◌≤◌, ◌==◌, Bool, true, false, ◌&&◌, List, [], ◌∷◌, ◌++◌, length, nat_le, codes, IsTrue, All, refl, sym, ap, ◌∙◌, arith}
+use Rattle.std.specs.Int.{w32, to_be_bytes}
+use Rattle.std.specs.Option.{option_map_or}
+use Rattle.std.specs.List.{AllByRecursion}
+use Rattle.std.proofs.lemmas.Bool.{and_parts, leb-true, eqb-true}
+use Rattle.std.proofs.lemmas.Nat.{pow_below}
+use Rattle.std.proofs.lemmas.List.Elements.{All-nil, All-cons}
+use Rattle.tta_machine.specs.declared.parts.Control.{Control}
+use Rattle.tta_machine.specs.declared.parts.Socket.{Socket}
+use Rattle.tta_machine.specs.Machine.{Machine}
+use Rattle.tta_machine.specs.Fields.{word_width}
+use Rattle.tta_machine.specs.Rules.{IsMachine, is_control, is_from_to, is_socket, is_port_socket}
+use Rattle.tta_machine.specs.Legal.{can_move}
+use Rattle.tta_code.specs.declared.code.Instruction.{Instruction}
+use Rattle.tta_code.specs.declared.code.Code.{Code}
+use Rattle.tta_code.specs.Legal.{is_legal, is_instruction, is_long, taken, slots_of, IsLegalCode}
+use Rattle.tta_image.specs.Image.{header, AreBytesOf}
+
+-- ---- the bytes
+
+-- the header and the body
+pub parts_from : (m : Machine) (digest : List ℕ) (words width count : ℕ) (first body body' bytes : List ℕ)
+    → first ≡ codes "TTAI" ++ (to_be_bytes w32 1 ++ (to_be_bytes w32 width ++ (to_be_bytes w32 count ++ digest)))
+    → bytes ≡ first ++ body' → body' ≡ body → width ≡ word_width m → count ≡ words → bytes ≡ header m digest words ++ body
+parts_from m digest words width count first body body' bytes begins joined same wide many =
+    let tail : List ℕ = to_be_bytes w32 count ++ digest in
+    joined ∙ ap (λ (l : List ℕ). first ++ l) same
+    ∙ ap (λ (l : List ℕ). l ++ body)
+      (begins ∙ ap (λ (w : ℕ). codes "TTAI" ++ (to_be_bytes w32 1 ++ (to_be_bytes w32 w ++ tail))) wide
+      ∙ ap (λ (n : ℕ). codes "TTAI" ++ (to_be_bytes w32 1 ++ (to_be_bytes w32 (word_width m) ++ (to_be_bytes w32 n ++ digest)))) many)
+
+pub are_bytes_of_same : (shown bits : List Bool) (bytes : List ℕ) → shown ≡ bits → AreBytesOf shown bytes → AreBytesOf bits bytes
+are_bytes_of_same shown bits bytes same h = rw (← same) h
+
+-- ---- legal code
+
+legal_slots_of : (m : Machine) (i : Instruction) → is_legal m i ≡ true → length i.moves ≡ length m.buses
+unfolding is_legal
+legal_slots_of m i h =
+    let both = and_parts (is_instruction m i) (can_move m (taken m i) (slots_of i)) h in
+    let first = and_parts (length i.moves == length m.buses) (option_map_or (is_long m) i.long true) both.0 in
+    eqb-true (length i.moves) (length m.buses) first.0
+
+-- an instruction has an entry for each bus
+pub legal_slots : (m : Machine) (words : List Instruction) → AllByRecursion (λ i. IsTrue (is_legal m i)) words → All (λ i. length i.moves ≡ length m.buses) words
+legal_slots m [] h = All-nil (λ i. length i.moves ≡ length m.buses)
+legal_slots m (i ∷ is) h = All-cons (λ i. length i.moves ≡ length m.buses) i is (legal_slots_of m i h.0) (legal_slots m is h.1)
+
+short_address : (sockets : List Socket) (c : Control) → is_control sockets c ≡ true → c.address ≤ 16
+short_address sockets c h =
+    let three = and_parts (nat_le c.delay 4 && is_from_to 1 16 c.address && is_socket sockets true c.trigger) (is_port_socket sockets false c.ra) h in
+    let two = and_parts (nat_le c.delay 4 && is_from_to 1 16 c.address) (is_socket sockets true c.trigger) three.0 in
+    let one = and_parts (nat_le c.delay 4) (is_from_to 1 16 c.address) two.0 in
+    let range = and_parts (nat_le 1 c.address) (nat_le c.address 16) one.1 in
+    leb-true c.address 16 range.1
+
+pow_most : (k : ℕ) → k ≤ 16 → 2 ^ k < 2 ^ 17
+pow_most k h = pow_below k 17 (omega arith)
+
+-- no code of a machine has more than 65,536 instructions
+pub words_fit : (m : Machine) (code : Code) → IsMachine m → IsLegalCode m code → length code.words < 2 ^ 32
+words_fit m code rules legal =
+    let room = legal.room in
+    let p = pow_most m.control.address (short_address m.sockets m.control rules.control) in
+    omega arith

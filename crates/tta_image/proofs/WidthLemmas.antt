@@ -1,0 +1,36 @@
+-- How many bits tell so many codes apart.
+use Rattle.std.proofs.Common.{◌≡◌, ℕ, zero, suc, ◌+◌, ◌-◌, ◌*◌, ◌/◌, ◌%◌, ◌^◌, ◌<◌, ◌≤◌, Bool, true, false, cond, nat_le, refl, lit<, inl, inr, sym, ap, ◌∙◌, arith}
+use Rattle.std.proofs.lemmas.Nat.{pow_pos, shr_split, mod_below}
+use Rattle.std.proofs.lemmas.Bool.{le-leb, lt-leb, cases_lt}
+use Rattle.tta_machine.specs.Fields.{width_from, width_for}
+
+-- more than so many codes need more than so many bits
+abbrev pub AreTooFew : (codes width : ℕ) → Type 0
+AreTooFew codes width = (v : ℕ) → v < width → 2 ^ v < codes
+
+width_from-is : (tries v codes width : ℕ) → v ≤ width → width ≤ v + tries → codes ≤ 2 ^ width → AreTooFew codes width
+    → width_from tries v codes ≡ width
+width_from-is zero v codes width low high fits few = omega arith
+width_from-is (suc tries) v codes width low high fits few = elim (cases_lt v width) [
+    inl more ↦ rw (lt-leb codes (2 ^ v) (few v more)) (width_from-is tries (v + 1) codes width (omega arith) (omega arith) fits few)
+  | inr enough ↦ let e : v ≡ width = omega arith in let le : codes ≤ 2 ^ v = rw e fits in rw (le-leb codes (2 ^ v) le) e ]
+
+below_pow : (n : ℕ) → n < 2 ^ n
+below_pow zero = lit< tt
+below_pow (suc n) = let h = below_pow n in let p : 2 ^ suc n ≡ 2 * 2 ^ n = omega arith in omega arith
+
+-- the width is the one that is wide enough where all below it are not
+pub width_for-is : (codes width : ℕ) → codes ≤ 2 ^ width → AreTooFew codes width → width_for codes ≡ width
+unfolding width_for
+width_for-is codes zero fits few = width_from-is codes 0 codes 0 (omega arith) (omega arith) fits few
+width_for-is codes (suc w) fits few =
+    let h = few w (omega arith) in let p = below_pow w in
+    width_from-is codes 0 codes (suc w) (omega arith) (omega arith) fits few
+
+-- so many bits are enough where the highest code has no bit above them
+pub enough_from_high : (codes width : ℕ) → (codes - 1) / 2 ^ width ≡ 0 → codes ≤ 2 ^ width
+enough_from_high codes width h =
+    let split = shr_split (codes - 1) width in
+    let below = mod_below (codes - 1) (2 ^ width) (pow_pos width) in
+    let product : (codes - 1) / 2 ^ width * 2 ^ width ≡ 0 * 2 ^ width = ap (λ q. q * 2 ^ width) h in
+    omega arith

@@ -1,0 +1,18 @@
+-- That an image and its code determine each other.
+use Rattle.std.specs.Prelude.{◌≡◌, ℕ, List}
+use Rattle.tta_machine.specs.Machine.{Machine}
+use Rattle.tta_machine.specs.Rules.{IsMachine}
+use Rattle.tta_code.specs.declared.code.Code.{Code}
+use Rattle.tta_image.specs.Image.{Image}
+
+-- code has at most one image for a machine and a digest
+abbrev pub HasOneImage : Type 0
+HasOneImage =
+    (m : Machine) (digest : List ℕ) (code : Code) (bytes bytes' : List ℕ)
+    → Image m digest code bytes → Image m digest code bytes' → bytes ≡ bytes'
+
+-- bytes are the image of at most one code
+abbrev pub HasOneCode : Type 0
+HasOneCode =
+    (m : Machine) (digest : List ℕ) (code code' : Code) (bytes : List ℕ)
+    → IsMachine m → Image m digest code bytes → Image m digest code' bytes → code ≡ code'

@@ -1,0 +1,156 @@
+//! The fields of a move, written bus by bus.
+
+ghost use Rattle.std.specs.Prelude.{◌≡◌, ◌+◌, ◌≤◌, ◌<◌, ◌%◌, ◌^◌, true, ◌++◌, IfOk, OnOk};
+ghost use Rattle.std.specs.List.{position, position_or_len};
+ghost use Rattle.tta_machine.specs.Joins.{is_same_guard};
+ghost use Rattle.tta_machine.specs.Fields.{same_source, same_dest};
+ghost use Rattle.tta_image.specs.Layout.{guard_number, dest_number, source_field, slot_field, bus_field, left_after};
+
+use crate::layout::BusFields;
+use crate::sink::{BitSink, without_low};
+use std::alloc::AllocError;
+use tta_code::Move;
+use tta_machine::{Dest, Guard, GuardRef, Source};
+
+/// Whether two sources are one.
+fn same_source(a: Source, b: Source) -> bool
+    ensures { result ≡ same_source a b }
+{
+    match (a, b) {
+        (Source::Reg { file: f, index: i }, Source::Reg { file: g, index: j }) => f == g && i == j,
+        (Source::Imm { unit: f, index: i }, Source::Imm { unit: g, index: j }) => f == g && i == j,
+        (Source::Shown { unit: u }, Source::Shown { unit: v }) => u == v,
+        (Source::Ra, Source::Ra) => true,
+        (Source::Value(x), Source::Value(y)) => x == y,
+        _ => false,
+    }
+}
+
+/// Whether two destinations are one.
+fn same_dest(a: Dest, b: Dest) -> bool
+    ensures { result ≡ same_dest a b }
+{
+    match (a, b) {
+        (Dest::Reg { file: f, index: i }, Dest::Reg { file: g, index: j }) => f == g && i == j,
+        (Dest::Operand { unit: u }, Dest::Operand { unit: v }) => u == v,
+        (Dest::Trigger { unit: u, op: i }, Dest::Trigger { unit: v, op: j }) => u == v && i == j,
+        (Dest::Jump, Dest::Jump) | (Dest::Call, Dest::Call) | (Dest::Halt, Dest::Halt) => true,
+        _ => false,
+    }
+}
+
+/// Whether two guards are of one register and one sense.
+fn same_guard(a: GuardRef, b: GuardRef) -> bool
+    ensures { result ≡ is_same_guard a b }
+{
+    a.file == b.file && a.index == b.index && a.inverted == b.inverted
+}
+
+/// The low bits of a number, so many of them.
+fn low_bits(number: u64, count: u32) -> u64
+    ensures { result ≡ number % 2 ^ count }
+{
+    if count < u64::BITS { number % (1 << count) } else { number }
+}
+
+/// Where a source stands first in a list.
+fn place_of_source(sources: &[Source], src: Source) -> Option<usize>
+    ensures { result ≡ position (same_source src) sources.now }
+{
+    sources.iter().position(|s| same_source(src, *s))
+}
+
+/// Where a guard stands first in a list.
+fn place_of_guard(guards: &[Guard], on: GuardRef) -> Option<usize>
+    ensures { result ≡ position (λ g. is_same_guard g.on on) guards.now }
+{
+    guards.iter().position(|g| same_guard(g.on, on))
+}
+
+/// Where a destination stands first in a list.
+fn place_of_dest(dests: &[Dest], dst: Dest) -> Option<usize>
+    ensures { result ≡ position (same_dest dst) dests.now }
+{
+    dests.iter().position(|d| same_dest(dst, *d))
+}
+
+impl BusFields {
+    /// The code of a source.
+    fn source_code(&self, src: Source) -> usize
+        ensures { result ≡ position_or_len (same_source src) self.now.sources }
+    {
+        let sources = self.sources.as_slice();
+        place_of_source(sources, src).unwrap_or(sources.len())
+    }
+
+    /// The code of a guard, 0 for none.
+    fn guard_code(&self, guard: Option<GuardRef>) -> usize
+        ensures { result ≡ guard_number self.now guard }
+    {
+        let Some(on) = guard else {
+            return 0;
+        };
+        let guards = self.guards.as_slice();
+        1 + place_of_guard(guards, on).unwrap_or(guards.len())
+    }
+
+    /// The code of a destination.
+    fn dest_code(&self, dst: Dest) -> usize
+        ensures { result ≡ dest_number self.now dst }
+    {
+        let dests = self.dests.as_slice();
+        1 + place_of_dest(dests, dst).unwrap_or(dests.len())
+    }
+
+    /// Puts a source field at the end.
+    fn push_source(&self, sink: &mut BitSink, src: Source) -> Result<(), AllocError>
+        ensures ok { OnOk result (sink.new ≡ sink.old ++ source_field self.now src) }
+    {
+        if let Source::Value(word) = src {
+            sink.push(true)?;
+            sink.push_number(low_bits(u64::from(word), self.short_width), self.payload_width)?;
+        } else {
+            sink.push(false)?;
+            sink.push_number(self.source_code(src) as u64, self.payload_width)?;
+        }
+        Ok(())
+    }
+
+    /// Puts the three fields of a slot at the end.
+    fn push_slot(&self, sink: &mut BitSink, slot: Option<Move>) -> Result<(), AllocError>
+        ensures ok { OnOk result (sink.new ≡ sink.old ++ slot_field self.now slot) }
+    {
+        if let Some(v) = slot {
+            sink.push_number(self.guard_code(v.guard) as u64, self.guard_width)?;
+            self.push_source(sink, v.src)?;
+            sink.push_number(self.dest_code(v.dst) as u64, self.dest_width)?;
+        } else {
+            sink.push_zeros(self.width)?;
+        }
+        Ok(())
+    }
+
+    /// Puts what the bus has in an instruction at the end: its slot, or the highest bits that are left of the
+    /// long immediate. Tells how many bits of the long immediate are left after it.
+    pub fn push_bus(
+        &self,
+        sink: &mut BitSink,
+        is_taken: bool,
+        left: u32,
+        value: u32,
+        slot: Option<Move>,
+    ) -> Result<u32, AllocError>
+        requires { is_taken ≡ true → self.now.width ≤ left }
+        ensures bits { OnOk result (sink.new ≡ sink.old ++ bus_field self.now is_taken left value slot) }
+        ensures left { IfOk result (λ n. n ≡ left_after self.now is_taken left) }
+    {
+        if is_taken {
+            let rest = left - self.width;
+            sink.push_number(without_low(u64::from(value), rest), self.width)?;
+            Ok(rest)
+        } else {
+            self.push_slot(sink, slot)?;
+            Ok(left)
+        }
+    }
+}

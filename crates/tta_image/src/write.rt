@@ -1,0 +1,183 @@
+//! The writer of images.
+
+ghost use Rattle.std.specs.Prelude.{◌≡◌, ◌<◌, ◌^◌, if◌then◌else◌, ◌++◌, length, codes, All, IfOk, OnOk};
+ghost use Rattle.std.specs.Int.{w32, to_be_bytes};
+
+ghost use Rattle.std.specs.List.{flat_map, sum_by};
+ghost use Rattle.tta_machine.specs.Joins.{has_bit};
+ghost use Rattle.tta_machine.specs.Fields.{taken_width, word_width};
+ghost use Rattle.tta_code.specs.Legal.{IsLegalCode};
+ghost use Rattle.tta_image.specs.Bits.{bits_of, template_code, slots_bits, instruction_bits};
+ghost use Rattle.tta_image.specs.Image.{Image};
+ghost use Rattle.tta_image.specs.Layout.{layout_of, width_of_set, buses_of, value_of};
+
+use crate::joins::has_bus;
+use crate::layout::{BusFields, Layout};
+use crate::sink::BitSink;
+use std::alloc::{AllocError, Global};
+use tta_code::{Code, Instruction, Long, Move};
+use tta_machine::Machine;
+
+/// The code of a template, 0 for none.
+fn template_code(long: Option<Long>) -> u64
+    ensures { result ≡ template_code long }
+{
+    match long {
+        None => 0,
+        Some(l) => 1 + u64::from(l.template),
+    }
+}
+
+/// The buses that a long immediate's template takes.
+fn buses_of(m: &Machine, long: Option<Long>) -> u16
+    ensures { result ≡ buses_of m.now long }
+{
+    let Some(l) = long else {
+        return 0;
+    };
+    match m.templates.as_slice().get(usize::from(l.template)) {
+        None => 0,
+        Some(t) => t.buses,
+    }
+}
+
+/// The word of a long immediate, 0 for none.
+fn value_of(long: Option<Long>) -> u32
+    ensures { result ≡ value_of long }
+{
+    match long {
+        None => 0,
+        Some(l) => l.value,
+    }
+}
+
+/// How many bits a bus has where it is in a set, 0 where it is not.
+fn width_in_set(set: u16, bus: usize, fields: &BusFields) -> u32
+    ensures { result ≡ (if has_bit set bus then fields.now.width else 0) }
+{
+    if has_bus(set, bus) { fields.width } else { 0 }
+}
+
+/// How many bits the buses of a set have.
+fn width_of_set(layout: &Layout, set: u16) -> u32
+    requires { sum_by (λ f. f.width) layout.now.buses < 2 ^ 32 }
+    ensures { result ≡ width_of_set layout.now set }
+{
+    let buses = layout.buses.as_slice();
+    let mut width = 0;
+    for (bus, fields) in buses.iter().enumerate() {
+        width += width_in_set(set, bus, fields);
+    }
+    width
+}
+
+/// Puts what each bus has in an instruction at the end: its slot, or its share of the long immediate.
+fn push_slots(
+    layout: &Layout,
+    m: &Machine,
+    sink: &mut BitSink,
+    taken: u16,
+    value: u32,
+    moves: &[Option<Move>],
+) -> Result<(), AllocError>
+    requires layout { layout.now ≡ layout_of m.now }
+    requires fits { word_width m.now < 2 ^ 32 }
+    requires slots { length moves.now ≡ length m.now.buses }
+    ensures ok { OnOk result
+        (sink.new ≡ sink.old
+            ++ slots_bits m.now taken (bits_of (taken_width m.now taken) value) 0 moves.now) }
+{
+    let mut left = width_of_set(layout, taken);
+    for (bus, slot) in moves.iter().enumerate() {
+        let fields = &layout.buses.as_slice()[bus];
+        left = fields.push_bus(sink, has_bus(taken, bus), left, value, *slot)?;
+    }
+    Ok(())
+}
+
+/// Puts the bits of an instruction at the end.
+fn push_instruction(
+    layout: &Layout,
+    m: &Machine,
+    sink: &mut BitSink,
+    i: &Instruction,
+) -> Result<(), AllocError>
+    requires layout { layout.now ≡ layout_of m.now }
+    requires fits { word_width m.now < 2 ^ 32 }
+    requires slots { length i.now.moves ≡ length m.now.buses }
+    ensures ok { OnOk result (sink.new ≡ sink.old ++ instruction_bits m.now i.now) }
+{
+    let taken = buses_of(m, i.long);
+    sink.push_number(template_code(i.long), layout.template_width)?;
+    push_slots(layout, m, sink, taken, value_of(i.long), i.moves.as_slice())?;
+    Ok(())
+}
+
+/// Puts the bits of instructions at the end.
+fn push_words(
+    layout: &Layout,
+    m: &Machine,
+    sink: &mut BitSink,
+    words: &[Instruction],
+) -> Result<(), AllocError>
+    requires layout { layout.now ≡ layout_of m.now }
+    requires fits { word_width m.now < 2 ^ 32 }
+    requires slots { All (λ i. length i.moves ≡ length m.now.buses) words.now }
+    ensures ok { OnOk result (sink.new ≡ sink.old ++ flat_map (instruction_bits m.now) words.now) }
+{
+    for i in words {
+        push_instruction(layout, m, sink, i)?;
+    }
+    Ok(())
+}
+
+/// The bytes before the instructions.
+fn header(
+    alloc: Global,
+    width: u32,
+    words: u32,
+    digest: &[u8; 32],
+) -> Result<Vec<u8>, AllocError>
+    ensures { IfOk result (λ v. v.items ≡ codes "TTAI"
+        ++ (to_be_bytes w32 1 ++ (to_be_bytes w32 width ++ (to_be_bytes w32 words ++ digest.now)))) }
+{
+    let version = 1u32.to_be_bytes();
+    let width = width.to_be_bytes();
+    let words = words.to_be_bytes();
+    let mut bytes = Vec::from_slice(alloc, b"TTAI")?;
+    bytes.extend_from_slice(&version)?;
+    bytes.extend_from_slice(&width)?;
+    bytes.extend_from_slice(&words)?;
+    bytes.extend_from_slice(digest)?;
+    Ok(bytes)
+}
+
+/// How many instructions code has.
+fn count_words(code: &Code, m: &Machine) -> u32
+    requires { IsLegalCode m.now code.now }
+    ensures { result ≡ length code.now.words }
+{
+    // An address has at most 16 bits by the rules of a machine, so the count fits.
+    let _control = &m.control;
+    code.words.len() as u32
+}
+
+/// The image of code: a header with the digest of the machine's text, and the instructions bit by bit.
+/// The code must be legal for the machine. It fails only where there is no memory.
+pub fn write_image(
+    alloc: Global,
+    code: &Code,
+    m: &Machine,
+    digest: &[u8; 32],
+) -> Result<Vec<u8>, AllocError>
+    requires { IsLegalCode m.now code.now }
+    ensures { IfOk result (λ v. Image m.now digest.now code.now v.items) }
+{
+    let layout = Layout::of(alloc, m)?;
+    let mut sink = BitSink::new(alloc);
+    push_words(&layout, m, &mut sink, code.words.as_slice())?;
+    let body = sink.into_bytes()?;
+    let mut bytes = header(alloc, layout.width, count_words(code, m), digest)?;
+    bytes.extend_from_slice(body.as_slice())?;
+    Ok(bytes)
+}
