@@ -1,0 +1,4 @@
+pub mod Status
+pub mod World
+pub mod Build
+pub mod Stages

@@ -1,0 +1,91 @@
+-- How the stages of a command end.
+use Rattle.std.specs.Prelude.{◌≡◌, ◌<◌, ◌≤◌, ◌^◌, ◌⊎◌, ℕ, true, false, List, length, Result, Ok, Err}
+use Rattle.tta_ops.specs.Units.{Units}
+use Rattle.tta_machine.specs.Machine.{Machine}
+use Rattle.tta_machine.specs.declared.reading.refusal.Refusal.{Refusal as MachineRefusal}
+use Rattle.tta_machine.specs.Draft.{code_of as machine_code}
+use Rattle.tta_machine.specs.Text.{machine_of_text}
+use Rattle.tta_tac.specs.Program.{Program}
+use Rattle.tta_tac.specs.declared.reading.refusal.Refusal.{Refusal as ProgramRefusal}
+use Rattle.tta_tac.specs.Refusals.{code_of as program_code}
+use Rattle.tta_tac.specs.Text.{ProgramText, IsRefusedAt}
+use Rattle.tta_code.specs.declared.code.Code.{Code}
+use Rattle.tta_code.specs.Agrees.{Agrees}
+use Rattle.tta_image.specs.Image.{Image}
+use Rattle.tta_build.specs.First.{is_first_machine, is_direct, code_length}
+use Rattle.tta_ports.specs.Files.{Holds}
+use Rattle.tta_tool.specs.declared.status.Status.{Status}
+use Rattle.tta_tool.specs.declared.status.Status.TheVariants as status
+use Rattle.tta_tool.specs.World.{World, IsUntouched, ReadFailed, IsTooLong, limit}
+
+-- the bytes of a file were read
+pub record WasRead (name bytes : List ℕ) (before after : World) : Type 0 where
+  pub holds : Holds before.contents name bytes
+  pub short : length bytes ≤ limit
+  pub untouched : IsUntouched before after
+
+-- a file was read, or there is a cause
+abbrev pub ReadEnds : {T : Type 0} → (name : List ℕ) (word : ℕ) → (before after : World) → (T → List ℕ) → Result T Status → Type 0
+ReadEnds name word before after items (Ok v) = WasRead name (items v) before after
+ReadEnds name word before after items (Err (status.ReadFault w)) = (w ≡ word) × ReadFailed name before after
+ReadEnds name word before after items (Err (status.TooLong w)) = (w ≡ word) × IsTooLong name before after
+ReadEnds name word before after items (Err status.NoMemory) = IsUntouched before after
+ReadEnds name word before after items (Err s) = ⊥
+
+-- a text is refused with this number at this line
+pub record IsBadMachine (u : Units) (text : List ℕ) (line code : ℕ) : Type 0 where
+  pub refusal : MachineRefusal
+  pub refused : machine_of_text u text ≡ Err (line, refusal)
+  pub told : code ≡ machine_code refusal
+
+pub record IsBadProgram (u : Units) (text : List ℕ) (line code : ℕ) : Type 0 where
+  pub refusal : ProgramRefusal
+  pub refused : IsRefusedAt u text line refusal
+  pub told : code ≡ program_code refusal
+
+-- a machine that is sound and not one of the first path
+pub record IsOther (u : Units) (text : List ℕ) : Type 0 where
+  pub machine : Machine
+  pub read : machine_of_text u text ≡ Ok machine
+  pub other : is_first_machine machine ≡ false
+
+-- a text is a machine that can be compiled for, or there is a cause
+abbrev pub MachineEnds : Units → (text : List ℕ) → Result Machine Status → Type 0
+MachineEnds u text (Ok m) = (machine_of_text u text ≡ Ok m) × (is_first_machine m ≡ true)
+MachineEnds u text (Err (status.BadMachine line code)) = IsBadMachine u text line code
+MachineEnds u text (Err (status.NotYet word)) = (word ≡ 1) × IsOther u text
+MachineEnds u text (Err status.NoMemory) = Unit {0}
+MachineEnds u text (Err s) = ⊥
+
+-- a program that is sound and no pair of the first path
+pub record IsOtherProgram (u : Units) (m : Machine) (text : List ℕ) : Type 0 where
+  pub program : Program
+  pub read : ProgramText u text program
+  pub other : is_direct m program ≡ false
+
+-- a text is a program that can be compiled for the machine, or there is a cause
+abbrev pub ProgramEnds : Units → Machine → (text : List ℕ) → Result Program Status → Type 0
+ProgramEnds u m text (Ok p) = ProgramText u text p × (is_direct m p ≡ true)
+ProgramEnds u m text (Err (status.BadProgram line code)) = IsBadProgram u text line code
+ProgramEnds u m text (Err (status.NotYet word)) = (word ≡ 2) × IsOtherProgram u m text
+ProgramEnds u m text (Err status.NoMemory) = Unit {0}
+ProgramEnds u m text (Err s) = ⊥
+
+-- bytes are an image of code that does what the program does
+pub record IsImageOf (m : Machine) (p : Program) (digest bytes : List ℕ) : Type 0 where
+  pub code : Code
+  pub image : Image m digest code bytes
+  pub agrees : (u : Units) → Agrees u m p code
+
+-- the code needs these many words, and the machine has fewer addresses
+pub record LacksRoom (m : Machine) (p : Program) (words have : ℕ) : Type 0 where
+  pub length : words ≡ code_length m p
+  pub addresses : have ≡ 2 ^ m.control.address
+  pub more : have < words
+
+-- a pair has its image, or the code is too long
+abbrev pub ImageEnds : {T : Type 0} → Machine → Program → (digest : List ℕ) → (T → List ℕ) → Result T Status → Type 0
+ImageEnds m p digest items (Ok v) = IsImageOf m p digest (items v)
+ImageEnds m p digest items (Err (status.CodeFull words have)) = LacksRoom m p words have
+ImageEnds m p digest items (Err status.NoMemory) = Unit {0}
+ImageEnds m p digest items (Err s) = ⊥

@@ -1,0 +1,8 @@
+//! The command line of the toolset.
+#![tactic(auto)]
+
+mod build;
+mod command;
+mod status;
+
+fn main(rt: HostRuntime) {}
