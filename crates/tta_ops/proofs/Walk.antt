@@ -80,4 +80,4 @@ size_of_rest size units j unit below same = rw (drop-cons units j unit below, �
 -- a unit has as many operations as it says
 pub length-unit_rows : {B : Type 0} (size : B → ℕ) (name : B → ℕ → List ℕ) (arity : B → ℕ → ℕ) (number : ℕ) (unit : B)
     → length (unit_rows size name arity number unit) ≡ size unit
-length-unit_rows size name arity number unit = length-map-range_with_len (row_of size name arity number unit) 0 (size unit)
+length-unit_rows size name arity number unit = length-map-range_with_len (row_of name arity number unit) 0 (size unit)
