@@ -23,7 +23,8 @@ named_get U name op found =
     let same : op ≡ at.0 = omega (arith, at.1.0) in
     rw same at.1.1
 
-get-first_at : (name : List ℕ) (k : ℕ) (names : List (List ℕ)) (i op : ℕ) → op ≡ k + i → AreDistinct names → slice_get names i ≡ Some name
+get-first_at : (name : List ℕ) (k : ℕ) (names : List (List ℕ)) (i op : ℕ) → op ≡ k + i → AreDistinct names
+    → slice_get names i ≡ Some name
     → first_at name k names ≡ Some op
 get-first_at name k [] i op sum distinct at = cc
 get-first_at name k (x ∷ xs) zero op sum distinct at =
@@ -32,9 +33,12 @@ get-first_at name k (x ∷ xs) zero op sum distinct at =
     rw ((bytes_eq-Decides x name).1 same) (ap Some here)
 get-first_at name k (x ∷ xs) (suc j) op sum distinct at =
     let below : j < length xs = slice_get_within xs j name at in
-    let different : x ≡ name → ⊥ = λ same. distinct 0 (suc j) (omega arith) (omega (arith, below)) (same ∙ sym (get_or_from_slice_get xs j name [] at)) in
-    let rest = get-first_at name (k + 1) xs j op (omega (arith, sum)) (λ m n before within. distinct (suc m) (suc n) (omega (arith, before)) (omega (arith, within))) at in
-    elim (bytes_eq x name) as (λ b. bytes_eq x name ≡ b → (if b then Some k else first_at name (k + 1) xs) ≡ Some op) [
+    let different : x ≡ name → ⊥ =
+    λ same. distinct 0 (suc j) (omega arith) (omega (arith, below)) (same ∙ sym (get_or_from_slice_get xs j name [] at)) in
+    let rest =
+    get-first_at name (k + 1) xs j op (omega (arith, sum)) (λ m n before within. distinct (suc m) (suc n) (omega (arith, before)) (omega (arith, within))) at in
+    elim (bytes_eq x name)
+    as (λ b. bytes_eq x name ≡ b → (if b then Some k else first_at name (k + 1) xs) ≡ Some op) [
       | true ↦ λ same. absurd (different ((bytes_eq-Decides x name).0 same))
       | false ↦ λ other. rest
     ] refl
