@@ -10,10 +10,12 @@ use Rattle.tta_ops.specs.Row.{Row, names_of, arities_of}
 use Rattle.tta_ops.specs.Units.{first_at, AreDistinct, AreArities}
 
 -- a name that has no first place stands nowhere
-first_at-none : (name : List ℕ) (k : ℕ) (names : List (List ℕ)) → first_at name k names ≡ None → (i : ℕ) → i < length names → get_or names i [] ≡ name → ⊥
+first_at-none : (name : List ℕ) (k : ℕ) (names : List (List ℕ)) → first_at name k names ≡ None → (i : ℕ)
+    → i < length names → get_or names i [] ≡ name → ⊥
 first_at-none name k [] none i within same = omega arith
 first_at-none name k (x ∷ xs) none i within same =
-    elim (bytes_eq x name) as (λ b. bytes_eq x name ≡ b → (if b then Some k else first_at name (k + 1) xs) ≡ None → ⊥) [
+    elim (bytes_eq x name)
+    as (λ b. bytes_eq x name ≡ b → (if b then Some k else first_at name (k + 1) xs) ≡ None → ⊥) [
       | true ↦ λ equal some. cc
       | false ↦ λ other none. elim i as (λ j. j < length (x ∷ xs) → get_or (x ∷ xs) j [] ≡ name → ⊥) [
         | zero ↦ λ within same. absurd (false≢true (sym other ∙ (bytes_eq-Decides x name).1 same))
@@ -21,10 +23,12 @@ first_at-none name k (x ∷ xs) none i within same =
       ] within same
     ] refl none
 
-AreDistinct-append : (names : List (List ℕ)) (name : List ℕ) → AreDistinct names → first_at name 0 names ≡ None → AreDistinct (names ++ name ∷ [])
+AreDistinct-append : (names : List (List ℕ)) (name : List ℕ) → AreDistinct names
+    → first_at name 0 names ≡ None → AreDistinct (names ++ name ∷ [])
 AreDistinct-append names name distinct none i j before within same =
     let size : length (names ++ name ∷ []) ≡ length names + 1 = length-append names (name ∷ []) in
-    let left : get_or (names ++ name ∷ []) i [] ≡ get_or names i [] = get_or_append_left names (name ∷ []) [] i (omega (arith, size)) in
+    let left : get_or (names ++ name ∷ []) i [] ≡ get_or names i [] =
+    get_or_append_left names (name ∷ []) [] i (omega (arith, size)) in
     elim (nat_lt j (length names)) as (λ b. nat_lt j (length names) ≡ b → ⊥) [
       | true ↦ λ below. let inside : j < length names = grind (arith, below) in
           distinct i j before inside (sym left ∙ same ∙ get_or_append_left names (name ∷ []) [] j inside)
@@ -32,21 +36,26 @@ AreDistinct-append names name distinct none i j before within same =
           first_at-none name 0 names none i (omega (arith, last)) (sym left ∙ same ∙ ap (λ k. get_or (names ++ name ∷ []) k []) last ∙ get_or-append_seam names name [] [])
     ] refl
 
-AreArities-append : (arities : List ℕ) (arity : ℕ) → AreArities arities → 0 < arity → arity < 3 → AreArities (arities ++ arity ∷ [])
+AreArities-append : (arities : List ℕ) (arity : ℕ) → AreArities arities → 0 < arity → arity < 3
+    → AreArities (arities ++ arity ∷ [])
 AreArities-append arities arity old some two i within =
     let size : length (arities ++ arity ∷ []) ≡ length arities + 1 = length-append arities (arity ∷ []) in
-    elim (nat_lt i (length arities)) as (λ b. nat_lt i (length arities) ≡ b → (0 < get_or (arities ++ arity ∷ []) i 0) × (get_or (arities ++ arity ∷ []) i 0 < 3)) [
+    elim (nat_lt i (length arities))
+    as (λ b. nat_lt i (length arities) ≡ b → (0 < get_or (arities ++ arity ∷ []) i 0) × (get_or (arities ++ arity ∷ []) i 0 < 3)) [
       | true ↦ λ below. let inside : i < length arities = grind (arith, below) in rw (get_or_append_left arities (arity ∷ []) 0 i inside) (old i inside)
       | false ↦ λ above. let last : i ≡ length arities = grind (arith, above, size) in rw (last, get_or-append_seam arities arity [] 0) (some, two)
     ] refl
 
-pub few_more : (rows : List Row) (row : Row) → length rows < 65536 → length (names_of (rows ++ row ∷ [])) < 65537
+pub few_more : (rows : List Row) (row : Row) → length rows < 65536
+    → length (names_of (rows ++ row ∷ [])) < 65537
 few_more rows row room = rw (length-map, length-append) (omega arith)
 
-pub distinct_more : (rows : List Row) (row : Row) → AreDistinct (names_of rows) → first_at row.name 0 (names_of rows) ≡ None → AreDistinct (names_of (rows ++ row ∷ []))
+pub distinct_more : (rows : List Row) (row : Row) → AreDistinct (names_of rows)
+    → first_at row.name 0 (names_of rows) ≡ None → AreDistinct (names_of (rows ++ row ∷ []))
 distinct_more rows row distinct none = rw (map-append (λ r. r.name) rows (row ∷ [])) (AreDistinct-append (names_of rows) row.name distinct none)
 
-pub arities_more : (rows : List Row) (row : Row) → AreArities (arities_of rows) → 0 < row.place.arity → row.place.arity < 3 → AreArities (arities_of (rows ++ row ∷ []))
+pub arities_more : (rows : List Row) (row : Row) → AreArities (arities_of rows) → 0 < row.place.arity
+    → row.place.arity < 3 → AreArities (arities_of (rows ++ row ∷ []))
 arities_more rows row old some two = rw (map-append (λ r. r.place.arity) rows (row ∷ [])) (AreArities-append (arities_of rows) row.place.arity old some two)
 
 -- what a table says of its rows

@@ -3,3 +3,4 @@ pub mod Distinct
 pub mod Walk
 pub mod Shifts
 pub mod Examples
+pub mod Named

@@ -40,7 +40,8 @@ pub first_at_no_text : (name : List ℕ) (k : ℕ) (entries : List (String Globa
     → first_at name k (names_of (rows_of entries)) ≡ None
 first_at_no_text name k [] not_text = refl
 first_at_no_text name k (e ∷ es) not_text =
-    elim (bytes_eq (string_bytes e.0) name) as (λ b. bytes_eq (string_bytes e.0) name ≡ b → (if b then Some k else first_at name (k + 1) (names_of (rows_of es))) ≡ None) [
+    elim (bytes_eq (string_bytes e.0) name)
+    as (λ b. bytes_eq (string_bytes e.0) name ≡ b → (if b then Some k else first_at name (k + 1) (names_of (rows_of es))) ≡ None) [
       | true ↦ λ same. absurd (not_text (subst IsUtf8 ((bytes_eq-Decides (string_bytes e.0) name).0 same) (IsUtf8-had (string_bytes e.0) e.0.ok)))
       | false ↦ λ other. first_at_no_text name (k + 1) es not_text
     ] refl
@@ -59,11 +60,13 @@ name_at entries op =
     map_twice None = refl
     map_twice (Some e) = refl
 
-lookup-none : (name : List ℕ) (k : ℕ) (entries : List (String Global × Place)) → first_at name k (names_of (rows_of entries)) ≡ None
+lookup-none : (name : List ℕ) (k : ℕ) (entries : List (String Global × Place))
+    → first_at name k (names_of (rows_of entries)) ≡ None
     → lookup (λ key. bytes_eq name (string_bytes key)) entries ≡ None
 lookup-none name k [] absent = refl
 lookup-none name k (e ∷ es) absent =
-    let turned : bytes_eq (string_bytes e.0) name ≡ bytes_eq name (string_bytes e.0) = nat_list_eq_equiv.symm (string_bytes e.0) name in
+    let turned : bytes_eq (string_bytes e.0) name ≡ bytes_eq name (string_bytes e.0) =
+    nat_list_eq_equiv.symm (string_bytes e.0) name in
     elim (bytes_eq (string_bytes e.0) name)
     as (λ b. bytes_eq (string_bytes e.0) name ≡ b → (if b then Some k else first_at name (k + 1) (names_of (rows_of es))) ≡ None → lookup (λ key. bytes_eq name (string_bytes key)) (e ∷ es) ≡ None) [
       | true ↦ λ same none. cc

@@ -14,7 +14,8 @@ inverted : (p k q r t : ℕ) → r < p → p * (k + 1 + q) ≡ t → k + 1 + q �
 inverted p k q r t below whole part = rw (← whole, div_of_rest p k q r below) (omega (arith, part, whole))
 
 -- the same at a word whose top bit is set
-pub shifted_inverted : (a n : ℕ) → n < 32 → 2 ^ 31 ≤ a → a < 2 ^ 32 → 4294967295 - (4294967295 - a) / 2 ^ n ≡ shifted_with_sign a n
+pub shifted_inverted : (a n : ℕ) → n < 32 → 2 ^ 31 ≤ a → a < 2 ^ 32
+    → 4294967295 - (4294967295 - a) / 2 ^ n ≡ shifted_with_sign a n
 shifted_inverted a n few top word =
     let p : ℕ = 2 ^ n in
     let m : ℕ = 2 ^ (32 - n) in

@@ -13,7 +13,8 @@ use Rattle.tta_ops.specs.Offers.{row_of, unit_rows, rows_from}
 use Rattle.tta_ops.specs.Refusal.{refusal_of, first_refusal, IsCause}
 
 -- a cause of one refusal is a cause of the first of that and later ones
-cause_or : (refusal later : Option OpsError) (error : OpsError) → IsCause refusal error → IsCause (option_or refusal later) error
+cause_or : (refusal later : Option OpsError) (error : OpsError) → IsCause refusal error
+    → IsCause (option_or refusal later) error
 cause_or refusal later NoMemory cause = tt
 cause_or refusal later (Twice unit index) cause = rw cause refl
 cause_or refusal later (Reserved unit index) cause = rw cause refl
@@ -37,33 +38,40 @@ pub rows_later : (all before xs ys : List Row) → before ++ (xs ++ ys) ≡ all 
 rows_later all before xs ys same = append_assoc before xs ys ∙ same
 
 -- where no operation of the first list is refused, the walk goes on with the second
-pub refusal_later : (refusal : Option OpsError) (before xs ys : List Row) → first_refusal (names_of before) xs ≡ None
-    → first_refusal (names_of before) (xs ++ ys) ≡ refusal → first_refusal (names_of (before ++ xs)) ys ≡ refusal
+pub refusal_later : (refusal : Option OpsError) (before xs ys : List Row)
+    → first_refusal (names_of before) xs ≡ None
+    → first_refusal (names_of before) (xs ++ ys) ≡ refusal
+    → first_refusal (names_of (before ++ xs)) ys ≡ refusal
 refusal_later refusal before xs ys none same =
     ap (λ names. first_refusal names ys) (map-append (λ r. r.name) before xs)
     ∙ sym (first_refusal-append (names_of before) xs ys ∙ ap (λ first. option_or first (first_refusal (names_of before ++ names_of xs) ys)) none)
     ∙ same
 
 -- the same where the first list is one operation
-pub refusal_next : (refusal : Option OpsError) (before : List Row) (row : Row) (rows : List Row) → refusal_of (names_of before) row ≡ None
-    → first_refusal (names_of before) (row ∷ rows) ≡ refusal → first_refusal (names_of (before ++ row ∷ [])) rows ≡ refusal
+pub refusal_next : (refusal : Option OpsError) (before : List Row) (row : Row) (rows : List Row)
+    → refusal_of (names_of before) row ≡ None
+    → first_refusal (names_of before) (row ∷ rows) ≡ refusal
+    → first_refusal (names_of (before ++ row ∷ [])) rows ≡ refusal
 refusal_next refusal before row rows none same =
     refusal_later refusal before (row ∷ []) rows (ap (λ first. option_or first None) none) same
 
 -- a cause of a refusal is a cause of the walk's, whatever comes later
 pub cause_next : (before : List Row) (row : Row) (rows : List Row) (error : OpsError)
-    → IsCause (refusal_of (names_of before) row) error → IsCause (first_refusal (names_of before) (row ∷ rows)) error
+    → IsCause (refusal_of (names_of before) row) error
+    → IsCause (first_refusal (names_of before) (row ∷ rows)) error
 cause_next before row rows error cause =
     cause_or (refusal_of (names_of before) row) (first_refusal (names_of before ++ row.name ∷ []) rows) error cause
 
 pub cause_later : (before xs ys : List Row) (error : OpsError)
-    → IsCause (first_refusal (names_of before) xs) error → IsCause (first_refusal (names_of before) (xs ++ ys)) error
+    → IsCause (first_refusal (names_of before) xs) error
+    → IsCause (first_refusal (names_of before) (xs ++ ys)) error
 cause_later before xs ys error cause =
     rw (first_refusal-append (names_of before) xs ys)
     (cause_or (first_refusal (names_of before) xs) (first_refusal (names_of before ++ names_of xs) ys) error cause)
 
 -- the operations of a unit that are left at an index below its size
-pub rest_of_unit : (f : ℕ → Row) (i n : ℕ) → i < n → map f (range_with_len i (n - i)) ≡ f i ∷ map f (range_with_len (i + 1) (n - (i + 1)))
+pub rest_of_unit : (f : ℕ → Row) (i n : ℕ) → i < n
+    → map f (range_with_len i (n - i)) ≡ f i ∷ map f (range_with_len (i + 1) (n - (i + 1)))
 rest_of_unit f i n below = let more : n - i ≡ suc (n - (i + 1)) = omega arith in rw more refl
 
 -- the operations of the units that are left at an index
@@ -73,11 +81,12 @@ pub rest_of_units : {B : Type 0} (size : B → ℕ) (name : B → ℕ → List �
 rest_of_units size name arity number units j unit below same = rw (drop-cons units j unit below, ← same, add-one j) refl
 
 -- and how many they are
-pub size_of_rest : {B : Type 0} (size : B → ℕ) (units : List B) (j : ℕ) (unit : B) → j < length units → unit ≡ get_or units j unit
+pub size_of_rest : {B : Type 0} (size : B → ℕ) (units : List B) (j : ℕ) (unit : B) → j < length units
+    → unit ≡ get_or units j unit
     → sum_by size (drop j units) ≡ size unit + sum_by size (drop (j + 1) units)
 size_of_rest size units j unit below same = rw (drop-cons units j unit below, ← same, add-one) (sum_by-cons size unit (drop (suc j) units))
 
 -- a unit has as many operations as it says
 pub length-unit_rows : {B : Type 0} (size : B → ℕ) (name : B → ℕ → List ℕ) (arity : B → ℕ → ℕ) (number : ℕ) (unit : B)
     → length (unit_rows size name arity number unit) ≡ size unit
-length-unit_rows size name arity number unit = length-map-range_with_len (row_of size name arity number unit) 0 (size unit)
+length-unit_rows size name arity number unit = length-map-range_with_len (row_of name arity number unit) 0 (size unit)

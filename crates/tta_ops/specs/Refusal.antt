@@ -11,9 +11,9 @@ use Rattle.tta_ops.specs.Units.{first_at}
 -- the words that machine and program texts keep for themselves
 abbrev pub reserved_words : List (List ℕ)
 reserved_words =
-    codes "ldw" ∷ codes "stw" ∷ codes "ldf" ∷ codes "stf" ∷ codes "jump" ∷ codes "proc" ∷ codes "end" ∷ codes "if"
-    ∷ codes "goto" ∷ codes "when" ∷ codes "load" ∷ codes "store" ∷ codes "out" ∷ codes "call" ∷ codes "return"
-    ∷ codes "halt" ∷ codes "data" ∷ []
+    codes "ldw" ∷ codes "stw" ∷ codes "ldf" ∷ codes "stf" ∷ codes "jump" ∷ codes "proc"
+    ∷ codes "end" ∷ codes "if" ∷ codes "goto" ∷ codes "when" ∷ codes "load" ∷ codes "store"
+    ∷ codes "out" ∷ codes "call" ∷ codes "return" ∷ codes "halt" ∷ codes "data" ∷ []
 
 -- whether a name is one of these words
 abbrev pub is_reserved : List ℕ → Bool
@@ -29,7 +29,8 @@ refusal_of before row =
 -- the first refusal of a walk, where operations of these names came before it
 abbrev pub first_refusal : List (List ℕ) → List Row → Option OpsError
 first_refusal before [] = None
-first_refusal before (row ∷ rows) = option_or (refusal_of before row) (first_refusal (before ++ row.name ∷ []) rows)
+first_refusal before (row ∷ rows) =
+    option_or (refusal_of before row) (first_refusal (before ++ row.name ∷ []) rows)
 
 -- an error is the walk's first refusal, or want of memory, which may come at any time
 abbrev pub IsCause : Option OpsError → OpsError → Type 0

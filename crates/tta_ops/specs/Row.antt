@@ -1,5 +1,5 @@
 -- The operations of some units, as a list of rows.
-use Rattle.std.specs.Prelude.{ℕ, List, map}
+use Rattle.std.specs.Prelude.{ℕ, List, Option, map, option_map, slice_get}
 use Rattle.tta_ops.specs.declared.place.Place.{Place}
 
 -- an operation: what it is called, how many words it takes, and where it stands among the units
@@ -14,3 +14,7 @@ names_of rows = map (λ row. row.name) rows
 -- how many words each takes
 abbrev pub arities_of : List Row → List ℕ
 arities_of rows = map (λ row. row.place.arity) rows
+
+-- where the operation with this number stands, if there is one
+abbrev pub place_of : List Row → ℕ → Option Place
+place_of rows op = option_map (λ row. row.place) (slice_get rows op)

@@ -4,7 +4,7 @@ ghost use Rattle.std.specs.Prelude.{◌≡◌, ◌<◌, ◌++◌, ◌∷◌, [],
 ghost use Rattle.std.specs.Prelude.{option_map, slice_get, IfSome, OnOk, OnErr};
 ghost use Rattle.std.specs.String.{string_bytes};
 ghost use Rattle.tta_ops.specs.Units.{first_at};
-ghost use Rattle.tta_ops.specs.Row.{Row, names_of};
+ghost use Rattle.tta_ops.specs.Row.{Row, names_of, place_of};
 
 use crate::place::Place;
 use indexmap::IndexMap;
@@ -67,7 +67,7 @@ impl Operations {
 
     /// The place of an operation.
     pub fn place(&self, op: usize) -> Option<Place>
-        ensures { result ≡ option_map (λ row. row.place) (slice_get self.now op) }
+        ensures { result ≡ place_of self.now op }
     {
         match self.by_name.get_index(op) {
             Some((_, place)) => Some(*place),

@@ -106,7 +106,8 @@ impl UnitSet {
     #[tactic(auto, unfolding(crate::specs::Stated::stated_by))]
     pub fn name(&self, op: OpId) -> &str
         requires { op.0 < length (stated_boxed unit_meaning self.now).names }
-        ensures value { result.now ≡ slice_index_or (stated_boxed unit_meaning self.now).names op.0 [] }
+        ensures value { let U = stated_boxed unit_meaning self.now in
+            result.now ≡ slice_index_or U.names op.0 [] }
         ensures at { slice_get (stated_boxed unit_meaning self.now).names op.0 ≡ Some result.now }
     {
         self.table.operations.name(op.0 as usize).unwrap()

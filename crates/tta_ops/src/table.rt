@@ -55,9 +55,9 @@ impl Table {
     ) -> Result<(), OpsError>
         requires offered { index < U.unit_size offered.now }
         requires room { length self.old.operations < 65536 }
-        ensures refusal { let row = row_of U.unit_size U.unit_name U.unit_arity unit offered.now index in
+        ensures refusal { let row = row_of U.unit_name U.unit_arity unit offered.now index in
             IsWalkResult (refusal_of (names_of self.old.operations) row) result }
-        ensures ok { let row = row_of U.unit_size U.unit_name U.unit_arity unit offered.now index in
+        ensures ok { let row = row_of U.unit_name U.unit_arity unit offered.now index in
             OnOk result (self.new.operations ≡ self.old.operations ++ row ∷ []) }
     {
         let text = offered.name(index);

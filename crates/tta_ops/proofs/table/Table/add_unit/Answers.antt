@@ -11,7 +11,7 @@ pub returns-in_err-add_from-clause-refusal : goal.returns-in_err-add_from-clause
 returns-in_err-add_from-clause-refusal g c =
     let U = g.U.OpUnit in
     let offered = c.args.offered.now in
-    let row = row_of U.unit_size U.unit_name U.unit_arity c.args.unit offered in
+    let row = row_of U.unit_name U.unit_arity c.args.unit offered in
     let index = c.loop-index.index in
     let below : index < U.unit_size offered = omega (arith, c.count-index-end.ensures) in
     let error = err_from_is_err_and c.from_residual.result c.from_residual.ensures.1 in
@@ -23,7 +23,7 @@ pub loop-index-preserved : goal.loop-index-preserved
 loop-index-preserved g c =
     let U = g.U.OpUnit in
     let offered = c.args.offered.now in
-    let row = row_of U.unit_size U.unit_name U.unit_arity c.args.unit offered in
+    let row = row_of U.unit_name U.unit_arity c.args.unit offered in
     let index = c.loop-index.index in
     let rest = map row (range_with_len (index + 1) (U.unit_size offered - (index + 1))) in
     let below : index < U.unit_size offered = omega (arith, c.count-index-end.ensures) in

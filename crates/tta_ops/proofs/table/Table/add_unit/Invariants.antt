@@ -9,7 +9,7 @@ abbrev pub invariant-loop-index : goal.invariant-loop-index
 invariant-loop-index g l =
     let U = g.U.OpUnit in
     let left = U.unit_size l.offered - l.index in
-    let rest = map (row_of U.unit_size U.unit_name U.unit_arity l.unit l.offered) (range_with_len l.index left) in
+    let rest = map (row_of U.unit_name U.unit_arity l.unit l.offered) (range_with_len l.index left) in
     let all = unit_rows U.unit_size U.unit_name U.unit_arity l.unit l.offered in
     record {
       rows : l.self.operations ++ rest ≡ l.fn.self.operations ++ all;

@@ -30,10 +30,12 @@ loop-offered-preserved g c =
     let rest = rows_from U.unit_size U.unit_name U.unit_arity (unit + 1) (drop (index + 1) units) in
     let all = rows_from U.unit_size U.unit_name U.unit_arity 0 units in
     let below : index < length units = omega arith in
-    let step = rest_of_units U.unit_size U.unit_name U.unit_arity unit units index offered below c.offered-item.is in
+    let step =
+    rest_of_units U.unit_size U.unit_name U.unit_arity unit units index offered below c.offered-item.is in
     let old = rw step at c.loop-offered.invariant.rows in
     let walk = rw step at c.loop-offered.invariant.refusal in
-    let fits = rw (size_of_rest U.unit_size units index offered below c.offered-item.is) at c.loop-offered.invariant.room in
+    let fits =
+    rw (size_of_rest U.unit_size units index offered below c.offered-item.is) at c.loop-offered.invariant.room in
     let size : length (before ++ here) ≡ length before + U.unit_size offered =
     length-append before here ∙ rw (length-unit_rows U.unit_size U.unit_name U.unit_arity unit offered) in
     rw c.in_ok-add_unit.ensures.ok (record {
