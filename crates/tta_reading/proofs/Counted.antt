@@ -1,10 +1,10 @@
 -- How many lines a text can have.
-use Rattle.std.proofs.Common.{◌≡◌, ℕ, zero, suc, ◌+◌, ◌-◌, ◌≤◌, Bool, true, false, not, if◌then◌else◌, List, [], ◌∷◌, ◌++◌, length, Option, None, Some, arith, refl}
+use Rattle.std.proofs.Common.{ℕ, zero, suc, ◌+◌, ◌-◌, ◌≤◌, Bool, true, false, not, if◌then◌else◌, List, [], ◌∷◌, ◌++◌, length, Option, None, Some, arith}
 use Rattle.tta_text.specs.declared.lexeme.Kind.{Kind}
 use Rattle.tta_text.specs.declared.lexeme.Token.{Token}
 use Rattle.tta_text.specs.Tokens.{tokens_from, tokens_of, with_token, piece_of, line_after}
 use Rattle.tta_text.specs.Bytes.{is_newline}
-use Rattle.tta_reading.specs.Lines.{Line, is_line_end, lexeme_of, lines_from, lines_of}
+use Rattle.tta_reading.specs.Lines.{Line, is_line_end, lexeme_of, lines_from}
 
 length-with_token : (kind : Option Kind) (line start end : ℕ) (tokens : List Token) → length (with_token kind line start end tokens) ≤ length tokens + 1
 length-with_token None line start end tokens = omega arith
@@ -19,8 +19,11 @@ length-tokens_from (byte ∷ rest) (suc skip) is_open line at = omega (arith, le
 length-tokens_from (byte ∷ rest) zero is_open line at =
     let piece = piece_of (byte ∷ rest) in
     let others = tokens_from (piece.len - 1) (not (is_newline byte)) (line_after byte line) (at + 1) rest in
-    omega (arith, length-with_token piece.kind line at (at + piece.len) others,
-        length-tokens_from rest (piece.len - 1) (not (is_newline byte)) (line_after byte line) (at + 1))
+    omega (
+      arith,
+      length-with_token piece.kind line at (at + piece.len) others,
+      length-tokens_from rest (piece.len - 1) (not (is_newline byte)) (line_after byte line) (at + 1),
+    )
 
 module _ (text : List ℕ) (t : Token) (ts : List Token) (before : Line) where
   counted : (b : Bool) → length (lines_from text [] ts) ≤ length ts → length (lines_from text (before ++ lexeme_of text t ∷ []) ts) ≤ length ts

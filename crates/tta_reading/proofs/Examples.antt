@@ -4,7 +4,7 @@ use Rattle.std.specs.Prelude.{codes, Some, None}
 use Rattle.tta_text.specs.declared.lexeme.Kind.{Kind}
 use Rattle.tta_text.specs.declared.lexeme.Kind.TheVariants.{Name, Mark, Bad}
 use Rattle.tta_text.specs.Tokens.{tokens_of, tokens_from, piece_at, mark_piece}
-use Rattle.tta_reading.specs.Lines.{Lexeme, Line, lines_of}
+use Rattle.tta_reading.specs.Lines.{Lexeme, lines_of}
 use Rattle.tta_reading.specs.Names.{Declared, named_in}
 
 word : Kind → ℕ → Lexeme

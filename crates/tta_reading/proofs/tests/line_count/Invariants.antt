@@ -6,7 +6,7 @@ use Rattle.tta_reading.proofs.tests.line_count.Given as goal
 abbrev pub invariant-loop-words : goal.invariant-loop-words
 invariant-loop-words l = record {
   all : l.count + length l.lines ≡ length (lines_of l.fn.text);
-  few : l.count + length l.lines ≤ 2 ^ 24 + 1
+  few : l.count + length l.lines ≤ 2 ^ 24 + 1;
 }
 
 abbrev pub decreases-loop-words : goal.decreases-loop-words

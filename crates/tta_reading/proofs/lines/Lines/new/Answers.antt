@@ -1,4 +1,4 @@
-use Rattle.std.proofs.Common.{arith, ◌≤◌}
+use Rattle.std.proofs.Common.{arith}
 use Rattle.tta_reading.proofs.Counted.{length-lines}
 use Rattle.tta_reading.proofs.lines.Lines.new.Goals as goal
 

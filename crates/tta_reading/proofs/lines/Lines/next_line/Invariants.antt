@@ -8,7 +8,7 @@ invariant-loop-token l = record {
   lines : lines_from l.text (map plain l.words.items) l.self-inside.scanner.tokens ≡ l.fn.self;
   text : l.self-inside.scanner.text ≡ l.text;
   same : l.self-inside.text.now ≡ l.text;
-  room : vec_capacity l.fn.words ≤ vec_capacity l.words
+  room : vec_capacity l.fn.words ≤ vec_capacity l.words;
 }
 
 -- each turn takes a token

@@ -1,4 +1,4 @@
-use Rattle.std.proofs.Common.{◌≡◌, ℕ, None, length, arith, length-append, ap, ◌∙◌, Vec, Global}
+use Rattle.std.proofs.Common.{◌≡◌, ℕ, None, arith, length-append, ap, ◌∙◌, Vec, Global}
 use Rattle.tta_reading.specs.Names.{named_in}
 use Rattle.tta_reading.proofs.Declared.{named, named-new}
 use Rattle.tta_reading.proofs.Found.{named_in-new, named_in-others}

@@ -1,4 +1,4 @@
-use Rattle.std.proofs.Common.{◌≡◌, ℕ, ap, ◌∙◌, Vec, Global}
+use Rattle.std.proofs.Common.{ℕ, ap, ◌∙◌, Vec, Global}
 use Rattle.tta_reading.specs.Names.{named_in}
 use Rattle.tta_reading.proofs.Declared.{named_in-lookup}
 use Rattle.tta_reading.proofs.names.Names.get.Goals as goal
