@@ -1,4 +1,5 @@
-//! What the readers of line-by-line texts share: the lines of a text as words, and names that were declared.
+//! What the readers of line-by-line texts share: the lines of a text as words, and names that
+//! were declared.
 #![tactic(auto)]
 
 mod lines;

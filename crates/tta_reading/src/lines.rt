@@ -1,6 +1,7 @@
 //! The lines of a text.
 
-ghost use Rattle.std.specs.Prelude.{◌≡◌, ◌+◌, ◌^◌, ◌≤◌, ◌∷◌, [], true, false, length, map, IfOk, vec_capacity};
+ghost use Rattle.std.specs.Prelude.{◌≡◌, ◌+◌, ◌^◌, ◌≤◌, true, length, map, IfOk, vec_capacity};
+ghost use Rattle.tta_reading.specs.Calls.{Takes, Ends};
 ghost use Rattle.tta_reading.specs.Lines.{plain};
 ghost use Rattle.tta_reading.specs.Lines as spec;
 
@@ -46,8 +47,8 @@ impl<'t> Lines<'t> {
     /// answers `true`. Where no line is left, it answers `false`. An `Err` is want of memory, and
     /// leaves the reader within a line. All calls together take time that is linear in the text.
     pub fn next_line(&mut self, words: &mut Vec<Word<'t>>) -> Result<bool, AllocError>
-        ensures more { IfOk result (λ more. more ≡ true → self.old ≡ map plain words.new.items ∷ self.new) }
-        ensures none { IfOk result (λ more. more ≡ false → (self.old ≡ []) × (self.new ≡ [])) }
+        ensures more { IfOk result (λ more. Takes more (map plain words.new.items) self.old self.new) }
+        ensures none { IfOk result (λ more. Ends more self.old self.new) }
         ensures counted { IfOk result (λ more. more ≡ true → length self.old ≡ length self.new + 1) }
         ensures room { vec_capacity words.old ≤ vec_capacity words.new }
     {

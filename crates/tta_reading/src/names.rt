@@ -1,6 +1,7 @@
 //! Names that were declared.
 
-ghost use Rattle.std.specs.Prelude.{◌≡◌, ℕ, ◌+◌, false, List, ◌++◌, ◌∷◌, [], length, Some, None, OnOk, OnErr, bytes_eq};
+ghost use Rattle.std.specs.Prelude.{◌≡◌, ◌+◌, ◌++◌, ◌∷◌, [], length, Some, None, OnOk, OnErr};
+ghost use Rattle.tta_reading.specs.Calls.{KeepsOtherNames};
 ghost use Rattle.tta_reading.specs.Names.{named_in};
 
 use indexmap::IndexMap;
@@ -55,7 +56,7 @@ impl<P: Copy> Names<P> {
         ensures ok { OnOk result (self.new ≡ self.old ++ (name.now, place) ∷ []) }
         ensures err { OnErr result (self.new ≡ self.old) }
         ensures found { OnOk result (named_in self.new name.now ≡ Some place) }
-        ensures others { OnOk result ((other : List ℕ) → bytes_eq name.now other ≡ false → named_in self.new other ≡ named_in self.old other) }
+        ensures others { OnOk result (KeepsOtherNames name.now self.old self.new) }
         ensures len { OnOk result (length self.new ≡ length self.old + 1) }
     {
         let key = Vec::from_slice(alloc, name)?;
