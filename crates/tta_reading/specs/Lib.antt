@@ -1,4 +1,5 @@
 pub mod Lines
 pub mod Names
+pub mod Calls
 pub mod Steps
 pub mod Words

@@ -1,4 +1,5 @@
-//! What the readers of line-by-line texts share: the lines of a text as words, and names that were declared.
+//! What the readers of line-by-line texts share: the lines of a text as words, and names that
+//! were declared.
 #![tactic(auto)]
 
 mod lines;
@@ -8,3 +9,6 @@ mod word;
 pub use lines::Lines;
 pub use names::Names;
 pub use word::Word;
+
+#[cfg(test)]
+mod tests;
