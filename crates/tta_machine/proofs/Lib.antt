@@ -1,2 +1,4 @@
 pub mod Facts
+pub mod Names
+pub mod Pieces
 pub mod Samples

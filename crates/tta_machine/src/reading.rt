@@ -3,5 +3,6 @@
 mod draft;
 mod forms;
 mod refusal;
+mod syntax;
 
 pub use refusal::{MachineError, Refusal};
