@@ -1,6 +1,6 @@
 -- Long forms, told by the places of their words.
-use Rattle.std.proofs.Common.{◌≡◌, ℕ, ◌-◌, ◌==◌, false, List, [], ◌∷◌, length, take, drop, get_or, refl, arith}
-use Rattle.std.specs.Prelude.{Option, Some, None, map, codes}
+use Rattle.std.proofs.Common.{◌≡◌, ◌≤◌, ◌<◌, ℕ, ◌-◌, ◌==◌, false, List, [], ◌∷◌, length, take, drop, get_or, refl, arith}
+use Rattle.std.specs.Prelude.{Some, map, codes}
 use Rattle.std.proofs.lemmas.Bool.{true≢false}
 use Rattle.std.proofs.lemmas.List.{take_rest}
 use Rattle.tta_text.specs.declared.lexeme.Kind.TheVariants.{Name}
@@ -8,7 +8,7 @@ use Rattle.tta_reading.specs.declared.word.Word.{Word}
 use Rattle.tta_reading.specs.Lines.{Lexeme, plain}
 use Rattle.tta_reading.specs.Words.{is_mark, name_of, value_of}
 use Rattle.tta_reading.specs.Steps.{◌>>?◌, only_if}
-use Rattle.tta_machine.specs.Forms.{FileForm, TemplateForm, file_form, template_form, keyed_value, keyed_name, names_alone}
+use Rattle.tta_machine.specs.Forms.{file_form, template_form, keyed_value, keyed_name, names_alone}
 
 -- what stands behind the end of a line
 abbrev pub no_word : Word
@@ -18,7 +18,8 @@ no_word = record { kind = Name; text = record { ref_ptr = (0, 0); now = [] } }
 abbrev pub word_at : List Word → ℕ → Lexeme
 word_at ws k = plain (get_or ws k no_word)
 
-pub file_form_of : (ws : List Word) → length ws ≡ 13
+-- the form of a file
+pub file_form_of : (ws : List Word) → 13 ≤ length ws → length ws < 14
     → file_form (map plain ws)
     ≡ (name_of (word_at ws 0) >>? λ name.
     keyed_value (codes "width") (word_at ws 1) (word_at ws 2) >>? λ w. keyed_value (codes "size") (word_at ws 3) (word_at ws 4) >>? λ s.
@@ -26,14 +27,15 @@ pub file_form_of : (ws : List Word) → length ws ≡ 13
     keyed_name (codes "out") (word_at ws 9) (word_at ws 10) >>? λ o. keyed_name (codes "in") (word_at ws 11) (word_at ws 12) >>? λ i.
     Some (record { name = name; width = w; size = s; read = r; write = t; out = o; into = i }))
 unfolding file_form
-file_form_of (a ∷ b ∷ c ∷ d ∷ e ∷ f ∷ g ∷ h ∷ i ∷ j ∷ k ∷ l ∷ m ∷ []) len = refl
-file_form_of (a ∷ b ∷ c ∷ d ∷ e ∷ f ∷ g ∷ h ∷ i ∷ j ∷ k ∷ l ∷ m ∷ n ∷ ws) len = absurd (omega (arith, len))
-file_form_of ws len = absurd (omega (arith, len))
+file_form_of (a ∷ b ∷ c ∷ d ∷ e ∷ f ∷ g ∷ h ∷ i ∷ j ∷ k ∷ l ∷ m ∷ []) _ _ = refl
+file_form_of (a ∷ b ∷ c ∷ d ∷ e ∷ f ∷ g ∷ h ∷ i ∷ j ∷ k ∷ l ∷ m ∷ n ∷ ws) _ most = absurd (omega (arith, most))
+file_form_of ws least _ = absurd (omega (arith, least))
 
 -- what is left of a line behind its first words, as the code cuts it
 abbrev pub words_from : ℕ → List Word → List Word
 words_from k ws = take (length ws - k) (drop k ws)
 
+-- the form of a template
 pub template_form_of : (ws : List Word) → (length (words_from 4 ws) == 0) ≡ false
     → template_form (map plain ws)
     ≡ only_if (is_mark (codes ".") (word_at ws 2)) (

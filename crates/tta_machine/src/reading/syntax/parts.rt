@@ -5,8 +5,8 @@ ghost use Rattle.tta_reading.specs.Lines.{plain};
 ghost use Rattle.tta_machine.specs.Forms as spec;
 ghost use Rattle.tta_machine.specs.Seen.{bus_seen, socket_seen, file_seen, imm_seen, unit_seen};
 
-use crate::reading::forms::{BusForm, FileForm, ImmForm, SocketForm, UnitForm};
 use super::pieces::{keyed_name, keyed_value, names_alone, one_of_two};
+use crate::reading::forms::{BusForm, FileForm, ImmForm, SocketForm, UnitForm};
 use tta_reading::Word;
 
 /// What the words behind `bus` declare.

@@ -36,7 +36,8 @@ pub fn keyed_value(keyword: &[u8], key: &Word, value: &Word) -> Option<u32>
 
 /// The name behind a keyword.
 pub fn keyed_name<'t>(keyword: &[u8], key: &Word<'t>, name: &Word<'t>) -> Option<&'t [u8]>
-    ensures { option_map (λ n. n.now) result ≡ spec.keyed_name keyword.now (plain key.now) (plain name.now) }
+    ensures { option_map (λ n. n.now) result
+        ≡ spec.keyed_name keyword.now (plain key.now) (plain name.now) }
 {
     if key.is_keyword(keyword) {
         name.name()

@@ -1,13 +1,12 @@
-//! The forms of what is said of units, buses and sockets: operations, guards, templates and control; and those of the
-//! spaces.
+//! The forms of what is said of such parts: operations, guards, templates and control; and of the spaces' sizes.
 
 ghost use Rattle.std.specs.Prelude.{◌≡◌, map, option_map};
 ghost use Rattle.tta_reading.specs.Lines.{plain};
 ghost use Rattle.tta_machine.specs.Forms as spec;
 ghost use Rattle.tta_machine.specs.Seen.{op_seen, guard_seen, template_seen, control_seen, space_seen};
 
-use crate::reading::forms::{ControlForm, GuardForm, OpForm, SpaceForm, TemplateForm};
 use super::pieces::{keyed_name, keyed_value, names_alone, one_of_two};
+use crate::reading::forms::{ControlForm, GuardForm, OpForm, SpaceForm, TemplateForm};
 use tta_reading::Word;
 
 /// What the words behind `op` declare.
@@ -91,7 +90,8 @@ pub fn template_form<'t>(words: &'t [Word<'t>]) -> Option<TemplateForm<'t>>
 
 /// The socket of the return address behind its keyword, or nothing where the line has ended.
 fn ra_pair<'t>(words: &'t [Word<'t>]) -> Option<Option<&'t [u8]>>
-    ensures { option_map (λ ra. option_map (λ n. n.now) ra) result ≡ spec.ra_pair (map plain words.now) }
+    ensures { option_map (λ ra. option_map (λ n. n.now) ra) result
+        ≡ spec.ra_pair (map plain words.now) }
 {
     match words {
         [] => Some(None),
