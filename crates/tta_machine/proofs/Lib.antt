@@ -1,2 +1,5 @@
 pub mod Facts
+pub mod FormSamples
+pub mod Names
+pub mod Pieces
 pub mod Samples

@@ -5,6 +5,7 @@
 mod lines;
 mod names;
 mod word;
+mod wording;
 
 pub use lines::Lines;
 pub use names::Names;

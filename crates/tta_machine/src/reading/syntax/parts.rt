@@ -1,0 +1,159 @@
+//! The forms of buses, sockets, files, immediate units and units.
+
+ghost use Rattle.std.specs.Prelude.{◌≡◌, map, option_map};
+ghost use Rattle.tta_reading.specs.Lines.{plain};
+ghost use Rattle.tta_machine.specs.Forms as spec;
+ghost use Rattle.tta_machine.specs.Seen.{bus_seen, socket_seen, file_seen, imm_seen, unit_seen};
+
+use super::pieces::{keyed_name, keyed_value, names_alone, one_of_two};
+use crate::reading::forms::{BusForm, FileForm, ImmForm, SocketForm, UnitForm};
+use tta_reading::Word;
+
+/// What the words behind `bus` declare.
+#[tactic(auto, unfolding(crate::specs::Forms::bus_form))]
+pub fn bus_form<'t>(words: &'t [Word<'t>]) -> Option<BusForm<'t>>
+    ensures { option_map bus_seen result ≡ spec.bus_form (map plain words.now) }
+{
+    match words {
+        [name, key, short, sign] => {
+            if !key.is_keyword(b"short") {
+                return None;
+            }
+            let name = name.name()?;
+            let short = short.value()?;
+            let signed = one_of_two(b"signed", b"unsigned", sign)?;
+            Some(BusForm {
+                name,
+                short,
+                signed,
+            })
+        }
+        _ => None,
+    }
+}
+
+/// What the words behind `socket` declare.
+#[tactic(auto, unfolding(crate::specs::Forms::socket_form))]
+pub fn socket_form<'t>(words: &'t [Word<'t>]) -> Option<SocketForm<'t>>
+    ensures { option_map socket_seen result ≡ spec.socket_form (map plain words.now) }
+{
+    match words {
+        [name, direction, buses @ ..] if !buses.is_empty() => {
+            let name = name.name()?;
+            let input = one_of_two(b"in", b"out", direction)?;
+            let buses = names_alone(buses)?;
+            Some(SocketForm { name, input, buses })
+        }
+        _ => None,
+    }
+}
+
+/// What the words behind `file` declare.
+#[tactic(auto, unfolding(crate::specs::Forms::file_form))]
+pub fn file_form<'t>(words: &'t [Word<'t>]) -> Option<FileForm<'t>>
+    ensures { option_map file_seen result ≡ spec.file_form (map plain words.now) }
+{
+    match words {
+        [
+            name,
+            width_key,
+            width,
+            size_key,
+            size,
+            read_key,
+            read,
+            write_key,
+            write,
+            out_key,
+            out,
+            in_key,
+            into,
+        ] => {
+            let name = name.name()?;
+            let width = keyed_value(b"width", width_key, width)?;
+            let size = keyed_value(b"size", size_key, size)?;
+            let read = keyed_value(b"read", read_key, read)?;
+            let write = keyed_value(b"write", write_key, write)?;
+            let out = keyed_name(b"out", out_key, out)?;
+            let into = keyed_name(b"in", in_key, into)?;
+            Some(FileForm {
+                name,
+                width,
+                size,
+                read,
+                write,
+                out,
+                into,
+            })
+        }
+        _ => None,
+    }
+}
+
+/// What the words behind `imm` declare.
+#[tactic(auto, unfolding(crate::specs::Forms::imm_form))]
+pub fn imm_form<'t>(words: &'t [Word<'t>]) -> Option<ImmForm<'t>>
+    ensures { option_map imm_seen result ≡ spec.imm_form (map plain words.now) }
+{
+    match words {
+        [name, size_key, size, out_key, out] => {
+            let name = name.name()?;
+            let size = keyed_value(b"size", size_key, size)?;
+            let out = keyed_name(b"out", out_key, out)?;
+            Some(ImmForm { name, size, out })
+        }
+        _ => None,
+    }
+}
+
+/// The ports of a unit behind its operand port: the trigger port, and then the result port or nothing.
+fn unit_ports<'t>(
+    name: &'t [u8],
+    operand: Option<&'t [u8]>,
+    words: &'t [Word<'t>],
+) -> Option<UnitForm<'t>>
+    ensures { option_map unit_seen result
+        ≡ spec.unit_ports name.now (option_map (λ o. o.now) operand.entry) (map plain words.now) }
+{
+    match words {
+        [key, trigger] => {
+            let trigger = keyed_name(b"t", key, trigger)?;
+            Some(UnitForm {
+                name,
+                operand,
+                trigger,
+                result: None,
+            })
+        }
+        [trigger_key, trigger, result_key, result] => {
+            let trigger = keyed_name(b"t", trigger_key, trigger)?;
+            let result = keyed_name(b"r", result_key, result)?;
+            Some(UnitForm {
+                name,
+                operand,
+                trigger,
+                result: Some(result),
+            })
+        }
+        _ => None,
+    }
+}
+
+/// What the words behind `unit` declare.
+#[tactic(auto, unfolding(crate::specs::Forms::unit_form))]
+pub fn unit_form<'t>(words: &'t [Word<'t>]) -> Option<UnitForm<'t>>
+    ensures { option_map unit_seen result ≡ spec.unit_form (map plain words.now) }
+{
+    match words {
+        [name, key, socket, others @ ..] => {
+            let name = name.name()?;
+            if key.is_keyword(b"o") {
+                let operand = socket.name()?;
+                unit_ports(name, Some(operand), others)
+            } else {
+                unit_ports(name, None, &words[1..])
+            }
+        }
+        _ => None,
+    }
+}

@@ -1,0 +1,149 @@
+//! The forms of what is said of such parts: operations, guards, templates and control; and of the spaces' sizes.
+
+ghost use Rattle.std.specs.Prelude.{◌≡◌, map, option_map};
+ghost use Rattle.tta_reading.specs.Lines.{plain};
+ghost use Rattle.tta_machine.specs.Forms as spec;
+ghost use Rattle.tta_machine.specs.Seen.{op_seen, guard_seen, template_seen, control_seen, space_seen};
+
+use super::pieces::{keyed_name, keyed_value, names_alone, one_of_two};
+use crate::reading::forms::{ControlForm, GuardForm, OpForm, SpaceForm, TemplateForm};
+use tta_reading::Word;
+
+/// What the words behind `op` declare.
+#[tactic(auto, unfolding(crate::specs::Forms::op_form))]
+pub fn op_form<'t>(words: &'t [Word<'t>]) -> Option<OpForm<'t>>
+    ensures { option_map op_seen result ≡ spec.op_form (map plain words.now) }
+{
+    match words {
+        [unit, operation] => {
+            let unit = unit.name()?;
+            let operation = operation.name()?;
+            Some(OpForm {
+                unit,
+                operation,
+                latency: None,
+            })
+        }
+        [unit, operation, latency] => {
+            let unit = unit.name()?;
+            let operation = operation.name()?;
+            let latency = latency.value()?;
+            Some(OpForm {
+                unit,
+                operation,
+                latency: Some(latency),
+            })
+        }
+        _ => None,
+    }
+}
+
+/// What the words behind `guard` declare.
+#[tactic(auto, unfolding(crate::specs::Forms::guard_form))]
+pub fn guard_form<'t>(words: &'t [Word<'t>]) -> Option<GuardForm<'t>>
+    ensures { option_map guard_seen result ≡ spec.guard_form (map plain words.now) }
+{
+    match words {
+        [bus, file, dot, index, sense] => {
+            if !dot.is_mark(b".") {
+                return None;
+            }
+            let bus = bus.name()?;
+            let file = file.name()?;
+            let index = index.value()?;
+            let inverted = one_of_two(b"inverted", b"plain", sense)?;
+            Some(GuardForm {
+                bus,
+                file,
+                index,
+                inverted,
+            })
+        }
+        _ => None,
+    }
+}
+
+/// What the words behind `template` declare.
+#[tactic(auto, unfolding(crate::specs::Forms::template_form))]
+pub fn template_form<'t>(words: &'t [Word<'t>]) -> Option<TemplateForm<'t>>
+    ensures { option_map template_seen result ≡ spec.template_form (map plain words.now) }
+{
+    match words {
+        [name, imm, dot, index, buses @ ..] if !buses.is_empty() => {
+            if !dot.is_mark(b".") {
+                return None;
+            }
+            let name = name.name()?;
+            let imm = imm.name()?;
+            let index = index.value()?;
+            let buses = names_alone(buses)?;
+            Some(TemplateForm {
+                name,
+                imm,
+                index,
+                buses,
+            })
+        }
+        _ => None,
+    }
+}
+
+/// The socket of the return address behind its keyword, or nothing where the line has ended.
+fn ra_pair<'t>(words: &'t [Word<'t>]) -> Option<Option<&'t [u8]>>
+    ensures { option_map (λ ra. option_map (λ n. n.now) ra) result
+        ≡ spec.ra_pair (map plain words.now) }
+{
+    match words {
+        [] => Some(None),
+        [key, socket] => {
+            let ra = keyed_name(b"ra", key, socket)?;
+            Some(Some(ra))
+        }
+        _ => None,
+    }
+}
+
+/// What the words behind `control` declare.
+#[tactic(auto, unfolding(crate::specs::Forms::control_form))]
+pub fn control_form<'t>(words: &'t [Word<'t>]) -> Option<ControlForm<'t>>
+    ensures { option_map control_seen result ≡ spec.control_form (map plain words.now) }
+{
+    match words {
+        [
+            delay_key,
+            delay,
+            address_key,
+            address,
+            trigger_key,
+            trigger,
+            others @ ..,
+        ] => {
+            let delay = keyed_value(b"delay", delay_key, delay)?;
+            let address = keyed_value(b"address", address_key, address)?;
+            let trigger = keyed_name(b"t", trigger_key, trigger)?;
+            let ra = ra_pair(others)?;
+            Some(ControlForm {
+                delay,
+                address,
+                trigger,
+                ra,
+            })
+        }
+        _ => None,
+    }
+}
+
+/// What the words behind `space` declare.
+#[tactic(auto, unfolding(crate::specs::Forms::space_form))]
+pub fn space_form(words: &[Word]) -> Option<SpaceForm>
+    ensures { option_map space_seen result ≡ spec.space_form (map plain words.now) }
+{
+    match words {
+        [space, size] => {
+            let is_data = one_of_two(b"data", b"frame", space)?;
+            let size = size.value()?;
+            Some(SpaceForm { is_data, size })
+        }
+        _ => None,
+    }
+}
