@@ -1,5 +1,5 @@
 -- Words that are operands, all of them, and words that are free names, all of them.
-use Rattle.std.proofs.Common.{◌≡◌, Bool, true, false, not, ◌&&◌, List, [], ◌∷◌, refl, ◌⊎◌, inl, inr}
+use Rattle.std.proofs.Common.{◌≡◌, Bool, true, false, not, ◌&&◌, List, [], ◌∷◌, refl, sym, ◌∙◌, ◌⊎◌, inl, inr}
 use Rattle.std.specs.Prelude.{ℕ, Option, Some, None, map, if◌then◌else◌, is_some}
 use Rattle.std.specs.List.{list_all, cons_option}
 use Rattle.tta_reading.specs.declared.word.Word.{Word}
@@ -22,6 +22,15 @@ pub operands_alone_of : (words : List Word)
     ≡ (if list_all (λ w. is_some (operand_of (plain w))) words then Some (operands_in words) else None)
 operands_alone_of [] = refl
 operands_alone_of (w ∷ ws) = one_more (operand_of (plain w)) _ _ _ (operands_alone_of ws)
+
+-- operands alone are what the words themselves stand for
+pub operands_in_alone : (words : List Word) (operands : List Operand)
+    → operands_alone (map plain words) ≡ Some operands → operands_in words ≡ operands
+operands_in_alone words operands alone =
+    by (list_all (λ w. is_some (operand_of (plain w))) words) (sym (operands_alone_of words) ∙ alone) where
+      by : (all : Bool) → (if all then Some (operands_in words) else None) ≡ Some operands → operands_in words ≡ operands
+      by true e = cc
+      by false e = cc
 
 -- a free name is the text of its word
 free_name_text : (w : Lexeme) → (free_name w ≡ None) ⊎ (free_name w ≡ Some w.text)
@@ -49,3 +58,11 @@ pub names_alone_of : (words : List Word)
     → names_alone (map plain words) ≡ (if list_all (λ w. is_some (free_name (plain w))) words then Some (texts words) else None)
 names_alone_of [] = refl
 names_alone_of (w ∷ ws) = one_more_name (free_name (plain w)) w.text.now _ _ _ (free_name_text (plain w)) (names_alone_of ws)
+
+-- free names alone are the texts of the words themselves
+pub texts_alone : (words : List Word) (names : List (List ℕ)) → names_alone (map plain words) ≡ Some names → texts words ≡ names
+texts_alone words names alone =
+    by (list_all (λ w. is_some (free_name (plain w))) words) (sym (names_alone_of words) ∙ alone) where
+      by : (all : Bool) → (if all then Some (texts words) else None) ≡ Some names → texts words ≡ names
+      by true e = cc
+      by false e = cc
