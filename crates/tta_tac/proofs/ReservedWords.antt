@@ -1,9 +1,9 @@
 -- A name is reserved only where it is one of the reserved words of its length.
-use Rattle.std.proofs.Common.{◌≡◌, ◌≢◌, ℕ, suc, Bool, true, false, ◌&&◌, ◌||◌, List, [], ◌∷◌, length, refl, ap, sym, ◌∙◌, inl, inr, eqb}
-use Rattle.std.specs.Prelude.{codes, filter, nat_eq}
+use Rattle.std.proofs.Common.{◌≡◌, ◌≢◌, ℕ, suc, Bool, true, false, ◌||◌, List, [], ◌∷◌, length, refl, ap, sym, ◌∙◌, inl, inr, eqb}
+use Rattle.std.specs.Prelude.{codes, filter}
 use Rattle.std.specs.Str.{bytes_eq}
 use Rattle.std.specs.List.{list_any}
-use Rattle.std.proofs.lemmas.Bool.{and_right, cases_Bool, cases_eq, eqb-true, eqb-false, eq-eqb, ne_eqb}
+use Rattle.std.proofs.lemmas.Bool.{and_right, cases_Bool, cases_eq, eqb-false, ne_eqb}
 use Rattle.tta_tac.specs.Forms.{is_reserved, reserved}
 
 -- bytes of another length differ
@@ -13,8 +13,9 @@ other_length [] (y ∷ b) differ = refl
 other_length (x ∷ a) [] differ = refl
 other_length (x ∷ a) (y ∷ b) differ = and_right (eqb x y) (bytes_eq a b) (other_length a b (λ e. differ (ap suc e)))
 
+-- the order of the two does not matter
 same_test : (x y : ℕ) → eqb x y ≡ eqb y x
-same_test x y = elim (cases_eq x y) [ | inl same ↦ rw same refl | inr differ ↦ rw (ne_eqb x y differ, ne_eqb y x (λ e. differ (sym e))) refl ]
+same_test x y = elim (cases_eq x y) [ inl same ↦ rw same refl | inr differ ↦ rw (ne_eqb x y differ, ne_eqb y x (λ e. differ (sym e))) refl ]
 
 other_way : (a b : List ℕ) → bytes_eq a b ≡ bytes_eq b a
 other_way [] [] = refl
@@ -34,10 +35,10 @@ of_its_length name (word ∷ words) =
     ]
 
 -- the reserved words of a length
-abbrev pub words_of : ℕ → List (List ℕ)
+abbrev words_of : ℕ → List (List ℕ)
 words_of size = filter (λ word. eqb (length word) size) reserved
 
-pub by_length : (name : List ℕ) (size : ℕ) → length name ≡ size
+by_length : (name : List ℕ) (size : ℕ) → length name ≡ size
     → is_reserved name ≡ list_any (λ word. bytes_eq name word) (words_of size)
 unfolding is_reserved
 by_length name size len = of_its_length name reserved ∙ rw len refl
@@ -74,5 +75,12 @@ of_other name two three four five six = by_length name (length name) refl ∙ no
   none : (n : ℕ) → n ≢ 2 → n ≢ 3 → n ≢ 4 → n ≢ 5 → n ≢ 6 → list_any (λ word. bytes_eq name word) (words_of n) ≡ false
   none n two three four five six =
       rw (
-      ne_eqb 2 n (λ e. two (sym e)), ne_eqb 3 n (λ e. three (sym e)), ne_eqb 4 n (λ e. four (sym e)), ne_eqb 5 n (λ e. five (sym e)),
-      ne_eqb 6 n (λ e. six (sym e))) refl
+        ne_eqb 2 n (λ e. two (sym e)),
+        ne_eqb 3 n (λ e. three (sym e)),
+        ne_eqb 4 n (λ e. four (sym e)),
+        ne_eqb 5 n (λ e. five (sym e)),
+        ne_eqb 6 n (λ e. six (sym e)),
+      ) refl
+
+-- what a name of each length is tested against
+pub ruleset of_lengths = (of_two, of_five, of_six, of_other)

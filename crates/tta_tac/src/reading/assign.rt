@@ -53,7 +53,12 @@ fn load_form<'t>(d: &'t [u8], key: &Word<'t>, a: &Word<'t>, others: &[Word]) -> 
 
 /// `d = OPERATION b` and `d = OPERATION a b`
 #[tactic(auto, unfolding(crate::specs::Forms::assign_form))]
-fn apply_form<'t>(d: &'t [u8], key: &Word<'t>, a: &Word<'t>, others: &[Word<'t>]) -> Option<Form<'t>>
+fn apply_form<'t>(
+    d: &'t [u8],
+    key: &Word<'t>,
+    a: &Word<'t>,
+    others: &[Word<'t>],
+) -> Option<Form<'t>>
     requires no_call { is_keyword (codes "call") (plain key.now) ≡ false }
     requires no_load { is_keyword (codes "load") (plain key.now) ≡ false }
     ensures { option_map form_seen result

@@ -53,22 +53,25 @@ pub fn rel_of(word: &Word) -> Option<Rel>
     }
 }
 
+/// Whether all words are operands.
 fn are_operands(words: &[Word]) -> bool
     ensures { result ≡ list_all (λ w. is_some (spec.operand_of (plain w))) words.now }
 {
     words.iter().all(|word| operand_of(word).is_some())
 }
 
+/// Whether all words are free names.
 fn are_free_names(words: &[Word]) -> bool
     ensures { result ≡ list_all (λ w. is_some (spec.free_name (plain w))) words.now }
 {
     words.iter().all(|word| free_name(word).is_some())
 }
 
-/// Words, where all of them are operands.
+/// Words, where all of them are operands; they stand for those.
 #[tactic(auto, using(crate::proofs::Runs::operands_alone_of))]
 pub fn operands_alone<'t>(words: &'t [Word<'t>]) -> Option<&'t [Word<'t>]>
-    ensures { option_map (λ w. operands_in w.now) result ≡ spec.operands_alone (map plain words.now) }
+    ensures { option_map (λ w. operands_in w.now) result
+        ≡ spec.operands_alone (map plain words.now) }
 {
     if are_operands(words) {
         Some(words)
@@ -77,7 +80,7 @@ pub fn operands_alone<'t>(words: &'t [Word<'t>]) -> Option<&'t [Word<'t>]>
     }
 }
 
-/// Words, where all of them are free names.
+/// Words, where all of them are free names; they stand for those.
 #[tactic(auto, using(crate::proofs::Runs::names_alone_of))]
 pub fn names_alone<'t>(words: &'t [Word<'t>]) -> Option<&'t [Word<'t>]>
     ensures { option_map (λ w. texts w.now) result ≡ spec.names_alone (map plain words.now) }

@@ -4,12 +4,7 @@ ghost use Rattle.std.specs.Prelude.{◌≡◌, length};
 ghost use Rattle.tta_tac.specs.Forms as spec;
 
 /// Whether program texts keep a word for themselves.
-#[tactic(auto, using(
-    crate::proofs::ReservedWords::of_two,
-    crate::proofs::ReservedWords::of_five,
-    crate::proofs::ReservedWords::of_six,
-    crate::proofs::ReservedWords::of_other
-))]
+#[tactic(auto, using(crate::proofs::ReservedWords::of_lengths))]
 pub fn is_reserved(name: &[u8]) -> bool
     ensures { result ≡ spec.is_reserved name.now }
 {
@@ -23,6 +18,7 @@ pub fn is_reserved(name: &[u8]) -> bool
     }
 }
 
+/// Whether a name of three letters is a reserved word.
 #[tactic(auto, using(crate::proofs::ReservedWords::of_three))]
 fn is_reserved_of_three(name: &[u8]) -> bool
     requires { length name.now ≡ 3 }
@@ -36,6 +32,7 @@ fn is_reserved_of_three(name: &[u8]) -> bool
         || name == b"out".as_slice()
 }
 
+/// Whether a name of four letters is a reserved word.
 #[tactic(auto, using(crate::proofs::ReservedWords::of_four))]
 fn is_reserved_of_four(name: &[u8]) -> bool
     requires { length name.now ≡ 4 }

@@ -160,7 +160,8 @@ fn return_form<'t>(words: &'t [Word<'t>]) -> Option<Form<'t>>
 
 /// A form with nothing behind it.
 fn alone_form<'t>(form: Form<'t>, words: &[Word]) -> Option<Form<'t>>
-    ensures { option_map form_seen result ≡ spec.alone_form (form_seen form.entry) (map plain words.now) }
+    ensures { option_map form_seen result
+        ≡ spec.alone_form (form_seen form.entry) (map plain words.now) }
 {
     match words {
         [] => Some(form),
@@ -171,7 +172,8 @@ fn alone_form<'t>(form: Form<'t>, words: &[Word]) -> Option<Form<'t>>
 /// `NAME :` and the assignments
 #[tactic(auto, unfolding(crate::specs::Forms::named_form))]
 fn named_form<'t>(first: &Word<'t>, words: &'t [Word<'t>]) -> Option<Form<'t>>
-    ensures { option_map form_seen result ≡ spec.named_form (plain first.now) (map plain words.now) }
+    ensures { option_map form_seen result
+        ≡ spec.named_form (plain first.now) (map plain words.now) }
 {
     match words {
         [mark, others @ ..] => {
