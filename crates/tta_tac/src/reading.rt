@@ -1,9 +1,14 @@
 //! Reading a program's text.
 
+mod assign;
+mod calls;
 mod draft;
 mod forms;
+mod pieces;
 mod read;
 mod refusal;
+mod reserved;
+mod syntax;
 
 pub use read::read_program;
 pub use refusal::{Refusal, TacError};
