@@ -27,7 +27,7 @@ program_ends u P m text before after (Err status.NoMemory) ends was = λ M OUT h
 program_ends u P m text before after (Err s) ends was = absurd ends
 
 -- a program that was read, and what became of its image
-pub image_ends : (u : Units) (P text : List ℕ) (m : Machine) (p : Program) (before after : World) {T : Type 0} (items : T → List ℕ) (result : Result T Status)
+pub image_ends : {T : Type 0} → (u : Units) (P text : List ℕ) (m : Machine) (p : Program) (before after : World) (items : T → List ℕ) (result : Result T Status)
     → ReadsProgram u P m p before after → ImageEnds m p (sha256 text) items result
     → CompileProgramEnds u P text m before after items result
 image_ends u P text m p before after items (Ok v) reads ends = record { program = p; reads = reads; image = ends }
@@ -47,10 +47,10 @@ same_world before after e =
     ∙ ap (λ l. of before.contents before.faults l) e.latest
 
 -- a machine that was read, and what became of the program
-pub compile_ends : (u : Units) (M P text : List ℕ) (m : Machine) (before between after : World) {T : Type 0} (items : T → List ℕ) (result : Result T Status)
+pub compile_ends : {T : Type 0} → (u : Units) (M P text : List ℕ) (m : Machine) (before between after : World) (items : T → List ℕ) (result : Result T Status)
     → ReadsMachine u M text m before between → CompileProgramEnds u P text m between after items result
     → CompileEnds u M P before after items result
-compile_ends u M P text m before between after items result reads ends =
+compile_ends {T} u M P text m before between after items result reads ends =
     of result (subst (λ w. CompileProgramEnds u P text m w after items result) (same_world before between reads.untouched) ends) where
       has : HasMachine u before.contents M
       has = record { text = text; machine = m; holds = reads.holds; read = reads.read; first = reads.first }

@@ -1,0 +1,18 @@
+use Rattle.tta_ops.specs.Set.{stated}
+use Rattle.tta_tool.specs.World.{world}
+use Rattle.tta_tool.proofs.Endings.{compile_ends}
+use Rattle.tta_tool.proofs.build.compile.Goals as goal
+
+pub returns-in-Ok : goal.returns-in-Ok
+returns-in-Ok g c =
+    let f = g.F.Files in
+    let U = stated (λ v. (goal.OpUnit-dyn g v).unit_meaning v.1) c.args.units.now in
+    let before = world (f.contents c.args.files.now) (f.faults c.args.files.now) (f.latest c.args.files.now) in
+    let between = world (f.contents c.machine_file.new.files) (f.faults c.machine_file.new.files) (f.latest c.machine_file.new.files) in
+    let after = world (f.contents c.compile_program.new.files) (f.faults c.compile_program.new.files) (f.latest c.compile_program.new.files) in
+    let file = c.in-Ok.file in
+    compile_ends U c.args.machine.now c.args.program.now file.text.items file.machine before between after (λ v. v.items) c.compile_program.result
+        c.in-Ok.ensures c.compile_program.ensures
+
+pub returns-in-Err : goal.returns-in-Err
+returns-in-Err g c = λ OUT. c.in-Err.ensures c.args.program.now OUT
