@@ -1,5 +1,5 @@
 -- The lines of a text: its tokens, cut at each end of a line.
-use Rattle.std.specs.Prelude.{ℕ, Bool, true, false, if◌then◌else◌, List, [], ◌∷◌, ◌++◌, slice_range, map}
+use Rattle.std.specs.Prelude.{ℕ, Bool, true, false, if◌then◌else◌, List, [], ◌∷◌, ◌++◌, slice_range}
 use Rattle.tta_text.specs.declared.lexeme.Kind.{Kind}
 use Rattle.tta_text.specs.declared.lexeme.Kind.TheVariants.{Eol}
 use Rattle.tta_text.specs.declared.lexeme.Token.{Token}
