@@ -7,5 +7,7 @@ pub mod Rules
 pub mod Draft
 pub mod Forms
 pub mod Declarations
+pub mod BusSets
 pub mod Text
 pub mod Seen
+pub mod Kept

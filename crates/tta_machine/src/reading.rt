@@ -1,13 +1,16 @@
 //! Reading a machine's text.
 
+mod bus_sets;
 mod buses;
 mod control;
 mod draft;
 mod files;
 mod forms;
+mod guards;
 mod limits;
 mod lookups;
 mod refusal;
+mod templates;
 mod units;
 
 pub use refusal::{MachineError, Refusal};

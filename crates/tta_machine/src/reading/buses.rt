@@ -1,12 +1,13 @@
 //! The declarations of buses and sockets.
 
 ghost use Rattle.std.specs.Prelude.{◌≡◌};
-ghost use Rattle.tta_machine.specs.Declarations.{take_bus};
-ghost use Rattle.tta_machine.specs.Seen.{Declares, bus_seen};
+ghost use Rattle.tta_machine.specs.Declarations.{take_bus, take_socket};
+ghost use Rattle.tta_machine.specs.Kept.{IsDraft};
+ghost use Rattle.tta_machine.specs.Seen.{Declares, bus_seen, socket_seen};
 
-use crate::parts::Bus;
+use crate::parts::{Bus, Socket};
 use crate::reading::draft::{Draft, Named};
-use crate::reading::forms::BusForm;
+use crate::reading::forms::{BusForm, SocketForm};
 use crate::reading::limits::{is_from_to, is_too_long};
 use crate::reading::refusal::{LineError, Refusal};
 use std::alloc::Global;
@@ -30,6 +31,30 @@ impl Draft {
         let short = form.short as u8;
         let signed = form.signed;
         self.buses.push(Bus { name, short, signed })?;
+        self.add_name(alloc, form.name, place)?;
+        Ok(())
+    }
+
+    /// Declares a socket. It is refused as `Unknown` where a name of its buses names no bus, as
+    /// `Twice` where its name is taken or a bus stands twice, and as `Range` where its name is too
+    /// long or 128 sockets are there.
+    #[tactic(auto, unfolding(crate::specs::Declarations::take_socket))]
+    pub fn take_socket(&mut self, alloc: Global, form: &SocketForm) -> Result<(), LineError>
+        requires { IsDraft self.old }
+        ensures { Declares self.new result (take_socket self.old (socket_seen form.now)) }
+    {
+        let set = self.set_named(form.buses).ok_or(Refusal::Unknown)?;
+        if self.is_taken(form.name) {
+            return Err(LineError::Refused(Refusal::Twice));
+        }
+        let buses = set.ok_or(Refusal::Twice)?;
+        if is_too_long(form.name) || self.sockets.len() >= 128 {
+            return Err(LineError::Refused(Refusal::Range));
+        }
+        let place = Named::Socket(self.sockets.len() as u8);
+        let name = Name::new(alloc, form.name)?;
+        let input = form.input;
+        self.sockets.push(Socket { name, input, buses })?;
         self.add_name(alloc, form.name, place)?;
         Ok(())
     }
