@@ -9,7 +9,9 @@ mod forms;
 mod guards;
 mod limits;
 mod lookups;
+mod operations;
 mod refusal;
+mod services;
 mod templates;
 mod units;
 

@@ -3,6 +3,7 @@
 ghost use Rattle.std.specs.Prelude.{◌≡◌, option_map, slice_get};
 ghost use Rattle.std.specs.List.{list_any};
 ghost use Rattle.tta_machine.specs.Declarations.{take_guard};
+ghost use Rattle.tta_machine.specs.Guards.{guard_of};
 ghost use Rattle.tta_machine.specs.Joins.{is_same};
 ghost use Rattle.tta_machine.specs.Rules.{same_guard};
 ghost use Rattle.tta_machine.specs.Seen.{Declares, guard_seen};
@@ -50,8 +51,8 @@ fn shape_at(files: &[File], place: u8) -> Option<(u8, u8)>
 
 // whether there is a guard of this bus, this register and this sense
 fn has_guard(guards: &[Guard], bus: u8, file: u8, index: u32, inverted: bool) -> bool
-    ensures { let other = record { bus = bus; on = record { file = file; index = index; inverted = inverted } } in
-        result ≡ list_any (λ g. same_guard g other) guards.now }
+    ensures { let added = guard_of bus file index inverted in
+        result ≡ list_any (λ g. same_guard g added) guards.now }
 {
     guards
         .iter()
@@ -59,8 +60,7 @@ fn has_guard(guards: &[Guard], bus: u8, file: u8, index: u32, inverted: bool) ->
 }
 
 fn is_guard(guard: Guard, bus: u8, file: u8, index: u32, inverted: bool) -> bool
-    ensures { let other = record { bus = bus; on = record { file = file; index = index; inverted = inverted } } in
-        result ≡ same_guard guard other }
+    ensures { result ≡ same_guard guard (guard_of bus file index inverted) }
 {
     guard.bus == bus
         && guard.on.file == file
