@@ -1,11 +1,13 @@
 //! The declaration of an operation of a unit.
 
-ghost use Rattle.std.specs.Prelude.{◌≡◌, ◌==◌, ◌&&◌, ◌||◌, true, is_none, IfSome};
+ghost use Rattle.std.specs.Prelude.{◌≡◌, ◌==◌, ◌&&◌, ◌||◌, true, is_none, Some, IfSome, OnOk, OnErr, Err, slice_get, slice_set, length, ◌<◌};
 ghost use Rattle.std.specs.List.{list_any};
 ghost use Rattle.std.specs.Option.{option_map_or};
 ghost use Rattle.tta_ops.specs.Set.{stated};
 ghost use Rattle.tta_machine.specs.Declarations.{take_op, timed_op, untimed_op, op_named};
-ghost use Rattle.tta_machine.specs.Declarations.{arity_of, is_latency};
+ghost use Rattle.tta_machine.specs.Declarations.{arity_of, is_latency, with_op};
+ghost use Rattle.tta_machine.specs.declared.parts.Unit.{Unit as UnitSeen};
+ghost use Rattle.tta_machine.specs.declared.reading.refusal.LineError.TheVariants.{NoMemory};
 ghost use Rattle.tta_machine.specs.Effects.{has_result};
 ghost use Rattle.tta_machine.specs.Rules.{same_op};
 ghost use Rattle.tta_machine.specs.Seen.{Declares, op_seen};
@@ -46,6 +48,17 @@ impl Draft {
         }
         let latency = cycles(form.latency);
         let added = UnitOp { op, arity, latency };
+        self.push_op(place, added)?;
+        Ok(())
+    }
+
+    // puts an operation behind the others of a unit
+    fn push_op(&mut self, place: usize, added: UnitOp) -> Result<(), LineError>
+        requires { place < length self.old.units }
+        ensures ok { (unit : UnitSeen) → slice_get self.old.units place ≡ Some unit
+            → OnOk result (self.new ≡ record self.old { units = slice_set self.old.units place (with_op unit added) }) }
+        ensures err { OnErr result (result ≡ Err NoMemory) }
+    {
         self.units.at_mut(place).ops.push(added)?;
         Ok(())
     }
