@@ -1,6 +1,6 @@
 -- Sets of buses, one bit each, and the buses of names in a row.
-use Rattle.std.proofs.Common.{◌≡◌, ◌≢◌, ◌<◌, ◌≤◌, ◌+◌, ◌^◌, ◌++◌, ◌∷◌, [], ℕ, Bool, List, Option, Some, None, true, false, not, refl, sym, ap, ◌∙◌, arith, add_comm, add_assoc, zero-add, add-zero}
-use Rattle.std.specs.Prelude.{◌==◌, ◌&&◌, ◌||◌, if◌then◌else◌, length, bit_and, bit_or, option_map, map}
+use Rattle.std.proofs.Common.{◌≡◌, ◌≢◌, ◌<◌, ◌≤◌, ◌+◌, ◌^◌, ◌++◌, ◌∷◌, [], ℕ, Bool, List, Option, Some, None, true, false, not, refl, sym, ap, ◌∙◌, arith, add_comm, add_assoc}
+use Rattle.std.specs.Prelude.{◌==◌, ◌&&◌, ◌||◌, if◌then◌else◌, length, bit_and, bit_or, option_map}
 use Rattle.std.specs.List.{list_any}
 use Rattle.std.proofs.lemmas.List.Folds.{list_any-append}
 use Rattle.std.specs.Option.{option_map_or}
@@ -79,7 +79,7 @@ different-push (x ∷ xs) y = by (list_any (λ z. x == z) xs) (different xs) (x 
     by : (among rest same back : Bool) → same ≡ back → list_any (λ z. x == z) (xs ++ y ∷ []) ≡ (among || (same || false))
         → different (xs ++ y ∷ []) ≡ (rest && not (list_any (λ z. y == z) xs))
         → (not (list_any (λ z. x == z) (xs ++ y ∷ [])) && different (xs ++ y ∷ []))
-          ≡ ((not among && rest) && not (back || list_any (λ z. y == z) xs))
+        ≡ ((not among && rest) && not (back || list_any (λ z. y == z) xs))
     by among rest same back e any others =
         ap (λ b. not b && different (xs ++ y ∷ [])) any ∙ ap (λ b. not (among || (same || false)) && b) others
         ∙ bools among rest same (list_any (λ z. y == z) xs)
@@ -141,7 +141,7 @@ buses_named-push d (y ∷ xs) x bus e = by (bus_named d y) (buses_named d xs) (b
   where
     by : (first : Option ℕ) (rest : Option (List ℕ)) → buses_named d (xs ++ x ∷ []) ≡ (rest >>? λ buses. Some (buses ++ bus ∷ []))
         → (first >>? λ b. buses_named d (xs ++ x ∷ []) >>? λ buses. Some (b ∷ buses))
-          ≡ ((first >>? λ b. rest >>? λ buses. Some (b ∷ buses)) >>? λ buses. Some (buses ++ bus ∷ []))
+        ≡ ((first >>? λ b. rest >>? λ buses. Some (b ∷ buses)) >>? λ buses. Some (buses ++ bus ∷ []))
     by None rest h = refl
     by (Some b) None h = ap (λ o. o >>? λ buses. Some (b ∷ buses)) h
     by (Some b) (Some buses) h = ap (λ o. o >>? λ buses. Some (b ∷ buses)) h

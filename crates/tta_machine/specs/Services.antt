@@ -1,5 +1,5 @@
 -- What a machine has once, and which operations serve it.
-use Rattle.std.specs.Prelude.{ℕ, ◌<◌, Bool, length}
+use Rattle.std.specs.Prelude.{◌<◌, Bool, length}
 use Rattle.tta_ops.specs.Units.{Units}
 use Rattle.tta_machine.specs.declared.parts.Op.{Op}
 use Rattle.tta_machine.specs.declared.parts.Op.TheVariants.{Out, Set}

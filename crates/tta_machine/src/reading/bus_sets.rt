@@ -1,6 +1,7 @@
 //! Sets of buses, as the names of a line give them.
 
-ghost use Rattle.std.specs.Prelude.{◌≡◌, ℕ, ◌<◌, ◌^◌, List, ◌++◌, ◌∷◌, [], IfSome, option_map};
+ghost use Rattle.std.specs.Prelude.{◌≡◌, ℕ, ◌<◌, ◌^◌, List, ◌++◌, ◌∷◌, []};
+ghost use Rattle.std.specs.Prelude.{IfSome, option_map};
 ghost use Rattle.tta_machine.specs.BusSets.{set_once};
 ghost use Rattle.tta_machine.specs.Declarations.{buses_named};
 ghost use Rattle.tta_machine.specs.Draft.{bus_named};
@@ -38,7 +39,8 @@ impl Draft {
 // the set with one bus more, where it was not there
 fn with_bus(set: Option<u16>, bus: u8) -> Option<u16>
     requires { bus < 16 }
-    ensures { (buses : List ℕ) → set ≡ set_once buses → result ≡ set_once (buses ++ bus ∷ []) }
+    ensures { (buses : List ℕ) → set ≡ set_once buses
+        → result ≡ set_once (buses ++ bus ∷ []) }
 {
     let Some(mask) = set else {
         return None;

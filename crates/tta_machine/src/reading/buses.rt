@@ -30,7 +30,11 @@ impl Draft {
         let name = Name::new(alloc, form.name)?;
         let short = form.short as u8;
         let signed = form.signed;
-        self.buses.push(Bus { name, short, signed })?;
+        self.buses.push(Bus {
+            name,
+            short,
+            signed,
+        })?;
         self.add_name(alloc, form.name, place)?;
         Ok(())
     }

@@ -20,7 +20,9 @@ impl Draft {
     pub fn take_control(&mut self, form: &ControlForm) -> Result<(), LineError>
         ensures { Declares self.new result (take_control self.old (control_seen form.now)) }
     {
-        let trigger = self.socket_named(true, form.trigger).ok_or(Refusal::Unknown)?;
+        let trigger = self
+            .socket_named(true, form.trigger)
+            .ok_or(Refusal::Unknown)?;
         let ra = self.port_named(false, form.ra)?;
         if self.control.is_some() {
             return Err(LineError::Refused(Refusal::Twice));
@@ -55,7 +57,8 @@ impl Draft {
 
 // the words of a space that has none declared yet
 fn words_once(declared: Option<u32>, most: u32, size: u32) -> Result<u32, Refusal>
-    ensures { result ≡ refuse_if (is_some declared) Twice (refuse_if (nat_lt most size) Range (Ok size)) }
+    ensures { result ≡ refuse_if (is_some declared) Twice (
+        refuse_if (nat_lt most size) Range (Ok size)) }
 {
     if declared.is_some() {
         return Err(Refusal::Twice);

@@ -33,7 +33,11 @@ impl Draft {
         }
         let index = form.index as u8;
         let inverted = form.inverted;
-        let on = GuardRef { file, index, inverted };
+        let on = GuardRef {
+            file,
+            index,
+            inverted,
+        };
         self.guards.push(Guard { bus, on })?;
         Ok(())
     }

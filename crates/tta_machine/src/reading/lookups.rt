@@ -1,6 +1,7 @@
 //! What the names of a draft name.
 
-ghost use Rattle.std.specs.Prelude.{◌≡◌, ◌++◌, ◌∷◌, [], false, option_map, OnOk, if◌then◌else◌};
+ghost use Rattle.std.specs.Prelude.{◌≡◌, ◌++◌, ◌∷◌, [], false, if◌then◌else◌};
+ghost use Rattle.std.specs.Prelude.{Some, None, option_map, OnOk};
 ghost use Rattle.tta_machine.specs.Draft.{nothing, is_taken};
 ghost use Rattle.tta_machine.specs.Draft.{bus_named, socket_named, file_named, imm_named, unit_named};
 ghost use Rattle.tta_machine.specs.Declarations.{port_named};
@@ -34,7 +35,7 @@ impl Draft {
         }
     }
 
-    /// Whether a name cannot be declared: it is declared already, or it is `gcu`.
+    /// Whether a name cannot be declared: it is declared already, or it is control's, `gcu`.
     pub fn is_taken(&self, name: &[u8]) -> bool
         ensures { result ≡ is_taken self.now name.now }
     {
@@ -44,7 +45,8 @@ impl Draft {
     /// Declares a name. An `Err` is want of memory.
     pub fn add_name(&mut self, alloc: Global, name: &[u8], named: Named) -> Result<(), AllocError>
         requires { is_taken self.old name.now ≡ false }
-        ensures { OnOk result (self.new ≡ record self.old { names = self.old.names ++ (name.now, named) ∷ [] }) }
+        ensures { let names = self.old.names ++ (name.now, named) ∷ [] in
+            OnOk result (self.new ≡ record self.old { names = names }) }
     {
         self.names.add(alloc, name, named)?;
         Ok(())

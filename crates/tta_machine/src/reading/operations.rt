@@ -1,6 +1,7 @@
 //! The declaration of an operation of a unit.
 
-ghost use Rattle.std.specs.Prelude.{◌≡◌, ◌==◌, ◌&&◌, ◌||◌, true, is_none, Some, IfSome, OnOk, OnErr, Err, slice_get, slice_set, length, ◌<◌};
+ghost use Rattle.std.specs.Prelude.{◌≡◌, ◌==◌, ◌<◌, ◌&&◌, ◌||◌, true, Some, Err, is_none};
+ghost use Rattle.std.specs.Prelude.{length, slice_get, slice_set, IfSome, OnOk, OnErr};
 ghost use Rattle.std.specs.List.{list_any};
 ghost use Rattle.std.specs.Option.{option_map_or};
 ghost use Rattle.tta_ops.specs.Set.{stated};
@@ -29,7 +30,8 @@ impl Draft {
     /// two words and the unit has no operand port, or has a result and the unit no result port.
     #[tactic(auto, unfolding(crate::specs::Declarations::take_op))]
     pub fn take_op(&mut self, units: &UnitSet, form: &OpForm) -> Result<(), LineError>
-        ensures { Declares self.new result (take_op (stated unit_meaning units.now) self.old (op_seen form.now)) }
+        ensures { let U = stated unit_meaning units.now in
+            Declares self.new result (take_op U self.old (op_seen form.now)) }
     {
         let place = self.unit_named(form.unit).ok_or(Refusal::Unknown)? as usize;
         let Some(unit) = self.units.as_slice().get(place) else {
@@ -55,8 +57,9 @@ impl Draft {
     // puts an operation behind the others of a unit
     fn push_op(&mut self, place: usize, added: UnitOp) -> Result<(), LineError>
         requires { place < length self.old.units }
-        ensures ok { (unit : UnitSeen) → slice_get self.old.units place ≡ Some unit
-            → OnOk result (self.new ≡ record self.old { units = slice_set self.old.units place (with_op unit added) }) }
+        ensures ok { (unit : UnitSeen) → slice_get self.old.units place ≡ Some unit → OnOk result (
+            let units = slice_set self.old.units place (with_op unit added) in
+            self.new ≡ record self.old { units = units }) }
         ensures err { OnErr result (result ≡ Err NoMemory) }
     {
         self.units.at_mut(place).ops.push(added)?;
@@ -143,7 +146,8 @@ fn same_op(a: Op, b: Op) -> bool
 
 // whether the unit lacks a port that the operation needs
 fn lacks_port(unit: &Unit, op: Op, arity: u8) -> bool
-    ensures { result ≡ ((arity == 2 && is_none unit.now.operand) || (has_result op && is_none unit.now.result)) }
+    ensures { result ≡ ((arity == 2 && is_none unit.now.operand)
+        || (has_result op && is_none unit.now.result)) }
 {
     (arity == 2 && unit.operand.is_none()) || (has_result(op) && unit.result.is_none())
 }

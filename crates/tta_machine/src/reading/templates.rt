@@ -19,7 +19,12 @@ impl Draft {
     /// and as `Range` where the unit has no such register, its name is too long, or 8 templates
     /// are there.
     #[tactic(auto, unfolding(crate::specs::Declarations::take_template))]
-    pub fn take_template(&mut self, alloc: Global, line: u32, form: &TemplateForm) -> Result<(), LineError>
+    pub fn take_template(
+        &mut self,
+        alloc: Global,
+        line: u32,
+        form: &TemplateForm,
+    ) -> Result<(), LineError>
         requires { IsDraft self.old }
         ensures { Declares self.new result (take_template line self.old (template_seen form.now)) }
     {
@@ -36,7 +41,12 @@ impl Draft {
         let place = Named::Template(self.templates.len() as u8);
         let name = Name::new(alloc, form.name)?;
         let reg = form.index as u8;
-        self.templates.push(Template { name, imm, reg, buses })?;
+        self.templates.push(Template {
+            name,
+            imm,
+            reg,
+            buses,
+        })?;
         self.template_lines.push(line)?;
         self.add_name(alloc, form.name, place)?;
         Ok(())

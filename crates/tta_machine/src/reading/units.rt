@@ -21,7 +21,9 @@ impl Draft {
         ensures { Declares self.new result (take_unit self.old (unit_seen form.now)) }
     {
         let operand = self.port_named(true, form.operand)?;
-        let trigger = self.socket_named(true, form.trigger).ok_or(Refusal::Unknown)?;
+        let trigger = self
+            .socket_named(true, form.trigger)
+            .ok_or(Refusal::Unknown)?;
         let result = self.port_named(false, form.result)?;
         if self.is_taken(form.name) {
             return Err(LineError::Refused(Refusal::Twice));
