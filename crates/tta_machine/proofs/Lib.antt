@@ -1,3 +1,3 @@
-pub mod BusSets
+pub mod BusMasks
 pub mod Facts
 pub mod Samples

@@ -1,7 +1,7 @@
 //! The declaration of an operation of a unit.
 
-ghost use Rattle.std.specs.Prelude.{◌≡◌, ◌==◌, ◌<◌, ◌&&◌, ◌||◌, true, Some, Err, is_none};
-ghost use Rattle.std.specs.Prelude.{length, slice_get, slice_set, IfSome, OnOk, OnErr};
+ghost use Rattle.std.specs.Prelude.{◌≡◌, ◌==◌, ◌<◌, ◌&&◌, ◌||◌, true, is_none};
+ghost use Rattle.std.specs.Prelude.{length, slice_get, slice_set, Some, Err, IfSome, OnOk, OnErr};
 ghost use Rattle.std.specs.List.{list_any};
 ghost use Rattle.std.specs.Option.{option_map_or};
 ghost use Rattle.tta_ops.specs.Set.{stated};
@@ -57,7 +57,8 @@ impl Draft {
     // puts an operation behind the others of a unit
     fn push_op(&mut self, place: usize, added: UnitOp) -> Result<(), LineError>
         requires { place < length self.old.units }
-        ensures ok { (unit : UnitSeen) → slice_get self.old.units place ≡ Some unit → OnOk result (
+        ensures ok { (unit : UnitSeen) → slice_get self.old.units place ≡ Some unit
+            → OnOk result (
             let units = slice_set self.old.units place (with_op unit added) in
             self.new ≡ record self.old { units = units }) }
         ensures err { OnErr result (result ≡ Err NoMemory) }

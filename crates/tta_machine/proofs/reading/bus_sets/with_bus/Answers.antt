@@ -1,5 +1,5 @@
 use Rattle.std.proofs.Common.{sym, ◌∙◌}
-use Rattle.tta_machine.proofs.BusSets.{set_once-new, set_once-again, set_once-none}
+use Rattle.tta_machine.proofs.BusMasks.{set_once-new, set_once-again, set_once-none}
 use Rattle.tta_machine.proofs.reading.bus_sets.with_bus.Goals as goal
 
 pub returns-then-mask-bit-eq0 : goal.returns-then-mask-bit-eq0

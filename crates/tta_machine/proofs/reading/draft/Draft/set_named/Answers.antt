@@ -1,6 +1,6 @@
 use Rattle.std.proofs.Common.{ap, sym, ◌∙◌, option_map}
 use Rattle.tta_machine.specs.BusSets.{set_once}
-use Rattle.tta_machine.proofs.BusSets.{set_named-push, set_named-unknown}
+use Rattle.tta_machine.proofs.BusMasks.{set_named-push, set_named-unknown}
 use Rattle.tta_machine.proofs.reading.draft.Draft.set_named.Goals as goal
 
 pub returns-in_err-bus : goal.returns-in_err-bus
