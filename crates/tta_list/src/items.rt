@@ -1,6 +1,6 @@
 //! A list of values.
 
-ghost use Rattle.std.specs.Prelude.{◌≡◌, ◌+◌, ◌<◌, ◌==◌, [], ◌∷◌, ◌++◌, length, OnErr, OnOk, IfOk, slice_index_or};
+ghost use Rattle.std.specs.Prelude.{◌≡◌, [], ◌∷◌, IfOk};
 
 use std::alloc::{AllocError, AllocFailed, Global};
 use std::marker::Model;
