@@ -1,1 +1,2 @@
 pub mod Iterate
+pub mod Lends

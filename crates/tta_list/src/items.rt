@@ -1,6 +1,6 @@
 //! A list of values.
 
-ghost use Rattle.std.specs.Prelude.{◌≡◌, ◌+◌, ◌<◌, ◌==◌, [], ◌∷◌, ◌++◌, length, OnErr, OnOk, IfOk, slice_index_or};
+ghost use Rattle.std.specs.Prelude.{◌≡◌, [], ◌∷◌, IfOk};
 
 use std::alloc::{AllocError, AllocFailed, Global};
 use std::marker::Model;
@@ -20,6 +20,10 @@ impl<T> Model for Items<T> {
 }
 
 impl<T> Items<T> {
+    ghost use Rattle.std.specs.Prelude.{◌≡◌, ◌<◌, ◌==◌, [], ◌∷◌, ◌++◌, length, slice_get, OnErr, OnOk};
+    ghost use Rattle.std.specs.Borrow.{sem};
+    ghost use Rattle.tta_list.specs.Lends.{LendsItem};
+
     /// The empty list. It takes no memory.
     pub fn new(alloc: Global) -> Self
         ensures { result ≡ [] }
@@ -53,6 +57,15 @@ impl<T> Items<T> {
         ensures { result.now ≡ self.now }
     {
         self.values.as_slice()
+    }
+
+    /// The value at a place, to be changed there.
+    pub fn at_mut(&mut self, index: usize) -> &mut T
+        requires { index < length self.old }
+        ensures* writes_back { sem 𝓛 (LendsItem T.row self.entry index result) }
+        ensures value { slice_get self.old index ≡ Some result.now }
+    {
+        &mut self.values[index]
     }
 
     /// Puts a value at the end. It fails only where there is no memory, and then nothing changes.

@@ -1,3 +1,4 @@
+pub mod BusMasks
 pub mod Facts
 pub mod FormSamples
 pub mod Names

@@ -7,5 +7,9 @@ pub mod Rules
 pub mod Draft
 pub mod Forms
 pub mod Declarations
+pub mod BusSets
+pub mod Guards
+pub mod Services
 pub mod Text
 pub mod Seen
+pub mod Kept

@@ -2,7 +2,7 @@
 
 ghost use Rattle.std.specs.Prelude.{◌≡◌};
 ghost use Rattle.tta_machine.specs.Draft.{code_of};
-ghost use Rattle.tta_machine.specs.declared.reading.refusal.LineError.TheVariants.{NoMemory};
+ghost use Rattle.tta_machine.specs.declared.reading.refusal.LineError.TheVariants.{NoMemory, Refused};
 
 use std::alloc::{AllocError, AllocFailed};
 
@@ -52,6 +52,14 @@ pub enum MachineError {
 pub enum LineError {
     Refused(Refusal),
     NoMemory,
+}
+
+impl From<Refusal> for LineError {
+    ghost from_gives = { λ refusal e. e ≡ Refused refusal };
+
+    fn from(refusal: Refusal) -> LineError {
+        LineError::Refused(refusal)
+    }
 }
 
 impl From<AllocError> for LineError {

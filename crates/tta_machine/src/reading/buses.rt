@@ -1,0 +1,65 @@
+//! The declarations of buses and sockets.
+
+ghost use Rattle.std.specs.Prelude.{◌≡◌};
+ghost use Rattle.tta_machine.specs.Declarations.{take_bus, take_socket};
+ghost use Rattle.tta_machine.specs.Kept.{IsDraft};
+ghost use Rattle.tta_machine.specs.Seen.{Declares, bus_seen, socket_seen};
+
+use crate::parts::{Bus, Socket};
+use crate::reading::draft::{Draft, Named};
+use crate::reading::forms::{BusForm, SocketForm};
+use crate::reading::limits::{is_from_to, is_too_long};
+use crate::reading::refusal::{LineError, Refusal};
+use std::alloc::Global;
+use tta_list::Name;
+
+impl Draft {
+    /// Declares a bus. It is refused as `Twice` where its name is taken, and else as `Range` where
+    /// its short field has no bit or more than 32, its name is too long, or 16 buses are there.
+    #[tactic(auto, unfolding(crate::specs::Declarations::take_bus))]
+    pub fn take_bus(&mut self, alloc: Global, form: &BusForm) -> Result<(), LineError>
+        ensures { Declares self.new result (take_bus self.old (bus_seen form.now)) }
+    {
+        if self.is_taken(form.name) {
+            return Err(LineError::Refused(Refusal::Twice));
+        }
+        if !is_from_to(1, 32, form.short) || is_too_long(form.name) || self.buses.len() >= 16 {
+            return Err(LineError::Refused(Refusal::Range));
+        }
+        let place = Named::Bus(self.buses.len() as u8);
+        let name = Name::new(alloc, form.name)?;
+        let short = form.short as u8;
+        let signed = form.signed;
+        self.buses.push(Bus {
+            name,
+            short,
+            signed,
+        })?;
+        self.add_name(alloc, form.name, place)?;
+        Ok(())
+    }
+
+    /// Declares a socket. It is refused as `Unknown` where a name of its buses names no bus, as
+    /// `Twice` where its name is taken or a bus stands twice, and as `Range` where its name is too
+    /// long or 128 sockets are there.
+    #[tactic(auto, unfolding(crate::specs::Declarations::take_socket))]
+    pub fn take_socket(&mut self, alloc: Global, form: &SocketForm) -> Result<(), LineError>
+        requires { IsDraft self.old }
+        ensures { Declares self.new result (take_socket self.old (socket_seen form.now)) }
+    {
+        let set = self.set_named(form.buses).ok_or(Refusal::Unknown)?;
+        if self.is_taken(form.name) {
+            return Err(LineError::Refused(Refusal::Twice));
+        }
+        let buses = set.ok_or(Refusal::Twice)?;
+        if is_too_long(form.name) || self.sockets.len() >= 128 {
+            return Err(LineError::Refused(Refusal::Range));
+        }
+        let place = Named::Socket(self.sockets.len() as u8);
+        let name = Name::new(alloc, form.name)?;
+        let input = form.input;
+        self.sockets.push(Socket { name, input, buses })?;
+        self.add_name(alloc, form.name, place)?;
+        Ok(())
+    }
+}

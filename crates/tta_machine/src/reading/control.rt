@@ -1,0 +1,70 @@
+//! The declarations of control and of the spaces.
+
+ghost use Rattle.std.specs.Prelude.{◌≡◌, is_some, nat_lt, Ok};
+ghost use Rattle.tta_reading.specs.Steps.{refuse_if};
+ghost use Rattle.tta_machine.specs.Declarations.{take_control, take_space};
+ghost use Rattle.tta_machine.specs.declared.reading.refusal.Refusal.TheVariants.{Twice, Range};
+ghost use Rattle.tta_machine.specs.Seen.{Declares, control_seen, space_seen};
+
+use crate::parts::Control;
+use crate::reading::draft::Draft;
+use crate::reading::forms::{ControlForm, SpaceForm};
+use crate::reading::limits::is_from_to;
+use crate::reading::refusal::{LineError, Refusal};
+
+impl Draft {
+    /// Declares control. It is refused as `Unknown` where the socket of one of its ports is not
+    /// there in the port's direction, as `Twice` where control is there already, and as `Range`
+    /// where its delay is over 4 or an address has no bit or more than 16.
+    #[tactic(auto, unfolding(crate::specs::Declarations::take_control))]
+    pub fn take_control(&mut self, form: &ControlForm) -> Result<(), LineError>
+        ensures { Declares self.new result (take_control self.old (control_seen form.now)) }
+    {
+        let trigger = self
+            .socket_named(true, form.trigger)
+            .ok_or(Refusal::Unknown)?;
+        let ra = self.port_named(false, form.ra)?;
+        if self.control.is_some() {
+            return Err(LineError::Refused(Refusal::Twice));
+        }
+        if form.delay > 4 || !is_from_to(1, 16, form.address) {
+            return Err(LineError::Refused(Refusal::Range));
+        }
+        self.control = Some(Control {
+            delay: form.delay as u8,
+            address: form.address as u8,
+            trigger,
+            ra,
+        });
+        Ok(())
+    }
+
+    /// Declares how many words a space has. It is refused as `Twice` where that is declared
+    /// already, and as `Range` where the data space has more than 2^20 words or the frame space
+    /// more than 65,536.
+    #[tactic(auto, unfolding(crate::specs::Declarations::take_space))]
+    pub fn take_space(&mut self, form: &SpaceForm) -> Result<(), LineError>
+        ensures { Declares self.new result (take_space self.old (space_seen form.now)) }
+    {
+        if form.is_data {
+            self.data_words = Some(words_once(self.data_words, 1 << 20, form.size)?);
+        } else {
+            self.frame_words = Some(words_once(self.frame_words, 65536, form.size)?);
+        }
+        Ok(())
+    }
+}
+
+// the words of a space that has none declared yet
+fn words_once(declared: Option<u32>, most: u32, size: u32) -> Result<u32, Refusal>
+    ensures { result ≡ refuse_if (is_some declared) Twice (
+        refuse_if (nat_lt most size) Range (Ok size)) }
+{
+    if declared.is_some() {
+        return Err(Refusal::Twice);
+    }
+    if size > most {
+        return Err(Refusal::Range);
+    }
+    Ok(size)
+}

@@ -1,0 +1,82 @@
+//! The declarations of files and immediate units.
+
+ghost use Rattle.std.specs.Prelude.{◌≡◌, not, ◌||◌, ◌==◌, nat_le, length};
+ghost use Rattle.tta_machine.specs.Declarations.{take_file, take_imm};
+ghost use Rattle.tta_machine.specs.Draft.{is_too_long};
+ghost use Rattle.tta_machine.specs.Rules.{is_from_to};
+ghost use Rattle.tta_machine.specs.Seen.{Declares, file_seen, imm_seen};
+
+use crate::parts::{File, ImmUnit};
+use crate::reading::draft::{Draft, Named};
+use crate::reading::forms::{FileForm, ImmForm};
+use crate::reading::limits::{is_from_to, is_too_long};
+use crate::reading::refusal::{LineError, Refusal};
+use std::alloc::Global;
+use tta_list::Name;
+
+impl Draft {
+    /// Declares an immediate unit. It is refused as `Unknown` where its socket is no output
+    /// socket, as `Twice` where its name is taken, and as `Range` where it has no register or more
+    /// than 16, its name is too long, or 4 immediate units are there.
+    #[tactic(auto, unfolding(crate::specs::Declarations::take_imm))]
+    pub fn take_imm(&mut self, alloc: Global, form: &ImmForm) -> Result<(), LineError>
+        ensures { Declares self.new result (take_imm self.old (imm_seen form.now)) }
+    {
+        let out = self.socket_named(false, form.out).ok_or(Refusal::Unknown)?;
+        if self.is_taken(form.name) {
+            return Err(LineError::Refused(Refusal::Twice));
+        }
+        if !is_from_to(1, 16, form.size) || is_too_long(form.name) || self.imms.len() >= 4 {
+            return Err(LineError::Refused(Refusal::Range));
+        }
+        let place = Named::Imm(self.imms.len() as u8);
+        let name = Name::new(alloc, form.name)?;
+        let size = form.size as u8;
+        self.imms.push(ImmUnit { name, size, out })?;
+        self.add_name(alloc, form.name, place)?;
+        Ok(())
+    }
+
+    /// Declares a file. It is refused as `Unknown` where its sockets are no output and no input
+    /// socket, as `Twice` where its name is taken, and as `Range` where a register has other than
+    /// 1 or 32 bits, it has no register or more than 64, a cycle has no read or write of it or
+    /// more than 16, its name is too long, or 8 files are there.
+    #[tactic(auto, unfolding(crate::specs::Declarations::take_file))]
+    pub fn take_file(&mut self, alloc: Global, form: &FileForm) -> Result<(), LineError>
+        ensures { Declares self.new result (take_file self.old (file_seen form.now)) }
+    {
+        let out = self.socket_named(false, form.out).ok_or(Refusal::Unknown)?;
+        let into = self.socket_named(true, form.into).ok_or(Refusal::Unknown)?;
+        if self.is_taken(form.name) {
+            return Err(LineError::Refused(Refusal::Twice));
+        }
+        if is_outside(form) || is_too_long(form.name) || self.files.len() >= 8 {
+            return Err(LineError::Refused(Refusal::Range));
+        }
+        let place = Named::File(self.files.len() as u8);
+        let file = File {
+            name: Name::new(alloc, form.name)?,
+            width: form.width as u8,
+            size: form.size as u8,
+            read: form.read as u8,
+            write: form.write as u8,
+            out,
+            into,
+        };
+        self.files.push(file)?;
+        self.add_name(alloc, form.name, place)?;
+        Ok(())
+    }
+}
+
+// whether a number of a file is outside its range
+fn is_outside(form: &FileForm) -> bool
+    ensures value { result ≡ (not (form.now.width == 1 || form.now.width == 32)
+        || not (is_from_to 1 64 form.now.size) || not (is_from_to 1 16 form.now.read)
+        || not (is_from_to 1 16 form.now.write)) }
+{
+    !(form.width == 1 || form.width == 32)
+        || !is_from_to(1, 64, form.size)
+        || !is_from_to(1, 16, form.read)
+        || !is_from_to(1, 16, form.write)
+}

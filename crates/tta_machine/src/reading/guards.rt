@@ -1,0 +1,79 @@
+//! The declaration of a guard.
+
+ghost use Rattle.std.specs.Prelude.{◌≡◌, option_map, slice_get};
+ghost use Rattle.std.specs.List.{list_any};
+ghost use Rattle.tta_machine.specs.Declarations.{take_guard};
+ghost use Rattle.tta_machine.specs.Guards.{guard_of};
+ghost use Rattle.tta_machine.specs.Joins.{is_same};
+ghost use Rattle.tta_machine.specs.Rules.{same_guard};
+ghost use Rattle.tta_machine.specs.Seen.{Declares, guard_seen};
+
+use crate::ends::GuardRef;
+use crate::parts::{File, Guard};
+use crate::reading::draft::Draft;
+use crate::reading::forms::GuardForm;
+use crate::reading::refusal::{LineError, Refusal};
+
+impl Draft {
+    /// Declares a guard. It is refused as `Unknown` where its bus or its file is not there, as
+    /// `Twice` where the same guard stands on the bus already, and as `Range` where the file's
+    /// width is not 1, the file has no such register, or 64 guards are there.
+    #[tactic(auto, unfolding(crate::specs::Declarations::take_guard))]
+    pub fn take_guard(&mut self, form: &GuardForm) -> Result<(), LineError>
+        ensures { Declares self.new result (take_guard self.old (guard_seen form.now)) }
+    {
+        let bus = self.bus_named(form.bus).ok_or(Refusal::Unknown)?;
+        let file = self.file_named(form.file).ok_or(Refusal::Unknown)?;
+        let (width, size) = shape_at(self.files.as_slice(), file).ok_or(Refusal::Unknown)?;
+        if has_guard(self.guards.as_slice(), bus, file, form.index, form.inverted) {
+            return Err(LineError::Refused(Refusal::Twice));
+        }
+        if width != 1 || form.index >= u32::from(size) || self.guards.len() >= 64 {
+            return Err(LineError::Refused(Refusal::Range));
+        }
+        let index = form.index as u8;
+        let inverted = form.inverted;
+        let on = GuardRef {
+            file,
+            index,
+            inverted,
+        };
+        self.guards.push(Guard { bus, on })?;
+        Ok(())
+    }
+}
+
+// the width and the size of the file at a place
+fn shape_at(files: &[File], place: u8) -> Option<(u8, u8)>
+    ensures { result ≡ option_map (λ f. (f.width, f.size)) (slice_get files.now place) }
+{
+    match files.get(place as usize) {
+        Some(file) => Some((file.width, file.size)),
+        None => None,
+    }
+}
+
+// whether there is a guard of this bus, this register and this sense
+fn has_guard(guards: &[Guard], bus: u8, file: u8, index: u32, inverted: bool) -> bool
+    ensures { let added = guard_of bus file index inverted in
+        result ≡ list_any (λ g. same_guard g added) guards.now }
+{
+    guards
+        .iter()
+        .any(|guard| is_guard(*guard, bus, file, index, inverted))
+}
+
+fn is_guard(guard: Guard, bus: u8, file: u8, index: u32, inverted: bool) -> bool
+    ensures { result ≡ same_guard guard (guard_of bus file index inverted) }
+{
+    guard.bus == bus
+        && guard.on.file == file
+        && u32::from(guard.on.index) == index
+        && is_same(guard.on.inverted, inverted)
+}
+
+fn is_same(a: bool, b: bool) -> bool
+    ensures { result ≡ is_same a b }
+{
+    a == b
+}

@@ -1,0 +1,137 @@
+//! What the names of a draft name.
+
+ghost use Rattle.std.specs.Prelude.{◌≡◌, ◌++◌, ◌∷◌, [], false, if◌then◌else◌};
+ghost use Rattle.std.specs.Prelude.{Some, None, option_map, OnOk};
+ghost use Rattle.tta_machine.specs.Draft.{nothing, is_taken};
+ghost use Rattle.tta_machine.specs.Draft.{bus_named, socket_named, file_named, imm_named, unit_named};
+ghost use Rattle.tta_machine.specs.Declarations.{port_named};
+ghost use Rattle.tta_machine.specs.Rules.{is_socket};
+
+use crate::parts::Socket;
+use crate::reading::draft::{Draft, Named};
+use crate::reading::refusal::Refusal;
+use std::alloc::{AllocError, Global};
+use tta_list::Items;
+use tta_reading::Names;
+
+impl Draft {
+    /// The draft before the first line. It takes no memory.
+    pub fn new(alloc: Global) -> Draft
+        ensures { result ≡ nothing }
+    {
+        Draft {
+            names: Names::new(alloc),
+            buses: Items::new(alloc),
+            sockets: Items::new(alloc),
+            files: Items::new(alloc),
+            imms: Items::new(alloc),
+            units: Items::new(alloc),
+            guards: Items::new(alloc),
+            templates: Items::new(alloc),
+            template_lines: Items::new(alloc),
+            control: None,
+            data_words: None,
+            frame_words: None,
+        }
+    }
+
+    /// Whether a name cannot be declared: it is declared already, or it is control's, `gcu`.
+    pub fn is_taken(&self, name: &[u8]) -> bool
+        ensures { result ≡ is_taken self.now name.now }
+    {
+        self.names.get(name).is_some() || name == b"gcu".as_slice()
+    }
+
+    /// Declares a name. An `Err` is want of memory.
+    pub fn add_name(&mut self, alloc: Global, name: &[u8], named: Named) -> Result<(), AllocError>
+        requires { is_taken self.old name.now ≡ false }
+        ensures { let names = self.old.names ++ (name.now, named) ∷ [] in
+            OnOk result (self.new ≡ record self.old { names = names }) }
+    {
+        self.names.add(alloc, name, named)?;
+        Ok(())
+    }
+
+    /// The bus of a name.
+    pub fn bus_named(&self, name: &[u8]) -> Option<u8>
+        ensures { result ≡ bus_named self.now name.now }
+    {
+        match self.names.get(name) {
+            Some(Named::Bus(place)) => Some(place),
+            _ => None,
+        }
+    }
+
+    /// The socket of a name, where it has this direction.
+    pub fn socket_named(&self, input: bool, name: &[u8]) -> Option<u8>
+        ensures { result ≡ socket_named self.now input name.now }
+    {
+        match self.names.get(name) {
+            Some(Named::Socket(place)) => only_of_direction(self.sockets.as_slice(), input, place),
+            _ => None,
+        }
+    }
+
+    /// The file of a name.
+    pub fn file_named(&self, name: &[u8]) -> Option<u8>
+        ensures { result ≡ file_named self.now name.now }
+    {
+        match self.names.get(name) {
+            Some(Named::File(place)) => Some(place),
+            _ => None,
+        }
+    }
+
+    /// The immediate unit of a name.
+    pub fn imm_named(&self, name: &[u8]) -> Option<u8>
+        ensures { result ≡ imm_named self.now name.now }
+    {
+        match self.names.get(name) {
+            Some(Named::Imm(place)) => Some(place),
+            _ => None,
+        }
+    }
+
+    /// The unit of a name.
+    pub fn unit_named(&self, name: &[u8]) -> Option<u8>
+        ensures { result ≡ unit_named self.now name.now }
+    {
+        match self.names.get(name) {
+            Some(Named::Unit(place)) => Some(place),
+            _ => None,
+        }
+    }
+
+    /// The socket of a port that may be left out. It is refused where a name is given that names
+    /// no socket of this direction.
+    pub fn port_named(&self, input: bool, name: Option<&[u8]>) -> Result<Option<u8>, Refusal>
+        ensures { result ≡ port_named self.now input (option_map (λ b. b.now) name.entry) }
+    {
+        let Some(name) = name else {
+            return Ok(None);
+        };
+        match self.socket_named(input, name) {
+            Some(place) => Ok(Some(place)),
+            None => Err(Refusal::Unknown),
+        }
+    }
+}
+
+fn only_of_direction(sockets: &[Socket], input: bool, place: u8) -> Option<u8>
+    ensures { result ≡ (if is_socket sockets.now input place then Some place else None) }
+{
+    if is_socket(sockets, input, place) {
+        Some(place)
+    } else {
+        None
+    }
+}
+
+fn is_socket(sockets: &[Socket], input: bool, place: u8) -> bool
+    ensures { result ≡ is_socket sockets.now input place }
+{
+    match sockets.get(place as usize) {
+        Some(socket) => socket.input == input,
+        None => false,
+    }
+}

@@ -1,0 +1,183 @@
+//! The declaration of an operation of a unit.
+
+ghost use Rattle.std.specs.Prelude.{◌≡◌, ◌==◌, ◌<◌, ◌&&◌, ◌||◌, true, is_none};
+ghost use Rattle.std.specs.Prelude.{length, slice_get, slice_set, Some, Err, IfSome, OnOk, OnErr};
+ghost use Rattle.std.specs.List.{list_any};
+ghost use Rattle.std.specs.Option.{option_map_or};
+ghost use Rattle.tta_ops.specs.Set.{stated};
+ghost use Rattle.tta_machine.specs.Declarations.{take_op, timed_op, untimed_op, op_named};
+ghost use Rattle.tta_machine.specs.Declarations.{arity_of, is_latency, with_op};
+ghost use Rattle.tta_machine.specs.declared.parts.Unit.{Unit as UnitSeen};
+ghost use Rattle.tta_machine.specs.declared.reading.refusal.LineError.TheVariants.{NoMemory};
+ghost use Rattle.tta_machine.specs.Effects.{has_result};
+ghost use Rattle.tta_machine.specs.Rules.{same_op};
+ghost use Rattle.tta_machine.specs.Seen.{Declares, op_seen};
+ghost use Rattle.tta_machine.specs.Services.{IsOffered};
+
+use crate::parts::{Op, Unit, UnitOp};
+use crate::reading::draft::Draft;
+use crate::reading::forms::OpForm;
+use crate::reading::limits::is_from_to;
+use crate::reading::refusal::{LineError, Refusal};
+use crate::reading::services::is_served;
+use tta_ops::UnitSet;
+
+impl Draft {
+    /// Adds an operation to a unit. It is refused as `Unknown` where the unit is not there or
+    /// nothing offers an operation of this name in a line of this form, as `Twice` where the unit
+    /// has it already or another unit serves the same space or the output, as `Range` where the
+    /// latency is not from 1 to 16 or the unit has 32 operations, and as `Missing` where it takes
+    /// two words and the unit has no operand port, or has a result and the unit no result port.
+    #[tactic(auto, unfolding(crate::specs::Declarations::take_op))]
+    pub fn take_op(&mut self, units: &UnitSet, form: &OpForm) -> Result<(), LineError>
+        ensures { let U = stated unit_meaning units.now in
+            Declares self.new result (take_op U self.old (op_seen form.now)) }
+    {
+        let place = self.unit_named(form.unit).ok_or(Refusal::Unknown)? as usize;
+        let Some(unit) = self.units.as_slice().get(place) else {
+            return Err(LineError::Refused(Refusal::Unknown));
+        };
+        let op = op_named(units, form.latency, form.operation).ok_or(Refusal::Unknown)?;
+        if has_same(unit, op) || is_served(self.units.as_slice(), place, op) {
+            return Err(LineError::Refused(Refusal::Twice));
+        }
+        if !is_latency(form.latency) || unit.ops.len() >= 32 {
+            return Err(LineError::Refused(Refusal::Range));
+        }
+        let arity = arity_of(units, op);
+        if lacks_port(unit, op, arity) {
+            return Err(LineError::Refused(Refusal::Missing));
+        }
+        let latency = cycles(form.latency);
+        let added = UnitOp { op, arity, latency };
+        self.push_op(place, added)?;
+        Ok(())
+    }
+
+    // puts an operation behind the others of a unit
+    fn push_op(&mut self, place: usize, added: UnitOp) -> Result<(), LineError>
+        requires { place < length self.old.units }
+        ensures ok { (unit : UnitSeen) → slice_get self.old.units place ≡ Some unit
+            → OnOk result (
+            let units = slice_set self.old.units place (with_op unit added) in
+            self.new ≡ record self.old { units = units }) }
+        ensures err { OnErr result (result ≡ Err NoMemory) }
+    {
+        self.units.at_mut(place).ops.push(added)?;
+        Ok(())
+    }
+}
+
+// the operation of a name, in a line with a latency or without one
+fn op_named(units: &UnitSet, latency: Option<u32>, name: &[u8]) -> Option<Op>
+    ensures value { result ≡ op_named (stated unit_meaning units.now) latency name.now }
+    ensures offered { IfSome result (λ op. IsOffered (stated unit_meaning units.now) op) }
+{
+    match latency {
+        Some(_) => timed_op(units, name),
+        None => untimed_op(name),
+    }
+}
+
+fn timed_op(units: &UnitSet, name: &[u8]) -> Option<Op>
+    ensures value { result ≡ timed_op (stated unit_meaning units.now) name.now }
+    ensures offered { IfSome result (λ op. IsOffered (stated unit_meaning units.now) op) }
+{
+    if name == b"ldw".as_slice() {
+        return Some(Op::Ldw);
+    }
+    if name == b"ldf".as_slice() {
+        return Some(Op::Ldf);
+    }
+    match units.find_bytes(name) {
+        Some(id) => Some(Op::Set(id)),
+        None => None,
+    }
+}
+
+fn untimed_op(name: &[u8]) -> Option<Op>
+    ensures { result ≡ untimed_op name.now }
+{
+    if name == b"stw".as_slice() {
+        return Some(Op::Stw);
+    }
+    if name == b"stf".as_slice() {
+        return Some(Op::Stf);
+    }
+    if name == b"out".as_slice() {
+        return Some(Op::Out);
+    }
+    None
+}
+
+// how many words an operation takes
+fn arity_of(units: &UnitSet, op: Op) -> u8
+    requires { IsOffered (stated unit_meaning units.now) op }
+    ensures { result ≡ arity_of (stated unit_meaning units.now) op }
+{
+    match op {
+        Op::Ldw | Op::Ldf | Op::Out => 1,
+        Op::Stw | Op::Stf => 2,
+        Op::Set(id) => units.arity(id),
+    }
+}
+
+fn has_same(unit: &Unit, op: Op) -> bool
+    ensures { result ≡ list_any (λ p. same_op p.op op) unit.now.ops }
+{
+    unit.ops
+        .as_slice()
+        .iter()
+        .any(|offered| same_op(offered.op, op))
+}
+
+fn same_op(a: Op, b: Op) -> bool
+    ensures { result ≡ same_op a b }
+{
+    match (a, b) {
+        (Op::Ldw, Op::Ldw) => true,
+        (Op::Stw, Op::Stw) => true,
+        (Op::Ldf, Op::Ldf) => true,
+        (Op::Stf, Op::Stf) => true,
+        (Op::Out, Op::Out) => true,
+        (Op::Set(a), Op::Set(b)) => a.0 == b.0,
+        _ => false,
+    }
+}
+
+// whether the unit lacks a port that the operation needs
+fn lacks_port(unit: &Unit, op: Op, arity: u8) -> bool
+    ensures { result ≡ ((arity == 2 && is_none unit.now.operand)
+        || (has_result op && is_none unit.now.result)) }
+{
+    (arity == 2 && unit.operand.is_none()) || (has_result(op) && unit.result.is_none())
+}
+
+fn has_result(op: Op) -> bool
+    ensures { result ≡ has_result op }
+{
+    match op {
+        Op::Ldw | Op::Ldf | Op::Set(_) => true,
+        Op::Stw | Op::Stf | Op::Out => false,
+    }
+}
+
+fn is_latency(latency: Option<u32>) -> bool
+    ensures { result ≡ is_latency latency }
+{
+    match latency {
+        Some(latency) => is_from_to(1, 16, latency),
+        None => true,
+    }
+}
+
+// the latency, and 0 where the line gives none
+fn cycles(latency: Option<u32>) -> u8
+    requires { is_latency latency ≡ true }
+    ensures { result ≡ option_map_or (λ l. l) latency 0 }
+{
+    match latency {
+        Some(latency) => latency as u8,
+        None => 0,
+    }
+}

@@ -1,0 +1,64 @@
+//! The declaration of a template.
+
+ghost use Rattle.std.specs.Prelude.{◌≡◌, option_map, slice_get};
+ghost use Rattle.tta_machine.specs.Declarations.{take_template};
+ghost use Rattle.tta_machine.specs.Kept.{IsDraft};
+ghost use Rattle.tta_machine.specs.Seen.{Declares, template_seen};
+
+use crate::parts::{ImmUnit, Template};
+use crate::reading::draft::{Draft, Named};
+use crate::reading::forms::TemplateForm;
+use crate::reading::limits::is_too_long;
+use crate::reading::refusal::{LineError, Refusal};
+use std::alloc::Global;
+use tta_list::Name;
+
+impl Draft {
+    /// Declares a template, at this line. It is refused as `Unknown` where its immediate unit or
+    /// one of its buses is not there, as `Twice` where its name is taken or a bus stands twice,
+    /// and as `Range` where the unit has no such register, its name is too long, or 8 templates
+    /// are there.
+    #[tactic(auto, unfolding(crate::specs::Declarations::take_template))]
+    pub fn take_template(
+        &mut self,
+        alloc: Global,
+        line: u32,
+        form: &TemplateForm,
+    ) -> Result<(), LineError>
+        requires { IsDraft self.old }
+        ensures { Declares self.new result (take_template line self.old (template_seen form.now)) }
+    {
+        let imm = self.imm_named(form.imm).ok_or(Refusal::Unknown)?;
+        let size = size_at(self.imms.as_slice(), imm).ok_or(Refusal::Unknown)?;
+        let set = self.set_named(form.buses).ok_or(Refusal::Unknown)?;
+        if self.is_taken(form.name) {
+            return Err(LineError::Refused(Refusal::Twice));
+        }
+        let buses = set.ok_or(Refusal::Twice)?;
+        if form.index >= u32::from(size) || is_too_long(form.name) || self.templates.len() >= 8 {
+            return Err(LineError::Refused(Refusal::Range));
+        }
+        let place = Named::Template(self.templates.len() as u8);
+        let name = Name::new(alloc, form.name)?;
+        let reg = form.index as u8;
+        self.templates.push(Template {
+            name,
+            imm,
+            reg,
+            buses,
+        })?;
+        self.template_lines.push(line)?;
+        self.add_name(alloc, form.name, place)?;
+        Ok(())
+    }
+}
+
+// how many registers the immediate unit at a place has
+fn size_at(imms: &[ImmUnit], place: u8) -> Option<u8>
+    ensures { result ≡ option_map (λ i. i.size) (slice_get imms.now place) }
+{
+    match imms.get(place as usize) {
+        Some(imm) => Some(imm.size),
+        None => None,
+    }
+}

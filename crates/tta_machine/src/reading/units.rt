@@ -1,0 +1,46 @@
+//! The declaration of a unit.
+
+ghost use Rattle.std.specs.Prelude.{◌≡◌};
+ghost use Rattle.tta_machine.specs.Declarations.{take_unit};
+ghost use Rattle.tta_machine.specs.Seen.{Declares, unit_seen};
+
+use crate::parts::Unit;
+use crate::reading::draft::{Draft, Named};
+use crate::reading::forms::UnitForm;
+use crate::reading::limits::is_too_long;
+use crate::reading::refusal::{LineError, Refusal};
+use std::alloc::Global;
+use tta_list::{Items, Name};
+
+impl Draft {
+    /// Declares a unit, without operations. It is refused as `Unknown` where the socket of one of
+    /// its ports is not there in the port's direction, as `Twice` where its name is taken, and as
+    /// `Range` where its name is too long or 32 units are there.
+    #[tactic(auto, unfolding(crate::specs::Declarations::take_unit))]
+    pub fn take_unit(&mut self, alloc: Global, form: &UnitForm) -> Result<(), LineError>
+        ensures { Declares self.new result (take_unit self.old (unit_seen form.now)) }
+    {
+        let operand = self.port_named(true, form.operand)?;
+        let trigger = self
+            .socket_named(true, form.trigger)
+            .ok_or(Refusal::Unknown)?;
+        let result = self.port_named(false, form.result)?;
+        if self.is_taken(form.name) {
+            return Err(LineError::Refused(Refusal::Twice));
+        }
+        if is_too_long(form.name) || self.units.len() >= 32 {
+            return Err(LineError::Refused(Refusal::Range));
+        }
+        let place = Named::Unit(self.units.len() as u8);
+        let unit = Unit {
+            name: Name::new(alloc, form.name)?,
+            operand,
+            trigger,
+            result,
+            ops: Items::new(alloc),
+        };
+        self.units.push(unit)?;
+        self.add_name(alloc, form.name, place)?;
+        Ok(())
+    }
+}
