@@ -9,3 +9,4 @@ pub mod Forms
 pub mod Declarations
 pub mod Text
 pub mod Seen
+pub mod Kept
