@@ -1,2 +1,10 @@
 pub mod Facts
 pub mod Samples
+pub mod Lists
+pub mod Steps
+pub mod Naming
+pub mod Growth
+pub mod TakenBuses
+pub mod Lookups
+pub mod BusSets
+pub mod TakenSockets
