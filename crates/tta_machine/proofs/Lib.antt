@@ -8,3 +8,5 @@ pub mod TakenBuses
 pub mod Lookups
 pub mod BusSets
 pub mod TakenSockets
+pub mod TakenFiles
+pub mod TakenUnits
