@@ -10,3 +10,7 @@ pub mod BusSets
 pub mod TakenSockets
 pub mod TakenFiles
 pub mod TakenUnits
+pub mod TakenGuards
+pub mod TakenControl
+pub mod Owners
+pub mod TakenOps
