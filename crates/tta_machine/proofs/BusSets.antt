@@ -1,8 +1,8 @@
 -- A set of buses, one bit each, has no bit that no bus has.
-use Rattle.std.proofs.Common.{◌≡◌, ◌<◌, ◌≤◌, ◌+◌, ◌*◌, ◌^◌, ◌∷◌, [], ℕ, Bool, List, true, false, not, zero, suc, length, refl, sym, ap, subst, ◌∙◌, arith, pow_pos, pow-suc, ◌⊎◌, inl, inr}
-use Rattle.std.specs.Prelude.{◌==◌, ◌&&◌, ◌||◌, nat_lt, if◌then◌else◌}
+use Rattle.std.proofs.Common.{◌≡◌, ◌<◌, ◌≤◌, ◌+◌, ◌*◌, ◌^◌, ◌∷◌, [], ℕ, Bool, List, true, false, not, zero, suc, length, refl, ap, subst, ◌∙◌, arith, pow_pos, pow-suc, ◌⊎◌, inl, inr}
+use Rattle.std.specs.Prelude.{◌==◌, nat_lt, if◌then◌else◌}
 use Rattle.std.specs.List.{list_any, AllByRecursion}
-use Rattle.std.proofs.lemmas.Bool.{and_parts, or_parts, not-true, ltb-true, ltb-false, lt-ltb, le-ltb, eqb-true, eqb-false, cases_eq}
+use Rattle.std.proofs.lemmas.Bool.{and_parts, or_parts, not-true, lt-ltb, le-ltb, eqb-false, cases_eq}
 use Rattle.std.proofs.lemmas.Bool.Decides.{nat_tests}
 use Rattle.tta_machine.specs.Rules.{are_different, IsBusSet}
 use Rattle.tta_machine.specs.Declarations.{bus_set}
@@ -41,11 +41,12 @@ set_below-more n [] all = omega arith
 set_below-more n (k ∷ ks) all = by (set_below-more n ks parts.1) (cases_eq k n) where
   parts : (not (list_any (λ b. k == b) ks) ≡ true) × (are_different (λ a b. a == b) ks ≡ true)
   parts = and_parts (not (list_any (λ b. k == b) ks)) (are_different (λ a b. a == b) ks) all
+
   by : set_below (suc n) ks ≤ set_below n ks + 2 ^ n → (k ≡ n) ⊎ (k ≡ n → ⊥)
       → (if nat_lt k (suc n) then 2 ^ k else 0) + set_below (suc n) ks ≤ (if nat_lt k n then 2 ^ k else 0) + set_below n ks + 2 ^ n
   by later (inl same) =
       let without : set_below (suc n) ks ≡ set_below n ks =
-          set_below-without n ks (subst (λ j. list_any (λ b. j == b) ks ≡ false) same (not-true (list_any (λ b. k == b) ks) parts.0)) in
+      set_below-without n ks (subst (λ j. list_any (λ b. j == b) ks ≡ false) same (not-true (list_any (λ b. k == b) ks) parts.0)) in
       let last : nat_lt k (suc n) ≡ true = lt-ltb k (suc n) (omega arith) in
       let past : nat_lt k n ≡ false = le-ltb k n (omega arith) in
       let bit : 2 ^ k ≡ 2 ^ n = ap (λ j. 2 ^ j) same in

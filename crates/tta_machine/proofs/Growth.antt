@@ -1,6 +1,6 @@
 -- What stays true of a draft when it has more parts.
-use Rattle.std.proofs.Common.{◌≡◌, ◌<◌, ◌≤◌, ◌+◌, ◌^◌, ◌++◌, ◌∷◌, [], ℕ, Bool, List, Option, Some, None, true, false, zero, suc, length, refl, sym, ap, subst, ◌∙◌, arith, ◌⊎◌, inl, inr, ⊎_elim, length-append, lt→ltb, le_trans, lt_of_lt_of_le, pow_mono}
-use Rattle.std.specs.Prelude.{◌&&◌, ◌==◌, nat_lt, nat_le, slice_get, if◌then◌else◌}
+use Rattle.std.proofs.Common.{◌≡◌, ◌<◌, ◌≤◌, ◌++◌, ◌∷◌, [], ℕ, Bool, List, Option, Some, None, true, false, length, refl, subst, arith, ◌⊎◌, ⊎_elim, lt_of_lt_of_le, pow_mono}
+use Rattle.std.specs.Prelude.{◌&&◌, ◌==◌, nat_lt, nat_le, slice_get}
 use Rattle.std.specs.Option.{option_map_or}
 use Rattle.std.specs.List.{list_all}
 use Rattle.std.proofs.lemmas.Bool.{and_parts, and_from, ltb-true, lt-ltb}
@@ -70,6 +70,7 @@ there_still d e r same g = record {
 } where
   before : (name : List ℕ) (at : Named) → named_in e.names name ≡ Some at → named_in d.names name ≡ Some at
   before name at h = subst (λ names. named_in names name ≡ Some at) same h
+
   all : (name : List ℕ) (at : Named) → named_in e.names name ≡ Some at → IsThere e at
   all name at h = stays_there d e g at (is_there d r name at (before name at h))
 
@@ -87,6 +88,7 @@ there_more d e new p r more g here good = record {
 } where
   cases : (name : List ℕ) (at : Named) → named_in e.names name ≡ Some at → (named_in d.names name ≡ Some at) ⊎ ((new ≡ name) × (p ≡ at))
   cases name at h = named_in-push d.names new p name at (subst (λ names. named_in names name ≡ Some at) more h)
+
   all : (name : List ℕ) (at : Named) → named_in e.names name ≡ Some at → IsThere e at
   all name at h = ⊎_elim (λ old. stays_there d e g at (is_there d r name at old)) (λ one. subst (IsThere e) one.1 here) (cases name at h)
 

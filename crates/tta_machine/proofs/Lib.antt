@@ -14,3 +14,5 @@ pub mod TakenGuards
 pub mod TakenControl
 pub mod Owners
 pub mod TakenOps
+pub mod Distinct
+pub mod TakenLines

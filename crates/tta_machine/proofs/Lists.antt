@@ -1,5 +1,5 @@
 -- What holds of all elements of a list, of each two, and of how many, when the list grows or one element changes.
-use Rattle.std.proofs.Common.{◌≡◌, ◌<◌, ◌≤◌, ◌+◌, ◌++◌, ◌∷◌, [], ℕ, Bool, List, Option, Some, None, true, false, not, zero, suc, length, refl, sym, ap, subst, ◌∙◌, arith, ◌⊎◌, inl, inr, ⊎_elim}
+use Rattle.std.proofs.Common.{◌≡◌, ◌++◌, ◌∷◌, [], ℕ, Bool, List, Some, true, false, not, zero, suc, length, refl, sym, ap, subst, ◌∙◌, ◌⊎◌, inl, inr, ⊎_elim}
 use Rattle.std.specs.Prelude.{◌&&◌, ◌||◌, slice_get, slice_set, filter, if◌then◌else◌}
 use Rattle.std.specs.List.{list_all, list_any, AllByRecursion}
 use Rattle.std.proofs.lemmas.Bool.{and_parts, and_from, or_parts, or_from, not-true, not_from_false}
@@ -79,8 +79,8 @@ different_push same (y ∷ ys) x all none =
     let parts = and_parts (not (list_any (same y) ys)) (are_different same ys) all in
     let others = or_parts (same y x) (list_any (λ z. same z x) ys) none in
     let here : list_any (same y) (ys ++ x ∷ []) ≡ false =
-        list_any-append (same y) ys (x ∷ [])
-        ∙ or_from (list_any (same y) ys) (same y x || false) (not-true (list_any (same y) ys) parts.0) (or_from (same y x) false others.0 refl) in
+    list_any-append (same y) ys (x ∷ [])
+    ∙ or_from (list_any (same y) ys) (same y x || false) (not-true (list_any (same y) ys) parts.0) (or_from (same y x) false others.0 refl) in
     and_from (not (list_any (same y) (ys ++ x ∷ []))) (are_different same (ys ++ x ∷ [])) (not_from_false (list_any (same y) (ys ++ x ∷ [])) here) (different_push same ys x parts.1 others.1)
 
 -- ---- how many elements pass a test
@@ -93,9 +93,9 @@ count_changed p (x ∷ xs) zero v old e same =
     let here : x ≡ old = cc in
     let alike : p v ≡ p x = same ∙ ap p (sym here) in
     rw alike (by (p x)) where
-  by : (b : Bool) → length (if b then v ∷ filter p xs else filter p xs) ≡ length (if b then x ∷ filter p xs else filter p xs)
-  by true = refl
-  by false = refl
+      by : (b : Bool) → length (if b then v ∷ filter p xs else filter p xs) ≡ length (if b then x ∷ filter p xs else filter p xs)
+      by true = refl
+      by false = refl
 count_changed p (x ∷ xs) (suc i) v old e same = by (count_changed p xs i v old e same) (p x) where
   by : length (filter p (slice_set xs i v)) ≡ length (filter p xs) → (b : Bool) → length (if b then x ∷ filter p (slice_set xs i v) else filter p (slice_set xs i v)) ≡ length (if b then x ∷ filter p xs else filter p xs)
   by later true = ap suc later

@@ -1,12 +1,11 @@
 -- What it tells that a name was found as what its place asks.
-use Rattle.std.proofs.Common.{◌≡◌, ◌<◌, ◌∷◌, [], ℕ, Bool, List, Option, Some, None, Result, Ok, Err, true, false, suc, length, refl, sym, ap, subst, ◌∙◌, arith, option_map}
+use Rattle.std.proofs.Common.{◌≡◌, ◌<◌, ◌∷◌, [], ℕ, Bool, List, Option, Some, None, Ok, true, suc, length, refl, ap, subst, ◌∙◌, option_map}
 use Rattle.std.specs.Prelude.{if◌then◌else◌}
 use Rattle.std.specs.Option.{option_map_or}
 use Rattle.std.specs.List.{AllByRecursion}
 use Rattle.std.proofs.lemmas.Option.{cond_some}
 use Rattle.tta_reading.specs.Names.{named_in}
-use Rattle.tta_reading.specs.Steps.{◌>>?◌, or_refuse}
-use Rattle.tta_machine.specs.declared.reading.refusal.Refusal.{Refusal}
+use Rattle.tta_reading.specs.Steps.{or_refuse}
 use Rattle.tta_machine.specs.declared.reading.refusal.Refusal.TheVariants.{Unknown}
 use Rattle.tta_machine.specs.declared.reading.draft.Named.{Named}
 use Rattle.tta_machine.specs.declared.reading.draft.Named.TheVariants as place
@@ -14,8 +13,8 @@ use Rattle.tta_machine.specs.declared.reading.draft.Draft.{Draft}
 use Rattle.tta_machine.specs.Rules.{is_socket, is_port_socket}
 use Rattle.tta_machine.specs.Draft.{bus_place, socket_place, file_place, imm_place, unit_place, bus_named, socket_named, file_named, imm_named, unit_named}
 use Rattle.tta_machine.specs.Declarations.{buses_named, port_named}
-use Rattle.tta_machine.specs.Kept.{IsDraft, NamesAreThere}
-use Rattle.tta_machine.proofs.Steps.{same_ok, then-some, or_refuse-ok}
+use Rattle.tta_machine.specs.Kept.{NamesAreThere}
+use Rattle.tta_machine.proofs.Steps.{same_ok, then-some}
 
 -- ---- parts of one name
 

@@ -1,5 +1,5 @@
 -- Names as one more of them is declared.
-use Rattle.std.proofs.Common.{◌≡◌, ◌<◌, ◌≤◌, ◌+◌, ◌++◌, ◌∷◌, [], ℕ, Bool, List, Option, Some, None, true, false, zero, suc, length, refl, sym, ap, subst, ◌∙◌, arith, ◌⊎◌, inl, inr, ⊎_elim, codes, is_some, ltb-false}
+use Rattle.std.proofs.Common.{◌≡◌, ◌++◌, ◌∷◌, [], ℕ, Bool, List, Option, Some, None, true, false, length, refl, sym, ap, subst, ◌∙◌, ◌⊎◌, inl, inr, ⊎_elim, codes, is_some, ltb-false}
 use Rattle.std.specs.Prelude.{if◌then◌else◌, slice_get, slice_set}
 use Rattle.std.specs.Str.{bytes_eq}
 use Rattle.std.proofs.lemmas.Bool.{or_parts}
@@ -78,6 +78,7 @@ pub AreNamed-push : {A : Type 0} (name : A → List ℕ) (at : ℕ → Named) (n
 AreNamed-push {A} name at names parts new named free k x e = ⊎_elim old one (slice_get-push parts new k x e) where
   old : slice_get parts k ≡ Some x → named_in (names ++ (name new, at (length parts)) ∷ []) (name x) ≡ Some (at k)
   old h = named_in-longer names ((name new, at (length parts)) ∷ []) (name x) (at k) (named k x h)
+
   one : (k ≡ length parts) × (new ≡ x) → named_in (names ++ (name new, at (length parts)) ∷ []) (name x) ≡ Some (at k)
   one h =
       let here : named_in (names ++ (name new, at (length parts)) ∷ []) (name new) ≡ Some (at (length parts)) = named_in-new names (name new) (at (length parts)) free in
@@ -89,6 +90,7 @@ pub AreNamed-changed : {A : Type 0} (name : A → List ℕ) (at : ℕ → Named)
 AreNamed-changed name at names parts i v old e same named k x h = ⊎_elim before here (slice_get-changed parts i v k x h) where
   before : slice_get parts k ≡ Some x → named_in names (name x) ≡ Some (at k)
   before g = named k x g
+
   here : (k ≡ i) × (v ≡ x) → named_in names (name x) ≡ Some (at k)
   here g =
       let was : named_in names (name old) ≡ Some (at i) = named i old e in

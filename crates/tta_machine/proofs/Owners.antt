@@ -1,8 +1,8 @@
 -- How many units serve a space or the output when a unit has one operation more.
-use Rattle.std.proofs.Common.{◌≡◌, ◌<◌, ◌≤◌, ◌+◌, ◌++◌, ◌∷◌, [], ℕ, Bool, List, Option, Some, None, true, false, not, zero, suc, length, refl, sym, ap, subst, ◌∙◌, arith, le-leb, lit≤}
-use Rattle.std.specs.Prelude.{◌==◌, ◌&&◌, ◌||◌, slice_get, slice_set, filter, if◌then◌else◌, nat_le}
+use Rattle.std.proofs.Common.{◌≡◌, ◌<◌, ◌≤◌, ◌+◌, ◌∷◌, [], ℕ, Bool, List, Some, true, false, not, zero, suc, length, refl, ap, ◌∙◌, arith, le-leb, lit≤}
+use Rattle.std.specs.Prelude.{◌==◌, ◌&&◌, ◌||◌, slice_get, slice_set, filter, if◌then◌else◌}
 use Rattle.std.specs.List.{list_any}
-use Rattle.std.proofs.lemmas.Bool.{or_parts, and_cases, ne_eqb, or_from, eqb-true, leb-true, le-leb}
+use Rattle.std.proofs.lemmas.Bool.{or_parts, ne_eqb, le-leb}
 use Rattle.std.proofs.lemmas.List.Folds.{list_any-append}
 use Rattle.tta_machine.specs.declared.parts.Unit.{Unit as OpUnit}
 use Rattle.tta_machine.specs.declared.parts.UnitOp.{UnitOp}
@@ -51,7 +51,7 @@ one_owner-more kind units k unit o at free one = by (kind o.op) refl free where
       let test : OpUnit → Bool = λ u. list_any (λ p. kind p.op) u.ops in
       let nothing : (kind o.op || false) ≡ false = rw is refl in
       let alike : test (with_op unit o) ≡ test unit =
-          list_any-append (λ p. kind p.op) unit.ops (o ∷ []) ∙ ap (λ b. list_any (λ p. kind p.op) unit.ops || b) nothing ∙ or_false (list_any (λ p. kind p.op) unit.ops) in
+      list_any-append (λ p. kind p.op) unit.ops (o ∷ []) ∙ ap (λ b. list_any (λ p. kind p.op) unit.ops || b) nothing ∙ or_false (list_any (λ p. kind p.op) unit.ops) in
       let same : length (owners kind (slice_set units k (with_op unit o))) ≡ length (owners kind units) = count_changed test units k (with_op unit o) unit at alike in
       rw same one
     where

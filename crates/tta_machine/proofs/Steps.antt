@@ -27,3 +27,8 @@ or_refuse-ok e (Some y) x h = cc
 pub then-some : {A B : Type 0} (o : Option A) (f : A → Option B) (y : B) → (o >>? f) ≡ Some y → (x : A) × (o ≡ Some x) × (f x ≡ Some y)
 then-some None f y h = cc
 then-some (Some x) f y h = (x, refl, h)
+
+-- the test held
+pub only_if-some : {A : Type 0} (test : Bool) (o : Option A) (x : A) → only_if test o ≡ Some x → (test ≡ true) × (o ≡ Some x)
+only_if-some true o x h = (refl, h)
+only_if-some false o x h = cc

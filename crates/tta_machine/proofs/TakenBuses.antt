@@ -1,12 +1,9 @@
 -- A bus and a socket keep the draft's rules.
-use Rattle.std.proofs.Common.{◌≡◌, ◌<◌, ◌≤◌, ◌+◌, ◌^◌, ◌++◌, ◌∷◌, [], ℕ, Bool, List, Option, Some, None, Result, Ok, Err, true, false, not, zero, suc, length, refl, sym, ap, subst, ◌∙◌, arith}
-use Rattle.std.specs.Prelude.{◌&&◌, ◌||◌, ◌==◌, nat_lt, nat_le}
-use Rattle.std.specs.Option.{option_map_or}
-use Rattle.std.specs.List.{list_all, AllByRecursion}
-use Rattle.std.proofs.lemmas.Bool.{and_parts, and_from, or_parts, not-false, leb-false}
+use Rattle.std.proofs.Common.{◌≡◌, ◌<◌, ◌≤◌, ◌+◌, ◌++◌, ◌∷◌, [], Ok, false, not, length, refl, subst, arith}
+use Rattle.std.specs.Prelude.{◌||◌, nat_le}
+use Rattle.std.proofs.lemmas.Bool.{or_parts, not-false, leb-false}
 use Rattle.std.proofs.lemmas.List.{length_push}
-use Rattle.tta_reading.specs.Steps.{or_refuse}
-use Rattle.tta_machine.specs.declared.reading.refusal.Refusal.TheVariants.{Unknown, Twice, Range}
+use Rattle.tta_machine.specs.declared.reading.refusal.Refusal.TheVariants.{Twice, Range}
 use Rattle.tta_reading.specs.Names.{Declared}
 use Rattle.tta_machine.specs.declared.reading.draft.Named.{Named}
 use Rattle.tta_machine.specs.declared.reading.draft.Named.TheVariants as place
@@ -16,7 +13,7 @@ use Rattle.tta_machine.specs.Rules.{IsBusSet, is_from_to, is_bus, is_guard}
 use Rattle.tta_machine.specs.Forms.{BusForm}
 use Rattle.tta_machine.specs.Draft.{is_taken, is_too_long}
 use Rattle.tta_machine.specs.Declarations.{take_bus}
-use Rattle.tta_machine.specs.Kept.{IsDraft, IsWithinLimits, NamesAreThere, PartsAreNamed, PartsKeepRules}
+use Rattle.tta_machine.specs.Kept.{IsDraft}
 use Rattle.tta_machine.proofs.Lists.{list_all_push, list_all_weaker, all_weaker}
 use Rattle.tta_machine.proofs.Steps.{refuse_if-ok, same_ok}
 use Rattle.tta_machine.proofs.Naming.{AreNamed-longer, AreNamed-push, not_taken, good_name}

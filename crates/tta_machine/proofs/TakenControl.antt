@@ -1,6 +1,6 @@
 -- Control and the sizes of spaces keep the draft's rules.
-use Rattle.std.proofs.Common.{◌≡◌, ◌<◌, ◌≤◌, ◌+◌, ◌^◌, ℕ, Bool, List, Option, Some, None, Result, Ok, Err, true, false, not, length, refl, subst, arith}
-use Rattle.std.specs.Prelude.{◌&&◌, ◌||◌, nat_lt, nat_le, is_some, unwrap_or, if◌then◌else◌}
+use Rattle.std.proofs.Common.{◌≡◌, ◌≤◌, ◌^◌, ℕ, Bool, Option, Some, Ok, true, false, not, refl, subst, arith}
+use Rattle.std.specs.Prelude.{◌||◌, nat_lt, nat_le, is_some, unwrap_or, if◌then◌else◌}
 use Rattle.std.proofs.lemmas.Bool.{or_parts, and_from, not-false, ltb-false}
 use Rattle.tta_reading.specs.Steps.{refuse_if}
 use Rattle.tta_machine.specs.declared.reading.refusal.Refusal.TheVariants.{Unknown, Twice, Range}
@@ -63,11 +63,11 @@ take_control-keeps d e f r h =
     let range = refuse_if-ok (not (nat_le f.delay 4) || not (is_from_to 1 16 f.address)) Range _ e new.1 in
     let parts = or_parts (not (nat_le f.delay 4)) (not (is_from_to 1 16 f.address)) range.0 in
     let rule : is_control d.sockets (control_of f trigger.0 ra.0) ≡ true =
-        and_from _ (is_port_socket d.sockets false ra.0)
-        (and_from _ (is_socket d.sockets true trigger.0)
-        (and_from (nat_le f.delay 4) (is_from_to 1 16 f.address) (not-false (nat_le f.delay 4) parts.0) (not-false (is_from_to 1 16 f.address) parts.1))
-        (is_socket-named d true f.trigger trigger.0 trigger.1))
-        (port_named-ok d false f.ra ra.0 ra.1) in
+    and_from _ (is_port_socket d.sockets false ra.0)
+    (and_from _ (is_socket d.sockets true trigger.0)
+    (and_from (nat_le f.delay 4) (is_from_to 1 16 f.address) (not-false (nat_le f.delay 4) parts.0) (not-false (is_from_to 1 16 f.address) parts.1))
+    (is_socket-named d true f.trigger trigger.0 trigger.1))
+    (port_named-ok d false f.ra ra.0 ra.1) in
     subst IsDraft (same_ok (control_added d (control_of f trigger.0 ra.0)) e range.1) (control_kept d (control_of f trigger.0 ra.0) r rule)
 
 -- ---- spaces

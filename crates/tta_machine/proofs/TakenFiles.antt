@@ -1,7 +1,6 @@
 -- A register file and an immediate unit keep the draft's rules.
-use Rattle.std.proofs.Common.{◌≡◌, ◌<◌, ◌≤◌, ◌+◌, ◌++◌, ◌∷◌, [], ℕ, Bool, List, Option, Some, None, Result, Ok, Err, true, false, not, length, refl, subst, arith}
-use Rattle.std.specs.Prelude.{◌&&◌, ◌||◌, ◌==◌, nat_lt, nat_le}
-use Rattle.std.specs.List.{list_all}
+use Rattle.std.proofs.Common.{◌≡◌, ◌<◌, ◌+◌, ◌++◌, ◌∷◌, [], ℕ, Bool, List, Ok, true, false, not, length, refl, subst, arith}
+use Rattle.std.specs.Prelude.{◌||◌, ◌==◌, nat_le}
 use Rattle.std.proofs.lemmas.Bool.{or_parts, and_from, not-false, leb-false}
 use Rattle.std.proofs.lemmas.List.{length_push}
 use Rattle.tta_reading.specs.Names.{Declared}
@@ -48,15 +47,15 @@ file_kept d f out into r leads_out leads_in free ranges =
     let read = or_parts _ (not (is_from_to 1 16 f.read)) write.0 in
     let size = or_parts (not (f.width == 1 || f.width == 32)) (not (is_from_to 1 64 f.size)) read.0 in
     let rule : is_file d.sockets (file_of f out into) ≡ true =
-        and_from _ (is_socket d.sockets true into)
-        (and_from _ (is_socket d.sockets false out)
-        (and_from _ (is_from_to 1 16 f.write)
-        (and_from _ (is_from_to 1 16 f.read)
-        (and_from (f.width == 1 || f.width == 32) (is_from_to 1 64 f.size) (not-false (f.width == 1 || f.width == 32) size.0) (not-false (is_from_to 1 64 f.size) size.1))
-        (not-false (is_from_to 1 16 f.read) read.1))
-        (not-false (is_from_to 1 16 f.write) write.1))
-        leads_out)
-        leads_in in
+    and_from _ (is_socket d.sockets true into)
+    (and_from _ (is_socket d.sockets false out)
+    (and_from _ (is_from_to 1 16 f.write)
+    (and_from _ (is_from_to 1 16 f.read)
+    (and_from (f.width == 1 || f.width == 32) (is_from_to 1 64 f.size) (not-false (f.width == 1 || f.width == 32) size.0) (not-false (is_from_to 1 64 f.size) size.1))
+    (not-false (is_from_to 1 16 f.read) read.1))
+    (not-false (is_from_to 1 16 f.write) write.1))
+    leads_out)
+    leads_in in
     let room : length d.files < 8 = leb-false 8 (length d.files) count.1 in
     let one : List File = file_of f out into ∷ [] in
     let more : length (d.files ++ file_of f out into ∷ []) ≡ length d.files + 1 = length_push d.files (file_of f out into) in

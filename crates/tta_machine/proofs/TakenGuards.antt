@@ -1,8 +1,8 @@
 -- A guard and a template keep the draft's rules.
-use Rattle.std.proofs.Common.{◌≡◌, ◌<◌, ◌≤◌, ◌+◌, ◌++◌, ◌∷◌, [], ℕ, Bool, List, Option, Some, None, Result, Ok, Err, true, false, not, length, refl, subst, arith}
+use Rattle.std.proofs.Common.{◌≡◌, ◌<◌, ◌+◌, ◌++◌, ◌∷◌, [], ℕ, Bool, List, Some, Ok, true, false, not, length, refl, subst, arith}
 use Rattle.std.specs.Prelude.{◌&&◌, ◌||◌, ◌==◌, nat_lt, nat_le, slice_get}
 use Rattle.std.specs.Option.{option_map_or}
-use Rattle.std.specs.List.{list_all, list_any, AllByRecursion}
+use Rattle.std.specs.List.{list_any}
 use Rattle.std.proofs.lemmas.Bool.{or_parts, and_from, not-false, leb-false, lt-ltb}
 use Rattle.std.proofs.lemmas.List.{length_push}
 use Rattle.tta_reading.specs.Names.{Declared}
@@ -43,10 +43,10 @@ guard_kept d f bus file q r there at new ranges =
     let fits = or_parts (not (q.width == 1)) (nat_le q.size f.index) count.0 in
     let test : File → Bool = λ p. p.width == 1 && nat_lt f.index p.size in
     let here : (q.width == 1 && nat_lt f.index q.size) ≡ true =
-        and_from (q.width == 1) (nat_lt f.index q.size) (not-false (q.width == 1) fits.0) (lt-ltb f.index q.size (leb-false q.size f.index fits.1)) in
+    and_from (q.width == 1) (nat_lt f.index q.size) (not-false (q.width == 1) fits.0) (lt-ltb f.index q.size (leb-false q.size f.index fits.1)) in
     let found : option_map_or test (slice_get d.files file) false ≡ true = rw at here in
     let rule : is_guard (length d.buses) d.files (guard_of f bus file) ≡ true =
-        and_from (nat_lt bus (length d.buses)) (option_map_or test (slice_get d.files file) false) (lt-ltb bus (length d.buses) there) found in
+    and_from (nat_lt bus (length d.buses)) (option_map_or test (slice_get d.files file) false) (lt-ltb bus (length d.buses) there) found in
     let room : length d.guards < 64 = leb-false 64 (length d.guards) count.1 in
     let more : length (d.guards ++ guard_of f bus file ∷ []) ≡ length d.guards + 1 = length_push d.guards (guard_of f bus file) in
     let grows : Grows d (guard_added d (guard_of f bus file)) = omega arith in
@@ -156,5 +156,5 @@ take_template-keeps line d e f r some h =
     let free = or_parts (is_taken d f.name) (not (are_different (λ x y. x == y) buses.0)) new.0 in
     let count : 0 < length buses.0 = let same = found.1 in omega arith in
     let mask : IsBusSet (length d.buses) (bus_set buses.0) =
-        IsBusSet-bus_set (length d.buses) buses.0 count found.0 (not-false (are_different (λ x y. x == y) buses.0) free.1) in
+    IsBusSet-bus_set (length d.buses) buses.0 count found.0 (not-false (are_different (λ x y. x == y) buses.0) free.1) in
     subst IsDraft (same_ok (template_added line d f imm.0 buses.0) e range.1) (template_kept line d f imm.0 i.0 buses.0 r i.1 mask free.0 range.0)

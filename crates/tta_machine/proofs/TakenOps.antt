@@ -1,15 +1,14 @@
 -- One operation more keeps the draft's rules.
-use Rattle.std.proofs.Common.{◌≡◌, ◌<◌, ◌≤◌, ◌+◌, ◌++◌, ◌∷◌, [], ℕ, Bool, List, Option, Some, None, Result, Ok, Err, true, false, not, zero, suc, length, refl, sym, ap, subst, ◌∙◌, arith, length-set, ◌⊎◌, inl, inr, get_or, codes, is_some, is_none, option_map}
-use Rattle.std.specs.Prelude.{◌&&◌, ◌||◌, ◌==◌, nat_lt, nat_le, slice_get, slice_set, if◌then◌else◌}
+use Rattle.std.proofs.Common.{◌≡◌, ◌<◌, ◌+◌, ◌++◌, ◌∷◌, [], ℕ, Bool, List, Option, Some, None, Ok, true, false, not, suc, length, refl, subst, arith, length-set, ◌⊎◌, inl, inr, get_or, codes, is_some, is_none, option_map}
+use Rattle.std.specs.Prelude.{◌&&◌, ◌||◌, ◌==◌, nat_le, slice_get, slice_set, if◌then◌else◌}
 use Rattle.std.specs.Str.{bytes_eq}
 use Rattle.std.specs.Option.{option_map_or}
 use Rattle.std.specs.List.{list_all, list_any}
-use Rattle.std.proofs.lemmas.Bool.{or_parts, and_from, and_parts, not-false, leb-false, le-leb, and_cases}
+use Rattle.std.proofs.lemmas.Bool.{or_parts, and_from, and_parts, not-false, leb-false, le-leb}
 use Rattle.std.proofs.lemmas.Bool.Decides.{nat_tests}
 use Rattle.std.proofs.lemmas.List.{length_push}
 use Rattle.tta_ops.specs.Units.{Units, named, first_at}
 use Rattle.tta_machine.specs.declared.reading.refusal.Refusal.TheVariants.{Unknown, Twice, Range, Missing}
-use Rattle.tta_machine.specs.declared.reading.draft.Named.{Named}
 use Rattle.tta_machine.specs.declared.reading.draft.Named.TheVariants as place
 use Rattle.tta_machine.specs.declared.reading.draft.Draft.{Draft}
 use Rattle.tta_machine.specs.declared.parts.Socket.{Socket}
@@ -18,7 +17,7 @@ use Rattle.tta_machine.specs.declared.parts.UnitOp.{UnitOp}
 use Rattle.tta_machine.specs.declared.parts.Op.{Op}
 use Rattle.tta_machine.specs.declared.parts.Op.TheVariants.{Ldw, Stw, Ldf, Stf, Out, Set}
 use Rattle.tta_machine.specs.Effects.{has_result}
-use Rattle.tta_machine.specs.Rules.{is_from_to, is_socket, is_port_socket, fits_kind, is_unit, is_unit_op, same_op, are_different, has_one_owner, is_data_op, is_frame_op}
+use Rattle.tta_machine.specs.Rules.{is_from_to, is_socket, is_port_socket, fits_kind, is_unit, is_unit_op, same_op, are_different, is_data_op, is_frame_op}
 use Rattle.tta_machine.specs.Forms.{OpForm}
 use Rattle.tta_machine.specs.Draft.{unit_named}
 use Rattle.tta_machine.specs.Declarations.{take_op, add_op, op_named, timed_op, untimed_op, arity_of, is_latency, is_served, has_other, with_op}
@@ -122,7 +121,7 @@ op_kept : (d : Draft) (k : ℕ) (unit : OpUnit) (o : UnitOp) → IsDraft d → s
     → list_any (λ p. same_op p.op o.op) unit.ops ≡ false → is_served d.units k o.op ≡ false → length unit.ops < 32 → IsDraft (op_added d k unit o)
 op_kept d k unit o r at one new alone room =
     let output = or_parts (is_data_op o.op && has_other is_data_op k 0 d.units || is_frame_op o.op && has_other is_frame_op k 0 d.units)
-            (same_op o.op Out && has_other (λ p. same_op p Out) k 0 d.units) alone in
+    (same_op o.op Out && has_other (λ p. same_op p Out) k 0 d.units) alone in
     let spaces = or_parts (is_data_op o.op && has_other is_data_op k 0 d.units) (is_frame_op o.op && has_other is_frame_op k 0 d.units) output.0 in
     let was : is_unit d.sockets unit ≡ true = list_all_one (is_unit d.sockets) d.units k unit r.rules.units at in
     let rule : is_unit d.sockets (with_op unit o) ≡ true = unit_still d.sockets unit o was one new room in
@@ -168,9 +167,9 @@ add_op-keeps u d e k unit o latency name r at is h =
     let fits : fits_kind (unit_op u o latency) ≡ true = op_fits u latency name o is (not-false (is_latency latency) room.0) in
     let words : (arity_of u o ≡ 1) ⊎ (arity_of u o ≡ 2) = arity_cases o (arity_of u o) (option_map_or (λ l. l) latency 0) fits in
     let one : is_unit_op unit (unit_op u o latency) ≡ true =
-        and_from _ (not (has_result o) || is_some unit.result)
-        (and_from (fits_kind (unit_op u o latency)) (arity_of u o == 1 || is_some unit.operand) fits (has_operand (arity_of u o) unit.operand words missing.0))
-        (has_port (has_result o) unit.result missing.1) in
+    and_from _ (not (has_result o) || is_some unit.result)
+    (and_from (fits_kind (unit_op u o latency)) (arity_of u o == 1 || is_some unit.operand) fits (has_operand (arity_of u o) unit.operand words missing.0))
+    (has_port (has_result o) unit.result missing.1) in
     subst IsDraft (same_ok (op_added d k unit (unit_op u o latency)) e ports.1)
     (op_kept d k unit (unit_op u o latency) r at one new.0 new.1 (leb-false 32 (length unit.ops) room.1))
 

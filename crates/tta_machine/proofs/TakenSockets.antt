@@ -1,12 +1,10 @@
 -- A socket keeps the draft's rules.
-use Rattle.std.proofs.Common.{◌≡◌, ◌<◌, ◌≤◌, ◌+◌, ◌++◌, ◌∷◌, [], ℕ, Bool, List, Option, Some, None, Result, Ok, Err, true, false, not, length, refl, subst, arith}
-use Rattle.std.specs.Prelude.{◌&&◌, ◌||◌, ◌==◌, nat_lt, nat_le}
+use Rattle.std.proofs.Common.{◌≡◌, ◌<◌, ◌+◌, ◌++◌, ◌∷◌, [], ℕ, List, Option, Some, None, Ok, true, false, not, length, refl, subst, arith}
+use Rattle.std.specs.Prelude.{◌||◌, ◌==◌, nat_le}
 use Rattle.std.specs.Option.{option_map_or}
-use Rattle.std.specs.List.{AllByRecursion}
 use Rattle.std.proofs.lemmas.Bool.{or_parts, not-false, leb-false}
 use Rattle.std.proofs.lemmas.List.{length_push}
 use Rattle.tta_reading.specs.Names.{Declared}
-use Rattle.tta_reading.specs.Steps.{or_refuse}
 use Rattle.tta_machine.specs.declared.reading.refusal.Refusal.TheVariants.{Unknown, Twice, Range}
 use Rattle.tta_machine.specs.declared.reading.draft.Named.{Named}
 use Rattle.tta_machine.specs.declared.reading.draft.Named.TheVariants as place
@@ -87,5 +85,5 @@ take_socket-keeps d e f r some h =
     let free = or_parts (is_taken d f.name) (not (are_different (λ x y. x == y) a.0)) b.0 in
     let count : 0 < length a.0 = let same = found.1 in omega arith in
     let mask : IsBusSet (length d.buses) (bus_set a.0) =
-        IsBusSet-bus_set (length d.buses) a.0 count found.0 (not-false (are_different (λ x y. x == y) a.0) free.1) in
+    IsBusSet-bus_set (length d.buses) a.0 count found.0 (not-false (are_different (λ x y. x == y) a.0) free.1) in
     subst IsDraft (same_ok (socket_added d f a.0) e c.1) (socket_kept d f a.0 r mask free.0 c.0)

@@ -1,7 +1,7 @@
 -- A unit keeps the draft's rules: it has no operations yet.
-use Rattle.std.proofs.Common.{◌≡◌, ◌<◌, ◌≤◌, ◌+◌, ◌++◌, ◌∷◌, [], ℕ, Bool, List, Option, Some, None, Result, Ok, Err, true, false, not, length, refl, subst, ap, ◌∙◌, arith, append-nil}
-use Rattle.std.specs.Prelude.{◌&&◌, ◌||◌, ◌==◌, nat_lt, nat_le, filter}
-use Rattle.std.specs.List.{list_all, list_any}
+use Rattle.std.proofs.Common.{◌≡◌, ◌<◌, ◌+◌, ◌++◌, ◌∷◌, [], ℕ, Bool, List, Option, Ok, true, false, length, refl, subst, ap, ◌∙◌, arith, append-nil}
+use Rattle.std.specs.Prelude.{◌||◌, nat_le, filter}
+use Rattle.std.specs.List.{list_any}
 use Rattle.std.proofs.lemmas.Bool.{or_parts, and_from, leb-false}
 use Rattle.std.proofs.lemmas.List.{length_push}
 use Rattle.std.proofs.lemmas.List.Elements.{filter-append}
@@ -49,9 +49,9 @@ unit_kept d f operand trigger result r port_o port_t port_r free ranges =
     let unit : OpUnit = unit_of f operand trigger result in
     let parts = or_parts (is_too_long f.name) (nat_le 32 (length d.units)) ranges in
     let rule : is_unit d.sockets (unit_of f operand trigger result) ≡ true =
-        and_from _ true (and_from _ true (and_from _ true
-        (and_from _ (is_port_socket d.sockets false result) (and_from (is_socket d.sockets true trigger) (is_port_socket d.sockets true operand) port_t port_o) port_r)
-        refl) refl) refl in
+    and_from _ true (and_from _ true (and_from _ true
+    (and_from _ (is_port_socket d.sockets false result) (and_from (is_socket d.sockets true trigger) (is_port_socket d.sockets true operand) port_t port_o) port_r)
+    refl) refl) refl in
     let room : length d.units < 32 = leb-false 32 (length d.units) parts.1 in
     let more : length (d.units ++ unit_of f operand trigger result ∷ []) ≡ length d.units + 1 = length_push d.units (unit_of f operand trigger result) in
     let grows : Grows d (unit_added d (unit_of f operand trigger result)) = omega arith in
