@@ -16,3 +16,4 @@ pub mod Owners
 pub mod TakenOps
 pub mod Distinct
 pub mod TakenLines
+pub mod Readings
