@@ -17,3 +17,5 @@ pub mod TakenOps
 pub mod Distinct
 pub mod TakenLines
 pub mod Readings
+pub mod Made
+pub mod Borne

@@ -17,6 +17,7 @@ use Rattle.tta_machine.specs.Fields.{width_for}
 use Rattle.tta_machine.specs.Forms.{bus_form, socket_form, file_form, imm_form, unit_form, op_form, guard_form, template_form, control_form, space_form}
 use Rattle.tta_machine.specs.Declarations.{take_bus, take_socket, take_file, take_imm, take_unit, take_op, take_guard, take_template, take_control, take_space}
 use Rattle.tta_machine.specs.Machine.{Machine}
+use Rattle.tta_machine.specs.Grammar.{IsMachineText}
 use Rattle.tta_machine.specs.Text.{take_line, machine_of_text, Refused}
 use Rattle.tta_machine.proofs.Facts.{from_to-least, from_to-greatest}
 use Rattle.tta_machine.proofs.Lists.{list_all_one}
@@ -243,3 +244,37 @@ space_again-is_twice = refl
 great_space : read (codes "space data 1048576" ∷ codes "space frame 65537" ∷ []) ≡ Err (2, Range)
 unfolding read
 great_space = refl
+
+-- ---- what the lines say
+
+one_bus-said : IsMachineText units (lines_of (text_of one_bus_lines)) one_bus
+unfolding read
+one_bus-said = record {
+  all = refl;
+  buses = refl;
+  sockets = refl;
+  files = refl;
+  imms = refl;
+  units = refl;
+  guards = refl;
+  templates = refl;
+  control = refl;
+  data_words = refl;
+  frame_words = refl;
+}
+
+three_buses-said : IsMachineText units (lines_of (text_of (three_buses_front ++ codes "template L I.0 B1 B2" ∷ three_buses_back))) three_buses
+unfolding read
+three_buses-said = record {
+  all = refl;
+  buses = refl;
+  sockets = refl;
+  files = refl;
+  imms = refl;
+  units = refl;
+  guards = refl;
+  templates = refl;
+  control = refl;
+  data_words = refl;
+  frame_words = refl;
+}

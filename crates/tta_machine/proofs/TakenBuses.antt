@@ -21,10 +21,10 @@ use Rattle.tta_machine.proofs.Growth.{Grows, there_more, IsBusSet-more, is_guard
 
 -- ---- buses
 
-abbrev bus_of : BusForm → Bus
+abbrev pub bus_of : BusForm → Bus
 bus_of f = record { name = f.name; short = f.short; signed = f.signed }
 
-abbrev bus_added : Draft → BusForm → Draft
+abbrev pub bus_added : Draft → BusForm → Draft
 bus_added d f = record d {
   names = d.names ++ (f.name, place.Bus (length d.buses)) ∷ [];
   buses = d.buses ++ bus_of f ∷ [];

@@ -17,10 +17,10 @@ use Rattle.tta_machine.proofs.Lookups.{is_socket-named, port_named-ok}
 
 -- ---- control
 
-abbrev control_of : ControlForm → (trigger : ℕ) → Option ℕ → Control
+abbrev pub control_of : ControlForm → (trigger : ℕ) → Option ℕ → Control
 control_of f trigger ra = record { delay = f.delay; address = f.address; trigger = trigger; ra = ra }
 
-abbrev control_added : Draft → Control → Draft
+abbrev pub control_added : Draft → Control → Draft
 control_added d control = record d { control = Some control }
 
 control_kept : (d : Draft) (c : Control) → IsDraft d → is_control d.sockets c ≡ true → IsDraft (control_added d c)
@@ -72,7 +72,7 @@ take_control-keeps d e f r h =
 
 -- ---- spaces
 
-abbrev spaces_added : Draft → (words frame : Option ℕ) → Draft
+abbrev pub spaces_added : Draft → (words frame : Option ℕ) → Draft
 spaces_added d words frame = record d { data_words = words; frame_words = frame }
 
 spaces_kept : (d : Draft) (words frame : Option ℕ) → IsDraft d → unwrap_or words 0 ≤ 2 ^ 20 → unwrap_or frame 0 ≤ 65536 → IsDraft (spaces_added d words frame)

@@ -23,17 +23,17 @@ use Rattle.tta_machine.proofs.Lookups.{is_socket-named}
 
 -- ---- files
 
-abbrev file_of : FileForm → (out into : ℕ) → File
+abbrev pub file_of : FileForm → (out into : ℕ) → File
 file_of f out into = record { name = f.name; width = f.width; size = f.size; read = f.read; write = f.write; out = out; into = into }
 
-abbrev file_added : Draft → FileForm → (out into : ℕ) → Draft
+abbrev pub file_added : Draft → FileForm → (out into : ℕ) → Draft
 file_added d f out into = record d {
   names = d.names ++ (f.name, place.File (length d.files)) ∷ [];
   files = d.files ++ file_of f out into ∷ [];
 }
 
 -- the range test of a file
-abbrev file_out_of_range : Draft → FileForm → Bool
+abbrev pub file_out_of_range : Draft → FileForm → Bool
 file_out_of_range d f =
     not (f.width == 1 || f.width == 32) || not (is_from_to 1 64 f.size) || not (is_from_to 1 16 f.read) || not (is_from_to 1 16 f.write)
     || is_too_long f.name || nat_le 8 (length d.files)
@@ -101,10 +101,10 @@ take_file-keeps d e f r h =
 
 -- ---- immediate units
 
-abbrev imm_of : ImmForm → (out : ℕ) → ImmUnit
+abbrev pub imm_of : ImmForm → (out : ℕ) → ImmUnit
 imm_of f out = record { name = f.name; size = f.size; out = out }
 
-abbrev imm_added : Draft → ImmForm → (out : ℕ) → Draft
+abbrev pub imm_added : Draft → ImmForm → (out : ℕ) → Draft
 imm_added d f out = record d {
   names = d.names ++ (f.name, place.Imm (length d.imms)) ∷ [];
   imms = d.imms ++ imm_of f out ∷ [];

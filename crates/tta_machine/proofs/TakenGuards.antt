@@ -28,10 +28,10 @@ use Rattle.tta_machine.proofs.BusSets.{IsBusSet-bus_set}
 
 -- ---- guards
 
-abbrev guard_of : GuardForm → (bus file : ℕ) → Guard
+abbrev pub guard_of : GuardForm → (bus file : ℕ) → Guard
 guard_of f bus file = record { bus = bus; on = record { file = file; index = f.index; inverted = f.inverted } }
 
-abbrev guard_added : Draft → Guard → Draft
+abbrev pub guard_added : Draft → Guard → Draft
 guard_added d guard = record d { guards = d.guards ++ guard ∷ [] }
 
 guard_kept : (d : Draft) (f : GuardForm) (bus file : ℕ) (q : File) → IsDraft d → bus < length d.buses → slice_get d.files file ≡ Some q
@@ -91,10 +91,10 @@ take_guard-keeps d e f r h =
 
 -- ---- templates
 
-abbrev template_of : TemplateForm → (imm : ℕ) → List ℕ → Template
+abbrev pub template_of : TemplateForm → (imm : ℕ) → List ℕ → Template
 template_of f imm buses = record { name = f.name; imm = imm; reg = f.index; buses = bus_set buses }
 
-abbrev template_added : (line : ℕ) → Draft → TemplateForm → (imm : ℕ) → List ℕ → Draft
+abbrev pub template_added : (line : ℕ) → Draft → TemplateForm → (imm : ℕ) → List ℕ → Draft
 template_added line d f imm buses = record d {
   names = d.names ++ (f.name, place.Template (length d.templates)) ∷ [];
   templates = d.templates ++ template_of f imm buses ∷ [];

@@ -76,7 +76,7 @@ template_form-some (n ∷ u ∷ dot ∷ i ∷ bus ∷ buses) f h =
 
 -- ---- lines
 
-if-ok : {A E : Type 0} (b : Bool) (x y : Result A E) (r : A) (P : Type 0) → (x ≡ Ok r → P) → (y ≡ Ok r → P) → (if b then x else y) ≡ Ok r → P
+pub if-ok : {A E : Type 0} (b : Bool) (x y : Result A E) (r : A) (P : Type 0) → (x ≡ Ok r → P) → (y ≡ Ok r → P) → (if b then x else y) ≡ Ok r → P
 if-ok true x y r P f g h = f h
 if-ok false x y r P f g h = g h
 

@@ -30,7 +30,7 @@ use Rattle.tta_machine.proofs.Owners.{one_owner-more}
 
 -- ---- operations
 
-abbrev unit_op : Units → Op → Option ℕ → UnitOp
+abbrev pub unit_op : Units → Op → Option ℕ → UnitOp
 unit_op u o latency = record { op = o; arity = arity_of u o; latency = option_map_or (λ l. l) latency 0 }
 
 first_at-lt : (name : List ℕ) (k : ℕ) (names : List (List ℕ)) (j : ℕ) → first_at name k names ≡ Some j → j < k + length names
@@ -99,7 +99,7 @@ has_port false port h = refl
 
 -- ---- the draft
 
-abbrev op_added : Draft → ℕ → OpUnit → UnitOp → Draft
+abbrev pub op_added : Draft → ℕ → OpUnit → UnitOp → Draft
 op_added d k unit o = record d { units = slice_set d.units k (with_op unit o) }
 
 unit_still : (sockets : List Socket) (unit : OpUnit) (o : UnitOp) → is_unit sockets unit ≡ true → is_unit_op unit o ≡ true

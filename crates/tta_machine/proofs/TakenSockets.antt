@@ -23,10 +23,10 @@ use Rattle.tta_machine.proofs.Growth.{Grows, there_more, is_file-more_sockets, i
 use Rattle.tta_machine.proofs.Lookups.{buses_named-some}
 use Rattle.tta_machine.proofs.BusSets.{IsBusSet-bus_set}
 
-abbrev socket_of : SocketForm → List ℕ → Socket
+abbrev pub socket_of : SocketForm → List ℕ → Socket
 socket_of f buses = record { name = f.name; input = f.input; buses = bus_set buses }
 
-abbrev socket_added : Draft → SocketForm → List ℕ → Draft
+abbrev pub socket_added : Draft → SocketForm → List ℕ → Draft
 socket_added d f buses = record d {
   names = d.names ++ (f.name, place.Socket (length d.sockets)) ∷ [];
   sockets = d.sockets ++ socket_of f buses ∷ [];

@@ -24,10 +24,10 @@ use Rattle.tta_machine.proofs.Naming.{AreNamed-longer, AreNamed-push, not_taken,
 use Rattle.tta_machine.proofs.Growth.{Grows, there_more}
 use Rattle.tta_machine.proofs.Lookups.{is_socket-named, port_named-ok}
 
-abbrev unit_of : UnitForm → (operand : Option ℕ) (trigger : ℕ) (result : Option ℕ) → OpUnit
+abbrev pub unit_of : UnitForm → (operand : Option ℕ) (trigger : ℕ) (result : Option ℕ) → OpUnit
 unit_of f operand trigger result = record { name = f.name; operand = operand; trigger = trigger; result = result; ops = [] }
 
-abbrev unit_added : Draft → OpUnit → Draft
+abbrev pub unit_added : Draft → OpUnit → Draft
 unit_added d unit = record d {
   names = d.names ++ (unit.name, place.Unit (length d.units)) ∷ [];
   units = d.units ++ unit ∷ [];

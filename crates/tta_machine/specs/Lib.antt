@@ -10,3 +10,4 @@ pub mod Declarations
 pub mod Text
 pub mod Seen
 pub mod Kept
+pub mod Grammar
