@@ -44,7 +44,7 @@ none_like name at names (x ∷ xs) n p named here apart =
     (none_like name (λ k. at (suc k)) names xs n p (λ k y e. named (suc k) y e) here (λ k e. apart (suc k) e))
 
 -- parts at different places have different names
-different_parts : {A : Type 0} (name : A → List ℕ) (at : ℕ → Named) (names : Declared Named) (parts : List A)
+pub different_parts : {A : Type 0} (name : A → List ℕ) (at : ℕ → Named) (names : Declared Named) (parts : List A)
     → AreNamed name at names parts → ((i j : ℕ) → at i ≡ at j → i ≡ j) → are_different bytes_eq (map name parts) ≡ true
 different_parts name at names [] named apart = refl
 different_parts name at names (x ∷ xs) named apart =

@@ -19,3 +19,11 @@ pub mod TakenLines
 pub mod Readings
 pub mod Made
 pub mod Borne
+pub mod Positions
+pub mod KindLines
+pub mod UnitLines
+pub mod Continued
+pub mod ContinuedParts
+pub mod ContinuedUnits
+pub mod ContinuedSpaces
+pub mod Said
