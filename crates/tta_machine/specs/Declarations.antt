@@ -1,11 +1,10 @@
 -- What each declaration does to a machine that is being read, and when it is refused. Where several refusals of a line
 -- hold, the first in their order is told: unknown, twice, range, missing.
-use Rattle.std.specs.Prelude.{ℕ, ◌+◌, ◌^◌, ◌==◌, Bool, true, false, not, ◌&&◌, ◌||◌, nat_lt, nat_le, if◌then◌else◌, List, [], ◌∷◌, ◌++◌, length, map, sum, Option, Some, None, is_some, is_none, slice_get, slice_set, Result, Ok, Err, codes, option_map}
+use Rattle.std.specs.Prelude.{ℕ, ◌+◌, ◌^◌, ◌==◌, Bool, true, false, not, ◌&&◌, ◌||◌, nat_lt, nat_le, if◌then◌else◌, List, [], ◌∷◌, ◌++◌, length, Option, Some, None, is_some, is_none, slice_get, slice_set, Result, Ok, codes, option_map}
 use Rattle.std.specs.Str.{bytes_eq}
 use Rattle.std.specs.Option.{option_map_or}
-use Rattle.std.specs.List.{list_any, list_all}
+use Rattle.std.specs.List.{list_any}
 use Rattle.tta_reading.specs.Steps.{◌>>=◌, ◌>>?◌, or_refuse, refuse_if}
-use Rattle.tta_ops.specs.declared.OpId.{OpId}
 use Rattle.tta_ops.specs.Units.{Units, named}
 use Rattle.std.specs.Prelude.{get_or}
 use Rattle.tta_machine.specs.declared.reading.refusal.Refusal.{Refusal}
@@ -17,7 +16,7 @@ use Rattle.tta_machine.specs.declared.parts.UnitOp.{UnitOp}
 use Rattle.tta_machine.specs.declared.parts.Op.{Op}
 use Rattle.tta_machine.specs.declared.parts.Op.TheVariants.{Ldw, Stw, Ldf, Stf, Out, Set}
 use Rattle.tta_machine.specs.declared.parts.Guard.{Guard}
-use Rattle.tta_machine.specs.Rules.{is_from_to, are_different, same_op, is_data_op, is_frame_op, same_guard, is_unit_op}
+use Rattle.tta_machine.specs.Rules.{is_from_to, are_different, same_op, is_data_op, is_frame_op, same_guard}
 use Rattle.tta_machine.specs.Effects.{has_result}
 use Rattle.tta_machine.specs.Forms.{BusForm, SocketForm, FileForm, ImmForm, UnitForm, OpForm, GuardForm, TemplateForm, ControlForm, SpaceForm}
 use Rattle.tta_machine.specs.Draft.{is_taken, is_too_long, bus_named, socket_named, file_named, imm_named, unit_named}

@@ -1,5 +1,5 @@
 -- A machine while its text is read: what the lines so far declare, and what their names name.
-use Rattle.std.specs.Prelude.{ℕ, ◌==◌, Bool, ◌||◌, if◌then◌else◌, List, [], length, Option, Some, None, is_some, slice_get, codes, nat_lt, unwrap_or}
+use Rattle.std.specs.Prelude.{ℕ, Bool, ◌||◌, if◌then◌else◌, List, [], length, Option, Some, None, is_some, codes, nat_lt, unwrap_or}
 use Rattle.std.specs.Str.{bytes_eq}
 use Rattle.std.specs.Option.{option_map_or}
 use Rattle.tta_reading.specs.Names.{named_in}

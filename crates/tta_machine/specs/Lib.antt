@@ -13,3 +13,4 @@ pub mod Services
 pub mod Text
 pub mod Seen
 pub mod Kept
+pub mod Grammar

@@ -12,7 +12,6 @@ mod lookups;
 mod operations;
 mod read;
 mod refusal;
-mod refusal;
 mod services;
 mod syntax;
 mod templates;

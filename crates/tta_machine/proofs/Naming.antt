@@ -1,0 +1,97 @@
+-- Names as one more of them is declared.
+use Rattle.std.proofs.Common.{◌≡◌, ◌++◌, ◌∷◌, [], ℕ, Bool, List, Option, Some, None, true, false, length, refl, sym, ap, subst, ◌∙◌, ◌⊎◌, inl, inr, ⊎_elim, codes, is_some, ltb-false}
+use Rattle.std.specs.Prelude.{if◌then◌else◌, slice_get, slice_set}
+use Rattle.std.specs.Str.{bytes_eq}
+use Rattle.std.proofs.lemmas.Bool.{or_parts}
+use Rattle.std.proofs.lemmas.Slice.Eq.{bytes_eq-Decides}
+use Rattle.tta_reading.specs.Names.{Declared, named_in}
+use Rattle.tta_machine.specs.declared.reading.draft.Named.{Named}
+use Rattle.tta_machine.specs.declared.reading.draft.Draft.{Draft}
+use Rattle.tta_machine.specs.Draft.{is_taken, is_too_long}
+use Rattle.tta_machine.specs.Rules.{IsMachineName}
+use Rattle.tta_machine.specs.Kept.{AreNamed}
+use Rattle.tta_machine.proofs.Lists.{slice_get-push, slice_get-changed}
+
+-- ---- one name
+
+-- a name goes on naming what it named
+pub named_in-longer : {P : Type 0} (names more : Declared P) (name : List ℕ) (p : P) → named_in names name ≡ Some p → named_in (names ++ more) name ≡ Some p
+named_in-longer [] more name p e = cc
+named_in-longer (d ∷ ds) more name p e = by (named_in-longer ds more name p) (bytes_eq d.0 name) e where
+  by : (named_in ds name ≡ Some p → named_in (ds ++ more) name ≡ Some p)
+      → (b : Bool) → (if b then Some d.1 else named_in ds name) ≡ Some p → (if b then Some d.1 else named_in (ds ++ more) name) ≡ Some p
+  by later true e = e
+  by later false e = later e
+
+-- a new name names what it was declared for
+pub named_in-new : {P : Type 0} (names : Declared P) (name : List ℕ) (p : P) → named_in names name ≡ None → named_in (names ++ (name, p) ∷ []) name ≡ Some p
+named_in-new {P} [] name p e =
+    let same : bytes_eq name name ≡ true = (bytes_eq-Decides name name).1 refl in
+    ap (λ (b : Bool). if b then Some p else None) same
+named_in-new (d ∷ ds) name p e = by (named_in-new ds name p) (bytes_eq d.0 name) e where
+  by : (named_in ds name ≡ None → named_in (ds ++ (name, p) ∷ []) name ≡ Some p)
+      → (b : Bool) → (if b then Some d.1 else named_in ds name) ≡ None → (if b then Some d.1 else named_in (ds ++ (name, p) ∷ []) name) ≡ Some p
+  by later true e = cc
+  by later false e = later e
+
+-- a name was declared before, or is the new one
+pub named_in-push : {P : Type 0} (names : Declared P) (new : List ℕ) (p : P) (name : List ℕ) (q : P) → named_in (names ++ (new, p) ∷ []) name ≡ Some q
+    → (named_in names name ≡ Some q) ⊎ ((new ≡ name) × (p ≡ q))
+named_in-push [] new p name q e = by (bytes_eq new name) refl e where
+  by : (b : Bool) → bytes_eq new name ≡ b → (if b then Some p else None) ≡ Some q → (◌≡◌ {A = Option _} None (Some q)) ⊎ ((new ≡ name) × (p ≡ q))
+  by true same e = inr ((bytes_eq-Decides new name).0 same, cc)
+  by false other e = inl e
+named_in-push (d ∷ ds) new p name q e = by (named_in-push ds new p name q) (bytes_eq d.0 name) e where
+  by : (named_in (ds ++ (new, p) ∷ []) name ≡ Some q → (named_in ds name ≡ Some q) ⊎ ((new ≡ name) × (p ≡ q)))
+      → (b : Bool) → (if b then Some d.1 else named_in (ds ++ (new, p) ∷ []) name) ≡ Some q
+      → ((if b then Some d.1 else named_in ds name) ≡ Some q) ⊎ ((new ≡ name) × (p ≡ q))
+  by later true e = inl e
+  by later false e = later e
+
+-- ---- names that can be declared
+
+pub none_from_is_some : {A : Type 0} (o : Option A) → is_some o ≡ false → o ≡ None
+none_from_is_some None e = refl
+none_from_is_some (Some x) e = cc
+
+-- a name that is not taken names nothing yet
+pub not_taken : (d : Draft) (name : List ℕ) → is_taken d name ≡ false → named_in d.names name ≡ None
+not_taken d name e = none_from_is_some (named_in d.names name) (or_parts (is_some (named_in d.names name)) (bytes_eq name (codes "gcu")) e).0
+
+-- a name that is neither taken nor too long is one that a machine may declare
+pub good_name : (d : Draft) (name : List ℕ) → is_taken d name ≡ false → is_too_long name ≡ false → IsMachineName name
+good_name d name free short = record {
+  short = ltb-false 64 (length name) short;
+  free = (or_parts (is_some (named_in d.names name)) (bytes_eq name (codes "gcu")) free).1;
+}
+
+-- ---- parts and their names
+
+pub AreNamed-longer : {A : Type 0} (name : A → List ℕ) (at : ℕ → Named) (names more : Declared Named) (parts : List A)
+    → AreNamed name at names parts → AreNamed name at (names ++ more) parts
+AreNamed-longer name at names more parts named k x e = named_in-longer names more (name x) (at k) (named k x e)
+
+-- one more part, with the new name
+pub AreNamed-push : {A : Type 0} (name : A → List ℕ) (at : ℕ → Named) (names : Declared Named) (parts : List A) (new : A)
+    → AreNamed name at names parts → named_in names (name new) ≡ None
+    → AreNamed name at (names ++ (name new, at (length parts)) ∷ []) (parts ++ new ∷ [])
+AreNamed-push {A} name at names parts new named free k x e = ⊎_elim old one (slice_get-push parts new k x e) where
+  old : slice_get parts k ≡ Some x → named_in (names ++ (name new, at (length parts)) ∷ []) (name x) ≡ Some (at k)
+  old h = named_in-longer names ((name new, at (length parts)) ∷ []) (name x) (at k) (named k x h)
+
+  one : (k ≡ length parts) × (new ≡ x) → named_in (names ++ (name new, at (length parts)) ∷ []) (name x) ≡ Some (at k)
+  one h =
+      let here : named_in (names ++ (name new, at (length parts)) ∷ []) (name new) ≡ Some (at (length parts)) = named_in-new names (name new) (at (length parts)) free in
+      subst (λ y. named_in (names ++ (name new, at (length parts)) ∷ []) (name y) ≡ Some (at k)) h.1 (here ∙ ap (λ j. Some (at j)) (sym h.0))
+
+-- a part changed, but not its name
+pub AreNamed-changed : {A : Type 0} (name : A → List ℕ) (at : ℕ → Named) (names : Declared Named) (parts : List A) (i : ℕ) (v old : A)
+    → slice_get parts i ≡ Some old → name v ≡ name old → AreNamed name at names parts → AreNamed name at names (slice_set parts i v)
+AreNamed-changed name at names parts i v old e same named k x h = ⊎_elim before here (slice_get-changed parts i v k x h) where
+  before : slice_get parts k ≡ Some x → named_in names (name x) ≡ Some (at k)
+  before g = named k x g
+
+  here : (k ≡ i) × (v ≡ x) → named_in names (name x) ≡ Some (at k)
+  here g =
+      let was : named_in names (name old) ≡ Some (at i) = named i old e in
+      ap (named_in names) (ap name (sym g.1) ∙ same) ∙ was ∙ ap (λ j. Some (at j)) (sym g.0)

@@ -1,0 +1,182 @@
+-- One operation more keeps the draft's rules.
+use Rattle.std.proofs.Common.{◌≡◌, ◌<◌, ◌+◌, ◌++◌, ◌∷◌, [], ℕ, Bool, List, Option, Some, None, Ok, true, false, not, suc, length, refl, subst, arith, length-set, ◌⊎◌, inl, inr, get_or, codes, is_some, is_none, option_map}
+use Rattle.std.specs.Prelude.{◌&&◌, ◌||◌, ◌==◌, nat_le, slice_get, slice_set, if◌then◌else◌}
+use Rattle.std.specs.Str.{bytes_eq}
+use Rattle.std.specs.Option.{option_map_or}
+use Rattle.std.specs.List.{list_all, list_any}
+use Rattle.std.proofs.lemmas.Bool.{or_parts, and_from, and_parts, not-false, leb-false, le-leb}
+use Rattle.std.proofs.lemmas.Bool.Decides.{nat_tests}
+use Rattle.std.proofs.lemmas.List.{length_push}
+use Rattle.tta_ops.specs.Units.{Units, named, first_at}
+use Rattle.tta_machine.specs.declared.reading.refusal.Refusal.TheVariants.{Unknown, Twice, Range, Missing}
+use Rattle.tta_machine.specs.declared.reading.draft.Named.TheVariants as place
+use Rattle.tta_machine.specs.declared.reading.draft.Draft.{Draft}
+use Rattle.tta_machine.specs.declared.parts.Socket.{Socket}
+use Rattle.tta_machine.specs.declared.parts.Unit.{Unit as OpUnit}
+use Rattle.tta_machine.specs.declared.parts.UnitOp.{UnitOp}
+use Rattle.tta_machine.specs.declared.parts.Op.{Op}
+use Rattle.tta_machine.specs.declared.parts.Op.TheVariants.{Ldw, Stw, Ldf, Stf, Out, Set}
+use Rattle.tta_machine.specs.Effects.{has_result}
+use Rattle.tta_machine.specs.Rules.{is_from_to, is_socket, is_port_socket, fits_kind, is_unit, is_unit_op, same_op, are_different, is_data_op, is_frame_op}
+use Rattle.tta_machine.specs.Forms.{OpForm}
+use Rattle.tta_machine.specs.Draft.{unit_named}
+use Rattle.tta_machine.specs.Declarations.{take_op, add_op, op_named, timed_op, untimed_op, arity_of, is_latency, is_served, has_other, with_op}
+use Rattle.tta_machine.specs.Kept.{IsDraft}
+use Rattle.tta_machine.proofs.Lists.{list_all_push, list_all_changed, list_all_one, different_push}
+use Rattle.tta_machine.proofs.Steps.{some-ok, refuse_if-ok, same_ok}
+use Rattle.tta_machine.proofs.Naming.{AreNamed-changed}
+use Rattle.tta_machine.proofs.Growth.{Grows, there_still}
+use Rattle.tta_machine.proofs.Owners.{one_owner-more}
+
+-- ---- operations
+
+abbrev pub unit_op : Units → Op → Option ℕ → UnitOp
+unit_op u o latency = record { op = o; arity = arity_of u o; latency = option_map_or (λ l. l) latency 0 }
+
+first_at-lt : (name : List ℕ) (k : ℕ) (names : List (List ℕ)) (j : ℕ) → first_at name k names ≡ Some j → j < k + length names
+first_at-lt name k [] j h = cc
+first_at-lt name k (n ∷ ns) j h = by (first_at-lt name (k + 1) ns j) (bytes_eq n name) h where
+  by : (first_at name (k + 1) ns ≡ Some j → j < k + 1 + length ns) → (b : Bool) → (if b then Some k else first_at name (k + 1) ns) ≡ Some j → j < k + suc (length ns)
+  by later true e = let same : k ≡ j = cc in omega arith
+  by later false e = let h : j < k + 1 + length ns = later e in omega arith
+
+-- an operation of the units takes one word or two
+set_arity : (u : Units) (name : List ℕ) (id : ℕ) → named u name ≡ Some id → is_from_to 1 2 (get_or u.arities id 0) ≡ true
+set_arity u name id h =
+    let there : id < 0 + length u.names = first_at-lt name 0 u.names id h in
+    let known = u.one_or_two id (let same = u.paired in omega arith) in
+    and_from (nat_le 1 (get_or u.arities id 0)) (nat_le (get_or u.arities id 0) 2) (le-leb 1 (get_or u.arities id 0) known.0) (le-leb (get_or u.arities id 0) 2 (let low = known.1 in omega arith))
+
+timed_fits : (u : Units) (l : ℕ) (name : List ℕ) (o : Op) → timed_op u name ≡ Some o → is_from_to 1 16 l ≡ true → fits_kind (unit_op u o (Some l)) ≡ true
+timed_fits u l name o h range = by (bytes_eq name (codes "ldw")) (bytes_eq name (codes "ldf")) (named u name) refl h where
+  by : (w f : Bool) (id : Option ℕ) → named u name ≡ id → (if w then Some Ldw else if f then Some Ldf else option_map (λ i. Set (record { 0 = i })) id) ≡ Some o
+      → fits_kind (unit_op u o (Some l)) ≡ true
+  by true f id e t = let same : Ldw ≡ o = cc in subst (λ p. fits_kind (unit_op u p (Some l)) ≡ true) same range
+  by false true id e t = let same : Ldf ≡ o = cc in subst (λ p. fits_kind (unit_op u p (Some l)) ≡ true) same range
+  by false false None e t = cc
+  by false false (Some i) e t =
+      let same : Set (record { 0 = i }) ≡ o = cc in
+      subst (λ p. fits_kind (unit_op u p (Some l)) ≡ true) same (and_from (is_from_to 1 2 (get_or u.arities i 0)) (is_from_to 1 16 l) (set_arity u name i e) range)
+
+untimed_fits : (u : Units) (name : List ℕ) (o : Op) → untimed_op name ≡ Some o → fits_kind (unit_op u o None) ≡ true
+untimed_fits u name o h = by (bytes_eq name (codes "stw")) (bytes_eq name (codes "stf")) (bytes_eq name (codes "out")) h where
+  by : (w f p : Bool) → (if w then Some Stw else if f then Some Stf else if p then Some Out else None) ≡ Some o → fits_kind (unit_op u o None) ≡ true
+  by true f p t = let same : Stw ≡ o = cc in subst (λ q. fits_kind (unit_op u q None) ≡ true) same refl
+  by false true p t = let same : Stf ≡ o = cc in subst (λ q. fits_kind (unit_op u q None) ≡ true) same refl
+  by false false true t = let same : Out ≡ o = cc in subst (λ q. fits_kind (unit_op u q None) ≡ true) same refl
+  by false false false t = cc
+
+op_fits : (u : Units) (latency : Option ℕ) (name : List ℕ) (o : Op) → op_named u latency name ≡ Some o → is_latency latency ≡ true → fits_kind (unit_op u o latency) ≡ true
+op_fits u None name o h range = untimed_fits u name o h
+op_fits u (Some l) name o h range = timed_fits u l name o h range
+
+arity_cases : (o : Op) (a l : ℕ) → fits_kind (record { op = o; arity = a; latency = l }) ≡ true → (a ≡ 1) ⊎ (a ≡ 2)
+arity_cases Ldw a l h = let t = and_parts (a == 1) (is_from_to 1 16 l) h in grind (arith, nat_tests, t.0)
+arity_cases Stw a l h = let t = and_parts (a == 2) (l == 0) h in grind (arith, nat_tests, t.0)
+arity_cases Ldf a l h = let t = and_parts (a == 1) (is_from_to 1 16 l) h in grind (arith, nat_tests, t.0)
+arity_cases Stf a l h = let t = and_parts (a == 2) (l == 0) h in grind (arith, nat_tests, t.0)
+arity_cases Out a l h = let t = and_parts (a == 1) (l == 0) h in grind (arith, nat_tests, t.0)
+arity_cases (Set id) a l h =
+    let t = and_parts (is_from_to 1 2 a) (is_from_to 1 16 l) h in
+    let s = and_parts (nat_le 1 a) (nat_le a 2) t.0 in
+    grind (arith, nat_tests, s.0, s.1)
+
+-- ---- a unit's ports
+
+-- two words have an operand port, where that is not missing
+has_operand : (a : ℕ) (port : Option ℕ) → (a ≡ 1) ⊎ (a ≡ 2) → (a == 2 && is_none port) ≡ false → (a == 1 || is_some port) ≡ true
+has_operand a None (inl one) h = rw one refl
+has_operand a None (inr two) h = let wrong : (2 == 2 && true) ≡ false = subst (λ b. (b == 2 && true) ≡ false) two h in cc
+has_operand a (Some k) cases h = or_true (a == 1) where
+  or_true : (b : Bool) → (b || true) ≡ true
+  or_true true = refl
+  or_true false = refl
+
+has_port : (b : Bool) (port : Option ℕ) → (b && is_none port) ≡ false → (not b || is_some port) ≡ true
+has_port true None h = cc
+has_port true (Some k) h = refl
+has_port false port h = refl
+
+-- ---- the draft
+
+abbrev pub op_added : Draft → ℕ → OpUnit → UnitOp → Draft
+op_added d k unit o = record d { units = slice_set d.units k (with_op unit o) }
+
+unit_still : (sockets : List Socket) (unit : OpUnit) (o : UnitOp) → is_unit sockets unit ≡ true → is_unit_op unit o ≡ true
+    → list_any (λ p. same_op p.op o.op) unit.ops ≡ false → length unit.ops < 32 → is_unit sockets (with_op unit o) ≡ true
+unit_still sockets unit o h one new room =
+    let differ = and_parts _ (are_different (λ p q. same_op p.op q.op) unit.ops) h in
+    let all = and_parts _ (list_all (is_unit_op unit) unit.ops) differ.0 in
+    let count = and_parts (is_socket sockets true unit.trigger && is_port_socket sockets true unit.operand && is_port_socket sockets false unit.result) (nat_le (length unit.ops) 32) all.0 in
+    let more : length (unit.ops ++ o ∷ []) ≡ length unit.ops + 1 = length_push unit.ops o in
+    and_from _ (are_different (λ p q. same_op p.op q.op) (unit.ops ++ o ∷ []))
+    (and_from _ (list_all (is_unit_op unit) (unit.ops ++ o ∷ []))
+    (and_from (is_socket sockets true unit.trigger && is_port_socket sockets true unit.operand && is_port_socket sockets false unit.result) (nat_le (length (unit.ops ++ o ∷ [])) 32)
+    count.0
+    (le-leb (length (unit.ops ++ o ∷ [])) 32 (omega arith)))
+    (list_all_push (is_unit_op unit) unit.ops o all.1 one))
+    (different_push (λ p q. same_op p.op q.op) unit.ops o differ.1 new)
+
+op_kept : (d : Draft) (k : ℕ) (unit : OpUnit) (o : UnitOp) → IsDraft d → slice_get d.units k ≡ Some unit → is_unit_op unit o ≡ true
+    → list_any (λ p. same_op p.op o.op) unit.ops ≡ false → is_served d.units k o.op ≡ false → length unit.ops < 32 → IsDraft (op_added d k unit o)
+op_kept d k unit o r at one new alone room =
+    let output = or_parts (is_data_op o.op && has_other is_data_op k 0 d.units || is_frame_op o.op && has_other is_frame_op k 0 d.units)
+    (same_op o.op Out && has_other (λ p. same_op p Out) k 0 d.units) alone in
+    let spaces = or_parts (is_data_op o.op && has_other is_data_op k 0 d.units) (is_frame_op o.op && has_other is_frame_op k 0 d.units) output.0 in
+    let was : is_unit d.sockets unit ≡ true = list_all_one (is_unit d.sockets) d.units k unit r.rules.units at in
+    let rule : is_unit d.sockets (with_op unit o) ≡ true = unit_still d.sockets unit o was one new room in
+    let same : length (slice_set d.units k (with_op unit o)) ≡ length d.units = length-set d.units k (with_op unit o) in
+    let grows : Grows d (op_added d k unit o) = omega arith in
+    record {
+      limits = let l = r.limits in omega arith;
+      there = there_still d (op_added d k unit o) r.there refl grows;
+      named = record {
+        buses = r.named.buses;
+        sockets = r.named.sockets;
+        files = r.named.files;
+        imms = r.named.imms;
+        units = AreNamed-changed (λ v. v.name) place.Unit d.names d.units k (with_op unit o) unit at refl r.named.units;
+        templates = r.named.templates;
+      };
+      rules = record {
+        buses = r.rules.buses;
+        sockets = r.rules.sockets;
+        files = r.rules.files;
+        imms = r.rules.imms;
+        units = list_all_changed (is_unit d.sockets) d.units k (with_op unit o) r.rules.units rule;
+        one_data = one_owner-more is_data_op d.units k unit o at spaces.0 r.rules.one_data;
+        one_frame = one_owner-more is_frame_op d.units k unit o at spaces.1 r.rules.one_frame;
+        one_output = one_owner-more (λ p. same_op p Out) d.units k unit o at output.1 r.rules.one_output;
+        guards = r.rules.guards;
+        different_guards = r.rules.different_guards;
+        templates = r.rules.templates;
+        template_buses = r.rules.template_buses;
+        control = r.rules.control;
+      };
+    }
+
+pub add_op-keeps : (u : Units) (d e : Draft) (k : ℕ) (unit : OpUnit) (o : Op) (latency : Option ℕ) (name : List ℕ) → IsDraft d
+    → slice_get d.units k ≡ Some unit → op_named u latency name ≡ Some o → add_op u d k unit o latency ≡ Ok e → IsDraft e
+add_op-keeps u d e k unit o latency name r at is h =
+    let twice = refuse_if-ok (list_any (λ p. same_op p.op o) unit.ops || is_served d.units k o) Twice _ e h in
+    let range = refuse_if-ok (not (is_latency latency) || nat_le 32 (length unit.ops)) Range _ e twice.1 in
+    let ports = refuse_if-ok ((arity_of u o == 2 && is_none unit.operand) || (has_result o && is_none unit.result)) Missing _ e range.1 in
+    let new = or_parts (list_any (λ p. same_op p.op o) unit.ops) (is_served d.units k o) twice.0 in
+    let room = or_parts (not (is_latency latency)) (nat_le 32 (length unit.ops)) range.0 in
+    let missing = or_parts (arity_of u o == 2 && is_none unit.operand) (has_result o && is_none unit.result) ports.0 in
+    let fits : fits_kind (unit_op u o latency) ≡ true = op_fits u latency name o is (not-false (is_latency latency) room.0) in
+    let words : (arity_of u o ≡ 1) ⊎ (arity_of u o ≡ 2) = arity_cases o (arity_of u o) (option_map_or (λ l. l) latency 0) fits in
+    let one : is_unit_op unit (unit_op u o latency) ≡ true =
+    and_from _ (not (has_result o) || is_some unit.result)
+    (and_from (fits_kind (unit_op u o latency)) (arity_of u o == 1 || is_some unit.operand) fits (has_operand (arity_of u o) unit.operand words missing.0))
+    (has_port (has_result o) unit.result missing.1) in
+    subst IsDraft (same_ok (op_added d k unit (unit_op u o latency)) e ports.1)
+    (op_kept d k unit (unit_op u o latency) r at one new.0 new.1 (leb-false 32 (length unit.ops) room.1))
+
+pub take_op-keeps : (u : Units) (d e : Draft) (f : OpForm) → IsDraft d → take_op u d f ≡ Ok e → IsDraft e
+unfolding take_op
+take_op-keeps u d e f r h =
+    let k = some-ok Unknown (unit_named d f.unit) _ e h in
+    let unit = some-ok Unknown (slice_get d.units k.0) _ e k.2 in
+    let o = some-ok Unknown (op_named u f.latency f.operation) _ e unit.2 in
+    add_op-keeps u d e k.0 unit.0 o.0 f.latency f.operation r unit.1 o.1 o.2
