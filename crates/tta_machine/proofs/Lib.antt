@@ -31,3 +31,4 @@ pub mod ContinuedParts
 pub mod ContinuedUnits
 pub mod ContinuedSpaces
 pub mod Said
+pub mod Whole

@@ -14,3 +14,4 @@ pub mod Text
 pub mod Seen
 pub mod Kept
 pub mod Grammar
+pub mod Whole

@@ -8,6 +8,7 @@ mod files;
 mod forms;
 mod guards;
 mod limits;
+mod lines;
 mod lookups;
 mod operations;
 mod read;

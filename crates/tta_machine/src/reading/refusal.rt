@@ -3,6 +3,7 @@
 ghost use Rattle.std.specs.Prelude.{◌≡◌};
 ghost use Rattle.tta_machine.specs.Draft.{code_of};
 ghost use Rattle.tta_machine.specs.declared.reading.refusal.LineError.TheVariants.{NoMemory, Refused};
+ghost use Rattle.tta_machine.specs.declared.reading.refusal.MachineError.TheVariants.{NoMemory as no_memory};
 
 use std::alloc::{AllocError, AllocFailed};
 
@@ -75,5 +76,13 @@ impl<T: Drop> From<AllocFailed<T>> for LineError {
 
     fn from(_: AllocFailed<T>) -> LineError {
         LineError::NoMemory
+    }
+}
+
+impl From<AllocError> for MachineError {
+    ghost from_gives = { λ _ e. e ≡ no_memory };
+
+    fn from(_: AllocError) -> MachineError {
+        MachineError::NoMemory
     }
 }
