@@ -27,3 +27,5 @@ pub mod ContinuedParts
 pub mod ContinuedUnits
 pub mod ContinuedSpaces
 pub mod Said
+pub mod OnlyOne
+pub mod Limits
