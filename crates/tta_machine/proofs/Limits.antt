@@ -1,8 +1,10 @@
 -- Texts at each limit, which are read up to their end, where control is missing; and texts one past it, refused at the last line.
 use Rattle.std.specs.Prelude.{◌≡◌, ℕ, ◌+◌, ◌/◌, ◌%◌, List, [], ◌∷◌, ◌++◌, map, replicate, Err, refl, codes}
+use Rattle.std.proofs.Common.{lit<}
+use Rattle.tta_ops.specs.Units.{Units}
 use Rattle.tta_machine.specs.declared.reading.refusal.Refusal.TheVariants.{Syntax, Range, Missing}
 use Rattle.tta_machine.specs.Fields.{numbers}
-use Rattle.tta_machine.proofs.Readings.{read}
+use Rattle.tta_machine.proofs.Readings.{read, read_with, distinct_from, arities_from}
 
 -- the k-th of up to 256 names that begin with an N
 abbrev name : ℕ → List ℕ
@@ -80,6 +82,28 @@ templates-at_limit = refl
 templates-past_limit : read (start ++ codes "imm J size 1 out O" ∷ lines 9 (codes "template ") (codes " J.0 B")) ≡ Err (13, Range)
 unfolding read
 templates-past_limit = refl
+
+-- a unit with as many operations as it may have, of 33 that there are
+abbrev many : Units
+many = record {
+  names = map name (numbers 33);
+  arities = replicate 33 1;
+  value = λ op a b. 0;
+  word = λ op a b. lit< tt;
+  ignores = λ op a b one. refl;
+  distinct = distinct_from (map name (numbers 33)) refl;
+  one_or_two = arities_from (replicate 33 1) refl;
+  paired = refl;
+  few = lit< tt;
+}
+
+ops-at_limit : read_with many (start ++ codes "unit U t I r O" ∷ lines 32 (codes "op U ") (codes " 16")) ≡ Err (0, Missing)
+unfolding read_with
+ops-at_limit = refl
+
+ops-past_limit : read_with many (start ++ codes "unit U t I r O" ∷ lines 33 (codes "op U ") (codes " 16")) ≡ Err (37, Range)
+unfolding read_with
+ops-past_limit = refl
 
 long_name-at_limit : read ((codes "bus " ++ replicate 64 65 ++ codes " short 1 signed") ∷ []) ≡ Err (0, Missing)
 unfolding read

@@ -71,10 +71,15 @@ abbrev pub text_of : List (List ℕ) → List ℕ
 text_of [] = []
 text_of (line ∷ lines) = line ++ 10 ∷ text_of lines
 
--- what a text of these lines is read as
-unfoldable pub read : List (List ℕ) → Result Machine Refused
+-- what a text of these lines is read as, with these operations
+unfoldable pub read_with : Units → List (List ℕ) → Result Machine Refused
 unfolding machine_of_text lines_of tokens_of tokens_from piece_at number_piece mark_piece number_of digits_of value_below width_for take_line bus_form socket_form file_form imm_form unit_form op_form guard_form template_form control_form space_form take_bus take_socket take_file take_imm take_unit take_op take_guard take_template take_control take_space
-read lines = machine_of_text units (text_of lines)
+read_with u lines = machine_of_text u (text_of lines)
+
+-- the same with the standard operations
+unfoldable pub read : List (List ℕ) → Result Machine Refused
+unfolding read_with
+read lines = read_with units lines
 
 -- ---- one bus
 
