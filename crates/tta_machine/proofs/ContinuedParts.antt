@@ -10,7 +10,7 @@ use Rattle.tta_machine.specs.declared.reading.draft.Draft.{Draft}
 use Rattle.tta_machine.specs.declared.parts.Socket.{Socket}
 use Rattle.tta_machine.specs.Forms.{BusForm, SocketForm, FileForm, ImmForm, bus_form, socket_form, file_form, imm_form, unit_form, op_form, guard_form, template_form, control_form, space_form}
 use Rattle.tta_machine.specs.Declarations.{bus_set}
-use Rattle.tta_machine.specs.Grammar.{declared_as, bus_lines, socket_lines, file_lines, imm_lines, unit_lines, op_lines, guard_lines, template_lines, control_lines, is_declaration, bus_made, socket_made, file_made, imm_made, guard_made, template_made, control_made, data_size, frame_size}
+use Rattle.tta_machine.specs.Grammar.{declared_as, bus_lines, socket_lines, file_lines, imm_lines, unit_lines, op_lines, guard_lines, template_lines, control_lines, is_declaration, is_known_op, bus_made, socket_made, file_made, imm_made, guard_made, template_made, control_made, data_size, frame_size}
 use Rattle.tta_machine.proofs.Naming.{named_in-longer}
 use Rattle.tta_machine.proofs.Made.{BusMade, SocketMade, FileMade, ImmMade}
 use Rattle.tta_machine.proofs.TakenBuses.{bus_of, bus_added}
@@ -18,7 +18,7 @@ use Rattle.tta_machine.proofs.TakenSockets.{socket_of, socket_added}
 use Rattle.tta_machine.proofs.TakenFiles.{file_of, file_added, imm_of, imm_added}
 use Rattle.tta_machine.proofs.KindLines.{skipped, declared, added, adds_skip, adds_one}
 use Rattle.tta_machine.proofs.UnitLines.{units_skip}
-use Rattle.tta_machine.proofs.Positions.{HasPlaces, NamesStay, bus_names_of, socket_names_of, file_names_of, imm_names_of, socket_found, buses_found}
+use Rattle.tta_machine.proofs.Positions.{HasPlaces, NamesStay, bus_names_of, socket_names_of, file_names_of, imm_names_of, unit_names_of, socket_found, buses_found}
 use Rattle.tta_machine.proofs.Continued.{Continues}
 
 pub bus_continues : (u : Units) (d next e : Draft) (key : Lexeme) (words : Line) (rest : List Line) (f : BusForm) → HasPlaces e → is_keyword (codes "bus") key ≡ true → bus_form words ≡ Some f
@@ -30,6 +30,7 @@ bus_continues u d next e key words rest f places is said m later =
     record {
       names = names;
       all = and_from (is_declaration (key ∷ words)) (list_all is_declaration rest) (or_left _ (is_some (declared_as (codes "space") space_form (key ∷ words))) (or_left _ (is_some (declared_as (codes "control") control_form (key ∷ words))) (or_left _ (is_some (declared_as (codes "template") template_form (key ∷ words))) (or_left _ (is_some (declared_as (codes "guard") guard_form (key ∷ words))) (or_left _ (is_some (declared_as (codes "op") op_form (key ∷ words))) (or_left _ (is_some (declared_as (codes "unit") unit_form (key ∷ words))) (or_left _ (is_some (declared_as (codes "imm") imm_form (key ∷ words))) (or_left _ (is_some (declared_as (codes "file") file_form (key ∷ words))) (or_left _ (is_some (declared_as (codes "socket") socket_form (key ∷ words))) some))))))))) ih.all;
+      known_ops = ap (list_all (is_known_op u (unit_names_of e))) (skipped (codes "bus") (codes "op") op_form key words rest is refl) ∙ ih.known_ops;
       buses = adds_one d.buses e.buses (bus_of f) bus_made f (bus_lines rest) (bus_lines ((key ∷ words) ∷ rest)) ih.buses (added (codes "bus") bus_form key words rest f is said) refl;
       sockets = adds_skip d.sockets e.sockets (socket_made (bus_names_of e)) (socket_lines rest) (socket_lines ((key ∷ words) ∷ rest)) ih.sockets (skipped (codes "bus") (codes "socket") socket_form key words rest is refl);
       files = adds_skip d.files e.files (file_made (socket_names_of e)) (file_lines rest) (file_lines ((key ∷ words) ∷ rest)) ih.files (skipped (codes "bus") (codes "file") file_form key words rest is refl);
@@ -53,6 +54,7 @@ socket_continues u d next e key words rest f places is said m later =
     record {
       names = names;
       all = and_from (is_declaration (key ∷ words)) (list_all is_declaration rest) (or_left _ (is_some (declared_as (codes "space") space_form (key ∷ words))) (or_left _ (is_some (declared_as (codes "control") control_form (key ∷ words))) (or_left _ (is_some (declared_as (codes "template") template_form (key ∷ words))) (or_left _ (is_some (declared_as (codes "guard") guard_form (key ∷ words))) (or_left _ (is_some (declared_as (codes "op") op_form (key ∷ words))) (or_left _ (is_some (declared_as (codes "unit") unit_form (key ∷ words))) (or_left _ (is_some (declared_as (codes "imm") imm_form (key ∷ words))) (or_left _ (is_some (declared_as (codes "file") file_form (key ∷ words))) (or_right _ (is_some (declared_as (codes "socket") socket_form (key ∷ words))) some))))))))) ih.all;
+      known_ops = ap (list_all (is_known_op u (unit_names_of e))) (skipped (codes "socket") (codes "op") op_form key words rest is refl) ∙ ih.known_ops;
       buses = adds_skip d.buses e.buses bus_made (bus_lines rest) (bus_lines ((key ∷ words) ∷ rest)) ih.buses (skipped (codes "socket") (codes "bus") bus_form key words rest is refl);
       sockets = adds_one d.sockets e.sockets (socket_of f m.buses) (socket_made (bus_names_of e)) f (socket_lines rest) (socket_lines ((key ∷ words) ∷ rest)) ih.sockets (added (codes "socket") socket_form key words rest f is said) made;
       files = adds_skip d.files e.files (file_made (socket_names_of e)) (file_lines rest) (file_lines ((key ∷ words) ∷ rest)) ih.files (skipped (codes "socket") (codes "file") file_form key words rest is refl);
@@ -76,6 +78,7 @@ file_continues u d next e key words rest f places is said m later =
     record {
       names = names;
       all = and_from (is_declaration (key ∷ words)) (list_all is_declaration rest) (or_left _ (is_some (declared_as (codes "space") space_form (key ∷ words))) (or_left _ (is_some (declared_as (codes "control") control_form (key ∷ words))) (or_left _ (is_some (declared_as (codes "template") template_form (key ∷ words))) (or_left _ (is_some (declared_as (codes "guard") guard_form (key ∷ words))) (or_left _ (is_some (declared_as (codes "op") op_form (key ∷ words))) (or_left _ (is_some (declared_as (codes "unit") unit_form (key ∷ words))) (or_left _ (is_some (declared_as (codes "imm") imm_form (key ∷ words))) (or_right _ (is_some (declared_as (codes "file") file_form (key ∷ words))) some)))))))) ih.all;
+      known_ops = ap (list_all (is_known_op u (unit_names_of e))) (skipped (codes "file") (codes "op") op_form key words rest is refl) ∙ ih.known_ops;
       buses = adds_skip d.buses e.buses bus_made (bus_lines rest) (bus_lines ((key ∷ words) ∷ rest)) ih.buses (skipped (codes "file") (codes "bus") bus_form key words rest is refl);
       sockets = adds_skip d.sockets e.sockets (socket_made (bus_names_of e)) (socket_lines rest) (socket_lines ((key ∷ words) ∷ rest)) ih.sockets (skipped (codes "file") (codes "socket") socket_form key words rest is refl);
       files = adds_one d.files e.files (file_of f m.out m.into) (file_made (socket_names_of e)) f (file_lines rest) (file_lines ((key ∷ words) ∷ rest)) ih.files (added (codes "file") file_form key words rest f is said) made;
@@ -98,6 +101,7 @@ imm_continues u d next e key words rest f places is said m later =
     record {
       names = names;
       all = and_from (is_declaration (key ∷ words)) (list_all is_declaration rest) (or_left _ (is_some (declared_as (codes "space") space_form (key ∷ words))) (or_left _ (is_some (declared_as (codes "control") control_form (key ∷ words))) (or_left _ (is_some (declared_as (codes "template") template_form (key ∷ words))) (or_left _ (is_some (declared_as (codes "guard") guard_form (key ∷ words))) (or_left _ (is_some (declared_as (codes "op") op_form (key ∷ words))) (or_left _ (is_some (declared_as (codes "unit") unit_form (key ∷ words))) (or_right _ (is_some (declared_as (codes "imm") imm_form (key ∷ words))) some))))))) ih.all;
+      known_ops = ap (list_all (is_known_op u (unit_names_of e))) (skipped (codes "imm") (codes "op") op_form key words rest is refl) ∙ ih.known_ops;
       buses = adds_skip d.buses e.buses bus_made (bus_lines rest) (bus_lines ((key ∷ words) ∷ rest)) ih.buses (skipped (codes "imm") (codes "bus") bus_form key words rest is refl);
       sockets = adds_skip d.sockets e.sockets (socket_made (bus_names_of e)) (socket_lines rest) (socket_lines ((key ∷ words) ∷ rest)) ih.sockets (skipped (codes "imm") (codes "socket") socket_form key words rest is refl);
       files = adds_skip d.files e.files (file_made (socket_names_of e)) (file_lines rest) (file_lines ((key ∷ words) ∷ rest)) ih.files (skipped (codes "imm") (codes "file") file_form key words rest is refl);

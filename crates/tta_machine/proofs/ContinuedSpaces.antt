@@ -8,13 +8,13 @@ use Rattle.tta_reading.specs.Steps.{only_if}
 use Rattle.tta_ops.specs.Units.{Units}
 use Rattle.tta_machine.specs.declared.reading.draft.Draft.{Draft}
 use Rattle.tta_machine.specs.Forms.{ControlForm, SpaceForm, bus_form, socket_form, file_form, imm_form, unit_form, op_form, guard_form, template_form, control_form, space_form}
-use Rattle.tta_machine.specs.Grammar.{declared_as, bus_lines, socket_lines, file_lines, imm_lines, unit_lines, op_lines, guard_lines, template_lines, control_lines, space_lines, is_declaration, bus_made, socket_made, file_made, imm_made, guard_made, template_made, control_made, data_size, frame_size}
+use Rattle.tta_machine.specs.Grammar.{declared_as, bus_lines, socket_lines, file_lines, imm_lines, unit_lines, op_lines, guard_lines, template_lines, control_lines, space_lines, is_declaration, is_known_op, bus_made, socket_made, file_made, imm_made, guard_made, template_made, control_made, data_size, frame_size}
 use Rattle.tta_machine.proofs.Naming.{none_from_is_some}
 use Rattle.tta_machine.proofs.Made.{ControlMade, DataMade, FrameMade}
 use Rattle.tta_machine.proofs.TakenControl.{control_of, control_added, spaces_added}
 use Rattle.tta_machine.proofs.KindLines.{skipped, declared, added, adds_skip}
 use Rattle.tta_machine.proofs.UnitLines.{units_skip}
-use Rattle.tta_machine.proofs.Positions.{HasPlaces, NamesStay, bus_names_of, socket_names_of, file_names_of, imm_names_of, socket_found, port_found}
+use Rattle.tta_machine.proofs.Positions.{HasPlaces, NamesStay, bus_names_of, socket_names_of, file_names_of, imm_names_of, unit_names_of, socket_found, port_found}
 use Rattle.tta_machine.proofs.Continued.{Continues}
 
 pub control_continues : (u : Units) (d next e : Draft) (key : Lexeme) (words : Line) (rest : List Line) (f : ControlForm) → HasPlaces e → is_keyword (codes "control") key ≡ true → control_form words ≡ Some f
@@ -29,6 +29,7 @@ control_continues u d next e key words rest f places is said m later =
     record {
       names = names;
       all = and_from (is_declaration (key ∷ words)) (list_all is_declaration rest) (or_left _ (is_some (declared_as (codes "space") space_form (key ∷ words))) (or_right _ (is_some (declared_as (codes "control") control_form (key ∷ words))) some)) ih.all;
+      known_ops = ap (list_all (is_known_op u (unit_names_of e))) (skipped (codes "control") (codes "op") op_form key words rest is refl) ∙ ih.known_ops;
       buses = adds_skip d.buses e.buses bus_made (bus_lines rest) (bus_lines ((key ∷ words) ∷ rest)) ih.buses (skipped (codes "control") (codes "bus") bus_form key words rest is refl);
       sockets = adds_skip d.sockets e.sockets (socket_made (bus_names_of e)) (socket_lines rest) (socket_lines ((key ∷ words) ∷ rest)) ih.sockets (skipped (codes "control") (codes "socket") socket_form key words rest is refl);
       files = adds_skip d.files e.files (file_made (socket_names_of e)) (file_lines rest) (file_lines ((key ∷ words) ∷ rest)) ih.files (skipped (codes "control") (codes "file") file_form key words rest is refl);
@@ -54,6 +55,7 @@ data_continues u d next e key words rest f places is said m later =
     record {
       names = names;
       all = and_from (is_declaration (key ∷ words)) (list_all is_declaration rest) (or_right _ (is_some (declared_as (codes "space") space_form (key ∷ words))) some) ih.all;
+      known_ops = ap (list_all (is_known_op u (unit_names_of e))) (skipped (codes "space") (codes "op") op_form key words rest is refl) ∙ ih.known_ops;
       buses = adds_skip d.buses e.buses bus_made (bus_lines rest) (bus_lines ((key ∷ words) ∷ rest)) ih.buses (skipped (codes "space") (codes "bus") bus_form key words rest is refl);
       sockets = adds_skip d.sockets e.sockets (socket_made (bus_names_of e)) (socket_lines rest) (socket_lines ((key ∷ words) ∷ rest)) ih.sockets (skipped (codes "space") (codes "socket") socket_form key words rest is refl);
       files = adds_skip d.files e.files (file_made (socket_names_of e)) (file_lines rest) (file_lines ((key ∷ words) ∷ rest)) ih.files (skipped (codes "space") (codes "file") file_form key words rest is refl);
@@ -78,6 +80,7 @@ frame_continues u d next e key words rest f places is said m later =
     record {
       names = names;
       all = and_from (is_declaration (key ∷ words)) (list_all is_declaration rest) (or_right _ (is_some (declared_as (codes "space") space_form (key ∷ words))) some) ih.all;
+      known_ops = ap (list_all (is_known_op u (unit_names_of e))) (skipped (codes "space") (codes "op") op_form key words rest is refl) ∙ ih.known_ops;
       buses = adds_skip d.buses e.buses bus_made (bus_lines rest) (bus_lines ((key ∷ words) ∷ rest)) ih.buses (skipped (codes "space") (codes "bus") bus_form key words rest is refl);
       sockets = adds_skip d.sockets e.sockets (socket_made (bus_names_of e)) (socket_lines rest) (socket_lines ((key ∷ words) ∷ rest)) ih.sockets (skipped (codes "space") (codes "socket") socket_form key words rest is refl);
       files = adds_skip d.files e.files (file_made (socket_names_of e)) (file_lines rest) (file_lines ((key ∷ words) ∷ rest)) ih.files (skipped (codes "space") (codes "file") file_form key words rest is refl);

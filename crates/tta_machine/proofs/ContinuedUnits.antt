@@ -1,6 +1,7 @@
 -- What a line that declares a unit, an operation, a guard or a template adds to what the lines behind it say.
 use Rattle.std.proofs.Common.{◌≡◌, ◌++◌, ◌∷◌, [], ℕ, List, Some, true, false, length, filter_map, option_map, option_to_list, is_some, refl, sym, ap, ap₂, subst, ◌∙◌, codes}
-use Rattle.std.specs.List.{list_all}
+use Rattle.std.specs.List.{list_all, list_any}
+use Rattle.std.specs.Str.{bytes_eq}
 use Rattle.std.proofs.lemmas.Bool.{and_from, or_left, or_right}
 use Rattle.tta_reading.specs.Lines.{Line, Lexeme}
 use Rattle.tta_reading.specs.Words.{is_keyword}
@@ -12,7 +13,7 @@ use Rattle.tta_machine.specs.declared.parts.Unit.{Unit as OpUnit}
 use Rattle.tta_machine.specs.declared.parts.UnitOp.{UnitOp}
 use Rattle.tta_machine.specs.Forms.{UnitForm, OpForm, GuardForm, TemplateForm, bus_form, socket_form, file_form, imm_form, unit_form, op_form, guard_form, template_form, control_form, space_form}
 use Rattle.tta_machine.specs.Kept.{IsDraft}
-use Rattle.tta_machine.specs.Grammar.{declared_as, bus_lines, socket_lines, file_lines, imm_lines, unit_lines, op_lines, guard_lines, template_lines, control_lines, is_declaration, place_of, bus_made, socket_made, file_made, imm_made, op_made, ops_of, unit_made, guard_made, template_made, control_made, data_size, frame_size}
+use Rattle.tta_machine.specs.Grammar.{declared_as, bus_lines, socket_lines, file_lines, imm_lines, unit_lines, op_lines, guard_lines, template_lines, control_lines, is_declaration, is_known_op, place_of, bus_made, socket_made, file_made, imm_made, op_made, ops_of, unit_made, guard_made, template_made, control_made, data_size, frame_size}
 use Rattle.tta_machine.proofs.Naming.{named_in-longer}
 use Rattle.tta_machine.proofs.Lookups.{unit_named-some}
 use Rattle.tta_machine.proofs.Made.{UnitMade, OpMade, GuardMade, TemplateMade}
@@ -22,7 +23,7 @@ use Rattle.tta_machine.proofs.TakenGuards.{guard_of, guard_added, template_of, t
 use Rattle.tta_machine.proofs.KindLines.{skipped, declared, added, adds_skip, adds_one}
 use Rattle.tta_machine.proofs.UnitLines.{with_ops, units_skip, units_one, units_op}
 use Rattle.tta_machine.proofs.Borne.{AreBorne}
-use Rattle.tta_machine.proofs.Positions.{HasPlaces, NamesStay, bus_names_of, socket_names_of, file_names_of, imm_names_of, bus_found, socket_found, file_found, imm_found, buses_found, port_found}
+use Rattle.tta_machine.proofs.Positions.{HasPlaces, NamesStay, bus_names_of, socket_names_of, file_names_of, imm_names_of, unit_names_of, name_among, bus_found, socket_found, file_found, imm_found, buses_found, port_found}
 use Rattle.tta_machine.proofs.Continued.{Continues}
 
 pub unit_continues : (u : Units) (d next e : Draft) (key : Lexeme) (words : Line) (rest : List Line) (f : UnitForm) → HasPlaces e → is_keyword (codes "unit") key ≡ true → unit_form words ≡ Some f
@@ -40,6 +41,7 @@ unit_continues u d next e key words rest f places is said m later =
     record {
       names = names;
       all = and_from (is_declaration (key ∷ words)) (list_all is_declaration rest) (or_left _ (is_some (declared_as (codes "space") space_form (key ∷ words))) (or_left _ (is_some (declared_as (codes "control") control_form (key ∷ words))) (or_left _ (is_some (declared_as (codes "template") template_form (key ∷ words))) (or_left _ (is_some (declared_as (codes "guard") guard_form (key ∷ words))) (or_left _ (is_some (declared_as (codes "op") op_form (key ∷ words))) (or_right _ (is_some (declared_as (codes "unit") unit_form (key ∷ words))) some)))))) ih.all;
+      known_ops = ap (list_all (is_known_op u (unit_names_of e))) (skipped (codes "unit") (codes "op") op_form key words rest is refl) ∙ ih.known_ops;
       buses = adds_skip d.buses e.buses bus_made (bus_lines rest) (bus_lines ((key ∷ words) ∷ rest)) ih.buses (skipped (codes "unit") (codes "bus") bus_form key words rest is refl);
       sockets = adds_skip d.sockets e.sockets (socket_made (bus_names_of e)) (socket_lines rest) (socket_lines ((key ∷ words) ∷ rest)) ih.sockets (skipped (codes "unit") (codes "socket") socket_form key words rest is refl);
       files = adds_skip d.files e.files (file_made (socket_names_of e)) (file_lines rest) (file_lines ((key ∷ words) ∷ rest)) ih.files (skipped (codes "unit") (codes "file") file_form key words rest is refl);
@@ -52,17 +54,20 @@ unit_continues u d next e key words rest f places is said m later =
       frame_words = ih.frame_words ∙ ap (λ l. option_to_list d.frame_words ++ filter_map frame_size l) (sym (skipped (codes "unit") (codes "space") space_form key words rest is refl));
     }
 
-pub op_continues : (u : Units) (d next e : Draft) (key : Lexeme) (words : Line) (rest : List Line) (f : OpForm) → HasPlaces e → IsDraft d → AreBorne d → IsDraft e → is_keyword (codes "op") key ≡ true → op_form words ≡ Some f
+pub op_continues : (u : Units) (d next e : Draft) (key : Lexeme) (words : Line) (rest : List Line) (f : OpForm) → HasPlaces e → IsDraft d → AreBorne d → IsDraft e → AreBorne e → is_keyword (codes "op") key ≡ true → op_form words ≡ Some f
     → OpMade u d next f → Continues u next e rest → Continues u d e ((key ∷ words) ∷ rest)
-op_continues u d next e key words rest f places r b end is said m later =
+op_continues u d next e key words rest f places r b end end_borne is said m later =
     let ih : Continues u (op_added d m.k m.unit (unit_op u m.op f.latency)) e rest = subst (λ x. Continues u x e rest) (sym m.made) later in
     let names : NamesStay d e = record { stay = λ n p h. ih.names.stay n p h } in
     let made : op_made u f ≡ Some (unit_op u m.op f.latency) = ap (option_map (λ o. unit_op u o f.latency)) m.is in
     let found : named_in d.names f.unit ≡ Some (place.Unit m.k) = unit_named-some d f.unit m.k m.found in
+    let stands : list_any (bytes_eq f.unit) (unit_names_of e) ≡ true = name_among (unit_names_of e) m.k f.unit (end_borne.all f.unit (place.Unit m.k) (names.stay f.unit (place.Unit m.k) found)) in
+    let known : is_known_op u (unit_names_of e) f ≡ true = and_from (list_any (bytes_eq f.unit) (unit_names_of e)) (is_some (op_made u f)) stands (ap is_some made) in
     let some : is_some (declared_as (codes "op") op_form (key ∷ words)) ≡ true = ap is_some (declared (codes "op") op_form key words f is said) in
     record {
       names = names;
       all = and_from (is_declaration (key ∷ words)) (list_all is_declaration rest) (or_left _ (is_some (declared_as (codes "space") space_form (key ∷ words))) (or_left _ (is_some (declared_as (codes "control") control_form (key ∷ words))) (or_left _ (is_some (declared_as (codes "template") template_form (key ∷ words))) (or_left _ (is_some (declared_as (codes "guard") guard_form (key ∷ words))) (or_right _ (is_some (declared_as (codes "op") op_form (key ∷ words))) some))))) ih.all;
+      known_ops = ap (list_all (is_known_op u (unit_names_of e))) (added (codes "op") op_form key words rest f is said) ∙ and_from (is_known_op u (unit_names_of e) f) (list_all (is_known_op u (unit_names_of e)) (op_lines rest)) known ih.known_ops;
       buses = adds_skip d.buses e.buses bus_made (bus_lines rest) (bus_lines ((key ∷ words) ∷ rest)) ih.buses (skipped (codes "op") (codes "bus") bus_form key words rest is refl);
       sockets = adds_skip d.sockets e.sockets (socket_made (bus_names_of e)) (socket_lines rest) (socket_lines ((key ∷ words) ∷ rest)) ih.sockets (skipped (codes "op") (codes "socket") socket_form key words rest is refl);
       files = adds_skip d.files e.files (file_made (socket_names_of e)) (file_lines rest) (file_lines ((key ∷ words) ∷ rest)) ih.files (skipped (codes "op") (codes "file") file_form key words rest is refl);
@@ -85,6 +90,7 @@ guard_continues u d next e key words rest f places is said m later =
     record {
       names = names;
       all = and_from (is_declaration (key ∷ words)) (list_all is_declaration rest) (or_left _ (is_some (declared_as (codes "space") space_form (key ∷ words))) (or_left _ (is_some (declared_as (codes "control") control_form (key ∷ words))) (or_left _ (is_some (declared_as (codes "template") template_form (key ∷ words))) (or_right _ (is_some (declared_as (codes "guard") guard_form (key ∷ words))) some)))) ih.all;
+      known_ops = ap (list_all (is_known_op u (unit_names_of e))) (skipped (codes "guard") (codes "op") op_form key words rest is refl) ∙ ih.known_ops;
       buses = adds_skip d.buses e.buses bus_made (bus_lines rest) (bus_lines ((key ∷ words) ∷ rest)) ih.buses (skipped (codes "guard") (codes "bus") bus_form key words rest is refl);
       sockets = adds_skip d.sockets e.sockets (socket_made (bus_names_of e)) (socket_lines rest) (socket_lines ((key ∷ words) ∷ rest)) ih.sockets (skipped (codes "guard") (codes "socket") socket_form key words rest is refl);
       files = adds_skip d.files e.files (file_made (socket_names_of e)) (file_lines rest) (file_lines ((key ∷ words) ∷ rest)) ih.files (skipped (codes "guard") (codes "file") file_form key words rest is refl);
@@ -108,6 +114,7 @@ template_continues line u d next e key words rest f places is said m later =
     record {
       names = names;
       all = and_from (is_declaration (key ∷ words)) (list_all is_declaration rest) (or_left _ (is_some (declared_as (codes "space") space_form (key ∷ words))) (or_left _ (is_some (declared_as (codes "control") control_form (key ∷ words))) (or_right _ (is_some (declared_as (codes "template") template_form (key ∷ words))) some))) ih.all;
+      known_ops = ap (list_all (is_known_op u (unit_names_of e))) (skipped (codes "template") (codes "op") op_form key words rest is refl) ∙ ih.known_ops;
       buses = adds_skip d.buses e.buses bus_made (bus_lines rest) (bus_lines ((key ∷ words) ∷ rest)) ih.buses (skipped (codes "template") (codes "bus") bus_form key words rest is refl);
       sockets = adds_skip d.sockets e.sockets (socket_made (bus_names_of e)) (socket_lines rest) (socket_lines ((key ∷ words) ∷ rest)) ih.sockets (skipped (codes "template") (codes "socket") socket_form key words rest is refl);
       files = adds_skip d.files e.files (file_made (socket_names_of e)) (file_lines rest) (file_lines ((key ∷ words) ∷ rest)) ih.files (skipped (codes "template") (codes "file") file_form key words rest is refl);

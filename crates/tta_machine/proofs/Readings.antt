@@ -256,6 +256,7 @@ one_bus-said : IsMachineText units (lines_of (text_of one_bus_lines)) one_bus
 unfolding read
 one_bus-said = record {
   all = refl;
+  known_ops = refl;
   buses = refl;
   sockets = refl;
   files = refl;
@@ -272,6 +273,7 @@ three_buses-said : IsMachineText units (lines_of (text_of (three_buses_front ++ 
 unfolding read
 three_buses-said = record {
   all = refl;
+  known_ops = refl;
   buses = refl;
   sockets = refl;
   files = refl;

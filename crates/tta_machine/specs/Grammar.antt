@@ -1,9 +1,9 @@
 -- What a machine text says, told from all its lines at once: which lines declare what, each part from its own line with
 -- names replaced by their places, and a unit with the operations of all lines that name it.
-use Rattle.std.specs.Prelude.{◌≡◌, ℕ, Bool, true, not, ◌||◌, List, [], ◌∷◌, map, filter, filter_map, Option, Some, None, is_some, option_map, codes}
+use Rattle.std.specs.Prelude.{◌≡◌, ℕ, Bool, true, not, ◌&&◌, ◌||◌, List, [], ◌∷◌, map, filter, filter_map, Option, Some, None, is_some, option_map, codes}
 use Rattle.std.specs.Str.{bytes_eq}
 use Rattle.std.specs.Option.{option_map_or}
-use Rattle.std.specs.List.{list_all, position_or_len}
+use Rattle.std.specs.List.{list_all, list_any, position_or_len}
 use Rattle.tta_reading.specs.Lines.{Line}
 use Rattle.tta_reading.specs.Words.{is_keyword}
 use Rattle.tta_reading.specs.Steps.{only_if}
@@ -102,6 +102,10 @@ file_names lines = map (λ f. f.name) (file_lines lines)
 abbrev pub imm_names : List Line → List (List ℕ)
 imm_names lines = map (λ f. f.name) (imm_lines lines)
 
+-- of the units
+abbrev pub unit_names : List Line → List (List ℕ)
+unit_names lines = map (λ f. f.name) (unit_lines lines)
+
 -- the place of a name among the names of its kind, counted from 0
 abbrev pub place_of : List (List ℕ) → List ℕ → ℕ
 place_of names name = position_or_len (bytes_eq name) names
@@ -136,6 +140,10 @@ imm_made sockets f = record { name = f.name; size = f.size; out = place_of socke
 abbrev pub op_made : Units → OpForm → Option UnitOp
 op_made u f =
     option_map (λ o. record { op = o; arity = arity_of u o; latency = option_map_or (λ l. l) f.latency 0 }) (op_named u f.latency f.operation)
+
+-- an operation line names a unit, and an operation in the form of its kind
+abbrev pub is_known_op : Units → (units : List (List ℕ)) → OpForm → Bool
+is_known_op u units f = list_any (bytes_eq f.unit) units && is_some (op_made u f)
 
 -- the operations of the unit of a name, in text order
 abbrev pub ops_of : Units → List OpForm → (unit : List ℕ) → List UnitOp
@@ -195,6 +203,7 @@ IsSize (given ∷ another ∷ more) size = ⊥
 -- a text of these lines describes this machine
 pub record IsMachineText (u : Units) (lines : List Line) (m : Machine) : Type 0 where
   pub all : list_all is_declaration lines ≡ true
+  pub known_ops : list_all (is_known_op u (unit_names lines)) (op_lines lines) ≡ true
   pub buses : m.buses ≡ map bus_made (bus_lines lines)
   pub sockets : m.sockets ≡ map (socket_made (bus_names lines)) (socket_lines lines)
   pub files : m.files ≡ map (file_made (socket_names lines)) (file_lines lines)
