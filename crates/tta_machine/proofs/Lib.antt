@@ -29,3 +29,4 @@ pub mod ContinuedSpaces
 pub mod Said
 pub mod OnlyOne
 pub mod Limits
+pub mod LineKinds
