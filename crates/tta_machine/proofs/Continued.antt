@@ -4,15 +4,16 @@ use Rattle.std.specs.List.{list_all}
 use Rattle.tta_reading.specs.Lines.{Line}
 use Rattle.tta_ops.specs.Units.{Units}
 use Rattle.tta_machine.specs.declared.reading.draft.Draft.{Draft}
-use Rattle.tta_machine.specs.Grammar.{bus_lines, socket_lines, file_lines, imm_lines, unit_lines, op_lines, guard_lines, template_lines, control_lines, space_lines, is_declaration, bus_made, socket_made, file_made, imm_made, guard_made, template_made, control_made, data_size, frame_size}
+use Rattle.tta_machine.specs.Grammar.{bus_lines, socket_lines, file_lines, imm_lines, unit_lines, op_lines, guard_lines, template_lines, control_lines, space_lines, is_declaration, is_known_op, bus_made, socket_made, file_made, imm_made, guard_made, template_made, control_made, data_size, frame_size}
 use Rattle.tta_machine.proofs.KindLines.{Adds}
 use Rattle.tta_machine.proofs.UnitLines.{AddsUnits}
-use Rattle.tta_machine.proofs.Positions.{NamesStay, bus_names_of, socket_names_of, file_names_of, imm_names_of}
+use Rattle.tta_machine.proofs.Positions.{NamesStay, bus_names_of, socket_names_of, file_names_of, imm_names_of, unit_names_of}
 
 -- what lines add to a draft d, where they end in the draft e
 pub record Continues (u : Units) (d e : Draft) (lines : List Line) : Type 0 where
   pub names : NamesStay d e
   pub all : list_all is_declaration lines ≡ true
+  pub known_ops : list_all (is_known_op u (unit_names_of e)) (op_lines lines) ≡ true
   pub buses : Adds d.buses e.buses bus_made (bus_lines lines)
   pub sockets : Adds d.sockets e.sockets (socket_made (bus_names_of e)) (socket_lines lines)
   pub files : Adds d.files e.files (file_made (socket_names_of e)) (file_lines lines)

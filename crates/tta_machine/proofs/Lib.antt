@@ -32,3 +32,6 @@ pub mod ContinuedUnits
 pub mod ContinuedSpaces
 pub mod Said
 pub mod Whole
+pub mod OnlyOne
+pub mod Limits
+pub mod LineKinds

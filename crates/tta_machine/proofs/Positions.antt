@@ -46,6 +46,11 @@ place_at (x ∷ xs) n (suc k) different e =
     let later : place_of xs n ≡ k = place_at xs n k parts.1 e in
     rw other (omega arith)
 
+-- a name that stands somewhere is among the names
+pub name_among : (names : List (List ℕ)) (k : ℕ) (n : List ℕ) → slice_get names k ≡ Some n → list_any (bytes_eq n) names ≡ true
+name_among names k n e =
+    list_any_at (bytes_eq n) names k [] (slice_get_within names k n e) (subst (λ y. bytes_eq n y ≡ true) (sym (get_or_from_slice_get names k n [] e)) (same_bytes n))
+
 -- ---- a draft
 
 abbrev pub bus_names_of : Draft → List (List ℕ)
@@ -59,6 +64,9 @@ file_names_of d = map (λ x. x.name) d.files
 
 abbrev pub imm_names_of : Draft → List (List ℕ)
 imm_names_of d = map (λ x. x.name) d.imms
+
+abbrev pub unit_names_of : Draft → List (List ℕ)
+unit_names_of d = map (λ x. x.name) d.units
 
 -- names name the places where they stand
 pub record HasPlaces (d : Draft) : Type 0 where

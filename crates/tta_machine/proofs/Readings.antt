@@ -25,7 +25,7 @@ use Rattle.tta_machine.proofs.Samples.{one_bus, three_buses}
 
 -- ---- units
 
-distinct_from : (names : List (List ℕ)) → are_different bytes_eq names ≡ true → AreDistinct names
+pub distinct_from : (names : List (List ℕ)) → are_different bytes_eq names ≡ true → AreDistinct names
 distinct_from [] h i j before within same = omega arith
 distinct_from (x ∷ xs) h i zero before within same = omega arith
 distinct_from (x ∷ xs) h zero (suc j) before within same =
@@ -37,7 +37,7 @@ distinct_from (x ∷ xs) h (suc i) (suc j) before within same =
     let parts = and_parts (not (list_any (bytes_eq x) xs)) (are_different bytes_eq xs) h in
     distinct_from xs parts.1 i j (omega arith) (omega arith) same
 
-arities_from : (arities : List ℕ) → list_all (is_from_to 1 2) arities ≡ true → AreArities arities
+pub arities_from : (arities : List ℕ) → list_all (is_from_to 1 2) arities ≡ true → AreArities arities
 arities_from arities h i within =
     let one : is_from_to 1 2 (get_or arities i 0) ≡ true = list_all_one (is_from_to 1 2) arities i (get_or arities i 0) h (slice_get-get_or arities i 0 within) in
     (from_to-least 1 2 (get_or arities i 0) one, (let most = from_to-greatest 1 2 (get_or arities i 0) one in omega arith))
@@ -51,7 +51,7 @@ abbrev standard_arities : List ℕ
 standard_arities = 2 ∷ 2 ∷ 2 ∷ 2 ∷ 1 ∷ 2 ∷ 2 ∷ 2 ∷ 1 ∷ 2 ∷ 2 ∷ 2 ∷ 2 ∷ 2 ∷ 2 ∷ 2 ∷ 2 ∷ 2 ∷ 2 ∷ 2 ∷ []
 
 -- operations of the names and arities that the five standard units offer; a machine's text does not depend on what they give
-abbrev units : Units
+abbrev pub units : Units
 units = record {
   names = standard_names;
   arities = standard_arities;
@@ -67,14 +67,19 @@ units = record {
 -- ---- texts
 
 -- lines, each with its newline
-abbrev text_of : List (List ℕ) → List ℕ
+abbrev pub text_of : List (List ℕ) → List ℕ
 text_of [] = []
 text_of (line ∷ lines) = line ++ 10 ∷ text_of lines
 
--- what a text of these lines is read as
-read : List (List ℕ) → Result Machine Refused
+-- what a text of these lines is read as, with these operations
+unfoldable pub read_with : Units → List (List ℕ) → Result Machine Refused
 unfolding machine_of_text lines_of tokens_of tokens_from piece_at number_piece mark_piece number_of digits_of value_below width_for take_line bus_form socket_form file_form imm_form unit_form op_form guard_form template_form control_form space_form take_bus take_socket take_file take_imm take_unit take_op take_guard take_template take_control take_space
-read lines = machine_of_text units (text_of lines)
+read_with u lines = machine_of_text u (text_of lines)
+
+-- the same with the standard operations
+unfoldable pub read : List (List ℕ) → Result Machine Refused
+unfolding read_with
+read lines = read_with units lines
 
 -- ---- one bus
 
@@ -251,6 +256,7 @@ one_bus-said : IsMachineText units (lines_of (text_of one_bus_lines)) one_bus
 unfolding read
 one_bus-said = record {
   all = refl;
+  known_ops = refl;
   buses = refl;
   sockets = refl;
   files = refl;
@@ -267,6 +273,7 @@ three_buses-said : IsMachineText units (lines_of (text_of (three_buses_front ++ 
 unfolding read
 three_buses-said = record {
   all = refl;
+  known_ops = refl;
   buses = refl;
   sockets = refl;
   files = refl;

@@ -1,6 +1,7 @@
 -- The machine that a text is read as is the one that its lines describe.
 use Rattle.std.proofs.Common.{◌≡◌, ◌+◌, ◌∷◌, [], ℕ, Bool, List, Option, Some, None, Result, Ok, true, false, map, filter_map, option_to_list, refl, sym, ap, ap₂, subst, ◌∙◌, codes, ◌⊎◌, inl, inr, append-nil}
 use Rattle.std.specs.Prelude.{if◌then◌else◌, unwrap_or}
+use Rattle.std.specs.List.{list_all}
 use Rattle.tta_reading.specs.Lines.{Line, Lexeme, lines_of}
 use Rattle.tta_reading.specs.Words.{is_keyword}
 use Rattle.tta_ops.specs.Units.{Units}
@@ -12,14 +13,14 @@ use Rattle.tta_machine.specs.Draft.{nothing, machine_of}
 use Rattle.tta_machine.specs.Forms.{SpaceForm, bus_form, socket_form, file_form, imm_form, unit_form, op_form, guard_form, template_form, control_form, space_form}
 use Rattle.tta_machine.specs.Text.{declare, take_line, at_line, take_lines, complete, machine_of_text}
 use Rattle.tta_machine.specs.Kept.{IsDraft}
-use Rattle.tta_machine.specs.Grammar.{IsMachineText, IsSize, bus_lines, socket_lines, file_lines, imm_lines, unit_lines, op_lines, guard_lines, template_lines, control_lines, space_lines, bus_names, socket_names, file_names, imm_names, bus_made, socket_made, file_made, imm_made, unit_made, guard_made, template_made, control_made, data_size, frame_size}
+use Rattle.tta_machine.specs.Grammar.{IsMachineText, IsSize, bus_lines, socket_lines, file_lines, imm_lines, unit_lines, op_lines, guard_lines, template_lines, control_lines, space_lines, bus_names, socket_names, file_names, imm_names, unit_names, is_known_op, bus_made, socket_made, file_made, imm_made, unit_made, guard_made, template_made, control_made, data_size, frame_size}
 use Rattle.tta_machine.proofs.Steps.{same_ok, some-ok, then-ok}
 use Rattle.tta_machine.proofs.Made.{DataMade, FrameMade, take_bus-made, take_socket-made, take_file-made, take_imm-made, take_unit-made, take_op-made, take_guard-made, take_template-made, take_control-made, take_space-made}
 use Rattle.tta_machine.proofs.TakenLines.{at_line-ok, take_line-keeps, take_lines-keeps, nothing-kept, complete-ok}
 use Rattle.tta_machine.proofs.KindLines.{adds_none}
 use Rattle.tta_machine.proofs.UnitLines.{units_none}
 use Rattle.tta_machine.proofs.Borne.{AreBorne, take_line-borne, take_lines-borne, nothing-borne}
-use Rattle.tta_machine.proofs.Positions.{HasPlaces, has_places, bus_names_of, socket_names_of, file_names_of, imm_names_of}
+use Rattle.tta_machine.proofs.Positions.{HasPlaces, has_places, bus_names_of, socket_names_of, file_names_of, imm_names_of, unit_names_of}
 use Rattle.tta_machine.proofs.Continued.{Continues}
 use Rattle.tta_machine.proofs.ContinuedParts.{bus_continues, socket_continues, file_continues, imm_continues}
 use Rattle.tta_machine.proofs.ContinuedUnits.{unit_continues, op_continues, guard_continues, template_continues}
@@ -32,15 +33,15 @@ if-chosen : {A E : Type 0} (b : Bool) (x y : Result A E) (r : A) (P : Type 0) �
 if-chosen true x y r P f g h = f refl h
 if-chosen false x y r P f g h = g h
 
-declare-continues : (u : Units) (line : ℕ) (d next e : Draft) (key : Lexeme) (words : Line) (rest : List Line) → HasPlaces e → IsDraft d → AreBorne d → IsDraft e
+declare-continues : (u : Units) (line : ℕ) (d next e : Draft) (key : Lexeme) (words : Line) (rest : List Line) → HasPlaces e → IsDraft d → AreBorne d → IsDraft e → AreBorne e
     → declare u line d key words ≡ Ok next → Continues u next e rest → Continues u d e ((key ∷ words) ∷ rest)
-declare-continues u line d next e key words rest places r b end h later =
+declare-continues u line d next e key words rest places r b end end_borne h later =
     if-chosen (is_keyword (codes "bus") key) _ _ next Goal (λ is t. let s = some-ok Syntax (bus_form words) _ next t in bus_continues u d next e key words rest s.0 places is s.1 (take_bus-made d next s.0 s.2) later)
     (if-chosen (is_keyword (codes "socket") key) _ _ next Goal (λ is t. let s = some-ok Syntax (socket_form words) _ next t in socket_continues u d next e key words rest s.0 places is s.1 (take_socket-made d next s.0 s.2) later)
     (if-chosen (is_keyword (codes "file") key) _ _ next Goal (λ is t. let s = some-ok Syntax (file_form words) _ next t in file_continues u d next e key words rest s.0 places is s.1 (take_file-made d next s.0 s.2) later)
     (if-chosen (is_keyword (codes "imm") key) _ _ next Goal (λ is t. let s = some-ok Syntax (imm_form words) _ next t in imm_continues u d next e key words rest s.0 places is s.1 (take_imm-made d next s.0 s.2) later)
     (if-chosen (is_keyword (codes "unit") key) _ _ next Goal (λ is t. let s = some-ok Syntax (unit_form words) _ next t in unit_continues u d next e key words rest s.0 places is s.1 (take_unit-made d next s.0 s.2) later)
-    (if-chosen (is_keyword (codes "op") key) _ _ next Goal (λ is t. let s = some-ok Syntax (op_form words) _ next t in op_continues u d next e key words rest s.0 places r b end is s.1 (take_op-made u d next s.0 s.2) later)
+    (if-chosen (is_keyword (codes "op") key) _ _ next Goal (λ is t. let s = some-ok Syntax (op_form words) _ next t in op_continues u d next e key words rest s.0 places r b end end_borne is s.1 (take_op-made u d next s.0 s.2) later)
     (if-chosen (is_keyword (codes "guard") key) _ _ next Goal (λ is t. let s = some-ok Syntax (guard_form words) _ next t in guard_continues u d next e key words rest s.0 places is s.1 (take_guard-made d next s.0 s.2) later)
     (if-chosen (is_keyword (codes "template") key) _ _ next Goal (λ is t. let s = some-ok Syntax (template_form words) _ next t in template_continues line u d next e key words rest s.0 places is s.1 (take_template-made line d next s.0 s.2) later)
     (if-chosen (is_keyword (codes "control") key) _ _ next Goal (λ is t. let s = some-ok Syntax (control_form words) _ next t in control_continues u d next e key words rest s.0 places is s.1 (take_control-made d next s.0 s.2) later)
@@ -59,6 +60,7 @@ blank-continues : (u : Units) (d e : Draft) (rest : List Line) → Continues u d
 blank-continues u d e rest c = record {
   names = c.names;
   all = c.all;
+  known_ops = c.known_ops;
   buses = c.buses;
   sockets = c.sockets;
   files = c.files;
@@ -75,6 +77,7 @@ nothing-continues : (u : Units) (d : Draft) → Continues u d d []
 nothing-continues u d = record {
   names = record { stay = λ n p h. h };
   all = refl;
+  known_ops = refl;
   buses = adds_none d.buses bus_made;
   sockets = adds_none d.sockets (socket_made (bus_names_of d));
   files = adds_none d.files (file_made (socket_names_of d));
@@ -87,24 +90,24 @@ nothing-continues u d = record {
   frame_words = sym (append-nil (option_to_list d.frame_words));
 }
 
-take_line-continues : (u : Units) (line : ℕ) (d next e : Draft) (words : Line) (rest : List Line) → HasPlaces e → IsDraft d → AreBorne d → IsDraft e
+take_line-continues : (u : Units) (line : ℕ) (d next e : Draft) (words : Line) (rest : List Line) → HasPlaces e → IsDraft d → AreBorne d → IsDraft e → AreBorne e
     → take_line u line d words ≡ Ok next → Continues u next e rest → Continues u d e (words ∷ rest)
 unfolding take_line
-take_line-continues u line d next e [] rest places r b end h later =
+take_line-continues u line d next e [] rest places r b end end_borne h later =
     blank-continues u d e rest (subst (λ x. Continues u x e rest) (sym (same_ok d next h)) later)
-take_line-continues u line d next e (key ∷ words) rest places r b end h later = declare-continues u line d next e key words rest places r b end h later
+take_line-continues u line d next e (key ∷ words) rest places r b end end_borne h later = declare-continues u line d next e key words rest places r b end end_borne h later
 
 -- ---- a text
 
-pub take_lines-continues : (u : Units) (line : ℕ) (d e : Draft) (lines : List Line) → HasPlaces e → IsDraft e → IsDraft d → AreBorne d
+pub take_lines-continues : (u : Units) (line : ℕ) (d e : Draft) (lines : List Line) → HasPlaces e → IsDraft e → AreBorne e → IsDraft d → AreBorne d
     → take_lines u line d lines ≡ Ok e → Continues u d e lines
-take_lines-continues u line d e [] places end r b h = subst (λ x. Continues u x e []) (sym (same_ok d e h)) (nothing-continues u e)
-take_lines-continues u line d e (words ∷ rest) places end r b h =
+take_lines-continues u line d e [] places end end_borne r b h = subst (λ x. Continues u x e []) (sym (same_ok d e h)) (nothing-continues u e)
+take_lines-continues u line d e (words ∷ rest) places end end_borne r b h =
     let one = then-ok (at_line line (take_line u line d words)) _ e h in
     let taken = at_line-ok line (take_line u line d words) one.0 one.1 in
     let later : Continues u one.0 e rest =
-    take_lines-continues u (line + 1) one.0 e rest places end (take_line-keeps u line d one.0 words r taken) (take_line-borne u line d one.0 words b taken) one.2 in
-    take_line-continues u line d one.0 e words rest places r b end taken later
+    take_lines-continues u (line + 1) one.0 e rest places end end_borne (take_line-keeps u line d one.0 words r taken) (take_line-borne u line d one.0 words b taken) one.2 in
+    take_line-continues u line d one.0 e words rest places r b end end_borne taken later
 
 -- the names of what forms make are the names in the forms
 names_made : {A F : Type 0} (name : A → List ℕ) (given : F → List ℕ) (made : F → A) (parts : List A) (forms : List F)
@@ -121,6 +124,7 @@ size_said (Some size) sizes h = subst (λ l. IsSize l size) h refl
 draft_said : (u : Units) (lines : List Line) (d : Draft) (c : Control) → Continues u nothing d lines → d.control ≡ Some c → IsMachineText u lines (machine_of d c)
 draft_said u lines d c k is = record {
   all = k.all;
+  known_ops = subst (λ names. list_all (is_known_op u names) (op_lines lines) ≡ true) units k.known_ops;
   buses = k.buses;
   sockets = k.sockets ∙ ap (λ b. map (socket_made b) (socket_lines lines)) buses;
   files = k.files ∙ ap (λ s. map (file_made s) (file_lines lines)) sockets;
@@ -141,6 +145,9 @@ draft_said u lines d c k is = record {
   files : file_names_of d ≡ file_names lines
   files = names_made (λ x. x.name) (λ f. f.name) (file_made (socket_names_of d)) d.files (file_lines lines) (λ f. refl) k.files
 
+  units : unit_names_of d ≡ unit_names lines
+  units = names_made (λ x. x.name) (λ f. f.name) (unit_made u (socket_names_of d) (op_lines lines)) d.units (unit_lines lines) (λ f. refl) k.units
+
   imms : imm_names_of d ≡ imm_names lines
   imms = names_made (λ x. x.name) (λ f. f.name) (imm_made (socket_names_of d)) d.imms (imm_lines lines) (λ f. refl) k.imms
 
@@ -152,5 +159,5 @@ machine-said u text m h =
     let kept : IsDraft read.0 = take_lines-keeps u 1 nothing read.0 (lines_of text) nothing-kept read.1 in
     let borne : AreBorne read.0 = take_lines-borne u 1 nothing read.0 (lines_of text) nothing-borne read.1 in
     let whole = complete-ok read.0 m read.2 in
-    let said : Continues u nothing read.0 (lines_of text) = take_lines-continues u 1 nothing read.0 (lines_of text) (has_places read.0 kept borne) kept nothing-kept nothing-borne read.1 in
+    let said : Continues u nothing read.0 (lines_of text) = take_lines-continues u 1 nothing read.0 (lines_of text) (has_places read.0 kept borne) kept borne nothing-kept nothing-borne read.1 in
     subst (IsMachineText u (lines_of text)) whole.made (draft_said u (lines_of text) read.0 whole.control said whole.has_control)

@@ -1,9 +1,9 @@
 -- What a machine text says, told from all its lines at once: which lines declare what, each part from its own line with
 -- names replaced by their places, and a unit with the operations of all lines that name it.
-use Rattle.std.specs.Prelude.{◌≡◌, ℕ, Bool, true, not, ◌||◌, List, [], ◌∷◌, map, filter, filter_map, Option, Some, None, is_some, option_map, codes}
+use Rattle.std.specs.Prelude.{◌≡◌, ℕ, Bool, true, not, ◌&&◌, ◌||◌, List, [], ◌∷◌, map, filter, filter_map, Option, Some, None, is_some, option_map, codes}
 use Rattle.std.specs.Str.{bytes_eq}
 use Rattle.std.specs.Option.{option_map_or}
-use Rattle.std.specs.List.{list_all, position_or_len}
+use Rattle.std.specs.List.{list_all, list_any, position_or_len}
 use Rattle.tta_reading.specs.Lines.{Line}
 use Rattle.tta_reading.specs.Words.{is_keyword}
 use Rattle.tta_reading.specs.Steps.{only_if}
@@ -28,34 +28,43 @@ abbrev pub declared_as : {F : Type 0} → (word : List ℕ) → (form : Line →
 declared_as word form [] = None
 declared_as word form (key ∷ words) = only_if (is_keyword word key) (form words)
 
--- the lines of each kind, in text order
+-- what the bus lines of a text declare, in text order
 abbrev pub bus_lines : List Line → List BusForm
 bus_lines lines = filter_map (declared_as (codes "bus") bus_form) lines
 
+-- the same of the socket lines
 abbrev pub socket_lines : List Line → List SocketForm
 socket_lines lines = filter_map (declared_as (codes "socket") socket_form) lines
 
+-- of the file lines
 abbrev pub file_lines : List Line → List FileForm
 file_lines lines = filter_map (declared_as (codes "file") file_form) lines
 
+-- of the lines of immediate units
 abbrev pub imm_lines : List Line → List ImmForm
 imm_lines lines = filter_map (declared_as (codes "imm") imm_form) lines
 
+-- of the unit lines
 abbrev pub unit_lines : List Line → List UnitForm
 unit_lines lines = filter_map (declared_as (codes "unit") unit_form) lines
 
+-- of the operation lines
 abbrev pub op_lines : List Line → List OpForm
 op_lines lines = filter_map (declared_as (codes "op") op_form) lines
 
+-- of the guard lines
 abbrev pub guard_lines : List Line → List GuardForm
 guard_lines lines = filter_map (declared_as (codes "guard") guard_form) lines
 
+-- of the template lines
 abbrev pub template_lines : List Line → List TemplateForm
 template_lines lines = filter_map (declared_as (codes "template") template_form) lines
 
+-- of the control lines
 abbrev pub control_lines : List Line → List ControlForm
 control_lines lines = filter_map (declared_as (codes "control") control_form) lines
 
+-- of the lines of both spaces
 abbrev pub space_lines : List Line → List SpaceForm
 space_lines lines = filter_map (declared_as (codes "space") space_form) lines
 
@@ -77,17 +86,25 @@ is_declaration (key ∷ words) =
 
 -- ---- names and their places
 
+-- the names of the buses, in text order
 abbrev pub bus_names : List Line → List (List ℕ)
 bus_names lines = map (λ f. f.name) (bus_lines lines)
 
+-- of the sockets
 abbrev pub socket_names : List Line → List (List ℕ)
 socket_names lines = map (λ f. f.name) (socket_lines lines)
 
+-- of the files
 abbrev pub file_names : List Line → List (List ℕ)
 file_names lines = map (λ f. f.name) (file_lines lines)
 
+-- of the immediate units
 abbrev pub imm_names : List Line → List (List ℕ)
 imm_names lines = map (λ f. f.name) (imm_lines lines)
+
+-- of the units
+abbrev pub unit_names : List Line → List (List ℕ)
+unit_names lines = map (λ f. f.name) (unit_lines lines)
 
 -- the place of a name among the names of its kind, counted from 0
 abbrev pub place_of : List (List ℕ) → List ℕ → ℕ
@@ -95,12 +112,15 @@ place_of names name = position_or_len (bytes_eq name) names
 
 -- ---- the part that a line makes
 
+-- a bus
 abbrev pub bus_made : BusForm → Bus
 bus_made f = record { name = f.name; short = f.short; signed = f.signed }
 
+-- a socket, with the set of its buses
 abbrev pub socket_made : (buses : List (List ℕ)) → SocketForm → Socket
 socket_made buses f = record { name = f.name; input = f.input; buses = bus_set (map (place_of buses) f.buses) }
 
+-- a file between two sockets
 abbrev pub file_made : (sockets : List (List ℕ)) → FileForm → File
 file_made sockets f = record {
   name = f.name;
@@ -112,6 +132,7 @@ file_made sockets f = record {
   into = place_of sockets f.into;
 }
 
+-- an immediate unit behind a socket
 abbrev pub imm_made : (sockets : List (List ℕ)) → ImmForm → ImmUnit
 imm_made sockets f = record { name = f.name; size = f.size; out = place_of sockets f.out }
 
@@ -120,10 +141,15 @@ abbrev pub op_made : Units → OpForm → Option UnitOp
 op_made u f =
     option_map (λ o. record { op = o; arity = arity_of u o; latency = option_map_or (λ l. l) f.latency 0 }) (op_named u f.latency f.operation)
 
--- the operations of the unit of a name
+-- an operation line names a unit, and an operation in the form of its kind
+abbrev pub is_known_op : Units → (units : List (List ℕ)) → OpForm → Bool
+is_known_op u units f = list_any (bytes_eq f.unit) units && is_some (op_made u f)
+
+-- the operations of the unit of a name, in text order
 abbrev pub ops_of : Units → List OpForm → (unit : List ℕ) → List UnitOp
 ops_of u ops unit = filter_map (op_made u) (filter (λ f. bytes_eq f.unit unit) ops)
 
+-- a unit with its ports' sockets and the operations of all lines that name it
 abbrev pub unit_made : Units → (sockets : List (List ℕ)) → List OpForm → UnitForm → OpUnit
 unit_made u sockets ops f = record {
   name = f.name;
@@ -133,12 +159,14 @@ unit_made u sockets ops f = record {
   ops = ops_of u ops f.name;
 }
 
+-- a guard of a bus
 abbrev pub guard_made : (buses files : List (List ℕ)) → GuardForm → Guard
 guard_made buses files f = record {
   bus = place_of buses f.bus;
   on = record { file = place_of files f.file; index = f.index; inverted = f.inverted };
 }
 
+-- a template with the set of its buses
 abbrev pub template_made : (buses imms : List (List ℕ)) → TemplateForm → Template
 template_made buses imms f = record {
   name = f.name;
@@ -147,6 +175,7 @@ template_made buses imms f = record {
   buses = bus_set (map (place_of buses) f.buses);
 }
 
+-- control with its sockets
 abbrev pub control_made : (sockets : List (List ℕ)) → ControlForm → Control
 control_made sockets f = record {
   delay = f.delay;
@@ -155,10 +184,11 @@ control_made sockets f = record {
   ra = option_map (place_of sockets) f.ra;
 }
 
--- the size that a line gives a space
+-- the size of the data space, where a line gives it
 abbrev pub data_size : SpaceForm → Option ℕ
 data_size f = only_if f.is_data (Some f.size)
 
+-- the size of the frame space, where a line gives it
 abbrev pub frame_size : SpaceForm → Option ℕ
 frame_size f = only_if (not f.is_data) (Some f.size)
 
@@ -173,6 +203,7 @@ IsSize (given ∷ another ∷ more) size = ⊥
 -- a text of these lines describes this machine
 pub record IsMachineText (u : Units) (lines : List Line) (m : Machine) : Type 0 where
   pub all : list_all is_declaration lines ≡ true
+  pub known_ops : list_all (is_known_op u (unit_names lines)) (op_lines lines) ≡ true
   pub buses : m.buses ≡ map bus_made (bus_lines lines)
   pub sockets : m.sockets ≡ map (socket_made (bus_names lines)) (socket_lines lines)
   pub files : m.files ≡ map (file_made (socket_names lines)) (file_lines lines)

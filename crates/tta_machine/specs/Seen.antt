@@ -1,5 +1,5 @@
 -- What the code reads, as the definitions see it.
-use Rattle.std.specs.Prelude.{◌≡◌, ℕ, List, map, Result, Ok, Err, option_map}
+use Rattle.std.specs.Prelude.{Option, ◌≡◌, ℕ, List, map, Result, Ok, Err, option_map}
 use Rattle.tta_reading.specs.declared.word.Word.{Word}
 use Rattle.tta_reading.specs.Steps.{◌>>=◌, or_refuse}
 use Rattle.tta_machine.specs.declared.reading.refusal.Refusal.{Refusal}
