@@ -219,7 +219,7 @@ layout_bus_read m l buses bus f is same h read = read ∙ ap (λ (xs : List BusF
 
 -- ---- whole instructions
 
-no_bus_in_none : (m : Machine) (xs : List ℕ) → sum_by (set_width_at m 0) xs ≡ 0
+pub no_bus_in_none : (m : Machine) (xs : List ℕ) → sum_by (set_width_at m 0) xs ≡ 0
 no_bus_in_none m [] = refl
 no_bus_in_none m (x ∷ xs) =
     let none : 0 / 2 ^ x ≡ 0 = no_high 0 0 x (lit< tt) (omega arith) in

@@ -21,7 +21,7 @@ use Rattle.tta_image.proofs.ShortWords.{value_tells}
 use Rattle.tta_image.proofs.EndsLemmas.{source_code_inside, source_code_tells, dest_code_inside, dest_code_tells, guard_code_inside, guard_code_tells}
 
 -- codes below a number of codes are told by so many bits
-code_tells : (codes width a b : ℕ) → a < codes → b < codes → width_for codes ≤ width → bits_of width a ≡ bits_of width b → a ≡ b
+pub code_tells : (codes width a b : ℕ) → a < codes → b < codes → width_for codes ≤ width → bits_of width a ≡ bits_of width b → a ≡ b
 code_tells codes width a b ha hb wide same =
     let enough = width_for-enough codes in
     let more = pow_le (width_for codes) width wide in

@@ -9,6 +9,6 @@ mod layout;
 mod sink;
 mod write;
 
-pub use laws::one_image;
+pub use laws::{one_code, one_image};
 pub use layout::{BusFields, Layout};
 pub use write::write_image;
