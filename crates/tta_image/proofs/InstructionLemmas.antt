@@ -1,5 +1,5 @@
 -- The bits of an instruction tell it.
-use Rattle.std.proofs.Common.{◌≡◌, ℕ, zero, suc, ◌+◌, ◌-◌, ◌^◌, ◌<◌, ◌≤◌, ◌==◌, Bool, true, false, not, ◌&&◌, ◌||◌, nat_lt, is_none, is_some, IsTrue, if◌then◌else◌, List, [], ◌∷◌, ◌++◌, length, map, take, drop, slice_get, Option, Some, None, option_map, lit<, refl, sym, ap, ◌∙◌, subst, arith}
+use Rattle.std.proofs.Common.{◌≡◌, ℕ, zero, suc, ◌+◌, ◌^◌, ◌<◌, ◌≤◌, ◌==◌, Bool, true, false, not, ◌&&◌, ◌||◌, nat_lt, is_none, is_some, IsTrue, List, [], ◌∷◌, ◌++◌, length, map, take, drop, slice_get, Option, Some, None, option_map, refl, sym, ap, ◌∙◌, subst, arith}
 use Rattle.std.specs.Option.{option_map_or}
 use Rattle.std.specs.List.{sum_by, range_with_len, flat_map, AllByRecursion}
 use Rattle.std.proofs.lemmas.Bool.{false≢true, and_parts, eqb-true, ltb-true}
@@ -9,7 +9,7 @@ use Rattle.std.proofs.lemmas.List.Sums.{sum_by-cons}
 use Rattle.tta_machine.specs.declared.parts.Template.{Template}
 use Rattle.tta_machine.specs.Machine.{Machine}
 use Rattle.tta_machine.specs.Joins.{has_bit, joins}
-use Rattle.tta_machine.specs.Fields.{width_for, numbers, template_width, bus_width, taken_width, word_width}
+use Rattle.tta_machine.specs.Fields.{template_width, bus_width, taken_width, word_width}
 use Rattle.tta_machine.specs.Legal.{Ends, Slots, all_slots, keeps_taken, is_joined, has_reads, has_writes, are_apart, ends_of as moves_of, can_move}
 use Rattle.tta_machine.specs.Rules.{IsMachine}
 use Rattle.tta_code.specs.declared.code.Move.{Move}
@@ -19,7 +19,7 @@ use Rattle.tta_code.specs.Legal.{ends_of, slots_of, taken, is_long, is_instructi
 use Rattle.tta_image.specs.Bits.{bits_of, slot_bits, slots_bits, template_code, long_bits, instruction_bits}
 use Rattle.tta_image.proofs.LayoutLemmas.{set_width_at, no_bus_in_none}
 use Rattle.tta_image.proofs.Unique.{split_same, length-bits_of, same_number}
-use Rattle.tta_image.proofs.WidthLemmas.{width_for-enough, pow_le}
+use Rattle.tta_image.proofs.WidthLemmas.{pow_le}
 use Rattle.tta_image.proofs.SlotLemmas.{length-slot_bits, is_joined_slot, slot_bits_tell, code_tells}
 
 -- how many bits of a long immediate the buses from this one on have
@@ -111,7 +111,7 @@ slots_tell_by : (m : Machine) (taken bus : ℕ) (long long' : List Bool) (s s' :
     → length ss ≡ length ss' → length long ≡ left_from m taken bus (suc (length ss)) → length long' ≡ left_from m taken bus (suc (length ss))
     → AreLegal m taken bus (s ∷ ss) → AreLegal m taken bus (s' ∷ ss')
     → ((l l' : List Bool) → length l ≡ left_from m taken (bus + 1) (length ss) → length l' ≡ left_from m taken (bus + 1) (length ss)
-      → slots_bits m taken l (bus + 1) ss ≡ slots_bits m taken l' (bus + 1) ss' → Same l l' ss ss')
+    → slots_bits m taken l (bus + 1) ss ≡ slots_bits m taken l' (bus + 1) ss' → Same l l' ss ss')
     → slots_bits m taken long bus (s ∷ ss) ≡ slots_bits m taken long' bus (s' ∷ ss') → Same long long' (s ∷ ss) (s' ∷ ss')
 slots_tell_by m taken bus long long' s s' ss ss' true rules is same many many' legal legal' rest bits =
     let w : ℕ = bus_width m bus in
@@ -123,16 +123,15 @@ slots_tell_by m taken bus long long' s s' ss ss' true rules is same many many' l
     let cut : take w long ++ slots_bits m taken (drop w long) (bus + 1) ss ≡ take w long' ++ slots_bits m taken (drop w long') (bus + 1) ss' = rw is at bits in
     let parts = split_same (take w long) (take w long') (slots_bits m taken (drop w long) (bus + 1) ss) (slots_bits m taken (drop w long') (bus + 1) ss') (front ∙ sym front') cut in
     let after = rest (drop w long) (drop w long') dropped dropped' parts.1 in
-    let none : s ≡ s' = empty_where_taken taken bus s is legal.0 ∙ sym (empty_where_taken taken bus s' is legal'.0) in
-    (
+    let none : s ≡ s' = empty_where_taken taken bus s is legal.0 ∙ sym (empty_where_taken taken bus s' is legal'.0) in (
       sym (take-append-drop w long) ∙ ap (λ (l : List Bool). l ++ drop w long) parts.0 ∙ ap (λ (l : List Bool). take w long' ++ l) after.0 ∙ take-append-drop w long',
-      ap (λ (o : Option Move). o ∷ ss) none ∙ ap (λ (l : List (Option Move)). s' ∷ l) after.1
+      ap (λ (o : Option Move). o ∷ ss) none ∙ ap (λ (l : List (Option Move)). s' ∷ l) after.1,
     )
 slots_tell_by m taken bus long long' s s' ss ss' false rules is same many many' legal legal' rest bits =
     let left = left_kept m taken bus (length ss) is in
     let cut : slot_bits m bus s ++ slots_bits m taken long (bus + 1) ss ≡ slot_bits m bus s' ++ slots_bits m taken long' (bus + 1) ss' = rw is at bits in
     let parts = split_same (slot_bits m bus s) (slot_bits m bus s') (slots_bits m taken long (bus + 1) ss) (slots_bits m taken long' (bus + 1) ss')
-      (length-slot_bits m bus s ∙ sym (length-slot_bits m bus s')) cut in
+    (length-slot_bits m bus s ∙ sym (length-slot_bits m bus s')) cut in
     let after = rest long long' (omega arith) (omega arith) parts.1 in
     let one = slot_bits_tell m bus s s' rules legal.1 legal'.1 parts.0 in
     (after.0, ap (λ (o : Option Move). o ∷ ss) one ∙ ap (λ (l : List (Option Move)). s' ∷ l) after.1)
@@ -206,14 +205,13 @@ long_from a b t v =
 
 slots_of_whole : (m : Machine) (moves moves' : List (Option Move)) (long long' : Option Long) → IsWhole m moves long → IsWhole m moves' long' → whole_bits m moves long ≡ whole_bits m moves' long'
     → (template_code long ≡ template_code long')
-      × (slots_bits m (takes m long) (long_bits m (takes m long) long) 0 moves ≡ slots_bits m (takes m long') (long_bits m (takes m long') long') 0 moves')
+    × (slots_bits m (takes m long) (long_bits m (takes m long) long) 0 moves ≡ slots_bits m (takes m long') (long_bits m (takes m long') long') 0 moves')
 slots_of_whole m moves moves' long long' h h' same =
     let parts = split_same (bits_of (template_width m) (template_code long)) (bits_of (template_width m) (template_code long'))
-      (slots_bits m (takes m long) (long_bits m (takes m long) long) 0 moves) (slots_bits m (takes m long') (long_bits m (takes m long') long') 0 moves')
-      (length-bits_of (template_width m) (template_code long) ∙ sym (length-bits_of (template_width m) (template_code long'))) same in
-    (
+    (slots_bits m (takes m long) (long_bits m (takes m long) long) 0 moves) (slots_bits m (takes m long') (long_bits m (takes m long') long') 0 moves')
+    (length-bits_of (template_width m) (template_code long) ∙ sym (length-bits_of (template_width m) (template_code long'))) same in (
       code_tells (1 + length m.templates) (template_width m) (template_code long) (template_code long') (template_inside m long h.template) (template_inside m long' h'.template) (omega arith) parts.0,
-      parts.1
+      parts.1,
     )
 
 whole_tells : (m : Machine) (moves moves' : List (Option Move)) (long long' : Option Long) → IsMachine m → IsWhole m moves long → IsWhole m moves' long'
@@ -238,7 +236,7 @@ whole_tells m moves moves' (Some l) (Some l') rules h h' same =
     let legal' : AreLegal m mask 0 moves' = subst (λ (t : ℕ). AreLegal m t 0 moves') one h'.slots in
     let wide : length (bits_of (taken_width m mask) l.value) ≡ left_from m mask 0 (length moves) = length-long_bits m (Some l) (length moves) many in
     let wide' : length (bits_of (taken_width m mask) l'.value) ≡ left_from m mask 0 (length moves) =
-        length-bits_of (taken_width m mask) l'.value ∙ sym (length-bits_of (taken_width m mask) l.value) ∙ wide in
+    length-bits_of (taken_width m mask) l'.value ∙ sym (length-bits_of (taken_width m mask) l.value) ∙ wide in
     let bits = parts.1 ∙ ap (λ (t : ℕ). slots_bits m t (bits_of (taken_width m t) l'.value) 0 moves') one in
     let told = slots_tell m mask 0 (bits_of (taken_width m mask) l.value) (bits_of (taken_width m mask) l'.value) moves moves' rules (omega arith) wide wide' h.slots legal' bits in
     let fits = value_fits m l rules h.template in
@@ -290,7 +288,7 @@ words_tell m [] (j ∷ js) r r' rules hi hj same bits = absurd (omega arith)
 words_tell m (i ∷ is) [] r r' rules hi hj same bits = absurd (omega arith)
 words_tell m (i ∷ is) (j ∷ js) r r' rules hi hj same bits =
     let parts = split_same (instruction_bits m i) (instruction_bits m j) (flat_map (instruction_bits m) is ++ r) (flat_map (instruction_bits m) js ++ r')
-      (length-instruction_bits m i hi.0 ∙ sym (length-instruction_bits m j hj.0))
-      (sym (append_assoc (instruction_bits m i) (flat_map (instruction_bits m) is) r) ∙ bits ∙ append_assoc (instruction_bits m j) (flat_map (instruction_bits m) js) r') in
+    (length-instruction_bits m i hi.0 ∙ sym (length-instruction_bits m j hj.0))
+    (sym (append_assoc (instruction_bits m i) (flat_map (instruction_bits m) is) r) ∙ bits ∙ append_assoc (instruction_bits m j) (flat_map (instruction_bits m) js) r') in
     ap (λ (x : Instruction). x ∷ is) (instruction_tells m i j rules hi.0 hj.0 parts.0)
     ∙ ap (λ (l : List Instruction). j ∷ l) (words_tell m is js r r' rules hi.1 hj.1 (omega arith) parts.1)

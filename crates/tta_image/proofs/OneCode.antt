@@ -1,16 +1,15 @@
 -- Bytes are the image of at most one code.
-use Rattle.std.proofs.Common.{◌≡◌, ℕ, ◌^◌, ◌<◌, ◌≤◌, Bool, false, List, ◌++◌, length, replicate, codes, refl, sym, ap, ◌∙◌, arith}
+use Rattle.std.proofs.Common.{◌≡◌, ℕ, ◌^◌, ◌<◌, false, List, ◌++◌, length, replicate, codes, refl, sym, ap, ◌∙◌}
 use Rattle.std.specs.Int.{w32, to_be_bytes, from_be_bytes}
 use Rattle.std.specs.List.{flat_map}
-use Rattle.std.proofs.lemmas.List.{append_assoc}
 use Rattle.std.proofs.lemmas.Nat.{from_be_bytes-to_be_bytes_4}
 use Rattle.tta_machine.specs.Machine.{Machine}
 use Rattle.tta_machine.specs.Fields.{word_width}
 use Rattle.tta_machine.specs.Rules.{IsMachine}
 use Rattle.tta_code.specs.declared.code.Instruction.{Instruction}
 use Rattle.tta_code.specs.declared.code.Code.{Code}
-use Rattle.tta_image.specs.Bits.{bits_of, instruction_bits, code_bits}
-use Rattle.tta_image.specs.Image.{AreBytesOf, Image, header}
+use Rattle.tta_image.specs.Bits.{bits_of, code_bits}
+use Rattle.tta_image.specs.Image.{Image, header}
 use Rattle.tta_image.proofs.Unique.{split_same}
 use Rattle.tta_image.proofs.ImageLemmas.{words_fit}
 use Rattle.tta_image.proofs.InstructionLemmas.{words_tell}
@@ -37,6 +36,6 @@ has_one_code m digest code code' bytes rules h h' =
     let told = header_tells m digest (length code.words) (length code'.words) h.body h'.body (words_fit m code rules h.legal) (words_fit m code' rules h'.legal) (sym h.parts ∙ h'.parts) in
     let a = h.words in let b = h'.words in
     let bits : code_bits m code ++ replicate a.filling false ≡ code_bits m code' ++ replicate b.filling false =
-        sym a.same_bits ∙ ap (λ (l : List ℕ). flat_map (bits_of 8) l) told.1 ∙ b.same_bits in
+    sym a.same_bits ∙ ap (λ (l : List ℕ). flat_map (bits_of 8) l) told.1 ∙ b.same_bits in
     code_from code code'
     (words_tell m code.words code'.words (replicate a.filling false) (replicate b.filling false) rules h.legal.words h'.legal.words told.0 bits)

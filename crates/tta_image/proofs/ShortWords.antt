@@ -1,17 +1,16 @@
 -- A short word is told by the low bits that its field holds.
-use Rattle.std.proofs.Common.{◌≡◌, ℕ, zero, suc, ◌+◌, ◌-◌, ◌*◌, ◌/◌, ◌%◌, ◌^◌, ◌<◌, ◌≤◌, ◌==◌, ◌⊎◌, Bool, true, false, ◌&&◌, ◌||◌, nat_lt, nat_le, if◌then◌else◌, List, [], ◌∷◌, slice_get, Option, Some, None, refl, sym, ap, ◌∙◌, inl, inr, arith}
+use Rattle.std.proofs.Common.{◌≡◌, ℕ, zero, suc, ◌+◌, ◌-◌, ◌*◌, ◌/◌, ◌%◌, ◌^◌, ◌<◌, ◌≤◌, ◌==◌, ◌⊎◌, Bool, true, false, ◌||◌, nat_lt, nat_le, if◌then◌else◌, List, [], ◌∷◌, slice_get, Option, Some, None, refl, sym, ap, ◌∙◌, inl, inr, arith}
 use Rattle.std.specs.Option.{option_map_or}
 use Rattle.std.specs.List.{list_all}
 use Rattle.std.proofs.lemmas.Nat.{pow_pos, shr_split, mod-pow-add, mod_below, same_from_place}
 use Rattle.std.proofs.lemmas.Bool.{false≢true, and_parts, or_cases, eqb-true, leb-true, ltb-true}
 use Rattle.std.proofs.lemmas.Option.{none-some, same_Some}
 use Rattle.tta_machine.specs.declared.parts.Bus.{Bus}
-use Rattle.tta_machine.specs.declared.ends.Source.{Source}
 use Rattle.tta_machine.specs.declared.ends.Source.TheVariants as source
 use Rattle.tta_machine.specs.Machine.{Machine}
 use Rattle.tta_machine.specs.Joins.{holds_word, is_source_on}
 use Rattle.tta_machine.specs.Fields.{short_width}
-use Rattle.tta_machine.specs.Rules.{is_bus, is_from_to}
+use Rattle.tta_machine.specs.Rules.{is_bus}
 use Rattle.tta_image.proofs.BitLemmas.{low_whole}
 
 -- the bits above k are all 0 or all 1, where full is odd
@@ -42,8 +41,10 @@ word_tells : (b : Bus) (x y : ℕ) → 1 ≤ b.short → b.short ≤ 32 → hold
 word_tells b x y least most hx hy same = by b.signed hx hy where
   k : ℕ
   k = b.short - 1
+
   full : ℕ
   full = 2 ^ (33 - b.short) - 1
+
   by : (s : Bool) → (if s then (x / 2 ^ (b.short - 1) == 0 || x / 2 ^ (b.short - 1) == 2 ^ (33 - b.short) - 1) else nat_lt x (2 ^ b.short)) ≡ true
       → (if s then (y / 2 ^ (b.short - 1) == 0 || y / 2 ^ (b.short - 1) == 2 ^ (33 - b.short) - 1) else nat_lt y (2 ^ b.short)) ≡ true → x ≡ y
   by true px py =

@@ -1,5 +1,5 @@
 -- The bits of a slot tell its move.
-use Rattle.std.proofs.Common.{◌≡◌, ℕ, zero, suc, ◌+◌, ◌-◌, ◌*◌, ◌/◌, ◌%◌, ◌^◌, ◌<◌, ◌≤◌, ◌==◌, ◌⊎◌, Bool, true, false, not, ◌&&◌, ◌||◌, is_none, IsTrue, max, List, [], ◌∷◌, ◌++◌, length, replicate, Option, Some, None, lit<, refl, sym, ap, ◌∙◌, inl, inr, arith}
+use Rattle.std.proofs.Common.{◌≡◌, ℕ, zero, suc, ◌+◌, ◌/◌, ◌%◌, ◌^◌, ◌<◌, ◌≤◌, ◌⊎◌, Bool, true, false, ◌&&◌, List, ◌∷◌, ◌++◌, length, replicate, Option, Some, None, lit<, refl, sym, ap, ◌∙◌, inl, inr, arith}
 use Rattle.std.proofs.lemmas.Bool.{false≢true, and_parts}
 use Rattle.std.proofs.lemmas.List.{length-append, length-replicate, replicate-append-replicate, append_assoc}
 use Rattle.std.proofs.lemmas.Nat.{mod_below, pow_pos}
@@ -86,21 +86,21 @@ source_by : (m : Machine) (bus : ℕ) (a b : Source) → IsMachine m → is_sour
     → source_bits m bus a ≡ source_bits m bus b → Kind m bus a → Kind m bus b → a ≡ b
 source_by m bus a b rules ha hb same (inl va) (inl vb) =
     va.1 ∙ ap (λ (w : ℕ). source.Value w)
-      (value_bits_tell m bus va.0 vb.0 rules (ap (λ (s : Source). is_source_on m bus s) (sym va.1) ∙ ha) (ap (λ (s : Source). is_source_on m bus s) (sym vb.1) ∙ hb)
-        (ap (λ (s : Source). source_bits m bus s) (sym va.1) ∙ same ∙ ap (λ (s : Source). source_bits m bus s) vb.1))
+    (value_bits_tell m bus va.0 vb.0 rules (ap (λ (s : Source). is_source_on m bus s) (sym va.1) ∙ ha) (ap (λ (s : Source). is_source_on m bus s) (sym vb.1) ∙ hb)
+    (ap (λ (s : Source). source_bits m bus s) (sym va.1) ∙ same ∙ ap (λ (s : Source). source_bits m bus s) vb.1))
     ∙ sym vb.1
 source_by m bus a b rules ha hb same (inl va) (inr pb) =
     absurd (false≢true (sym (head_same true false (bits_of (payload_width m bus) (va.0 % 2 ^ short_width m bus)) (bits_of (payload_width m bus) (source_code m bus b))
-      (ap (λ (s : Source). source_bits m bus s) (sym va.1) ∙ same ∙ pb.0))))
+    (ap (λ (s : Source). source_bits m bus s) (sym va.1) ∙ same ∙ pb.0))))
 source_by m bus a b rules ha hb same (inr pa) (inl vb) =
     absurd (false≢true (head_same false true (bits_of (payload_width m bus) (source_code m bus a)) (bits_of (payload_width m bus) (vb.0 % 2 ^ short_width m bus))
-      (sym pa.0 ∙ same ∙ ap (λ (s : Source). source_bits m bus s) vb.1)))
+    (sym pa.0 ∙ same ∙ ap (λ (s : Source). source_bits m bus s) vb.1)))
 source_by m bus a b rules ha hb same (inr pa) (inr pb) =
     let bits = tail_same false false (bits_of (payload_width m bus) (source_code m bus a)) (bits_of (payload_width m bus) (source_code m bus b)) (sym pa.0 ∙ same ∙ pb.0) in
     let sa = pa.1 ha in let sb = pb.1 hb in
     source_code_tells m bus a b sa sb
     (code_tells (length (sources_on m bus)) (payload_width m bus) (source_code m bus a) (source_code m bus b)
-      (source_code_inside m bus a sa) (source_code_inside m bus b sb) (omega arith) bits)
+    (source_code_inside m bus a sa) (source_code_inside m bus b sb) (omega arith) bits)
 
 pub source_bits_tell : (m : Machine) (bus : ℕ) (a b : Source) → IsMachine m → is_source_on m bus a ≡ true → is_source_on m bus b ≡ true
     → source_bits m bus a ≡ source_bits m bus b → a ≡ b
@@ -135,12 +135,12 @@ moves_tell m bus a b rules ja jb same =
     let da : List Bool = bits_of (dest_width m bus) (dest_code m bus a.dst) in
     let db : List Bool = bits_of (dest_width m bus) (dest_code m bus b.dst) in
     let one = split_same ga gb (source_bits m bus a.src ++ da) (source_bits m bus b.src ++ db)
-      (length-bits_of (guard_width m bus) (guard_code m bus a.guard) ∙ sym (length-bits_of (guard_width m bus) (guard_code m bus b.guard))) same in
+    (length-bits_of (guard_width m bus) (guard_code m bus a.guard) ∙ sym (length-bits_of (guard_width m bus) (guard_code m bus b.guard))) same in
     let two = split_same (source_bits m bus a.src) (source_bits m bus b.src) da db (length-source_bits m bus a.src ∙ sym (length-source_bits m bus b.src)) one.1 in
     let guard = code_tells (1 + length (guards_on m bus)) (guard_width m bus) (guard_code m bus a.guard) (guard_code m bus b.guard)
-      (guard_code_inside m bus a.guard ja.2) (guard_code_inside m bus b.guard jb.2) (omega arith) one.0 in
+    (guard_code_inside m bus a.guard ja.2) (guard_code_inside m bus b.guard jb.2) (omega arith) one.0 in
     let dst = code_tells (1 + length (dests_on m bus)) (dest_width m bus) (dest_code m bus a.dst) (dest_code m bus b.dst)
-      (dest_code_inside m bus a.dst ja.1) (dest_code_inside m bus b.dst jb.1) (omega arith) two.1 in
+    (dest_code_inside m bus a.dst ja.1) (dest_code_inside m bus b.dst jb.1) (omega arith) two.1 in
     move_from a b (guard_code_tells m bus a.guard b.guard ja.2 jb.2 guard) (source_bits_tell m bus a.src b.src rules ja.0 jb.0 two.0)
     (dest_code_tells m bus a.dst b.dst ja.1 jb.1 dst)
 
@@ -151,13 +151,13 @@ move_is_not_empty m bus v j same =
     let guard : List Bool = bits_of gw (guard_code m bus v.guard) in
     let dst : List Bool = bits_of dw (dest_code m bus v.dst) in
     let cut : replicate (bus_width m bus) false ≡ replicate gw false ++ (replicate sw false ++ replicate dw false) =
-        sym (replicate-append-replicate (gw + sw) dw false) ∙ ap (λ (l : List Bool). l ++ replicate dw false) (sym (replicate-append-replicate gw sw false))
-        ∙ append_assoc (replicate gw false) (replicate sw false) (replicate dw false) in
+    sym (replicate-append-replicate (gw + sw) dw false) ∙ ap (λ (l : List Bool). l ++ replicate dw false) (sym (replicate-append-replicate gw sw false))
+    ∙ append_assoc (replicate gw false) (replicate sw false) (replicate dw false) in
     let one = split_same guard (replicate gw false) (source_bits m bus v.src ++ dst) (replicate sw false ++ replicate dw false)
-      (length-bits_of gw (guard_code m bus v.guard) ∙ sym (length-replicate gw false)) (same ∙ cut) in
+    (length-bits_of gw (guard_code m bus v.guard) ∙ sym (length-replicate gw false)) (same ∙ cut) in
     let two = split_same (source_bits m bus v.src) (replicate sw false) dst (replicate dw false) (length-source_bits m bus v.src ∙ sym (length-replicate sw false)) one.1 in
     let none : dest_code m bus v.dst ≡ 0 = code_tells (1 + length (dests_on m bus)) dw (dest_code m bus v.dst) 0
-      (dest_code_inside m bus v.dst j.1) (omega arith) (omega arith) (two.1 ∙ sym (zero_bits dw)) in
+    (dest_code_inside m bus v.dst j.1) (omega arith) (omega arith) (two.1 ∙ sym (zero_bits dw)) in
     omega arith
 
 -- slots with the same bits are one

@@ -50,7 +50,11 @@ fn same_guard(a: GuardRef, b: GuardRef) -> bool
 fn low_bits(number: u64, count: u32) -> u64
     ensures { result ≡ number % 2 ^ count }
 {
-    if count < u64::BITS { number % (1 << count) } else { number }
+    if count < u64::BITS {
+        number % (1 << count)
+    } else {
+        number
+    }
 }
 
 /// Where a source stands first in a list.
@@ -108,7 +112,10 @@ impl BusFields {
     {
         if let Source::Value(word) = src {
             sink.push(true)?;
-            sink.push_number(low_bits(u64::from(word), self.short_width), self.payload_width)?;
+            sink.push_number(
+                low_bits(u64::from(word), self.short_width),
+                self.payload_width,
+            )?;
         } else {
             sink.push(false)?;
             sink.push_number(self.source_code(src) as u64, self.payload_width)?;

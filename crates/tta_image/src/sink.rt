@@ -35,7 +35,11 @@ impl Model for BitSink {
 pub fn without_low(number: u64, count: u32) -> u64
     ensures { result ≡ number / 2 ^ count }
 {
-    if count < u64::BITS { number >> count } else { 0 }
+    if count < u64::BITS {
+        number >> count
+    } else {
+        0
+    }
 }
 
 /// A byte's bits with one more bit after them.

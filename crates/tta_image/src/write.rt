@@ -2,7 +2,6 @@
 
 ghost use Rattle.std.specs.Prelude.{◌≡◌, ◌<◌, ◌^◌, if◌then◌else◌, ◌++◌, length, codes, All, IfOk, OnOk};
 ghost use Rattle.std.specs.Int.{w32, to_be_bytes};
-
 ghost use Rattle.std.specs.List.{flat_map, sum_by};
 ghost use Rattle.tta_machine.specs.Joins.{has_bit};
 ghost use Rattle.tta_machine.specs.Fields.{taken_width, word_width};
@@ -85,7 +84,7 @@ fn push_slots(
     requires slots { length moves.now ≡ length m.now.buses }
     ensures ok { OnOk result
         (sink.new ≡ sink.old
-            ++ slots_bits m.now taken (bits_of (taken_width m.now taken) value) 0 moves.now) }
+        ++ slots_bits m.now taken (bits_of (taken_width m.now taken) value) 0 moves.now) }
 {
     let mut left = width_of_set(layout, taken);
     for (bus, slot) in moves.iter().enumerate() {
@@ -132,12 +131,7 @@ fn push_words(
 }
 
 /// The bytes before the instructions.
-fn header(
-    alloc: Global,
-    width: u32,
-    words: u32,
-    digest: &[u8; 32],
-) -> Result<Vec<u8>, AllocError>
+fn header(alloc: Global, width: u32, words: u32, digest: &[u8; 32]) -> Result<Vec<u8>, AllocError>
     ensures { IfOk result (λ v. v.items ≡ codes "TTAI"
         ++ (to_be_bytes w32 1 ++ (to_be_bytes w32 width ++ (to_be_bytes w32 words ++ digest.now)))) }
 {
