@@ -7,6 +7,8 @@ mod joins;
 mod laws;
 mod layout;
 mod sink;
+#[cfg(test)]
+mod tests;
 mod write;
 
 pub use laws::{one_code, one_image};
