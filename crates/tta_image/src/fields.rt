@@ -137,8 +137,8 @@ impl BusFields {
         Ok(())
     }
 
-    /// Puts what the bus has in an instruction at the end: its slot, or the highest bits that are left of the
-    /// long immediate. Tells how many bits of the long immediate are left after it.
+    /// Puts what the bus has in an instruction at the end: its slot, or the highest bits that are
+    /// left of the long immediate. Tells how many bits of the long immediate are left after it.
     pub fn push_bus(
         &self,
         sink: &mut BitSink,
@@ -148,7 +148,8 @@ impl BusFields {
         slot: Option<Move>,
     ) -> Result<u32, AllocError>
         requires { is_taken ≡ true → self.now.width ≤ left }
-        ensures bits { OnOk result (sink.new ≡ sink.old ++ bus_field self.now is_taken left value slot) }
+        ensures bits { OnOk result
+            (sink.new ≡ sink.old ++ bus_field self.now is_taken left value slot) }
         ensures left { IfOk result (λ n. n ≡ left_after self.now is_taken left) }
     {
         if is_taken {

@@ -70,7 +70,8 @@ fn width_of_set(layout: &Layout, set: u16) -> u32
     width
 }
 
-/// Puts what each bus has in an instruction at the end: its slot, or its share of the long immediate.
+/// Puts what each bus has in an instruction at the end: its slot, or its share of the long
+/// immediate.
 fn push_slots(
     layout: &Layout,
     m: &Machine,
@@ -133,7 +134,8 @@ fn push_words(
 /// The bytes before the instructions.
 fn header(alloc: Global, width: u32, words: u32, digest: &[u8; 32]) -> Result<Vec<u8>, AllocError>
     ensures { IfOk result (λ v. v.items ≡ codes "TTAI"
-        ++ (to_be_bytes w32 1 ++ (to_be_bytes w32 width ++ (to_be_bytes w32 words ++ digest.now)))) }
+        ++ (to_be_bytes w32 1
+        ++ (to_be_bytes w32 width ++ (to_be_bytes w32 words ++ digest.now)))) }
 {
     let version = 1u32.to_be_bytes();
     let width = width.to_be_bytes();
@@ -156,8 +158,8 @@ fn count_words(code: &Code, m: &Machine) -> u32
     code.words.len() as u32
 }
 
-/// The image of code: a header with the digest of the machine's text, and the instructions bit by bit.
-/// The code must be legal for the machine. It fails only where there is no memory.
+/// The image of code: a header with the digest of the machine's text, and the instructions bit by
+/// bit. The code must be legal for the machine. It fails only where there is no memory.
 pub fn write_image(
     alloc: Global,
     code: &Code,
