@@ -1,9 +1,8 @@
 -- What bits of numbers do when a bit, a byte or a run of zeros is put after them.
-use Rattle.std.proofs.Common.{◌≡◌, ℕ, zero, suc, ◌+◌, ◌-◌, ◌*◌, ◌/◌, ◌%◌, ◌^◌, ◌<◌, ◌≤◌, ◌==◌, Bool, true, false, List, [], ◌∷◌, ◌++◌, length, replicate, take, drop, refl, sym, ap, ◌∙◌, arith, add-one}
+use Rattle.std.proofs.Common.{◌≡◌, ℕ, zero, suc, ◌+◌, ◌-◌, ◌*◌, ◌/◌, ◌%◌, ◌^◌, ◌<◌, ◌≤◌, ◌==◌, Bool, true, false, List, [], ◌∷◌, ◌++◌, replicate, take, drop, refl, sym, ap, ◌∙◌, arith, add-one}
 use Rattle.std.proofs.lemmas.List.{append_assoc, append-nil, replicate_more}
 use Rattle.std.proofs.lemmas.List.Concat.{flat_map-append}
 use Rattle.std.proofs.lemmas.Nat.{shr-shr, shr_split, pow-add, pow_pos, div_below}
-use Rattle.std.proofs.lemmas.Bool.Decides.{nat_tests}
 use Rattle.std.specs.List.{flat_map, AllByRecursion}
 use Rattle.tta_image.specs.Bits.{bits_of}
 use Rattle.tta_image.specs.Image.{AreBytesOf}
@@ -109,7 +108,7 @@ bytes_of_filled bytes bytes' filled last last' shown some below small shifted fi
       same_bits =
           ap (λ l. flat_map (bits_of 8) l) pushed ∙ flat_map-append (bits_of 8) bytes (last' ∷ [])
           ∙ ap (λ l. flat_map (bits_of 8) bytes ++ l)
-            (append-nil (bits_of 8 last') ∙ ap (λ n. bits_of 8 n) shifted ∙ ap (λ w. bits_of w (last * 2 ^ (8 - filled))) e ∙ bits_of-shifted filled (8 - filled) last)
+          (append-nil (bits_of 8 last') ∙ ap (λ n. bits_of 8 n) shifted ∙ ap (λ w. bits_of w (last * 2 ^ (8 - filled))) e ∙ bits_of-shifted filled (8 - filled) last)
           ∙ sym (append_assoc (flat_map (bits_of 8) bytes) (bits_of filled last) (replicate (8 - filled) false))
           ∙ ap (λ l. l ++ replicate (8 - filled) false) was;
     }

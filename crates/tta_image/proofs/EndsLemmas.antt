@@ -1,8 +1,8 @@
 -- Codes of sources, destinations and guards tell them apart.
-use Rattle.std.proofs.Common.{◌≡◌, ℕ, zero, suc, ◌+◌, ◌<◌, ◌≤◌, ◌==◌, Bool, true, false, ◌&&◌, ◌||◌, nat_lt, if◌then◌else◌, List, [], ◌∷◌, ◌++◌, length, map, filter, slice_get, Option, Some, None, option_and_then, refl, sym, ap, ◌∙◌, arith}
+use Rattle.std.proofs.Common.{◌≡◌, ℕ, ◌+◌, ◌<◌, ◌==◌, Bool, true, false, ◌&&◌, nat_lt, if◌then◌else◌, List, [], ◌∷◌, ◌++◌, length, map, slice_get, Option, Some, None, option_and_then, refl, sym, ap, ◌∙◌, arith}
 use Rattle.std.specs.Option.{option_map_or}
 use Rattle.std.specs.List.{list_any, flat_map, enumerate_from, position_or_len}
-use Rattle.std.proofs.lemmas.Bool.{false≢true, and_parts, and_from, or_left, or_right, eqb-true, eq-eqb, ltb-true}
+use Rattle.std.proofs.lemmas.Bool.{false≢true, and_parts, and_from, or_left, eqb-true, eq-eqb, ltb-true}
 use Rattle.tta_machine.specs.declared.parts.Guard.{Guard}
 use Rattle.tta_machine.specs.declared.ends.GuardRef.{GuardRef}
 use Rattle.tta_machine.specs.declared.ends.Source.{Source}
@@ -10,7 +10,7 @@ use Rattle.tta_machine.specs.declared.ends.Source.TheVariants as source
 use Rattle.tta_machine.specs.declared.ends.Dest.{Dest}
 use Rattle.tta_machine.specs.declared.ends.Dest.TheVariants as dest
 use Rattle.tta_machine.specs.Machine.{Machine}
-use Rattle.tta_machine.specs.Joins.{within, has_socket, source_socket, dest_socket, is_same, is_same_guard, is_source_on, is_dest_on, has_guard}
+use Rattle.tta_machine.specs.Joins.{within, has_socket, is_same, is_same_guard, is_source_on, is_dest_on, has_guard}
 use Rattle.tta_machine.specs.Fields.{numbers, all_sources, all_dests, sources_on, dests_on, guards_on, same_source, same_dest, source_code, dest_code, guard_code}
 use Rattle.tta_image.specs.Layout.{has_source_socket}
 use Rattle.tta_image.proofs.Places.{place_inside, one_item, any_left, any_right, any_kept, any_both, any_pieces, any_numbered}
@@ -91,35 +91,40 @@ pub source_listed : (m : Machine) (bus : ℕ) (src : Source) → has_source_sock
 source_listed m bus src h = by src h where
   q : Source → Bool
   q = same_source src
+
   files : List Source
   files = flat_map (λ f. map (source.Reg f.0) (numbers f.1.size)) (enumerate_from 0 m.files)
+
   imms : List Source
   imms = flat_map (λ u. map (source.Imm u.0) (numbers u.1.size)) (enumerate_from 0 m.imms)
+
   results : List Source
   results = flat_map (λ u. option_map_or (λ r. source.Shown u.0 ∷ []) u.1.result []) (enumerate_from 0 m.units)
+
   ra : List Source
   ra = option_map_or (λ r. source.Ra ∷ []) m.control.ra []
+
   by : (s : Source) → has_source_socket m bus s ≡ true → list_any (same_source s) (files ++ imms ++ results ++ ra) ≡ true
   by (source.Reg f i) k =
       let p = same_source (source.Reg f i) in
       let t = there m false bus (slice_get m.files f) (λ x. within i x.size x.out) k in
       let lt = below m false bus i t.0.size t.0.out t.2 in
       any_left p (files ++ imms ++ results) ra (any_left p (files ++ imms) results (any_left p files imms
-        (any_pieces p (λ x. map (source.Reg x.0) (numbers x.1.size)) m.files 0 f f t.0 (omega arith) t.1
-          (any_numbered p (source.Reg f) 0 t.0.size i i (omega arith) lt (same_source_itself (source.Reg f i))))))
+      (any_pieces p (λ x. map (source.Reg x.0) (numbers x.1.size)) m.files 0 f f t.0 (omega arith) t.1
+      (any_numbered p (source.Reg f) 0 t.0.size i i (omega arith) lt (same_source_itself (source.Reg f i))))))
   by (source.Imm f i) k =
       let p = same_source (source.Imm f i) in
       let t = there m false bus (slice_get m.imms f) (λ x. within i x.size x.out) k in
       let lt = below m false bus i t.0.size t.0.out t.2 in
       any_left p (files ++ imms ++ results) ra (any_left p (files ++ imms) results (any_right p files imms
-        (any_pieces p (λ x. map (source.Imm x.0) (numbers x.1.size)) m.imms 0 f f t.0 (omega arith) t.1
-          (any_numbered p (source.Imm f) 0 t.0.size i i (omega arith) lt (same_source_itself (source.Imm f i))))))
+      (any_pieces p (λ x. map (source.Imm x.0) (numbers x.1.size)) m.imms 0 f f t.0 (omega arith) t.1
+      (any_numbered p (source.Imm f) 0 t.0.size i i (omega arith) lt (same_source_itself (source.Imm f i))))))
   by (source.Shown u) k =
       let p = same_source (source.Shown u) in
       let t = there m false bus (slice_get m.units u) (λ x. x.result) k in
       any_left p (files ++ imms ++ results) ra (any_right p (files ++ imms) results
-        (any_pieces p (λ x. option_map_or (λ r. source.Shown x.0 ∷ []) x.1.result []) m.units 0 u u t.0 (omega arith) t.1
-          (port m false bus p t.0.result (source.Shown u) t.2 (same_source_itself (source.Shown u)))))
+      (any_pieces p (λ x. option_map_or (λ r. source.Shown x.0 ∷ []) x.1.result []) m.units 0 u u t.0 (omega arith) t.1
+      (port m false bus p t.0.result (source.Shown u) t.2 (same_source_itself (source.Shown u)))))
   by source.Ra k =
       let p = same_source source.Ra in
       any_right p (files ++ imms ++ results) ra (port m false bus p m.control.ra source.Ra k refl)
@@ -130,33 +135,36 @@ pub dest_listed : (m : Machine) (bus : ℕ) (dst : Dest) → is_dest_on m bus ds
 dest_listed m bus dst h = by dst h where
   files : List Dest
   files = flat_map (λ f. map (dest.Reg f.0) (numbers f.1.size)) (enumerate_from 0 m.files)
+
   units : List Dest
   units = flat_map (λ u. option_map_or (λ o. dest.Operand u.0 ∷ []) u.1.operand [] ++ map (dest.Trigger u.0) (numbers (length u.1.ops))) (enumerate_from 0 m.units)
+
   control : List Dest
   control = dest.Jump ∷ dest.Call ∷ dest.Halt ∷ []
+
   by : (d : Dest) → is_dest_on m bus d ≡ true → list_any (same_dest d) (files ++ units ++ control) ≡ true
   by (dest.Reg f i) k =
       let p = same_dest (dest.Reg f i) in
       let t = there m true bus (slice_get m.files f) (λ x. within i x.size x.into) k in
       let lt = below m true bus i t.0.size t.0.into t.2 in
       any_left p (files ++ units) control (any_left p files units
-        (any_pieces p (λ x. map (dest.Reg x.0) (numbers x.1.size)) m.files 0 f f t.0 (omega arith) t.1
-          (any_numbered p (dest.Reg f) 0 t.0.size i i (omega arith) lt (same_dest_itself (dest.Reg f i)))))
+      (any_pieces p (λ x. map (dest.Reg x.0) (numbers x.1.size)) m.files 0 f f t.0 (omega arith) t.1
+      (any_numbered p (dest.Reg f) 0 t.0.size i i (omega arith) lt (same_dest_itself (dest.Reg f i)))))
   by (dest.Operand u) k =
       let p = same_dest (dest.Operand u) in
       let t = there m true bus (slice_get m.units u) (λ x. x.operand) k in
       any_left p (files ++ units) control (any_right p files units
-        (any_pieces p (λ x. option_map_or (λ o. dest.Operand x.0 ∷ []) x.1.operand [] ++ map (dest.Trigger x.0) (numbers (length x.1.ops))) m.units 0 u u t.0 (omega arith) t.1
-          (any_left p (option_map_or (λ o. dest.Operand u ∷ []) t.0.operand []) (map (dest.Trigger u) (numbers (length t.0.ops)))
-            (port m true bus p t.0.operand (dest.Operand u) t.2 (same_dest_itself (dest.Operand u))))))
+      (any_pieces p (λ x. option_map_or (λ o. dest.Operand x.0 ∷ []) x.1.operand [] ++ map (dest.Trigger x.0) (numbers (length x.1.ops))) m.units 0 u u t.0 (omega arith) t.1
+      (any_left p (option_map_or (λ o. dest.Operand u ∷ []) t.0.operand []) (map (dest.Trigger u) (numbers (length t.0.ops)))
+      (port m true bus p t.0.operand (dest.Operand u) t.2 (same_dest_itself (dest.Operand u))))))
   by (dest.Trigger u op) k =
       let p = same_dest (dest.Trigger u op) in
       let t = there m true bus (slice_get m.units u) (λ x. within op (length x.ops) x.trigger) k in
       let lt = below m true bus op (length t.0.ops) t.0.trigger t.2 in
       any_left p (files ++ units) control (any_right p files units
-        (any_pieces p (λ x. option_map_or (λ o. dest.Operand x.0 ∷ []) x.1.operand [] ++ map (dest.Trigger x.0) (numbers (length x.1.ops))) m.units 0 u u t.0 (omega arith) t.1
-          (any_right p (option_map_or (λ o. dest.Operand u ∷ []) t.0.operand []) (map (dest.Trigger u) (numbers (length t.0.ops)))
-            (any_numbered p (dest.Trigger u) 0 (length t.0.ops) op op (omega arith) lt (same_dest_itself (dest.Trigger u op))))))
+      (any_pieces p (λ x. option_map_or (λ o. dest.Operand x.0 ∷ []) x.1.operand [] ++ map (dest.Trigger x.0) (numbers (length x.1.ops))) m.units 0 u u t.0 (omega arith) t.1
+      (any_right p (option_map_or (λ o. dest.Operand u ∷ []) t.0.operand []) (map (dest.Trigger u) (numbers (length t.0.ops)))
+      (any_numbered p (dest.Trigger u) 0 (length t.0.ops) op op (omega arith) lt (same_dest_itself (dest.Trigger u op))))))
   by dest.Jump k = any_right (same_dest dest.Jump) (files ++ units) control refl
   by dest.Call k = any_right (same_dest dest.Call) (files ++ units) control refl
   by dest.Halt k = any_right (same_dest dest.Halt) (files ++ units) control refl

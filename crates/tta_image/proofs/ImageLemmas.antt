@@ -1,5 +1,5 @@
 -- The parts of an image, and what legal code says of them.
-use Rattle.std.proofs.Common.{◌≡◌, ℕ, ◌^◌, ◌<◌, ◌≤◌, ◌==◌, Bool, true, false, ◌&&◌, List, [], ◌∷◌, ◌++◌, length, nat_le, codes, IsTrue, All, refl, sym, ap, ◌∙◌, arith}
+use Rattle.std.proofs.Common.{◌≡◌, ℕ, ◌^◌, ◌<◌, ◌≤◌, ◌==◌, Bool, true, false, ◌&&◌, List, [], ◌∷◌, ◌++◌, length, nat_le, codes, IsTrue, All, ap, ◌∙◌, arith}
 use Rattle.std.specs.Int.{w32, to_be_bytes}
 use Rattle.std.specs.Option.{option_map_or}
 use Rattle.std.specs.List.{AllByRecursion}
@@ -27,8 +27,8 @@ parts_from m digest words width count first body body' bytes begins joined same 
     let tail : List ℕ = to_be_bytes w32 count ++ digest in
     joined ∙ ap (λ (l : List ℕ). first ++ l) same
     ∙ ap (λ (l : List ℕ). l ++ body)
-      (begins ∙ ap (λ (w : ℕ). codes "TTAI" ++ (to_be_bytes w32 1 ++ (to_be_bytes w32 w ++ tail))) wide
-      ∙ ap (λ (n : ℕ). codes "TTAI" ++ (to_be_bytes w32 1 ++ (to_be_bytes w32 (word_width m) ++ (to_be_bytes w32 n ++ digest)))) many)
+    (begins ∙ ap (λ (w : ℕ). codes "TTAI" ++ (to_be_bytes w32 1 ++ (to_be_bytes w32 w ++ tail))) wide
+    ∙ ap (λ (n : ℕ). codes "TTAI" ++ (to_be_bytes w32 1 ++ (to_be_bytes w32 (word_width m) ++ (to_be_bytes w32 n ++ digest)))) many)
 
 pub are_bytes_of_same : (shown bits : List Bool) (bytes : List ℕ) → shown ≡ bits → AreBytesOf shown bytes → AreBytesOf bits bytes
 are_bytes_of_same shown bits bytes same h = rw (← same) h

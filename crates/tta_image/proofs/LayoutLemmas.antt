@@ -1,5 +1,5 @@
 -- The layout of a machine, part by part.
-use Rattle.std.proofs.Common.{◌≡◌, ℕ, zero, suc, ◌+◌, ◌-◌, ◌/◌, ◌%◌, ◌^◌, ◌==◌, ◌<◌, ◌≤◌, Bool, true, false, if◌then◌else◌, List, [], ◌∷◌, ◌++◌, length, map, max, get_or, slice_get, take, drop, Option, Some, None, lit<, refl, sym, ap, ◌∙◌, arith}
+use Rattle.std.proofs.Common.{◌≡◌, ℕ, zero, suc, ◌+◌, ◌-◌, ◌/◌, ◌^◌, ◌<◌, ◌≤◌, Bool, true, false, if◌then◌else◌, List, [], ◌∷◌, ◌++◌, length, map, max, get_or, take, drop, Option, Some, None, lit<, refl, sym, ap, ◌∙◌, arith}
 use Rattle.std.specs.Option.{option_map_or}
 use Rattle.std.specs.List.{sum_by, range_with_len, enumerate_from}
 use Rattle.std.proofs.lemmas.List.{map-id, drop_more, append_assoc}
@@ -33,8 +33,8 @@ pub fields_from_parts : (m : Machine) (bus : ℕ) (gs : List Guard) (ss : List S
     → gs ≡ guards_on m bus → ss ≡ sources_on m bus → ds ≡ dests_on m bus
     → gw ≡ width_for (1 + length gs) → sw ≡ short_width m bus → pw ≡ max sw (width_for (length ss)) → dw ≡ width_for (1 + length ds)
     → ◌≡◌ {A = BusFields}
-      (record { guards = gs; sources = ss; dests = ds; guard_width = gw; short_width = sw; payload_width = pw; dest_width = dw; width = gw + (1 + pw) + dw })
-      (fields_of m bus)
+    (record { guards = gs; sources = ss; dests = ds; guard_width = gw; short_width = sw; payload_width = pw; dest_width = dw; width = gw + (1 + pw) + dw })
+    (fields_of m bus)
 fields_from_parts m bus gs ss ds gw sw pw dw guards sources dests wide_guard short payload wide_dest =
     let gw' : gw ≡ guard_width m bus = wide_guard ∙ ap (λ (l : List Guard). width_for (1 + length l)) guards in
     let pw' : pw ≡ payload_width m bus = payload ∙ ap (λ (w : ℕ). max w (width_for (length ss))) short ∙ ap (λ (l : List Source). max (short_width m bus) (width_for (length l))) sources in
@@ -121,7 +121,7 @@ set_width m l set is =
 pub widths_fit : (m : Machine) (l : Layout) → l ≡ layout_of m → word_width m < 2 ^ 32 → sum_by (λ f. f.width) l.buses < 2 ^ 32
 widths_fit m l is fits =
     let e : sum_by (λ f. f.width) l.buses ≡ sum_by (bus_width m) (numbers (length m.buses)) =
-        ap (λ (x : Layout). sum_by (λ (f : BusFields). f.width) x.buses) is ∙ sum_by-map (λ (f : BusFields). f.width) (fields_of m) (numbers (length m.buses)) in
+    ap (λ (x : Layout). sum_by (λ (f : BusFields). f.width) x.buses) is ∙ sum_by-map (λ (f : BusFields). f.width) (fields_of m) (numbers (length m.buses)) in
     omega arith
 
 -- the fields of one bus of a layout
@@ -202,11 +202,11 @@ slots_more m taken value left left' bus moves slot f here sink sink' all h at is
     let b : Bool = has_bit taken bus in
     let rest : List (Option Move) = drop (bus + 1) moves in
     let own : b ≡ true → bus_width m bus ≤ left =
-        λ t. let e : f.width ≡ bus_width m bus = ap (λ (x : BusFields). x.width) is in let le = left_enough m taken bus (length moves) left f h is enough t in omega arith in
+    λ t. let e : f.width ≡ bus_width m bus = ap (λ (x : BusFields). x.width) is in let le = left_enough m taken bus (length moves) left f h is enough t in omega arith in
     ap (λ (l : List Bool). l ++ slots_bits m taken (bits_of left' value) (bus + 1) rest)
     (wrote ∙ ap (λ (x : BusFields). sink ++ bus_field x here left value slot) is ∙ ap (λ (x : Bool). sink ++ bus_field (fields_of m bus) x left value slot) takes)
     ∙ ap (λ (k : ℕ). (sink ++ bus_field (fields_of m bus) b left value slot) ++ slots_bits m taken (bits_of k value) (bus + 1) rest)
-      (after ∙ ap (λ (x : BusFields). left_after x here left) is ∙ ap (λ (x : Bool). left_after (fields_of m bus) x left) takes)
+    (after ∙ ap (λ (x : BusFields). left_after x here left) is ∙ ap (λ (x : Bool). left_after (fields_of m bus) x left) takes)
     ∙ append_assoc sink (bus_field (fields_of m bus) b left value slot) (slots_bits m taken (bits_of (left_after (fields_of m bus) b left) value) (bus + 1) rest)
     ∙ ap (λ (l : List Bool). sink ++ l) (sym (slots_step m taken value left bus slot rest b refl own))
     ∙ ap (λ (l : List (Option Move)). sink ++ slots_bits m taken (bits_of left value) bus l) (ap (λ (o : Option Move). o ∷ rest) at ∙ sym (drop_more moves bus None h))
@@ -219,7 +219,7 @@ layout_bus_read m l buses bus f is same h read = read ∙ ap (λ (xs : List BusF
 
 -- ---- whole instructions
 
-no_bus_in_none : (m : Machine) (xs : List ℕ) → sum_by (set_width_at m 0) xs ≡ 0
+pub no_bus_in_none : (m : Machine) (xs : List ℕ) → sum_by (set_width_at m 0) xs ≡ 0
 no_bus_in_none m [] = refl
 no_bus_in_none m (x ∷ xs) =
     let none : 0 / 2 ^ x ≡ 0 = no_high 0 0 x (lit< tt) (omega arith) in
@@ -242,7 +242,7 @@ unfolding instruction_bits
 instruction_from m l i taken value code moves sink sink' sink'' slots is takes has names first second =
     let template : List Bool = bits_of (template_width m) (template_code i.long) in
     let first' : sink' ≡ sink ++ template =
-        first ∙ ap (λ (x : Layout). sink ++ bits_of x.template_width code) is ∙ ap (λ (n : ℕ). sink ++ bits_of (template_width m) n) names in
+    first ∙ ap (λ (x : Layout). sink ++ bits_of x.template_width code) is ∙ ap (λ (n : ℕ). sink ++ bits_of (template_width m) n) names in
     second ∙ ap (λ (s : List (Option Move)). sink' ++ slots_bits m taken (bits_of (taken_width m taken) value) 0 s) slots
     ∙ ap (λ (t : ℕ). sink' ++ slots_bits m t (bits_of (taken_width m t) value) 0 i.moves) takes
     ∙ ap (λ (v : ℕ). sink' ++ slots_bits m (buses_of m i.long) (bits_of (taken_width m (buses_of m i.long)) v) 0 i.moves) has

@@ -1,5 +1,5 @@
 -- What the rules of a machine say of its parts.
-use Rattle.std.proofs.Common.{◌≡◌, ℕ, ◌+◌, ◌/◌, ◌%◌, ◌^◌, ◌<◌, ◌≤◌, ◌==◌, Bool, true, false, cond, ◌&&◌, List, [], ◌∷◌, ◌++◌, length, map, filter, nat_le, Option, Some, None, All, refl, sym, ap, ◌∙◌, arith}
+use Rattle.std.proofs.Common.{◌≡◌, ℕ, ◌/◌, ◌^◌, ◌<◌, ◌≤◌, Bool, true, false, cond, ◌&&◌, List, [], ◌∷◌, ◌++◌, length, map, filter, nat_le, Option, Some, None, All, refl, sym, ap, ◌∙◌, arith}
 use Rattle.std.specs.Option.{option_map_or}
 use Rattle.std.specs.List.{list_all, flat_map, enumerate_from}
 use Rattle.std.proofs.lemmas.Bool.{and_parts, leb-true}
@@ -9,7 +9,7 @@ use Rattle.tta_machine.specs.declared.parts.Unit.{Unit as OpUnit}
 use Rattle.tta_machine.specs.declared.ends.Source.{Source}
 use Rattle.tta_machine.specs.declared.ends.Source.TheVariants as source
 use Rattle.tta_machine.specs.Machine.{Machine}
-use Rattle.tta_machine.specs.Joins.{is_same, has_bit, has_socket, source_socket, is_source_on}
+use Rattle.tta_machine.specs.Joins.{has_bit, is_source_on}
 use Rattle.tta_machine.specs.Fields.{numbers, all_sources, sources_on}
 use Rattle.tta_machine.specs.Rules.{is_unit, is_unit_op, is_socket, is_port_socket, same_op, are_different}
 use Rattle.tta_image.specs.Layout.{has_source_socket}
@@ -25,7 +25,7 @@ fourth a b c d e f h =
 few_ops_of : (sockets : List Socket) (u : OpUnit) → is_unit sockets u ≡ true → length u.ops ≤ 256
 few_ops_of sockets u h =
     let few = fourth (is_socket sockets true u.trigger) (is_port_socket sockets true u.operand) (is_port_socket sockets false u.result)
-      (nat_le (length u.ops) 32) (list_all (is_unit_op u) u.ops) (are_different (λ o p. same_op o.op p.op) u.ops) h in
+    (nat_le (length u.ops) 32) (list_all (is_unit_op u) u.ops) (are_different (λ o p. same_op o.op p.op) u.ops) h in
     let le : length u.ops ≤ 32 = leb-true (length u.ops) 32 few in
     omega arith
 
@@ -75,10 +75,10 @@ sources_by_socket m bus =
     let results : List Source = flat_map (λ u. option_map_or (λ r. source.Shown u.0 ∷ []) u.1.result []) (enumerate_from 0 m.units) in
     same_kept_both p q (files ++ imms ++ results) (option_map_or (λ r. source.Ra ∷ []) m.control.ra [])
     (same_kept_both p q (files ++ imms) results
-      (same_kept_both p q files imms
-        (same_kept_pieces p q (λ f. map (source.Reg f.0) (numbers f.1.size)) (enumerate_from 0 m.files) (λ f. same_kept p q (source.Reg f.0) (numbers f.1.size) (λ n. refl)))
-        (same_kept_pieces p q (λ u. map (source.Imm u.0) (numbers u.1.size)) (enumerate_from 0 m.imms) (λ u. same_kept p q (source.Imm u.0) (numbers u.1.size) (λ n. refl))))
-      (same_kept_pieces p q (λ u. option_map_or (λ r. source.Shown u.0 ∷ []) u.1.result []) (enumerate_from 0 m.units) (λ u. same_shown m bus u.0 u.1.result)))
+    (same_kept_both p q files imms
+    (same_kept_pieces p q (λ f. map (source.Reg f.0) (numbers f.1.size)) (enumerate_from 0 m.files) (λ f. same_kept p q (source.Reg f.0) (numbers f.1.size) (λ n. refl)))
+    (same_kept_pieces p q (λ u. map (source.Imm u.0) (numbers u.1.size)) (enumerate_from 0 m.imms) (λ u. same_kept p q (source.Imm u.0) (numbers u.1.size) (λ n. refl))))
+    (same_kept_pieces p q (λ u. option_map_or (λ r. source.Shown u.0 ∷ []) u.1.result []) (enumerate_from 0 m.units) (λ u. same_shown m bus u.0 u.1.result)))
     (same_ra m bus m.control.ra)
 
 -- a set of sixteen buses has no bus above

@@ -1,7 +1,7 @@
 -- Items of lists that pass a test, and the place of the first of them.
-use Rattle.std.proofs.Common.{◌≡◌, ℕ, zero, suc, ◌+◌, ◌<◌, ◌≤◌, Bool, true, false, not, cond, ◌&&◌, ◌||◌, List, [], ◌∷◌, ◌++◌, length, map, filter, get_or, slice_get, Option, Some, None, refl, sym, ap, ◌∙◌, arith}
+use Rattle.std.proofs.Common.{◌≡◌, ℕ, zero, suc, ◌+◌, ◌<◌, Bool, true, false, ◌&&◌, ◌||◌, List, [], ◌∷◌, ◌++◌, length, map, filter, get_or, slice_get, Some, refl, sym, ap, ◌∙◌, arith}
 use Rattle.std.specs.List.{list_any, flat_map, enumerate_from, range_with_len, position_or_len}
-use Rattle.std.proofs.lemmas.Bool.{false≢true, or_left, or_right, or_cases, and_parts}
+use Rattle.std.proofs.lemmas.Bool.{false≢true, or_left, or_right}
 use Rattle.std.proofs.lemmas.Option.{none-some, same_Some}
 use Rattle.std.proofs.lemmas.List.Sums.{passes_at_first}
 
@@ -18,12 +18,11 @@ place_inside q (x ∷ xs) h = place_by q x xs (q x) refl h (place_inside q xs)
 -- two tests that are first passed at one place are passed by one item
 pub one_item : {X : Type 0} (q q' : X → Bool) (xs : List X) (d : X) → list_any q xs ≡ true → list_any q' xs ≡ true → position_or_len q xs ≡ position_or_len q' xs
     → (x : X) × (q x ≡ true) × (q' x ≡ true)
-one_item q q' xs d some some' same =
-    (
-      get_or xs (position_or_len q xs) d,
-      passes_at_first q xs d (place_inside q xs some),
-      ap (λ k. q' (get_or xs k d)) same ∙ passes_at_first q' xs d (place_inside q' xs some')
-    )
+one_item q q' xs d some some' same = (
+  get_or xs (position_or_len q xs) d,
+  passes_at_first q xs d (place_inside q xs some),
+  ap (λ k. q' (get_or xs k d)) same ∙ passes_at_first q' xs d (place_inside q' xs some'),
+)
 
 pub any_left : {X : Type 0} (q : X → Bool) (xs ys : List X) → list_any q xs ≡ true → list_any q (xs ++ ys) ≡ true
 any_left q [] ys h = absurd (false≢true h)

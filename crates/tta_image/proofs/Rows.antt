@@ -1,11 +1,15 @@
 -- The bits and the bytes of small images.
 use Rattle.std.specs.Prelude.{◌≡◌, [], ◌∷◌, ◌++◌, false, None, Some, refl, replicate}
+use Rattle.std.proofs.Common.{List, sym, ap, ◌∙◌, subst, lit≤}
 use Rattle.std.specs.List.{flat_map}
 use Rattle.tta_machine.specs.declared.ends.Source.TheVariants as source
 use Rattle.tta_machine.specs.declared.ends.Dest.TheVariants as dest
 use Rattle.tta_machine.specs.Fields.{width_for}
 use Rattle.tta_machine.proofs.Samples.{one_bus, three_buses}
+use Rattle.tta_machine.specs.Legal.{can_move}
+use Rattle.tta_code.specs.declared.code.Instruction.{Instruction}
 use Rattle.tta_code.specs.declared.code.Code.{Code}
+use Rattle.tta_code.specs.Legal.{is_legal, IsLegalCode}
 use Rattle.tta_code.proofs.Rows.{wide}
 use Rattle.tta_image.specs.Bits.{bits_of, instruction_bits, code_bits}
 use Rattle.tta_image.specs.Image.{header}
@@ -31,3 +35,19 @@ seven-bits = refl
 seven-header : header one_bus [] 2 ≡ 0x54 ∷ 0x54 ∷ 0x41 ∷ 0x49 ∷ 0 ∷ 0 ∷ 0 ∷ 1 ∷ 0 ∷ 0 ∷ 0 ∷ 0x0c ∷ 0 ∷ 0 ∷ 0 ∷ 2 ∷ []
 unfolding width_for
 seven-header = refl
+
+-- the machine can carry it out
+seven-legal : IsLegalCode one_bus seven
+unfolding is_legal can_move
+seven-legal = record { words = (refl, (refl, tt)); room = lit≤ tt }
+
+-- the same, put together word by word
+pub seven-from : (none one two words : List Instruction) (a b : Instruction) → none ≡ [] → one ≡ none ++ a ∷ [] → two ≡ one ++ b ∷ [] → words ≡ two
+    → a ≡ record { moves = Some (record { guard = None; src = source.Value 7; dst = dest.Trigger 0 0 }) ∷ []; long = None }
+    → b ≡ record { moves = Some (record { guard = None; src = source.Value 0; dst = dest.Halt }) ∷ []; long = None }
+    → IsLegalCode one_bus (record { words = words })
+seven-from none one two words a b empty first second same is_a is_b =
+    let e : words ≡ seven.words =
+    same ∙ second ∙ ap (λ (l : List Instruction). l ++ b ∷ []) (first ∙ ap (λ (l : List Instruction). l ++ a ∷ []) empty)
+    ∙ ap (λ (x : Instruction). x ∷ b ∷ []) is_a ∙ ap (λ (x : Instruction). record { moves = Some (record { guard = None; src = source.Value 7; dst = dest.Trigger 0 0 }) ∷ []; long = None } ∷ x ∷ []) is_b in
+    subst (λ (l : List Instruction). IsLegalCode one_bus (record { words = l })) (sym e) seven-legal

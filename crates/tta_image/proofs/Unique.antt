@@ -1,8 +1,7 @@
 -- What bits determine: a number, bytes, and how many zeros fill up the last byte.
-use Rattle.std.proofs.Common.{◌≡◌, ℕ, zero, suc, ◌+◌, ◌-◌, ◌*◌, ◌/◌, ◌%◌, ◌^◌, ◌<◌, ◌≤◌, ◌==◌, Bool, true, false, List, [], ◌∷◌, ◌++◌, length, replicate, take, drop, refl, sym, ap, ◌∙◌, inl, inr, arith}
+use Rattle.std.proofs.Common.{◌≡◌, ℕ, zero, suc, ◌+◌, ◌*◌, ◌/◌, ◌%◌, ◌^◌, ◌<◌, ◌==◌, Bool, false, List, [], ◌∷◌, ◌++◌, length, replicate, take, drop, refl, sym, ap, ◌∙◌, inl, inr, arith}
 use Rattle.std.specs.List.{flat_map, AllByRecursion}
-use Rattle.std.proofs.lemmas.List.{append_cancel_left, same_from_push, take_at, drop_at, length-append, length-replicate}
-use Rattle.std.proofs.lemmas.Nat.{div_below}
+use Rattle.std.proofs.lemmas.List.{same_from_push, take_at, drop_at, length-append, length-replicate}
 use Rattle.std.proofs.lemmas.Bool.{cases_eq, eq-eqb, ne_eqb}
 use Rattle.tta_machine.specs.Machine.{Machine}
 use Rattle.tta_code.specs.declared.code.Code.{Code}
@@ -13,11 +12,10 @@ use Rattle.tta_image.proofs.BitLemmas.{bits_of-with_bit}
 
 -- two lists that begin with parts of one length
 pub split_same : {A : Type 0} (p p' r r' : List A) → length p ≡ length p' → p ++ r ≡ p' ++ r' → (p ≡ p') × (r ≡ r')
-split_same p p' r r' same joined =
-    (
-      sym (take_at p r (length p) refl) ∙ ap (λ l. take (length p) l) joined ∙ take_at p' r' (length p) (sym same),
-      sym (drop_at p r (length p) refl) ∙ ap (λ l. drop (length p) l) joined ∙ drop_at p' r' (length p) (sym same)
-    )
+split_same p p' r r' same joined = (
+  sym (take_at p r (length p) refl) ∙ ap (λ l. take (length p) l) joined ∙ take_at p' r' (length p) (sym same),
+  sym (drop_at p r (length p) refl) ∙ ap (λ l. drop (length p) l) joined ∙ drop_at p' r' (length p) (sym same),
+)
 
 pub length-bits_of : (w n : ℕ) → length (bits_of w n) ≡ w
 length-bits_of zero n = refl
@@ -25,8 +23,9 @@ length-bits_of (suc w) n = ap suc (length-bits_of w n)
 
 halved : (n : ℕ) → n ≡ 2 * (n / 2) + bit_value (n % 2 == 1)
 halved n = elim (cases_eq (n % 2) 1) [
-    inl odd ↦ let v : bit_value (n % 2 == 1) ≡ 1 = ap bit_value (eq-eqb (n % 2) 1 odd) in omega arith
-  | inr even ↦ let v : bit_value (n % 2 == 1) ≡ 0 = ap bit_value (ne_eqb (n % 2) 1 even) in omega arith ]
+  | inl odd ↦ let v : bit_value (n % 2 == 1) ≡ 1 = ap bit_value (eq-eqb (n % 2) 1 odd) in omega arith
+  | inr even ↦ let v : bit_value (n % 2 == 1) ≡ 0 = ap bit_value (ne_eqb (n % 2) 1 even) in omega arith
+]
 
 -- a number's bits but its last one, and its last one
 bits_of-split : (w n : ℕ) → bits_of (suc w) n ≡ bits_of w (n / 2) ++ (n % 2 == 1) ∷ []
@@ -64,9 +63,9 @@ same_bytes (b ∷ bs) (b' ∷ bs') h h' same =
 pub one_filling : (bits : List Bool) (bytes bytes' : List ℕ) → AreBytesOf bits bytes → AreBytesOf bits bytes' → bytes ≡ bytes'
 one_filling bits bytes bytes' h h' =
     let many : 8 * length bytes ≡ length bits + h.filling =
-        sym (length-bytes bytes) ∙ ap length h.same_bits ∙ length-append bits (replicate h.filling false) ∙ ap (λ (k : ℕ). length bits + k) (length-replicate h.filling false) in
+    sym (length-bytes bytes) ∙ ap length h.same_bits ∙ length-append bits (replicate h.filling false) ∙ ap (λ (k : ℕ). length bits + k) (length-replicate h.filling false) in
     let many' : 8 * length bytes' ≡ length bits + h'.filling =
-        sym (length-bytes bytes') ∙ ap length h'.same_bits ∙ length-append bits (replicate h'.filling false) ∙ ap (λ (k : ℕ). length bits + k) (length-replicate h'.filling false) in
+    sym (length-bytes bytes') ∙ ap length h'.same_bits ∙ length-append bits (replicate h'.filling false) ∙ ap (λ (k : ℕ). length bits + k) (length-replicate h'.filling false) in
     let short = h.short in let short' = h'.short in
     let same : h.filling ≡ h'.filling = omega arith in
     same_bytes bytes bytes' h.are_bytes h'.are_bytes (h.same_bits ∙ ap (λ (k : ℕ). bits ++ replicate k false) same ∙ sym h'.same_bits)

@@ -1,6 +1,6 @@
 -- How many bits tell so many codes apart.
-use Rattle.std.proofs.Common.{◌≡◌, ℕ, zero, suc, ◌+◌, ◌-◌, ◌*◌, ◌/◌, ◌%◌, ◌^◌, ◌<◌, ◌≤◌, Bool, true, false, cond, nat_le, refl, lit<, inl, inr, sym, ap, ◌∙◌, arith}
-use Rattle.std.proofs.lemmas.Nat.{pow_pos, shr_split, mod_below}
+use Rattle.std.proofs.Common.{◌≡◌, ℕ, zero, suc, ◌+◌, ◌-◌, ◌*◌, ◌/◌, ◌^◌, ◌<◌, ◌≤◌, lit<, inl, inr, ap, arith}
+use Rattle.std.proofs.lemmas.Nat.{pow_pos, pow_below, shr_split, mod_below}
 use Rattle.std.proofs.lemmas.Bool.{le-leb, lt-leb, cases_lt}
 use Rattle.tta_machine.specs.Fields.{width_from, width_for}
 
@@ -12,8 +12,9 @@ width_from-is : (tries v codes width : ℕ) → v ≤ width → width ≤ v + tr
     → width_from tries v codes ≡ width
 width_from-is zero v codes width low high fits few = omega arith
 width_from-is (suc tries) v codes width low high fits few = elim (cases_lt v width) [
-    inl more ↦ rw (lt-leb codes (2 ^ v) (few v more)) (width_from-is tries (v + 1) codes width (omega arith) (omega arith) fits few)
-  | inr enough ↦ let e : v ≡ width = omega arith in let le : codes ≤ 2 ^ v = rw e fits in rw (le-leb codes (2 ^ v) le) e ]
+  | inl more ↦ rw (lt-leb codes (2 ^ v) (few v more)) (width_from-is tries (v + 1) codes width (omega arith) (omega arith) fits few)
+  | inr enough ↦ let e : v ≡ width = omega arith in let le : codes ≤ 2 ^ v = rw e fits in rw (le-leb codes (2 ^ v) le) e
+]
 
 below_pow : (n : ℕ) → n < 2 ^ n
 below_pow zero = lit< tt
@@ -34,3 +35,28 @@ enough_from_high codes width h =
     let below = mod_below (codes - 1) (2 ^ width) (pow_pos width) in
     let product : (codes - 1) / 2 ^ width * 2 ^ width ≡ 0 * 2 ^ width = ap (λ q. q * 2 ^ width) h in
     omega arith
+
+width_from-enough : (tries v codes : ℕ) → codes ≤ 2 ^ (v + tries) → codes ≤ 2 ^ width_from tries v codes
+width_from-enough zero v codes h = let e : v + 0 ≡ v = omega arith in rw e at h
+width_from-enough (suc tries) v codes h =
+    let e : v + suc tries ≡ v + 1 + tries = omega arith in
+    let rest = width_from-enough tries (v + 1) codes (rw e at h) in
+    elim (cases_lt (2 ^ v) codes) [
+      | inl more ↦ rw (lt-leb codes (2 ^ v) more) rest
+      | inr enough ↦ rw (le-leb codes (2 ^ v) enough) enough
+    ]
+
+-- the width is wide enough
+pub width_for-enough : (codes : ℕ) → codes ≤ 2 ^ width_for codes
+unfolding width_for
+width_for-enough codes =
+    let h = below_pow codes in let e : 0 + codes ≡ codes = omega arith in
+    let le : codes ≤ 2 ^ (0 + codes) = rw e (omega arith) in
+    width_from-enough codes 0 codes le
+
+-- more bits hold more
+pub pow_le : (a b : ℕ) → a ≤ b → 2 ^ a ≤ 2 ^ b
+pow_le a b h = elim (cases_lt a b) [
+  | inl lt ↦ let p = pow_below a b lt in omega arith
+  | inr ge ↦ let e : a ≡ b = omega arith in rw e (omega arith)
+]

@@ -3,7 +3,12 @@ use Rattle.std.specs.Prelude.{◌≡◌, ℕ, List}
 use Rattle.tta_machine.specs.Machine.{Machine}
 use Rattle.tta_machine.specs.Rules.{IsMachine}
 use Rattle.tta_code.specs.declared.code.Code.{Code}
+use Rattle.tta_code.specs.Legal.{IsLegalCode}
 use Rattle.tta_image.specs.Image.{Image}
+
+-- legal code has an image for every digest
+abbrev pub HasImage : Type 0
+HasImage = (m : Machine) (digest : List ℕ) (code : Code) → IsLegalCode m code → (bytes : List ℕ) × Image m digest code bytes
 
 -- code has at most one image for a machine and a digest
 abbrev pub HasOneImage : Type 0

@@ -10,7 +10,8 @@ use tta_machine::{Dest, File, ImmUnit, Machine, Source, Unit};
 
 /// Puts the registers of a file at the end.
 fn push_file(list: &mut Vec<Source>, file: u8, size: u8) -> Result<(), AllocError>
-    ensures ok { OnOk result (list.new.items ≡ list.old.items ++ map (Source.Reg file) (numbers size)) }
+    ensures ok { OnOk result
+        (list.new.items ≡ list.old.items ++ map (Source.Reg file) (numbers size)) }
 {
     for index in 0..size {
         list.push(Source::Reg { file, index })?;
@@ -31,7 +32,8 @@ fn push_files(list: &mut Vec<Source>, files: &[File]) -> Result<(), AllocError>
 
 /// Puts the registers of an immediate unit at the end.
 fn push_imm(list: &mut Vec<Source>, unit: u8, size: u8) -> Result<(), AllocError>
-    ensures ok { OnOk result (list.new.items ≡ list.old.items ++ map (Source.Imm unit) (numbers size)) }
+    ensures ok { OnOk result
+        (list.new.items ≡ list.old.items ++ map (Source.Imm unit) (numbers size)) }
 {
     for index in 0..size {
         list.push(Source::Imm { unit, index })?;
@@ -52,7 +54,9 @@ fn push_imms(list: &mut Vec<Source>, imms: &[ImmUnit]) -> Result<(), AllocError>
 
 /// Puts a unit's result port at the end, where it has one.
 fn push_result(list: &mut Vec<Source>, unit: u8, port: Option<u8>) -> Result<(), AllocError>
-    ensures ok { OnOk result (list.new.items ≡ list.old.items ++ option_map_or (λ r. Source.Shown unit ∷ []) port []) }
+    ensures ok { OnOk result
+        (list.new.items ≡ list.old.items
+        ++ option_map_or (λ r. Source.Shown unit ∷ []) port []) }
 {
     if port.is_some() {
         list.push(Source::Shown { unit })?;
@@ -87,7 +91,8 @@ pub fn all_sources(alloc: Global, m: &Machine) -> Result<Vec<Source>, AllocError
 
 /// Puts the registers of a file at the end.
 fn push_written(list: &mut Vec<Dest>, file: u8, size: u8) -> Result<(), AllocError>
-    ensures ok { OnOk result (list.new.items ≡ list.old.items ++ map (Dest.Reg file) (numbers size)) }
+    ensures ok { OnOk result
+        (list.new.items ≡ list.old.items ++ map (Dest.Reg file) (numbers size)) }
 {
     for index in 0..size {
         list.push(Dest::Reg { file, index })?;

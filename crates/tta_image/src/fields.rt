@@ -50,7 +50,11 @@ fn same_guard(a: GuardRef, b: GuardRef) -> bool
 fn low_bits(number: u64, count: u32) -> u64
     ensures { result ≡ number % 2 ^ count }
 {
-    if count < u64::BITS { number % (1 << count) } else { number }
+    if count < u64::BITS {
+        number % (1 << count)
+    } else {
+        number
+    }
 }
 
 /// Where a source stands first in a list.
@@ -108,7 +112,10 @@ impl BusFields {
     {
         if let Source::Value(word) = src {
             sink.push(true)?;
-            sink.push_number(low_bits(u64::from(word), self.short_width), self.payload_width)?;
+            sink.push_number(
+                low_bits(u64::from(word), self.short_width),
+                self.payload_width,
+            )?;
         } else {
             sink.push(false)?;
             sink.push_number(self.source_code(src) as u64, self.payload_width)?;
@@ -130,8 +137,8 @@ impl BusFields {
         Ok(())
     }
 
-    /// Puts what the bus has in an instruction at the end: its slot, or the highest bits that are left of the
-    /// long immediate. Tells how many bits of the long immediate are left after it.
+    /// Puts what the bus has in an instruction at the end: its slot, or the highest bits that are
+    /// left of the long immediate. Tells how many bits of the long immediate are left after it.
     pub fn push_bus(
         &self,
         sink: &mut BitSink,
@@ -141,7 +148,8 @@ impl BusFields {
         slot: Option<Move>,
     ) -> Result<u32, AllocError>
         requires { is_taken ≡ true → self.now.width ≤ left }
-        ensures bits { OnOk result (sink.new ≡ sink.old ++ bus_field self.now is_taken left value slot) }
+        ensures bits { OnOk result
+            (sink.new ≡ sink.old ++ bus_field self.now is_taken left value slot) }
         ensures left { IfOk result (λ n. n ≡ left_after self.now is_taken left) }
     {
         if is_taken {

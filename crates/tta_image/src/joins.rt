@@ -12,7 +12,11 @@ use tta_machine::{Dest, Guard, Machine, Source};
 pub fn has_bus(buses: u16, bus: usize) -> bool
     ensures { result ≡ has_bit buses bus }
 {
-    if bus < 16 { (buses >> bus) % 2 == 1 } else { false }
+    if bus < 16 {
+        (buses >> bus) % 2 == 1
+    } else {
+        false
+    }
 }
 
 /// A socket, where the index of a register is below the size of its file.

@@ -28,14 +28,20 @@ impl Model for BitSink {
 
     ghost view = { λ s. flat_map (bits_of 8) s.bytes.items ++ bits_of s.filled s.last };
 
-    ghost invariant = { λ s. (s.filled < 8) × (s.last < 2 ^ s.filled) × AllByRecursion (λ b. b < 256) s.bytes.items };
+    ghost invariant = { λ s.
+        (s.filled < 8) × (s.last < 2 ^ s.filled)
+        × AllByRecursion (λ b. b < 256) s.bytes.items };
 }
 
 /// A number without its `count` low bits.
 pub fn without_low(number: u64, count: u32) -> u64
     ensures { result ≡ number / 2 ^ count }
 {
-    if count < u64::BITS { number >> count } else { 0 }
+    if count < u64::BITS {
+        number >> count
+    } else {
+        0
+    }
 }
 
 /// A byte's bits with one more bit after them.
@@ -84,7 +90,8 @@ impl BitSink {
         Ok(())
     }
 
-    /// Puts a number in so many bits at the end, the highest first. Bits of the number above these are left out.
+    /// Puts a number in so many bits at the end, the highest first. Bits of the number above these
+    /// are left out.
     pub fn push_number(&mut self, number: u64, width: u32) -> Result<(), AllocError>
         ensures ok { OnOk result (self.new ≡ self.old ++ bits_of width number) }
     {

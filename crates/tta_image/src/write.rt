@@ -2,7 +2,6 @@
 
 ghost use Rattle.std.specs.Prelude.{◌≡◌, ◌<◌, ◌^◌, if◌then◌else◌, ◌++◌, length, codes, All, IfOk, OnOk};
 ghost use Rattle.std.specs.Int.{w32, to_be_bytes};
-
 ghost use Rattle.std.specs.List.{flat_map, sum_by};
 ghost use Rattle.tta_machine.specs.Joins.{has_bit};
 ghost use Rattle.tta_machine.specs.Fields.{taken_width, word_width};
@@ -71,7 +70,8 @@ fn width_of_set(layout: &Layout, set: u16) -> u32
     width
 }
 
-/// Puts what each bus has in an instruction at the end: its slot, or its share of the long immediate.
+/// Puts what each bus has in an instruction at the end: its slot, or its share of the long
+/// immediate.
 fn push_slots(
     layout: &Layout,
     m: &Machine,
@@ -85,7 +85,7 @@ fn push_slots(
     requires slots { length moves.now ≡ length m.now.buses }
     ensures ok { OnOk result
         (sink.new ≡ sink.old
-            ++ slots_bits m.now taken (bits_of (taken_width m.now taken) value) 0 moves.now) }
+        ++ slots_bits m.now taken (bits_of (taken_width m.now taken) value) 0 moves.now) }
 {
     let mut left = width_of_set(layout, taken);
     for (bus, slot) in moves.iter().enumerate() {
@@ -132,14 +132,10 @@ fn push_words(
 }
 
 /// The bytes before the instructions.
-fn header(
-    alloc: Global,
-    width: u32,
-    words: u32,
-    digest: &[u8; 32],
-) -> Result<Vec<u8>, AllocError>
+fn header(alloc: Global, width: u32, words: u32, digest: &[u8; 32]) -> Result<Vec<u8>, AllocError>
     ensures { IfOk result (λ v. v.items ≡ codes "TTAI"
-        ++ (to_be_bytes w32 1 ++ (to_be_bytes w32 width ++ (to_be_bytes w32 words ++ digest.now)))) }
+        ++ (to_be_bytes w32 1
+        ++ (to_be_bytes w32 width ++ (to_be_bytes w32 words ++ digest.now)))) }
 {
     let version = 1u32.to_be_bytes();
     let width = width.to_be_bytes();
@@ -162,8 +158,8 @@ fn count_words(code: &Code, m: &Machine) -> u32
     code.words.len() as u32
 }
 
-/// The image of code: a header with the digest of the machine's text, and the instructions bit by bit.
-/// The code must be legal for the machine. It fails only where there is no memory.
+/// The image of code: a header with the digest of the machine's text, and the instructions bit by
+/// bit. The code must be legal for the machine. It fails only where there is no memory.
 pub fn write_image(
     alloc: Global,
     code: &Code,

@@ -1,4 +1,4 @@
-use Rattle.std.proofs.Common.{◌≤◌, length, sym}
+use Rattle.std.proofs.Common.{◌≤◌, length}
 use Rattle.std.proofs.lemmas.List.Elements.{All-same}
 use Rattle.tta_image.proofs.MachineLemmas.{few_ops}
 use Rattle.tta_image.proofs.ends.all_dests.Goals as goal

@@ -1,5 +1,4 @@
-use Rattle.std.proofs.Common.{◌≡◌, ℕ, ◌+◌, ◌-◌, ◌*◌, ◌/◌, ◌<◌, ◌≤◌, ◌^◌, sym, arith}
-use Rattle.std.proofs.lemmas.Nat.{pow-add, pow_pos, div_below}
+use Rattle.std.proofs.Common.{sym}
 use Rattle.tta_image.proofs.BitLemmas.{no_high}
 use Rattle.tta_image.proofs.sink.without_low.Goals as goal
 

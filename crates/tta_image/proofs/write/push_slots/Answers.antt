@@ -1,8 +1,5 @@
-use Rattle.std.proofs.Common.{◌≡◌, ℕ, ◌-◌, ◌<◌, ◌∙◌, Bool, true, ◌++◌, length, refl, sym, ap, arith}
+use Rattle.std.proofs.Common.{◌≡◌, ℕ, ◌-◌, ◌<◌, ◌∙◌, ◌++◌, length, refl, sym, ap, arith}
 use Rattle.std.specs.List.{sum_by, range_with_len}
-use Rattle.std.proofs.lemmas.Nat.{mul-lt}
-use Rattle.tta_machine.specs.Machine.{Machine}
-use Rattle.tta_image.specs.declared.layout.BusFields.{BusFields}
 use Rattle.tta_image.specs.Bits.{bits_of, slots_bits}
 use Rattle.tta_image.proofs.LayoutLemmas.{set_width_at, set_width, layout_bus_read, layout_buses, slots_more, left_more, left_enough}
 use Rattle.tta_image.proofs.write.push_slots.Goals as goal
@@ -35,7 +32,7 @@ push_bus-requires c =
     let m = c.args.m.now in
     let is = layout_bus_read m c.args.layout.now c.as_slice.result.now c.loop-bus.bus c.index-as_slice-bus.result c.requires.layout c.as_slice.ensures (omega arith) c.index-as_slice-bus.is in
     λ h. left_enough m c.args.taken c.loop-bus.bus (length c.args.moves.now) c.loop-bus.left c.index-as_slice-bus.result c.loop-bus-test.true is c.loop-bus.invariant.left
-      (sym c.has_bus.ensures ∙ h)
+    (sym c.has_bus.ensures ∙ h)
 
 pub loop-bus-preserved : goal.loop-bus-preserved
 loop-bus-preserved c =
@@ -43,6 +40,6 @@ loop-bus-preserved c =
     let is = layout_bus_read m c.args.layout.now c.as_slice.result.now bus f c.requires.layout c.as_slice.ensures (omega arith) c.index-as_slice-bus.is in
     record {
       bits = slots_more m c.args.taken c.args.value c.loop-bus.left c.in_ok-left.left bus c.args.moves.now _ f c.has_bus.result _ _ _ c.loop-bus-test.true refl is c.has_bus.ensures
-        c.in_ok-left.ensures.bits c.in_ok-left.ensures.left c.loop-bus.invariant.left c.loop-bus.invariant.bits;
+          c.in_ok-left.ensures.bits c.in_ok-left.ensures.left c.loop-bus.invariant.left c.loop-bus.invariant.bits;
       left = left_more m c.args.taken bus (length c.args.moves.now) c.loop-bus.left c.in_ok-left.left f c.has_bus.result c.loop-bus-test.true is c.has_bus.ensures c.loop-bus.invariant.left c.in_ok-left.ensures.left;
     }

@@ -1,4 +1,4 @@
-use Rattle.std.proofs.Common.{◌≡◌, ℕ, ◌++◌, List, ap, sym, ◌∙◌, length}
+use Rattle.std.proofs.Common.{◌≡◌, ◌++◌, List, ap, ◌∙◌, length}
 use Rattle.std.specs.List.{flat_map}
 use Rattle.std.proofs.lemmas.List.Elements.{All-same}
 use Rattle.tta_code.specs.declared.code.Instruction.{Instruction}
@@ -15,11 +15,11 @@ pub returns : goal.returns
 returns c = record {
   body = c.in_ok-body.body.items;
   parts = parts_from c.args.m.now c.args.digest.now (length c.args.code.now.words) c.in_ok-layout.layout.width _ _ _ _ _
-    c.in_ok-bytes.ensures c.in_ok-extend_from_slice.ensures.items c.as_slice-2.ensures.value (ap (λ (l : Layout). l.width) c.in_ok-layout.ensures) c.count_words.ensures;
+      c.in_ok-bytes.ensures c.in_ok-extend_from_slice.ensures.items c.as_slice-2.ensures.value (ap (λ (l : Layout). l.width) c.in_ok-layout.ensures) c.count_words.ensures;
   words = are_bytes_of_same _ _ _
-    (c.in_ok-push_words.ensures.ok
+      (c.in_ok-push_words.ensures.ok
       ∙ ap (λ l. l ++ flat_map (instruction_bits c.args.m.now) c.as_slice.result.now) c.new-sink.ensures
       ∙ ap (λ (l : List Instruction). flat_map (instruction_bits c.args.m.now) l) c.as_slice.ensures)
-    c.in_ok-body.ensures;
+      c.in_ok-body.ensures;
   legal = c.requires;
 }

@@ -1,4 +1,4 @@
-use Rattle.std.proofs.Common.{ℕ, ◌+◌, List, filter, max, ap, ◌∙◌, sym}
+use Rattle.std.proofs.Common.{ℕ, ◌+◌, List, filter, max, ap, ◌∙◌}
 use Rattle.tta_machine.specs.declared.ends.Source.{Source}
 use Rattle.tta_machine.specs.declared.ends.Dest.{Dest}
 use Rattle.tta_machine.specs.Machine.{Machine}

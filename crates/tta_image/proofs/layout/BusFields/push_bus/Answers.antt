@@ -1,4 +1,4 @@
-use Rattle.std.proofs.Common.{ℕ, ◌++◌, ◌-◌, ◌/◌, ◌^◌, Bool, if◌then◌else◌, take, ap, sym, ◌∙◌}
+use Rattle.std.proofs.Common.{ℕ, ◌++◌, ◌-◌, ◌/◌, ◌^◌, Bool, ap, sym, ◌∙◌}
 use Rattle.tta_image.specs.Bits.{bits_of}
 use Rattle.tta_image.specs.Layout.{bus_field}
 use Rattle.tta_image.proofs.BitLemmas.{take_left}
