@@ -1,5 +1,5 @@
 -- Reading step by step, up to the first refusal.
-use Rattle.std.specs.Prelude.{◌≡◌, Bool, if◌then◌else◌, Option, Some, None, Result, Ok, Err}
+use Rattle.std.specs.Prelude.{Bool, if◌then◌else◌, Option, Some, None, Result, Ok, Err}
 
 infixl 10 ◌>>=◌
 -- goes on with what was read, or stops at the refusal

@@ -2,7 +2,7 @@
 use Rattle.std.specs.Prelude.{ℕ, Bool, true, false, ◌&&◌, if◌then◌else◌, List, Option, Some, None}
 use Rattle.std.specs.Str.{bytes_eq}
 use Rattle.tta_text.specs.declared.lexeme.Kind.{Kind}
-use Rattle.tta_text.specs.declared.lexeme.Kind.TheVariants.{Name, Number, Negative, Mark, Eol, Bad}
+use Rattle.tta_text.specs.declared.lexeme.Kind.TheVariants.{Name, Number, Negative, Mark}
 use Rattle.tta_text.specs.Numbers.{number_of, negative_of}
 use Rattle.tta_reading.specs.Lines.{Lexeme}
 
