@@ -2,3 +2,4 @@ pub mod Status
 pub mod World
 pub mod Build
 pub mod Stages
+pub mod Command

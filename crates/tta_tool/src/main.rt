@@ -5,4 +5,57 @@ mod build;
 mod command;
 mod status;
 
-fn main(rt: HostRuntime) {}
+use command::tool;
+use status::Status;
+use std::alloc::AllocError;
+use std::env;
+use std::process::ExitCode;
+use std::rt::Env;
+use tta_ops::{Arith, Compare, Divide, Logic, OpUnit, Shift, UnitSet};
+use tta_ports::{RealFiles, RealSink};
+
+
+// The words behind the program's name. A word that is not UTF-8 makes no command.
+fn words_of(rt: &(impl Env + AllocGlobal)) -> Result<Vec<String>, Status> {
+    let Ok(all) = env::args(rt) else {
+        return Err(Status::Usage);
+    };
+    let mut words = Vec::new(rt.alloc());
+    for word in all.skip(1) {
+        if words.push(word).is_err() {
+            return Err(Status::NoMemory);
+        }
+    }
+    Ok(words)
+}
+
+// Carries out the words over the five standard units, the host's files and its standard output.
+fn run(rt: &HostRuntime, words: &Vec<String>) -> Result<Status, AllocError> {
+    let alloc = rt.alloc();
+    let mut boxes: Vec<Box<dyn OpUnit>> = Vec::new(alloc);
+    boxes.push(Box::new(alloc, Arith)?)?;
+    boxes.push(Box::new(alloc, Logic)?)?;
+    boxes.push(Box::new(alloc, Shift)?)?;
+    boxes.push(Box::new(alloc, Compare)?)?;
+    boxes.push(Box::new(alloc, Divide)?)?;
+    if !UnitSet::fits(boxes.as_slice()) {
+        return Ok(Status::NoMemory);
+    }
+    let Ok(units) = UnitSet::new(alloc, boxes) else {
+        return Ok(Status::NoMemory);
+    };
+    let mut files = RealFiles::new(rt);
+    let mut sink = RealSink::new(rt);
+    Ok(tool(alloc, words, &units, &mut files, &mut sink))
+}
+
+fn main(rt: HostRuntime) -> ExitCode {
+    let status = match words_of(&rt) {
+        Ok(words) => run(&rt, &words).unwrap_or(Status::NoMemory),
+        Err(status) => status,
+    };
+    if status != Status::Ok {
+        let _ = eprintln!(rt; "tta: {status}");
+    }
+    ExitCode::from(status.number())
+}
