@@ -8,3 +8,6 @@ mod word;
 pub use lines::Lines;
 pub use names::Names;
 pub use word::Word;
+
+#[cfg(test)]
+mod tests;

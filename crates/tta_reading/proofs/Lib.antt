@@ -1,0 +1,4 @@
+pub mod Found
+mod Declared
+mod Counted
+mod Examples
