@@ -1,4 +1,2 @@
 pub mod Lines
 pub mod Names
-pub mod Steps
-pub mod Words

@@ -1,11 +1,5 @@
 //! The lines of a text.
 
-<<<<<<< HEAD
-/// A reader of the lines of a text.
-#[derive(Clone, Copy)]
-pub struct Lines<'t> {
-    text: &'t [u8],
-=======
 ghost use Rattle.std.specs.Prelude.{◌≡◌, ◌+◌, ◌^◌, ◌≤◌, ◌∷◌, [], true, false, length, map, IfOk, vec_capacity};
 ghost use Rattle.tta_reading.specs.Lines.{plain};
 ghost use Rattle.tta_reading.specs.Lines as spec;
@@ -77,5 +71,4 @@ fn is_line_end(kind: Kind) -> bool
     ensures { result ≡ spec.is_line_end kind }
 {
     matches!(kind, Kind::Eol)
->>>>>>> 44c31a1c8a72aa801445d227a097cc8170cbbfa4
 }
