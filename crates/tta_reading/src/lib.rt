@@ -4,6 +4,7 @@
 mod lines;
 mod names;
 mod word;
+mod wording;
 
 pub use lines::Lines;
 pub use names::Names;
