@@ -1,9 +1,16 @@
 //! Reading a program's text.
 
+mod declarations;
 mod draft;
 mod forms;
+mod operations;
+mod pieces;
 mod read;
 mod refusal;
+mod reserved;
+mod steps;
+mod variables;
+
 
 pub use read::read_program;
 pub use refusal::{Refusal, TacError};
