@@ -1,12 +1,12 @@
 -- Each line keeps the rules of a draft.
-use Rattle.std.proofs.Common.{◌≡◌, ℕ, ◌+◌, ◌<◌, ◌≤◌, Bool, true, false, suc, List, [], ◌∷◌, ◌++◌, length, refl, ap, ◌∙◌, sym, subst, arith, length-append, lit≤}
-use Rattle.std.specs.Prelude.{◌||◌, ◌&&◌, nat_lt, nat_le, Option, Some, None, Result, Ok, Err, is_some, codes}
+use Rattle.std.proofs.Common.{◌≡◌, ℕ, ◌+◌, ◌<◌, ◌≤◌, Bool, true, false, suc, List, [], ◌∷◌, ◌++◌, length, refl, ap, subst, arith, length-append, lit≤}
+use Rattle.std.specs.Prelude.{◌||◌, ◌&&◌, nat_lt, Option, Some, None, Result, Ok, is_some, codes}
 use Rattle.std.specs.Option.{IfSome}
 use Rattle.std.specs.Str.{bytes_eq}
 use Rattle.std.proofs.lemmas.Bool.Decides.{nat_tests}
 use Rattle.tta_reading.specs.Lines.{Line}
 use Rattle.tta_reading.specs.Names.{Declared, named_in}
-use Rattle.tta_reading.specs.Steps.{◌>>=◌, or_refuse, refuse_if}
+use Rattle.tta_reading.specs.Steps.{◌>>=◌, or_refuse}
 use Rattle.tta_ops.specs.Units.{Units}
 use Rattle.tta_tac.specs.declared.reading.refusal.Refusal.{Refusal}
 use Rattle.tta_tac.specs.declared.reading.refusal.Refusal.TheVariants.{UnknownOp, Arity, Twice, TooMany, Syntax}
@@ -66,7 +66,7 @@ module _ (d e : Draft) (kept : IsDraft d) where
     take_label_kept : (name : List ℕ) → take_label d q name ≡ Ok e → IsDraft e
     take_label_kept name taken =
         let next : Draft =
-            record d { begun = Some (record q { labels = q.labels ++ (name, length q.steps) ∷ [] }); lines = d.lines + 1 } in
+        record d { begun = Some (record q { labels = q.labels ++ (name, length q.steps) ∷ [] }); lines = d.lines + 1 } in
         let last : Result Draft Refusal = Ok next in
         let p1 = passed (is_some (named_in q.labels name)) Twice _ e taken in
         let p2 = passed (is_full d) TooMany last e p1.1 in

@@ -27,12 +27,13 @@ last_or false true = refl
 last_or false false = refl
 
 module _ (u : Units) (d : Draft) (q : ProcDraft) (line : ℕ) (f : Form) (x : Unit {0})
-    (checked : refuse_if {E = Refusal} (lacks_op u f) UnknownOp (refuse_if (has_wrong_arity u f) Arity (Ok x)) ≡ Ok x) where
+    (checked : Result (Unit {0}) Refusal) (checks : checked ≡ refuse_if (lacks_op u f) UnknownOp (refuse_if (has_wrong_arity u f) Arity (Ok x)))
+    (passes : checked ≡ Ok x) where
   -- its variables are too many
   pub take_step_many : (vars : Declared ℕ) → vars ≡ vars_after q.vars f → nat_lt 4096 (length vars) ≡ true
       → take_step u d q line f ≡ Err TooMany
   take_step_many vars e many =
-      let first = passed (lacks_op u f) UnknownOp (refuse_if (has_wrong_arity u f) Arity (Ok x)) x checked in
+      let first = passed (lacks_op u f) UnknownOp (refuse_if (has_wrong_arity u f) Arity (Ok x)) x (sym checks ∙ passes) in
       let second = passed (has_wrong_arity u f) Arity (Ok x) x first.1 in
       let test : nat_lt 4096 (length (vars_after q.vars f)) ≡ true = ap (λ v. nat_lt 4096 (length v)) (sym e) ∙ many in
       rw (first.0, second.0, test, last_or (is_full d) (has_many_args f)) refl
@@ -42,16 +43,16 @@ module _ (u : Units) (d : Draft) (q : ProcDraft) (line : ℕ) (f : Form) (x : Un
       → has_many_args f ≡ false → nat_lt 4096 (length vars) ≡ false → Some s ≡ step_of u vars f
       → take_step u d q line f ≡ Ok (close_if (is_end f) (record d { lines = d.lines + 1 }) (with_step q vars s line))
   take_step_taken vars s e full args many step =
-      let first = passed (lacks_op u f) UnknownOp (refuse_if (has_wrong_arity u f) Arity (Ok x)) x checked in
+      let first = passed (lacks_op u f) UnknownOp (refuse_if (has_wrong_arity u f) Arity (Ok x)) x (sym checks ∙ passes) in
       let second = passed (has_wrong_arity u f) Arity (Ok x) x first.1 in
       rw (← e) (rw (first.0, second.0, full, args, many, ← step) refl)
 
 -- a step that is taken, of the code's values: its procedure goes on
 pub goes_on : (d : CodeDraft) (q : DraftProc) (line : ℕ) (ends : Bool) (vars : Declared ℕ) (step : NamedStep)
-    (steps : List NamedStep) (lines : List ℕ) → ends ≡ false → steps ≡ q.steps ++ step ∷ [] → lines ≡ q.lines ++ line ∷ []
+    (steps : List NamedStep) (lines : List ℕ) (test : Bool) → test ≡ ends → test ≡ false → steps ≡ q.steps ++ step ∷ [] → lines ≡ q.lines ++ line ∷ []
     → close_if ends (record (draft_seen d) { lines = d.lines + 1 }) (with_step (proc_seen q) vars (step_seen step) line)
     ≡ draft_seen (record d { begun = Some (record q { vars = vars; steps = steps; lines = lines }); lines = d.lines + 1 })
-goes_on d q line ends vars step steps lines e e1 e2 = rw (e, e1, e2, steps_seen_append q.steps step) refl
+goes_on d q line ends vars step steps lines test is e e1 e2 = rw (← is, e, e1, e2, steps_seen_append q.steps step) refl
 
 -- a procedure that begins, of the code's values
 pub begins : (d : CodeDraft) (q : DraftProc) (seen : ProcDraft) (name : List ℕ) (names : Declared ℕ) (number : ℕ)
@@ -61,9 +62,9 @@ pub begins : (d : CodeDraft) (q : DraftProc) (seen : ProcDraft) (name : List ℕ
 begins d q seen name names number e1 e2 e3 = rw (e1, e2, ← e3, procs_seen_length d.procs) refl
 
 -- no procedure has begun
-pub none_begun : (o : Option DraftProc) → is_some o ≡ false → is_some (option_map_or (λ q. Some (proc_seen q)) o None) ≡ false
-none_begun None e = refl
-none_begun (Some q) e = cc
+pub none_begun : (o : Option DraftProc) (test : Bool) → test ≡ is_some o → test ≡ false → is_some (option_map_or (λ q. Some (proc_seen q)) o None) ≡ false
+none_begun None test is e = refl
+none_begun (Some q) test is e = cc
 
 pub take_proc_taken : (d : Draft) (line : ℕ) (name : List ℕ) (params : List (List ℕ)) → is_some d.begun ≡ false
     → (bytes_eq name (codes "main") && nat_lt 0 (length params)) ≡ false

@@ -51,14 +51,14 @@ module _ {P : Type 0} where
       ap (λ b. b || list_any (λ m. is_some (named_in (ds ++ (name, place) ∷ []) m)) names) (declared-more ds name place m)
       ∙ ap (λ b. (is_some (named_in ds m) || bytes_eq m name) || b) (any_declared-more ds name place names)
       ∙ or_pairs (is_some (named_in ds m)) (bytes_eq m name)
-          (list_any (λ m. is_some (named_in ds m)) names) (list_any (λ m. bytes_eq m name) names)
+      (list_any (λ m. is_some (named_in ds m)) names) (list_any (λ m. bytes_eq m name) names)
 
   -- the next name is declared after the test
   pub is_twice_more : (ds : Declared P) (name : List ℕ) (place : P) (names : List (List ℕ))
       → is_twice_after ds (name ∷ names) ≡ (is_some (named_in ds name) || is_twice_after (ds ++ (name, place) ∷ []) names)
   is_twice_more ds name place names =
       or_shuffle (is_some (named_in ds name)) (list_any (λ m. is_some (named_in ds m)) names)
-          (list_any (λ m. bytes_eq m name) names) (has_twice names)
+      (list_any (λ m. bytes_eq m name) names) (has_twice names)
       ∙ ap (λ b. is_some (named_in ds name) || (b || has_twice names)) (sym (any_declared-more ds name place names))
 
   -- the same among words, of which the first i have been looked at
@@ -70,9 +70,9 @@ module _ {P : Type 0} where
       let names = texts (drop (i + 1) words) in
       ap (λ (now : Declared P). is_twice_after now names) e
       ∙ sym (
-        at_drop_more (λ ws. is_twice_after ds (texts ws)) words i d below
-        ∙ is_twice_more ds name place names
-        ∙ ap (λ b. b || is_twice_after (ds ++ (name, place) ∷ []) names) fresh)
+      at_drop_more (λ ws. is_twice_after ds (texts ws)) words i d below
+      ∙ is_twice_more ds name place names
+      ∙ ap (λ b. b || is_twice_after (ds ++ (name, place) ∷ []) names) fresh)
 
   -- a name that was declared before
   pub is_twice_found : (ds : Declared P) (words : List Word) (i : ℕ) (d : Word) → i < length words

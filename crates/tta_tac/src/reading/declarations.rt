@@ -24,23 +24,41 @@ pub fn declare_names(alloc: Global, vars: &mut Names<u32>, form: &Form) -> Resul
             declare_given(alloc, vars, operands)
         }
         Form::Store { a, v } => declare_pair(alloc, vars, a, v),
-        Form::If { rel: _, a, b, label: _ } => declare_pair(alloc, vars, a, b),
+        Form::If {
+            rel: _,
+            a,
+            b,
+            label: _,
+        } => declare_pair(alloc, vars, a, b),
         Form::When { rel: _, a, b, d, s } => {
             declare_pair(alloc, vars, a, b)?;
             declare_assigned(alloc, vars, d, s)
         }
-        Form::Call { d: Some(d), callee: _, args } => {
+        Form::Call {
+            d: Some(d),
+            callee: _,
+            args,
+        } => {
             declare(alloc, vars, d)?;
             declare_operands(alloc, vars, args)
         }
-        Form::Call { d: None, callee: _, args } => declare_operands(alloc, vars, args),
+        Form::Call {
+            d: None,
+            callee: _,
+            args,
+        } => declare_operands(alloc, vars, args),
         Form::Put { v } => declare_operand(alloc, vars, v),
         Form::Return { s: Some(s) } => declare_operand(alloc, vars, s),
         _ => Ok(()),
     }
 }
 
-fn declare_assigned(alloc: Global, vars: &mut Names<u32>, d: &[u8], s: Operand) -> Result<(), AllocError>
+fn declare_assigned(
+    alloc: Global,
+    vars: &mut Names<u32>,
+    d: &[u8],
+    s: Operand,
+) -> Result<(), AllocError>
     requires { length vars.old ≤ 5000 }
     ensures { OnOk result (vars.new ≡ with_operand (with_var vars.old d.now) (operand_seen s.entry)) }
 {
@@ -49,7 +67,12 @@ fn declare_assigned(alloc: Global, vars: &mut Names<u32>, d: &[u8], s: Operand) 
     Ok(())
 }
 
-fn declare_pair(alloc: Global, vars: &mut Names<u32>, a: Operand, b: Operand) -> Result<(), AllocError>
+fn declare_pair(
+    alloc: Global,
+    vars: &mut Names<u32>,
+    a: Operand,
+    b: Operand,
+) -> Result<(), AllocError>
     requires { length vars.old ≤ 5000 }
     ensures ok { OnOk result (vars.new ≡ with_operand (with_operand vars.old (operand_seen a.entry)) (operand_seen b.entry)) }
     ensures most { OnOk result (length vars.new ≤ length vars.old + 2) }

@@ -184,8 +184,13 @@ fn new_proc<'t>(alloc: Global, line: u32, params: &[Word]) -> Result<DraftProc<'
     requires few { length params.now ≤ 8 }
     requires once { has_twice (texts params.now) ≡ false }
     ensures { IfOk result (λ q. proc_seen q ≡ record {
-        line = line; params = length (texts params.now); vars = numbered 0 (texts params.now);
-        labels = []; steps = []; lines = [] }) }
+      line = line;
+      params = length (texts params.now);
+      vars = numbered 0 (texts params.now);
+      labels = [];
+      steps = [];
+      lines = [];
+    }) }
 {
     let vars = numbered(alloc, params)?;
     Ok(DraftProc {

@@ -19,12 +19,23 @@ use tta_ops::{OpId, UnitSet};
 pub fn check_op(units: &UnitSet, form: &Form) -> Result<(), Refusal>
     ensures { let U = stated unit_meaning units.now in
         result ≡ refuse_if (lacks_op U (form_seen form.now)) UnknownOp
-            (refuse_if (has_wrong_arity U (form_seen form.now)) Arity (Ok tt)) }
+        (refuse_if (has_wrong_arity U (form_seen form.now)) Arity (Ok tt)) }
 {
     match *form {
         Form::Apply { d: _, op, operands } => check_offer(units, op, operand_count(operands)),
-        Form::If { rel, a: _, b: _, label: _ } => check_offer(units, relation_name(rel), 2),
-        Form::When { rel, a: _, b: _, d: _, s: _ } => check_offer(units, relation_name(rel), 2),
+        Form::If {
+            rel,
+            a: _,
+            b: _,
+            label: _,
+        } => check_offer(units, relation_name(rel), 2),
+        Form::When {
+            rel,
+            a: _,
+            b: _,
+            d: _,
+            s: _,
+        } => check_offer(units, relation_name(rel), 2),
         _ => Ok(()),
     }
 }
@@ -33,7 +44,7 @@ pub fn check_op(units: &UnitSet, form: &Form) -> Result<(), Refusal>
 fn check_offer(units: &UnitSet, name: &[u8], words: u8) -> Result<(), Refusal>
     ensures { let U = stated unit_meaning units.now in
         result ≡ refuse_if (is_none (named U name.now)) UnknownOp
-            (refuse_if (option_map_or (λ op. not (arity_of U op == words)) (named U name.now) false) Arity (Ok tt)) }
+        (refuse_if (option_map_or (λ op. not (arity_of U op == words)) (named U name.now) false) Arity (Ok tt)) }
 {
     match units.find_bytes(name) {
         None => Err(Refusal::UnknownOp),

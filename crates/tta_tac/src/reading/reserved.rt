@@ -24,6 +24,6 @@ fn is_among(words: &[&[u8]], name: &[u8]) -> bool
 }
 
 const RESERVED: [&'static [u8]; 17] = [
-    b"ldw", b"stw", b"ldf", b"stf", b"jump", b"proc", b"end", b"if", b"goto", b"when", b"load", b"store", b"out",
-    b"call", b"return", b"halt", b"data",
+    b"ldw", b"stw", b"ldf", b"stf", b"jump", b"proc", b"end", b"if", b"goto", b"when", b"load",
+    b"store", b"out", b"call", b"return", b"halt", b"data",
 ];

@@ -21,7 +21,11 @@ pub fn has_many_args(form: &Form) -> bool
     ensures { result ≡ has_many_args (form_seen form.now) }
 {
     match *form {
-        Form::Call { d: _, callee: _, args } => count_operands(args) > 8,
+        Form::Call {
+            d: _,
+            callee: _,
+            args,
+        } => count_operands(args) > 8,
         _ => false,
     }
 }
@@ -37,7 +41,12 @@ pub fn is_end(form: &Form) -> bool
 }
 
 /// The step of a line whose variables were declared, and `None` for the lines that are no step.
-pub fn step_of<'t>(alloc: Global, units: &UnitSet, vars: &Names<u32>, form: &Form<'t>) -> Option<NamedStep<'t>>
+pub fn step_of<'t>(
+    alloc: Global,
+    units: &UnitSet,
+    vars: &Names<u32>,
+    form: &Form<'t>,
+) -> Option<NamedStep<'t>>
     requires few { has_many_args (form_seen form.now) ≡ false }
     ensures { option_map step_seen result ≡ step_of (stated unit_meaning units.now) vars.now (form_seen form.now) }
 {
@@ -46,7 +55,9 @@ pub fn step_of<'t>(alloc: Global, units: &UnitSet, vars: &Names<u32>, form: &For
         Form::Label { name: _ } => None,
         Form::Copy { d, s } => Some(NamedStep::Plain(copy_step(vars, d, s))),
         Form::Load { d, a } => Some(NamedStep::Plain(load_step(vars, d, a))),
-        Form::Apply { d, op, operands } => Some(NamedStep::Plain(apply_step(units, vars, d, op, operands))),
+        Form::Apply { d, op, operands } => Some(NamedStep::Plain(apply_step(
+            units, vars, d, op, operands,
+        ))),
         Form::Store { a, v } => Some(NamedStep::Plain(store_step(vars, a, v))),
         Form::Put { v } => Some(NamedStep::Plain(Step::Put { v: src_of(vars, v) })),
         Form::If { rel, a, b, label } => Some(if_step(vars, rel, a, b, label)),
@@ -90,12 +101,28 @@ fn apply_step(units: &UnitSet, vars: &Names<u32>, d: &[u8], op: &[u8], operands:
     let d = number_of(vars, d);
     let op = op_named(units, op);
     match operands {
-        Operands::One(b) => Step::Apply { d, op, a: Src::Word(0), b: src_of(vars, b) },
-        Operands::Two(a, b) => Step::Apply { d, op, a: src_of(vars, a), b: src_of(vars, b) },
+        Operands::One(b) => Step::Apply {
+            d,
+            op,
+            a: Src::Word(0),
+            b: src_of(vars, b),
+        },
+        Operands::Two(a, b) => Step::Apply {
+            d,
+            op,
+            a: src_of(vars, a),
+            b: src_of(vars, b),
+        },
     }
 }
 
-fn if_step<'t>(vars: &Names<u32>, rel: Rel, a: Operand, b: Operand, label: &'t [u8]) -> NamedStep<'t>
+fn if_step<'t>(
+    vars: &Names<u32>,
+    rel: Rel,
+    a: Operand,
+    b: Operand,
+    label: &'t [u8],
+) -> NamedStep<'t>
     ensures { step_seen result
         ≡ IfTo rel (src_of vars.now (operand_seen a.entry)) (src_of vars.now (operand_seen b.entry)) label.now }
 {
@@ -115,7 +142,13 @@ fn when_step(vars: &Names<u32>, rel: Rel, a: Operand, b: Operand, d: &[u8], s: O
     Step::When { rel, a, b, d, s }
 }
 
-fn call_step<'t>(alloc: Global, vars: &Names<u32>, d: Option<&[u8]>, callee: &'t [u8], args: &[Word]) -> NamedStep<'t>
+fn call_step<'t>(
+    alloc: Global,
+    vars: &Names<u32>,
+    d: Option<&[u8]>,
+    callee: &'t [u8],
+    args: &[Word],
+) -> NamedStep<'t>
     requires { length (operands_in args.now) ≤ 8 }
     ensures { step_seen result ≡ CallTo (option_map (λ d. var_number vars.now d.now) d.entry)
         callee.now (srcs_of vars.now (operands_in args.now)) }
@@ -132,7 +165,9 @@ fn return_step(vars: &Names<u32>, s: Option<Operand>) -> Step
     ensures { result ≡ Step.Return (option_map (λ s. src_of vars.now (operand_seen s)) s.entry) }
 {
     match s {
-        Some(s) => Step::Return { s: Some(src_of(vars, s)) },
+        Some(s) => Step::Return {
+            s: Some(src_of(vars, s)),
+        },
         None => Step::Return { s: None },
     }
 }

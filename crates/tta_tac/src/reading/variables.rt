@@ -26,7 +26,11 @@ pub fn declare(alloc: Global, vars: &mut Names<u32>, name: &[u8]) -> Result<(), 
 }
 
 /// Gives the variable of an operand the next number, where it has none. An `Err` is want of memory.
-pub fn declare_operand(alloc: Global, vars: &mut Names<u32>, operand: Operand) -> Result<(), AllocError>
+pub fn declare_operand(
+    alloc: Global,
+    vars: &mut Names<u32>,
+    operand: Operand,
+) -> Result<(), AllocError>
     requires { length vars.old < 2 ^ 32 }
     ensures ok { OnOk result (vars.new ≡ with_operand vars.old (operand_seen operand.entry)) }
     ensures most { OnOk result (length vars.new ≤ length vars.old + 1) }
@@ -42,7 +46,11 @@ pub fn declare_operand(alloc: Global, vars: &mut Names<u32>, operand: Operand) -
 
 /// Gives the variables among words the next numbers, where they have none, from left to right. An
 /// `Err` is want of memory.
-pub fn declare_operands(alloc: Global, vars: &mut Names<u32>, words: &[Word]) -> Result<(), AllocError>
+pub fn declare_operands(
+    alloc: Global,
+    vars: &mut Names<u32>,
+    words: &[Word],
+) -> Result<(), AllocError>
     requires { length vars.old + length (operands_in words.now) ≤ 2 ^ 32 }
     ensures { OnOk result (vars.new ≡ with_operands vars.old (operands_in words.now)) }
 {

@@ -9,5 +9,5 @@ loop-word-init c = rw c.new-seen.ensures (is_twice_none (Unit {0}) (texts c.args
 pub loop-word-preserved : goal.loop-word-preserved
 loop-word-preserved c =
     is_twice_step c.loop-word.seen c.add.new.self tt c.args.words.now c.loop-word.word-index _ c.loop-word-test.true
-        c.in_ok-add.ensures.ok (cc)
+    c.in_ok-add.ensures.ok (cc)
     ∙ c.loop-word.invariant

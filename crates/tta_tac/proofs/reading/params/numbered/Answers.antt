@@ -21,7 +21,7 @@ loop-word-preserved c =
       rest = numbered_step vars c.add.new.self words i _ below added ∙ c.loop-word.invariant.rest;
       once =
           is_twice_step vars c.add.new.self _ words i _ below c.in_ok-add.ensures.ok
-              (is_twice_fresh vars words i _ below c.loop-word.invariant.once)
+          (is_twice_fresh vars words i _ below c.loop-word.invariant.once)
           ∙ c.loop-word.invariant.once;
       index = omega (arith, c.in_ok-add.ensures.len, c.loop-word.invariant.index);
     }

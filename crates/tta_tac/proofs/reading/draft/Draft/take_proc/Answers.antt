@@ -14,9 +14,9 @@ returns c =
     let full : nat_le 65536 c.args.self.now.lines ≡ false = grind (arith, nat_tests) in
     let size = texts_length c.args.params.now in
     let many : nat_lt 8 (length params) ≡ false = grind (arith, nat_tests) in
-    let none = none_begun c.args.self.now.begun (sym c.is_some.ensures ∙ c.if-is_some.false) in
+    let none = none_begun c.args.self.now.begun c.is_some.result c.is_some.ensures c.if-is_some.false in
     let main = sym c.is_main_with_params.ensures ∙ c.if-is_main_with_params.false in
     let twice = sym c.in_ok-is_taken.ensures ∙ c.if-branch.false in
     take_proc_taken d c.args.line c.args.name.now params none main twice full many
     ∙ ap Ok (begins c.args.self.now c.in_ok-new_proc.field-0 _ c.args.name.now c.add.new.self c.len-number.result
-        c.in_ok-add.ensures.ok c.len-number.ensures c.in_ok-new_proc.ensures)
+    c.in_ok-add.ensures.ok c.len-number.ensures c.in_ok-new_proc.ensures)
