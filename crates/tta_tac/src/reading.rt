@@ -1,5 +1,7 @@
 //! Reading a program's text.
 
+mod assign;
+mod calls;
 mod declarations;
 mod draft;
 mod first_pass;
@@ -11,6 +13,7 @@ mod read;
 mod refusal;
 mod reserved;
 mod steps;
+mod syntax;
 mod variables;
 
 pub use read::read_program;

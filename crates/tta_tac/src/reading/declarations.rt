@@ -1,7 +1,8 @@
 //! The variables of a line.
 
 ghost use Rattle.std.specs.Prelude.{◌≡◌, ◌+◌, ◌≤◌, false, length, OnOk};
-ghost use Rattle.tta_tac.specs.FirstPass.{vars_after, has_many_args, with_operand, with_operands, with_var};
+ghost use Rattle.tta_tac.specs.FirstPass.{vars_after, has_many_args};
+ghost use Rattle.tta_tac.specs.FirstPass.{with_operand, with_operands, with_var};
 ghost use Rattle.tta_tac.specs.Seen.{form_seen, operand_seen, operands_seen};
 
 use crate::reading::forms::{Form, Operand, Operands};
@@ -60,7 +61,8 @@ fn declare_assigned(
     s: Operand,
 ) -> Result<(), AllocError>
     requires { length vars.old ≤ 5000 }
-    ensures { OnOk result (vars.new ≡ with_operand (with_var vars.old d.now) (operand_seen s.entry)) }
+    ensures { OnOk result
+        (vars.new ≡ with_operand (with_var vars.old d.now) (operand_seen s.entry)) }
 {
     declare(alloc, vars, d)?;
     declare_operand(alloc, vars, s)?;
@@ -74,7 +76,8 @@ fn declare_pair(
     b: Operand,
 ) -> Result<(), AllocError>
     requires { length vars.old ≤ 5000 }
-    ensures ok { OnOk result (vars.new ≡ with_operand (with_operand vars.old (operand_seen a.entry)) (operand_seen b.entry)) }
+    ensures ok { let first = with_operand vars.old (operand_seen a.entry) in
+        OnOk result (vars.new ≡ with_operand first (operand_seen b.entry)) }
     ensures most { OnOk result (length vars.new ≤ length vars.old + 2) }
 {
     declare_operand(alloc, vars, a)?;

@@ -1,11 +1,13 @@
 //! What each line of a program's text does to the draft.
 
-ghost use Rattle.std.specs.Prelude.{◌≡◌, ◌≤◌, ◌&&◌, ◌||◌, nat_lt, false, [], None, is_some, codes, bytes_eq, length, IfOk};
+ghost use Rattle.std.specs.Prelude.{◌≡◌, ◌≤◌, ◌&&◌, ◌||◌, nat_lt, false, [], None};
+ghost use Rattle.std.specs.Prelude.{is_some, codes, bytes_eq, length, IfOk};
 ghost use Rattle.tta_reading.specs.Names.{named_in};
 ghost use Rattle.tta_ops.specs.Set.{stated};
 ghost use Rattle.tta_tac.specs.Draft.{draft_seen, proc_seen, nothing};
 ghost use Rattle.tta_tac.specs.DraftRules.{IsDraft, IsBegun};
-ghost use Rattle.tta_tac.specs.FirstPass.{take_form, take_proc, take_label, take_step, has_twice, numbered};
+ghost use Rattle.tta_tac.specs.FirstPass.{take_form, take_proc, take_label, take_step};
+ghost use Rattle.tta_tac.specs.FirstPass.{has_twice, numbered};
 ghost use Rattle.tta_tac.specs.Seen.{Says, form_seen, texts};
 
 use crate::reading::declarations::declare_names;
@@ -33,7 +35,9 @@ impl<'t> Draft<'t> {
         }
     }
 
-    /// Takes a line that is not blank.
+    /// Takes a line that is not blank. It is refused with the first refusal that it has, in the
+    /// order `Syntax`, `UnknownOp`, `Arity`, `Twice`, `TooMany`. After an `Err` the draft is of no
+    /// more use.
     pub fn take_form(
         &mut self,
         alloc: Global,
@@ -42,8 +46,8 @@ impl<'t> Draft<'t> {
         form: &Form<'t>,
     ) -> Result<(), LineError>
         requires { IsDraft (draft_seen self.old) }
-        ensures { Says (draft_seen self.new) result
-            (take_form (stated unit_meaning units.now) (draft_seen self.old) line (form_seen form.now)) }
+        ensures { Says (draft_seen self.new) result (take_form (stated unit_meaning units.now)
+            (draft_seen self.old) line (form_seen form.now)) }
     {
         if let Form::Proc { name, params } = *form {
             return self.take_proc(alloc, line, name, params);
@@ -60,7 +64,7 @@ impl<'t> Draft<'t> {
     /// Begins a procedure. It is refused as `Syntax` where one has begun and not ended, as `Arity`
     /// where `main` has parameters, as `Twice` where its name or a parameter is there already, and
     /// as `TooMany` where it has more than eight parameters or 65,536 lines were read.
-    #[tactic(auto, using(crate::proofs::Seen::procs_seen_length, crate::proofs::Seen::texts_length))]
+    #[tactic(auto, using(crate::proofs::Seen::procs_seen_length))]
     fn take_proc(
         &mut self,
         alloc: Global,
@@ -93,8 +97,8 @@ impl<'t> Draft<'t> {
 
     // whether a procedure has this name already, or a parameter stands twice
     fn is_taken(&self, alloc: Global, name: &[u8], params: &[Word]) -> Result<bool, AllocError>
-        ensures { IfOk result (λ taken. taken
-            ≡ (is_some (named_in self.now.names name.now) || has_twice (texts params.now))) }
+        ensures { let named = is_some (named_in self.now.names name.now) in
+            IfOk result (λ taken. taken ≡ (named || has_twice (texts params.now))) }
     {
         if self.names.get(name).is_some() {
             return Ok(true);
@@ -112,8 +116,7 @@ impl<'t> Draft<'t> {
         mut proc: DraftProc<'t>,
         name: &'t [u8],
     ) -> Result<(), LineError>
-        requires lines { self.old.lines ≤ 65536 }
-        requires begun { IsBegun self.old.lines (proc_seen proc) }
+        requires { IsBegun self.old.lines (proc_seen proc) }
         ensures { Says (draft_seen self.new) result
             (take_label (draft_seen self.old) (proc_seen proc.entry) name.now) }
     {
@@ -133,7 +136,10 @@ impl<'t> Draft<'t> {
     /// Takes a step of a begun procedure that was moved out of the draft. It is refused as
     /// `UnknownOp` or `Arity` by its operation, and as `TooMany` where it has more than eight
     /// arguments, brings the procedure's 4,097th variable, or 65,536 lines were read.
-    #[tactic(auto, using(crate::proofs::Seen::steps_seen_append, crate::proofs::Seen::procs_seen_append))]
+    #[tactic(auto, using(
+        crate::proofs::Seen::steps_seen_append,
+        crate::proofs::Seen::procs_seen_append
+    ))]
     fn take_step(
         &mut self,
         alloc: Global,
@@ -173,7 +179,8 @@ impl<'t> Draft<'t> {
 // whether a procedure is `main` and has parameters, which it may not
 #[tactic(auto, using(crate::proofs::Seen::texts_length))]
 fn is_main_with_params(name: &[u8], params: &[Word]) -> bool
-    ensures { result ≡ (bytes_eq name.now (codes "main") && nat_lt 0 (length (texts params.now))) }
+    ensures { let count = length (texts params.now) in
+        result ≡ (bytes_eq name.now (codes "main") && nat_lt 0 count) }
 {
     name == b"main".as_slice() && params.len() > 0
 }

@@ -43,8 +43,9 @@ pub fn check_op(units: &UnitSet, form: &Form) -> Result<(), Refusal>
 // tests that a unit offers an operation of this name that takes so many words
 fn check_offer(units: &UnitSet, name: &[u8], words: u8) -> Result<(), Refusal>
     ensures { let U = stated unit_meaning units.now in
-        result ≡ refuse_if (is_none (named U name.now)) UnknownOp
-        (refuse_if (option_map_or (λ op. not (arity_of U op == words)) (named U name.now) false) Arity (Ok tt)) }
+        let op = named U name.now in
+        let differs = option_map_or (λ op. not (arity_of U op == words)) op false in
+        result ≡ refuse_if (is_none op) UnknownOp (refuse_if differs Arity (Ok tt)) }
 {
     match units.find_bytes(name) {
         None => Err(Refusal::UnknownOp),

@@ -1,29 +1,49 @@
-//! The words that program texts keep for themselves.
+//! The words that name no variable, label, procedure or operation.
 
-ghost use Rattle.std.specs.Prelude.{◌≡◌, bytes_eq};
-ghost use Rattle.std.specs.List.{list_any};
+ghost use Rattle.std.specs.Prelude.{◌≡◌, length};
 ghost use Rattle.tta_tac.specs.Forms as spec;
 
-/// Whether a name is a reserved word.
-#[tactic(auto, unfolding(crate::specs::Forms::is_reserved))]
+/// Whether program texts keep a word for themselves.
+#[tactic(auto, using(crate::proofs::ReservedWords::of_lengths))]
 pub fn is_reserved(name: &[u8]) -> bool
     ensures { result ≡ spec.is_reserved name.now }
 {
-    is_among(&RESERVED, name)
-}
-
-fn is_among(words: &[&[u8]], name: &[u8]) -> bool
-    ensures { result ≡ list_any (λ word. bytes_eq word.now name.now) words.now }
-{
-    for word in words {
-        if *word == name {
-            return true;
-        }
+    match name.len() {
+        2 => name == b"if".as_slice(),
+        3 => is_reserved_of_three(name),
+        4 => is_reserved_of_four(name),
+        5 => name == b"store".as_slice(),
+        6 => name == b"return".as_slice(),
+        _ => false,
     }
-    false
 }
 
-const RESERVED: [&'static [u8]; 17] = [
-    b"ldw", b"stw", b"ldf", b"stf", b"jump", b"proc", b"end", b"if", b"goto", b"when", b"load",
-    b"store", b"out", b"call", b"return", b"halt", b"data",
-];
+/// Whether a name of three letters is a reserved word.
+#[tactic(auto, using(crate::proofs::ReservedWords::of_three))]
+fn is_reserved_of_three(name: &[u8]) -> bool
+    requires { length name.now ≡ 3 }
+    ensures { result ≡ spec.is_reserved name.now }
+{
+    name == b"ldw".as_slice()
+        || name == b"stw".as_slice()
+        || name == b"ldf".as_slice()
+        || name == b"stf".as_slice()
+        || name == b"end".as_slice()
+        || name == b"out".as_slice()
+}
+
+/// Whether a name of four letters is a reserved word.
+#[tactic(auto, using(crate::proofs::ReservedWords::of_four))]
+fn is_reserved_of_four(name: &[u8]) -> bool
+    requires { length name.now ≡ 4 }
+    ensures { result ≡ spec.is_reserved name.now }
+{
+    name == b"jump".as_slice()
+        || name == b"proc".as_slice()
+        || name == b"goto".as_slice()
+        || name == b"when".as_slice()
+        || name == b"load".as_slice()
+        || name == b"call".as_slice()
+        || name == b"halt".as_slice()
+        || name == b"data".as_slice()
+}

@@ -3,7 +3,8 @@
 ghost use Rattle.std.specs.Prelude.{◌≡◌, ◌≤◌, false, Some, option_map, length};
 ghost use Rattle.tta_ops.specs.Set.{stated};
 ghost use Rattle.tta_tac.specs.Draft.{step_seen, Plain, IfTo, CallTo};
-ghost use Rattle.tta_tac.specs.FirstPass.{step_of, apply_step, has_many_args, is_end, var_number, src_of, srcs_of};
+ghost use Rattle.tta_tac.specs.FirstPass.{step_of, apply_step, has_many_args, is_end};
+ghost use Rattle.tta_tac.specs.FirstPass.{var_number, src_of, srcs_of};
 ghost use Rattle.tta_tac.specs.Seen.{form_seen, operand_seen, operands_seen, operands_in};
 
 use crate::operand::{Rel, Src};
@@ -48,7 +49,8 @@ pub fn step_of<'t>(
     form: &Form<'t>,
 ) -> Option<NamedStep<'t>>
     requires few { has_many_args (form_seen form.now) ≡ false }
-    ensures { option_map step_seen result ≡ step_of (stated unit_meaning units.now) vars.now (form_seen form.now) }
+    ensures { option_map step_seen result
+        ≡ step_of (stated unit_meaning units.now) vars.now (form_seen form.now) }
 {
     match *form {
         Form::Proc { name: _, params: _ } => None,
@@ -71,7 +73,8 @@ pub fn step_of<'t>(
 }
 
 fn copy_step(vars: &Names<u32>, d: &[u8], s: Operand) -> Step
-    ensures { result ≡ Step.Copy (var_number vars.now d.now) (src_of vars.now (operand_seen s.entry)) }
+    ensures { result
+        ≡ Step.Copy (var_number vars.now d.now) (src_of vars.now (operand_seen s.entry)) }
 {
     let d = number_of(vars, d);
     let s = src_of(vars, s);
@@ -79,7 +82,8 @@ fn copy_step(vars: &Names<u32>, d: &[u8], s: Operand) -> Step
 }
 
 fn load_step(vars: &Names<u32>, d: &[u8], a: Operand) -> Step
-    ensures { result ≡ Step.Load (var_number vars.now d.now) (src_of vars.now (operand_seen a.entry)) }
+    ensures { result
+        ≡ Step.Load (var_number vars.now d.now) (src_of vars.now (operand_seen a.entry)) }
 {
     let d = number_of(vars, d);
     let a = src_of(vars, a);
@@ -87,7 +91,8 @@ fn load_step(vars: &Names<u32>, d: &[u8], a: Operand) -> Step
 }
 
 fn store_step(vars: &Names<u32>, a: Operand, v: Operand) -> Step
-    ensures { result ≡ Step.Store (src_of vars.now (operand_seen a.entry)) (src_of vars.now (operand_seen v.entry)) }
+    ensures { let address = src_of vars.now (operand_seen a.entry) in
+        result ≡ Step.Store address (src_of vars.now (operand_seen v.entry)) }
 {
     let a = src_of(vars, a);
     let v = src_of(vars, v);
@@ -123,8 +128,9 @@ fn if_step<'t>(
     b: Operand,
     label: &'t [u8],
 ) -> NamedStep<'t>
-    ensures { step_seen result
-        ≡ IfTo rel (src_of vars.now (operand_seen a.entry)) (src_of vars.now (operand_seen b.entry)) label.now }
+    ensures { let left = src_of vars.now (operand_seen a.entry) in
+        let right = src_of vars.now (operand_seen b.entry) in
+        step_seen result ≡ IfTo rel left right label.now }
 {
     let a = src_of(vars, a);
     let b = src_of(vars, b);
@@ -132,8 +138,10 @@ fn if_step<'t>(
 }
 
 fn when_step(vars: &Names<u32>, rel: Rel, a: Operand, b: Operand, d: &[u8], s: Operand) -> Step
-    ensures { result ≡ Step.When rel (src_of vars.now (operand_seen a.entry)) (src_of vars.now (operand_seen b.entry))
-        (var_number vars.now d.now) (src_of vars.now (operand_seen s.entry)) }
+    ensures { let left = src_of vars.now (operand_seen a.entry) in
+        let right = src_of vars.now (operand_seen b.entry) in
+        let value = src_of vars.now (operand_seen s.entry) in
+        result ≡ Step.When rel left right (var_number vars.now d.now) value }
 {
     let a = src_of(vars, a);
     let b = src_of(vars, b);

@@ -1,7 +1,8 @@
 //! The variables of a procedure. They get their numbers at their first appearance.
 
 ghost use Rattle.std.specs.Prelude.{◌≡◌, ◌+◌, ◌<◌, ◌≤◌, ◌^◌, length, OnOk};
-ghost use Rattle.tta_tac.specs.FirstPass.{with_var, with_operand, with_operands, var_number, src_of, srcs_of};
+ghost use Rattle.tta_tac.specs.FirstPass.{with_var, with_operand, with_operands};
+ghost use Rattle.tta_tac.specs.FirstPass.{var_number, src_of, srcs_of};
 ghost use Rattle.tta_tac.specs.Seen.{operand_seen, operands_in};
 
 use crate::args::Args;
