@@ -1,7 +1,8 @@
 -- Each line keeps the rules of a draft.
 use Rattle.std.proofs.Common.{◌≡◌, ℕ, ◌+◌, ◌<◌, ◌≤◌, Bool, true, false, suc, List, [], ◌∷◌, ◌++◌, length, refl, ap, subst, arith, length-append, lit≤}
-use Rattle.std.specs.Prelude.{◌||◌, ◌&&◌, nat_lt, Option, Some, None, Result, Ok, is_some, codes}
-use Rattle.std.specs.Option.{IfSome}
+use Rattle.std.specs.Prelude.{◌||◌, ◌&&◌, nat_lt, Option, Some, None, Result, Ok, Err, is_some, codes}
+use Rattle.std.specs.Option.{IfSome, option_map_or}
+use Rattle.std.specs.Result.{OnOk}
 use Rattle.std.specs.Str.{bytes_eq}
 use Rattle.std.proofs.lemmas.Bool.Decides.{nat_tests}
 use Rattle.tta_reading.specs.Lines.{Line}
@@ -10,8 +11,11 @@ use Rattle.tta_reading.specs.Steps.{◌>>=◌, or_refuse}
 use Rattle.tta_ops.specs.Units.{Units}
 use Rattle.tta_tac.specs.declared.reading.refusal.Refusal.{Refusal}
 use Rattle.tta_tac.specs.declared.reading.refusal.Refusal.TheVariants.{UnknownOp, Arity, Twice, TooMany, Syntax}
+use Rattle.tta_tac.specs.declared.reading.refusal.LineError.{LineError}
+use Rattle.tta_tac.specs.declared.reading.draft.DraftProc.{DraftProc}
+use Rattle.tta_tac.specs.Seen.{Says}
 use Rattle.tta_tac.specs.Forms.{Form, ProcForm, LabelForm, form_of}
-use Rattle.tta_tac.specs.Draft.{Unlinked, ProcDraft, Draft, nothing}
+use Rattle.tta_tac.specs.Draft.{Unlinked, ProcDraft, Draft, nothing, proc_seen}
 use Rattle.tta_tac.specs.DraftRules.{IsBegun, IsDraft}
 use Rattle.tta_tac.specs.FirstPass.{vars_after, lacks_op, has_wrong_arity, has_many_args, has_twice, is_full, step_of, is_end, close_if, with_step, numbered, take_step, take_label, take_proc, take_inside, take_form, take_line}
 use Rattle.tta_tac.proofs.Lines.{passed}
@@ -126,3 +130,28 @@ module _ (d e : Draft) (kept : IsDraft d) where
   unfolding take_line
   take_line_kept u line [] taken = subst IsDraft (same_draft d e taken) kept
   take_line_kept u line (key ∷ words) taken = read_kept u line (form_of key words) taken
+
+-- ---- of the code's results
+
+module _ {A : Type 0} where
+  -- where a result says what a line does, an accepted line keeps the rules
+  pub form_says_kept : (u : Units) (d e : Draft) (line : ℕ) (f : Form) (r : Result A LineError) → IsDraft d
+      → Says e r (take_form u d line f) → OnOk r (IsDraft e)
+  form_says_kept u d e line f (Ok x) kept says = take_form_kept d e kept u line f says
+  form_says_kept u d e line f (Err x) kept says = tt
+
+  -- the same of a step, of a begun procedure that was moved out of the draft
+  pub step_says_kept : (u : Units) (d e : Draft) (q : ProcDraft) (line : ℕ) (f : Form) (r : Result A LineError) → IsDraft d
+      → IsBegun d.lines q → Says e r (take_step u d q line f) → OnOk r (IsDraft e)
+  step_says_kept u d e q line f (Ok x) kept begun says = take_step_kept d e kept q begun u line f says
+  step_says_kept u d e q line f (Err x) kept begun says = tt
+
+-- a draft out of which the begun procedure was moved
+pub moved_kept : (d : Draft) → IsDraft d → IsDraft (record d { begun = None })
+moved_kept d kept = record { lines = kept.lines; procs = kept.procs; begun = tt }
+
+-- the begun procedure that was moved out
+pub begun_of : (o : Option DraftProc) (q : DraftProc) (lines : ℕ)
+    → IfSome (option_map_or (λ p. Some (proc_seen p)) o None) (IsBegun lines) → o ≡ Some q → IsBegun lines (proc_seen q)
+begun_of None q lines kept e = cc
+begun_of (Some p) q lines kept e = let same : p ≡ q = cc in subst (λ x. IsBegun lines (proc_seen x)) same kept

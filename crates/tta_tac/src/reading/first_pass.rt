@@ -1,7 +1,7 @@
 //! What each line of a program's text does to the draft.
 
 ghost use Rattle.std.specs.Prelude.{◌≡◌, ◌≤◌, ◌&&◌, ◌||◌, nat_lt, false, [], None};
-ghost use Rattle.std.specs.Prelude.{is_some, codes, bytes_eq, length, IfOk};
+ghost use Rattle.std.specs.Prelude.{is_some, codes, bytes_eq, length, IfOk, OnOk};
 ghost use Rattle.tta_reading.specs.Names.{named_in};
 ghost use Rattle.tta_ops.specs.Set.{stated};
 ghost use Rattle.tta_tac.specs.Draft.{draft_seen, proc_seen, nothing};
@@ -25,7 +25,8 @@ use tta_reading::{Names, Word};
 impl<'t> Draft<'t> {
     /// The draft before the first line. It takes no memory.
     pub fn new(alloc: Global) -> Self
-        ensures { draft_seen result ≡ nothing }
+        ensures value { draft_seen result ≡ nothing }
+        ensures rules { IsDraft (draft_seen result) }
     {
         Draft {
             names: Names::new(alloc),
@@ -46,8 +47,9 @@ impl<'t> Draft<'t> {
         form: &Form<'t>,
     ) -> Result<(), LineError>
         requires { IsDraft (draft_seen self.old) }
-        ensures { Says (draft_seen self.new) result (take_form (stated unit_meaning units.now)
+        ensures says { Says (draft_seen self.new) result (take_form (stated unit_meaning units.now)
             (draft_seen self.old) line (form_seen form.now)) }
+        ensures rules { OnOk result (IsDraft (draft_seen self.new)) }
     {
         if let Form::Proc { name, params } = *form {
             return self.take_proc(alloc, line, name, params);
