@@ -1,12 +1,13 @@
 //! What each line of a program's text does to the draft.
 
 ghost use Rattle.std.specs.Prelude.{◌≡◌, ◌≤◌, ◌&&◌, ◌||◌, nat_lt, false, [], None};
-ghost use Rattle.std.specs.Prelude.{is_some, codes, bytes_eq, length, IfOk, OnOk};
+ghost use Rattle.std.specs.Prelude.{is_some, codes, bytes_eq, length, map, IfOk, OnOk};
+ghost use Rattle.tta_reading.specs.Lines.{plain};
 ghost use Rattle.tta_reading.specs.Names.{named_in};
 ghost use Rattle.tta_ops.specs.Set.{stated};
 ghost use Rattle.tta_tac.specs.Draft.{draft_seen, proc_seen, nothing};
 ghost use Rattle.tta_tac.specs.DraftRules.{IsDraft, IsBegun};
-ghost use Rattle.tta_tac.specs.FirstPass.{take_form, take_proc, take_label, take_step};
+ghost use Rattle.tta_tac.specs.FirstPass.{take_line, take_form, take_proc, take_label, take_step};
 ghost use Rattle.tta_tac.specs.FirstPass.{has_twice, numbered};
 ghost use Rattle.tta_tac.specs.Seen.{Says, form_seen, texts};
 
@@ -17,6 +18,7 @@ use crate::reading::operations::check_op;
 use crate::reading::params::{has_twice, numbered};
 use crate::reading::refusal::{LineError, Refusal};
 use crate::reading::steps::{has_many_args, is_end, step_of};
+use crate::reading::syntax::form_of;
 use std::alloc::{AllocError, Global};
 use tta_list::Items;
 use tta_ops::UnitSet;
@@ -36,6 +38,30 @@ impl<'t> Draft<'t> {
         }
     }
 
+    /// Takes the words of a line. A blank one changes nothing, and words that are none of the forms
+    /// are refused as `Syntax`; else it is as `take_form` says.
+    #[tactic(auto, unfolding(crate::specs::FirstPass::take_line))]
+    pub fn take_line(
+        &mut self,
+        alloc: Global,
+        units: &UnitSet,
+        line: u32,
+        words: &[Word<'t>],
+    ) -> Result<(), LineError>
+        requires { IsDraft (draft_seen self.old) }
+        ensures says { Says (draft_seen self.new) result (take_line (stated unit_meaning units.now)
+            line (draft_seen self.old) (map plain words.now)) }
+        ensures rules { OnOk result (IsDraft (draft_seen self.new)) }
+    {
+        let [key, words @ ..] = words else {
+            return Ok(());
+        };
+        let Some(form) = form_of(key, words) else {
+            return Err(LineError::Refused(Refusal::Syntax));
+        };
+        self.take_form(alloc, units, line, &form)
+    }
+
     /// Takes a line that is not blank. It is refused with the first refusal that it has, in the
     /// order `Syntax`, `UnknownOp`, `Arity`, `Twice`, `TooMany`. After an `Err` the draft is of no
     /// more use.
@@ -44,7 +70,7 @@ impl<'t> Draft<'t> {
         alloc: Global,
         units: &UnitSet,
         line: u32,
-        form: &Form<'t>,
+        form: &Form<'_, 't>,
     ) -> Result<(), LineError>
         requires { IsDraft (draft_seen self.old) }
         ensures says { Says (draft_seen self.new) result (take_form (stated unit_meaning units.now)
@@ -138,17 +164,14 @@ impl<'t> Draft<'t> {
     /// Takes a step of a begun procedure that was moved out of the draft. It is refused as
     /// `UnknownOp` or `Arity` by its operation, and as `TooMany` where it has more than eight
     /// arguments, brings the procedure's 4,097th variable, or 65,536 lines were read.
-    #[tactic(auto, using(
-        crate::proofs::Seen::steps_seen_append,
-        crate::proofs::Seen::procs_seen_append
-    ))]
+    #[tactic(auto, using(crate::proofs::Seen::steps_seen_append, crate::proofs::Seen::procs_seen_append))]
     fn take_step(
         &mut self,
         alloc: Global,
         units: &UnitSet,
         mut proc: DraftProc<'t>,
         line: u32,
-        form: &Form<'t>,
+        form: &Form<'_, 't>,
     ) -> Result<(), LineError>
         requires moved { self.old.begun ≡ None }
         requires begun { IsBegun self.old.lines (proc_seen proc) }

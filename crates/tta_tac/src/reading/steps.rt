@@ -46,7 +46,7 @@ pub fn step_of<'t>(
     alloc: Global,
     units: &UnitSet,
     vars: &Names<u32>,
-    form: &Form<'t>,
+    form: &Form<'_, 't>,
 ) -> Option<NamedStep<'t>>
     requires few { has_many_args (form_seen form.now) ≡ false }
     ensures { option_map step_seen result

@@ -10,13 +10,13 @@ pub returns-in-Proc-clause-rules : goal.returns-in-Proc-clause-rules
 returns-in-Proc-clause-rules g c =
     let U = stated (λ v. (goal.OpUnit-dyn g v).unit_meaning v.1) c.args.units.now in
     form_says_kept U (draft_seen c.args.self.now) (draft_seen c.take_proc.new.self) c.args.line
-        (ProcForm c.in-Proc.name.now (texts c.in-Proc.params.now)) c.take_proc.result c.requires c.take_proc.ensures
+    (ProcForm c.in-Proc.name.now (texts c.in-Proc.params.now)) c.take_proc.result c.requires c.take_proc.ensures
 
 pub returns-clause-rules : goal.returns-clause-rules
 returns-clause-rules g c =
     let U = stated (λ v. (goal.OpUnit-dyn g v).unit_meaning v.1) c.args.units.now in
     let d = draft_seen c.args.self.now in
     step_says_kept U (record d { begun = None }) (draft_seen c.take_step.new.self) (proc_seen c.in-Some.proc) c.args.line
-        (form_seen c.args.form.now) c.take_step.result (moved_kept d c.requires)
-        (begun_of c.args.self.now.begun c.in-Some.proc c.args.self.now.lines c.requires.begun (sym c.take.ensures.value ∙ c.in-Some.is))
-        c.take_step.ensures
+    (form_seen c.args.form.now) c.take_step.result (moved_kept d c.requires)
+    (begun_of c.args.self.now.begun c.in-Some.proc c.args.self.now.lines c.requires.begun (sym c.take.ensures.value ∙ c.in-Some.is))
+    c.take_step.ensures
