@@ -20,34 +20,25 @@ pub fn declare_names(alloc: Global, vars: &mut Names<u32>, form: &Form) -> Resul
     match *form {
         Form::Copy { d, s } => declare_assigned(alloc, vars, d, s),
         Form::Load { d, a } => declare_assigned(alloc, vars, d, a),
-        Form::Apply { d, op: _, operands } => {
+        Form::Apply { d, operands, .. } => {
             declare(alloc, vars, d)?;
             declare_given(alloc, vars, operands)
         }
         Form::Store { a, v } => declare_pair(alloc, vars, a, v),
-        Form::If {
-            rel: _,
-            a,
-            b,
-            label: _,
-        } => declare_pair(alloc, vars, a, b),
-        Form::When { rel: _, a, b, d, s } => {
+        Form::If { a, b, .. } => declare_pair(alloc, vars, a, b),
+        Form::When { a, b, d, s, .. } => {
             declare_pair(alloc, vars, a, b)?;
             declare_assigned(alloc, vars, d, s)
         }
         Form::Call {
             d: Some(d),
-            callee: _,
             args,
+            ..
         } => {
             declare(alloc, vars, d)?;
             declare_operands(alloc, vars, args)
         }
-        Form::Call {
-            d: None,
-            callee: _,
-            args,
-        } => declare_operands(alloc, vars, args),
+        Form::Call { d: None, args, .. } => declare_operands(alloc, vars, args),
         Form::Put { v } => declare_operand(alloc, vars, v),
         Form::Return { s: Some(s) } => declare_operand(alloc, vars, s),
         _ => Ok(()),

@@ -22,20 +22,9 @@ pub fn check_op(units: &UnitSet, form: &Form) -> Result<(), Refusal>
         (refuse_if (has_wrong_arity U (form_seen form.now)) Arity (Ok tt)) }
 {
     match *form {
-        Form::Apply { d: _, op, operands } => check_offer(units, op, operand_count(operands)),
-        Form::If {
-            rel,
-            a: _,
-            b: _,
-            label: _,
-        } => check_offer(units, relation_name(rel), 2),
-        Form::When {
-            rel,
-            a: _,
-            b: _,
-            d: _,
-            s: _,
-        } => check_offer(units, relation_name(rel), 2),
+        Form::Apply { op, operands, .. } => check_offer(units, op, operand_count(operands)),
+        Form::If { rel, .. } => check_offer(units, relation_name(rel), 2),
+        Form::When { rel, .. } => check_offer(units, relation_name(rel), 2),
         _ => Ok(()),
     }
 }

@@ -22,11 +22,7 @@ pub fn has_many_args(form: &Form) -> bool
     ensures { result ≡ has_many_args (form_seen form.now) }
 {
     match *form {
-        Form::Call {
-            d: _,
-            callee: _,
-            args,
-        } => count_operands(args) > 8,
+        Form::Call { args, .. } => count_operands(args) > 8,
         _ => false,
     }
 }
@@ -53,8 +49,8 @@ pub fn step_of<'t>(
         ≡ step_of (stated unit_meaning units.now) vars.now (form_seen form.now) }
 {
     match *form {
-        Form::Proc { name: _, params: _ } => None,
-        Form::Label { name: _ } => None,
+        Form::Proc { .. } => None,
+        Form::Label { .. } => None,
         Form::Copy { d, s } => Some(NamedStep::Plain(copy_step(vars, d, s))),
         Form::Load { d, a } => Some(NamedStep::Plain(load_step(vars, d, a))),
         Form::Apply { d, op, operands } => Some(NamedStep::Plain(apply_step(
