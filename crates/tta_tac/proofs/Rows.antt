@@ -11,7 +11,7 @@ use Rattle.tta_tac.specs.declared.program.Proc.{Proc}
 use Rattle.tta_tac.specs.Program.{Program}
 use Rattle.tta_tac.specs.Sequential.{seq, next, Halted, Running}
 
-abbrev op : ℕ → OpId
+abbrev pub op : ℕ → OpId
 op id = record { 0 = id }
 
 abbrev proc : (params vars : ℕ) → List Step → Proc
@@ -46,23 +46,23 @@ squares-ends u = refl
 
 -- ---- a copy where a condition holds
 
-less_value : ℕ → ℕ → ℕ
+unfoldable pub less_value : ℕ → ℕ → ℕ
 less_value a b = if nat_lt a b then 1 else 0
 
-less_value-word : (a b : ℕ) → less_value a b < 2 ^ 32
+pub less_value-word : (a b : ℕ) → less_value a b < 2 ^ 32
 unfolding less_value
 less_value-word a b = elim (nat_lt a b) as (λ t. (if t then 1 else 0) < 2 ^ 32) [ true ↦ lit< tt | false ↦ lit< tt ]
 
-two : List ℕ
+unfoldable pub two : List ℕ
 two = 2 ∷ []
 
-only_two : (k a b : ℕ) → slice_get two k ≡ Some 1 → less_value a b ≡ less_value 0 b
+pub only_two : (k a b : ℕ) → slice_get two k ≡ Some 1 → less_value a b ≡ less_value 0 b
 unfolding two
 only_two zero a b e = cc
 only_two (suc k) a b e = cc
 
 -- units of one operation, lt on small numbers
-less : Units
+unfoldable pub less : Units
 unfolding two
 less = record {
   names = codes "lt" ∷ [];

@@ -1,10 +1,9 @@
 -- A program while its text is read: variables get their numbers at their first appearance, labels and callees are
 -- still names.
-use Rattle.std.specs.Prelude.{◌≡◌, ℕ, ◌+◌, ◌==◌, Bool, if◌then◌else◌, List, [], ◌∷◌, ◌++◌, length, Option, Some, None, slice_get, Result, Ok, Err}
+use Rattle.std.specs.Prelude.{ℕ, List, [], ◌∷◌, Option, Some, None}
 use Rattle.std.specs.Option.{option_map_or}
-use Rattle.tta_reading.specs.Names.{Declared, named_in}
+use Rattle.tta_reading.specs.Names.{Declared}
 use Rattle.tta_tac.specs.declared.operand.Src.{Src}
-use Rattle.tta_tac.specs.declared.operand.Src.TheVariants.{Var, Word}
 use Rattle.tta_tac.specs.declared.step.Step.{Step}
 use Rattle.tta_tac.specs.declared.reading.draft.NamedStep.{NamedStep}
 use Rattle.tta_tac.specs.declared.reading.draft.NamedStep.TheVariants as code_step

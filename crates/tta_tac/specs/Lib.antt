@@ -4,6 +4,7 @@ pub mod Rules
 pub mod Refusals
 pub mod Forms
 pub mod Draft
+pub mod DraftRules
 pub mod FirstPass
 pub mod SecondPass
 pub mod Text

@@ -13,7 +13,7 @@ use tta_reading::Word;
 
 /// `d = s`, `d = load a`, `d = call NAME s ..`, `d = OPERATION b` and `d = OPERATION a b`, behind the equals sign.
 #[tactic(auto, unfolding(crate::specs::Forms::assign_form))]
-pub fn assign_form<'t>(d: &'t [u8], words: &'t [Word<'t>]) -> Option<Form<'t>>
+pub fn assign_form<'w, 't>(d: &'t [u8], words: &'w [Word<'t>]) -> Option<Form<'w, 't>>
     ensures { option_map form_seen result ≡ spec.assign_form d.now (map plain words.now) }
 {
     match words {
@@ -36,7 +36,12 @@ pub fn assign_form<'t>(d: &'t [u8], words: &'t [Word<'t>]) -> Option<Form<'t>>
 
 /// `d = load a`
 #[tactic(auto, unfolding(crate::specs::Forms::assign_form))]
-fn load_form<'t>(d: &'t [u8], key: &Word<'t>, a: &Word<'t>, others: &[Word]) -> Option<Form<'t>>
+fn load_form<'w, 't>(
+    d: &'t [u8],
+    key: &Word<'t>,
+    a: &Word<'t>,
+    others: &[Word],
+) -> Option<Form<'w, 't>>
     requires no_call { is_keyword (codes "call") (plain key.now) ≡ false }
     requires load { is_keyword (codes "load") (plain key.now) ≡ true }
     ensures { option_map form_seen result
@@ -53,12 +58,12 @@ fn load_form<'t>(d: &'t [u8], key: &Word<'t>, a: &Word<'t>, others: &[Word]) -> 
 
 /// `d = OPERATION b` and `d = OPERATION a b`
 #[tactic(auto, unfolding(crate::specs::Forms::assign_form))]
-fn apply_form<'t>(
+fn apply_form<'w, 't>(
     d: &'t [u8],
     key: &Word<'t>,
     a: &Word<'t>,
     others: &[Word<'t>],
-) -> Option<Form<'t>>
+) -> Option<Form<'w, 't>>
     requires no_call { is_keyword (codes "call") (plain key.now) ≡ false }
     requires no_load { is_keyword (codes "load") (plain key.now) ≡ false }
     ensures { option_map form_seen result

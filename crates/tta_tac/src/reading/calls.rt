@@ -11,7 +11,7 @@ use tta_reading::Word;
 
 /// `call NAME s ..`, behind a destination or without one.
 #[tactic(auto, unfolding(crate::specs::Forms::call_form))]
-pub fn call_form<'t>(d: Option<&'t [u8]>, words: &'t [Word<'t>]) -> Option<Form<'t>>
+pub fn call_form<'w, 't>(d: Option<&'t [u8]>, words: &'w [Word<'t>]) -> Option<Form<'w, 't>>
     ensures { option_map form_seen result
         ≡ spec.call_form (option_map (λ n. n.now) d.entry) (map plain words.now) }
 {

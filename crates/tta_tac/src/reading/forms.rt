@@ -17,13 +17,14 @@ pub enum Operands<'t> {
     Two(Operand<'t>, Operand<'t>),
 }
 
-/// What a line says. A branch that is taken where a condition holds has its relation and two operands.
+/// What a line says, over the words of the line and the bytes of the text. A branch that is taken
+/// where a condition holds has its relation and two operands.
 #[derive(Clone, Copy)]
-pub enum Form<'t> {
+pub enum Form<'w, 't> {
     /// `proc NAME x ..`; each word of `params` is a free name.
     Proc {
         name: &'t [u8],
-        params: &'t [Word<'t>],
+        params: &'w [Word<'t>],
     },
     /// `NAME :`
     Label {
@@ -77,7 +78,7 @@ pub enum Form<'t> {
     Call {
         d: Option<&'t [u8]>,
         callee: &'t [u8],
-        args: &'t [Word<'t>],
+        args: &'w [Word<'t>],
     },
     /// `return`, and `return s`
     Return {

@@ -69,7 +69,7 @@ fn are_free_names(words: &[Word]) -> bool
 
 /// Words, where all of them are operands; they stand for those.
 #[tactic(auto, using(crate::proofs::Runs::operands_alone_of))]
-pub fn operands_alone<'t>(words: &'t [Word<'t>]) -> Option<&'t [Word<'t>]>
+pub fn operands_alone<'w, 't>(words: &'w [Word<'t>]) -> Option<&'w [Word<'t>]>
     ensures { option_map (λ w. operands_in w.now) result
         ≡ spec.operands_alone (map plain words.now) }
 {
@@ -82,7 +82,7 @@ pub fn operands_alone<'t>(words: &'t [Word<'t>]) -> Option<&'t [Word<'t>]>
 
 /// Words, where all of them are free names; they stand for those.
 #[tactic(auto, using(crate::proofs::Runs::names_alone_of))]
-pub fn names_alone<'t>(words: &'t [Word<'t>]) -> Option<&'t [Word<'t>]>
+pub fn names_alone<'w, 't>(words: &'w [Word<'t>]) -> Option<&'w [Word<'t>]>
     ensures { option_map (λ w. texts w.now) result ≡ spec.names_alone (map plain words.now) }
 {
     if are_free_names(words) {

@@ -2,7 +2,7 @@
 
 ghost use Rattle.std.specs.Prelude.{◌≡◌};
 ghost use Rattle.tta_tac.specs.Refusals.{code_of};
-ghost use Rattle.tta_tac.specs.declared.reading.refusal.LineError.TheVariants.{NoMemory};
+ghost use Rattle.tta_tac.specs.declared.reading.refusal.LineError.TheVariants.{NoMemory, Refused};
 
 use std::alloc::{AllocError, AllocFailed};
 
@@ -61,6 +61,14 @@ pub enum TacError {
 pub enum LineError {
     Refused(Refusal),
     NoMemory,
+}
+
+impl From<Refusal> for LineError {
+    ghost from_gives = { λ refusal e. e ≡ Refused refusal };
+
+    fn from(refusal: Refusal) -> LineError {
+        LineError::Refused(refusal)
+    }
 }
 
 impl From<AllocError> for LineError {

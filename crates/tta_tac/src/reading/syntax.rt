@@ -16,7 +16,7 @@ use tta_reading::Word;
 
 /// What a line says, told by its first word and the words behind it; `None` where it is none of the forms.
 #[tactic(auto, unfolding(crate::specs::Forms::form_of))]
-pub fn form_of<'t>(key: &Word<'t>, words: &'t [Word<'t>]) -> Option<Form<'t>>
+pub fn form_of<'w, 't>(key: &Word<'t>, words: &'w [Word<'t>]) -> Option<Form<'w, 't>>
     ensures { option_map form_seen result ≡ spec.form_of (plain key.now) (map plain words.now) }
 {
     if key.is_keyword(b"proc") {
@@ -46,7 +46,7 @@ pub fn form_of<'t>(key: &Word<'t>, words: &'t [Word<'t>]) -> Option<Form<'t>>
 
 /// `proc NAME x ..`
 #[tactic(auto, unfolding(crate::specs::Forms::proc_form))]
-fn proc_form<'t>(words: &'t [Word<'t>]) -> Option<Form<'t>>
+fn proc_form<'w, 't>(words: &'w [Word<'t>]) -> Option<Form<'w, 't>>
     ensures { option_map form_seen result ≡ spec.proc_form (map plain words.now) }
 {
     match words {
@@ -61,7 +61,7 @@ fn proc_form<'t>(words: &'t [Word<'t>]) -> Option<Form<'t>>
 
 /// `store a v`
 #[tactic(auto, unfolding(crate::specs::Forms::store_form))]
-fn store_form<'t>(words: &'t [Word<'t>]) -> Option<Form<'t>>
+fn store_form<'w, 't>(words: &'w [Word<'t>]) -> Option<Form<'w, 't>>
     ensures { option_map form_seen result ≡ spec.store_form (map plain words.now) }
 {
     match words {
@@ -76,7 +76,7 @@ fn store_form<'t>(words: &'t [Word<'t>]) -> Option<Form<'t>>
 
 /// `out v`
 #[tactic(auto, unfolding(crate::specs::Forms::put_form))]
-fn put_form<'t>(words: &'t [Word<'t>]) -> Option<Form<'t>>
+fn put_form<'w, 't>(words: &'w [Word<'t>]) -> Option<Form<'w, 't>>
     ensures { option_map form_seen result ≡ spec.put_form (map plain words.now) }
 {
     match words {
@@ -90,7 +90,7 @@ fn put_form<'t>(words: &'t [Word<'t>]) -> Option<Form<'t>>
 
 /// `if REL a b goto NAME`
 #[tactic(auto, unfolding(crate::specs::Forms::if_form))]
-fn if_form<'t>(words: &'t [Word<'t>]) -> Option<Form<'t>>
+fn if_form<'w, 't>(words: &'w [Word<'t>]) -> Option<Form<'w, 't>>
     ensures { option_map form_seen result ≡ spec.if_form (map plain words.now) }
 {
     match words {
@@ -110,7 +110,7 @@ fn if_form<'t>(words: &'t [Word<'t>]) -> Option<Form<'t>>
 
 /// `goto NAME`
 #[tactic(auto, unfolding(crate::specs::Forms::goto_form))]
-fn goto_form<'t>(words: &'t [Word<'t>]) -> Option<Form<'t>>
+fn goto_form<'w, 't>(words: &'w [Word<'t>]) -> Option<Form<'w, 't>>
     ensures { option_map form_seen result ≡ spec.goto_form (map plain words.now) }
 {
     match words {
@@ -124,7 +124,7 @@ fn goto_form<'t>(words: &'t [Word<'t>]) -> Option<Form<'t>>
 
 /// `when REL a b d = s`
 #[tactic(auto, unfolding(crate::specs::Forms::when_form))]
-fn when_form<'t>(words: &'t [Word<'t>]) -> Option<Form<'t>>
+fn when_form<'w, 't>(words: &'w [Word<'t>]) -> Option<Form<'w, 't>>
     ensures { option_map form_seen result ≡ spec.when_form (map plain words.now) }
 {
     match words {
@@ -145,7 +145,7 @@ fn when_form<'t>(words: &'t [Word<'t>]) -> Option<Form<'t>>
 
 /// `return` and `return s`
 #[tactic(auto, unfolding(crate::specs::Forms::return_form))]
-fn return_form<'t>(words: &'t [Word<'t>]) -> Option<Form<'t>>
+fn return_form<'w, 't>(words: &'w [Word<'t>]) -> Option<Form<'w, 't>>
     ensures { option_map form_seen result ≡ spec.return_form (map plain words.now) }
 {
     match words {
@@ -159,7 +159,7 @@ fn return_form<'t>(words: &'t [Word<'t>]) -> Option<Form<'t>>
 }
 
 /// A form with nothing behind it.
-fn alone_form<'t>(form: Form<'t>, words: &[Word]) -> Option<Form<'t>>
+fn alone_form<'w, 't>(form: Form<'w, 't>, words: &[Word]) -> Option<Form<'w, 't>>
     ensures { option_map form_seen result
         ≡ spec.alone_form (form_seen form.entry) (map plain words.now) }
 {
@@ -171,7 +171,7 @@ fn alone_form<'t>(form: Form<'t>, words: &[Word]) -> Option<Form<'t>>
 
 /// `NAME :` and the assignments
 #[tactic(auto, unfolding(crate::specs::Forms::named_form))]
-fn named_form<'t>(first: &Word<'t>, words: &'t [Word<'t>]) -> Option<Form<'t>>
+fn named_form<'w, 't>(first: &Word<'t>, words: &'w [Word<'t>]) -> Option<Form<'w, 't>>
     ensures { option_map form_seen result
         ≡ spec.named_form (plain first.now) (map plain words.now) }
 {

@@ -1,0 +1,123 @@
+-- Small drafts, and what the definitions make of one more line.
+use Rattle.std.specs.Prelude.{◌≡◌, ℕ, List, [], ◌∷◌, Option, Some, None, Result, Ok, Err, refl, codes, replicate}
+use Rattle.tta_reading.specs.Names.{Declared}
+use Rattle.tta_ops.specs.Units.{Units}
+use Rattle.tta_tac.specs.declared.operand.Src.TheVariants.{Var, Word}
+use Rattle.tta_tac.specs.declared.operand.Rel.TheVariants.{Eq, Ge}
+use Rattle.tta_tac.specs.declared.step.Step.TheVariants as step
+use Rattle.tta_tac.specs.declared.reading.refusal.Refusal.{Refusal}
+use Rattle.tta_tac.specs.declared.reading.refusal.Refusal.TheVariants.{Syntax, UnknownOp, Arity, Twice, TooMany}
+use Rattle.tta_tac.specs.Forms.{Named, Constant, ProcForm, LabelForm, CopyForm, ApplyForm, IfForm, WhenForm, CallForm, HaltForm, EndForm}
+use Rattle.tta_tac.specs.Draft.{Unlinked, Plain, CallTo, ProcDraft, Draft, nothing}
+use Rattle.tta_tac.specs.FirstPass.{take_form}
+use Rattle.tta_tac.proofs.Rows.{op, less, two}
+
+abbrev a : List ℕ
+a = codes "a"
+
+abbrev b : List ℕ
+b = codes "b"
+
+abbrev c : List ℕ
+c = codes "c"
+
+abbrev d : List ℕ
+d = codes "d"
+
+-- ---- in a procedure f with the parameter a, after one line
+
+abbrev begun : Declared ℕ → Declared ℕ → List Unlinked → List ℕ → ProcDraft
+begun vars labels steps lines = record { line = 1; params = 1; vars = vars; labels = labels; steps = steps; lines = lines }
+
+abbrev inside : (lines : ℕ) → ProcDraft → Draft
+inside lines q = record { names = (codes "f", 0) ∷ []; procs = []; begun = Some q; lines = lines }
+
+abbrev in_f : Draft
+in_f = inside 1 (begun ((a, 0) ∷ []) [] [] [])
+
+proc-begins : (u : Units) → take_form u nothing 1 (ProcForm (codes "f") (a ∷ [])) ≡ Ok in_f
+proc-begins u = refl
+
+-- d = lt d a: the destination comes first
+apply-numbers : take_form less in_f 2 (ApplyForm d (codes "lt") (Named d ∷ Named a ∷ []))
+    ≡ Ok (inside 2 (begun ((a, 0) ∷ (d, 1) ∷ []) [] (Plain (step.Apply 1 (op 0) (Var 1) (Var 0)) ∷ []) (2 ∷ [])))
+unfolding less two
+apply-numbers = refl
+
+-- when ge b c d = a: the destination comes third
+when-numbers : take_form less in_f 2 (WhenForm Ge (Named b) (Named c) d (Named a))
+    ≡ Ok (inside 2 (begun ((a, 0) ∷ (b, 1) ∷ (c, 2) ∷ (d, 3) ∷ []) []
+    (Plain (step.When Ge (Var 1) (Var 2) 3 (Var 0)) ∷ []) (2 ∷ [])))
+unfolding less two
+when-numbers = refl
+
+-- b = call g 7 b
+call-numbers : (u : Units) → take_form u in_f 2 (CallForm (Some b) (codes "g") (Constant 7 ∷ Named b ∷ []))
+    ≡ Ok (inside 2 (begun ((a, 0) ∷ (b, 1) ∷ []) [] (CallTo (Some 1) (codes "g") (Word 7 ∷ Var 1 ∷ []) ∷ []) (2 ∷ [])))
+call-numbers u = refl
+
+-- a label names the next step and may have a variable's name
+label-names : (u : Units) → take_form u in_f 2 (LabelForm a) ≡ Ok (inside 2 (begun ((a, 0) ∷ []) ((a, 0) ∷ []) [] []))
+label-names u = refl
+
+end-closes : (u : Units) → take_form u in_f 2 EndForm
+    ≡ Ok (record {
+      names = (codes "f", 0) ∷ [];
+      procs = begun ((a, 0) ∷ []) [] (Plain step.End ∷ []) (2 ∷ []) ∷ [];
+      begun = None;
+      lines = 2;
+    })
+end-closes u = refl
+
+-- ---- refusals
+
+proc-inside : (u : Units) → take_form u in_f 2 (ProcForm (codes "g") []) ≡ Err Syntax
+proc-inside u = refl
+
+step-outside : (u : Units) → take_form u nothing 1 HaltForm ≡ Err Syntax
+step-outside u = refl
+
+-- proc main a a a a a a a a a: the wrong number of parameters is told before the name that stands twice
+main-params : (u : Units) → take_form u nothing 1 (ProcForm (codes "main") (replicate 9 a)) ≡ Err Arity
+main-params u = refl
+
+-- proc f a a a a a a a a a: the name that stands twice is told before the ninth parameter
+twice-params : (u : Units) → take_form u nothing 1 (ProcForm (codes "f") (replicate 9 a)) ≡ Err Twice
+twice-params u = refl
+
+many-args : (u : Units) → take_form u in_f 2 (CallForm None (codes "g") (replicate 9 (Constant 1))) ≡ Err TooMany
+many-args u = refl
+
+label-twice : (u : Units) → take_form u (inside 2 (begun [] ((b, 0) ∷ []) [] [])) 3 (LabelForm b) ≡ Err Twice
+label-twice u = refl
+
+-- no unit offers eq
+rel-unknown : take_form less in_f 2 (IfForm Eq (Named a) (Constant 0) b) ≡ Err UnknownOp
+unfolding less two
+rel-unknown = refl
+
+-- d = lt a
+operand-missing : take_form less in_f 2 (ApplyForm d (codes "lt") (Named a ∷ [])) ≡ Err Arity
+unfolding less two
+operand-missing = refl
+
+-- ---- limits
+
+abbrev with_vars : ℕ → Draft
+with_vars n = inside 1 (begun (replicate n (a, 0)) [] [] [])
+
+abbrev taken : Result Draft Refusal → Option Refusal
+taken (Ok after) = None
+taken (Err e) = Some e
+
+last-variable : (u : Units) → taken (take_form u (with_vars 4095) 2 (CopyForm b (Constant 1))) ≡ None
+last-variable u = refl
+
+variable-too-many : (u : Units) → taken (take_form u (with_vars 4096) 2 (CopyForm b (Constant 1))) ≡ Some TooMany
+variable-too-many u = refl
+
+last-line : (u : Units) → taken (take_form u (inside 65535 (begun [] [] [] [])) 2 HaltForm) ≡ None
+last-line u = refl
+
+line-too-many : (u : Units) → taken (take_form u (inside 65536 (begun [] [] [] [])) 2 HaltForm) ≡ Some TooMany
+line-too-many u = refl

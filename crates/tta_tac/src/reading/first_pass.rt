@@ -1,0 +1,236 @@
+//! What each line of a program's text does to the draft.
+
+ghost use Rattle.std.specs.Prelude.{◌≡◌, ◌≤◌, ◌&&◌, ◌||◌, nat_lt, false, [], None};
+ghost use Rattle.std.specs.Prelude.{is_some, codes, bytes_eq, length, map, IfOk, OnOk};
+ghost use Rattle.tta_reading.specs.Lines.{plain};
+ghost use Rattle.tta_reading.specs.Names.{named_in};
+ghost use Rattle.tta_ops.specs.Set.{stated};
+ghost use Rattle.tta_tac.specs.Draft.{draft_seen, proc_seen, nothing};
+ghost use Rattle.tta_tac.specs.DraftRules.{IsDraft, IsBegun};
+ghost use Rattle.tta_tac.specs.FirstPass.{take_line, take_form, take_proc, take_label, take_step};
+ghost use Rattle.tta_tac.specs.FirstPass.{has_twice, numbered};
+ghost use Rattle.tta_tac.specs.Seen.{Says, form_seen, texts};
+
+use crate::reading::declarations::declare_names;
+use crate::reading::draft::{Draft, DraftProc};
+use crate::reading::forms::Form;
+use crate::reading::operations::check_op;
+use crate::reading::params::{has_twice, numbered};
+use crate::reading::refusal::{LineError, Refusal};
+use crate::reading::steps::{has_many_args, is_end, step_of};
+use crate::reading::syntax::form_of;
+use std::alloc::{AllocError, Global};
+use tta_list::Items;
+use tta_ops::UnitSet;
+use tta_reading::{Names, Word};
+
+impl<'t> Draft<'t> {
+    /// The draft before the first line. It takes no memory.
+    pub fn new(alloc: Global) -> Self
+        ensures value { draft_seen result ≡ nothing }
+        ensures rules { IsDraft (draft_seen result) }
+    {
+        Draft {
+            names: Names::new(alloc),
+            procs: Items::new(alloc),
+            begun: None,
+            lines: 0,
+        }
+    }
+
+    /// Takes the words of a line. A blank one changes nothing, and words that are none of the forms
+    /// are refused as `Syntax`; else it is as `take_form` says.
+    #[tactic(auto, unfolding(crate::specs::FirstPass::take_line))]
+    pub fn take_line(
+        &mut self,
+        alloc: Global,
+        units: &UnitSet,
+        line: u32,
+        words: &[Word<'t>],
+    ) -> Result<(), LineError>
+        requires { IsDraft (draft_seen self.old) }
+        ensures says { Says (draft_seen self.new) result (take_line (stated unit_meaning units.now)
+            line (draft_seen self.old) (map plain words.now)) }
+        ensures rules { OnOk result (IsDraft (draft_seen self.new)) }
+    {
+        let [key, words @ ..] = words else {
+            return Ok(());
+        };
+        let Some(form) = form_of(key, words) else {
+            return Err(LineError::Refused(Refusal::Syntax));
+        };
+        self.take_form(alloc, units, line, &form)
+    }
+
+    /// Takes a line that is not blank. It is refused with the first refusal that it has, in the
+    /// order `Syntax`, `UnknownOp`, `Arity`, `Twice`, `TooMany`. After an `Err` the draft is of no
+    /// more use.
+    pub fn take_form(
+        &mut self,
+        alloc: Global,
+        units: &UnitSet,
+        line: u32,
+        form: &Form<'_, 't>,
+    ) -> Result<(), LineError>
+        requires { IsDraft (draft_seen self.old) }
+        ensures says { Says (draft_seen self.new) result (take_form (stated unit_meaning units.now)
+            (draft_seen self.old) line (form_seen form.now)) }
+        ensures rules { OnOk result (IsDraft (draft_seen self.new)) }
+    {
+        if let Form::Proc { name, params } = *form {
+            return self.take_proc(alloc, line, name, params);
+        }
+        let Some(proc) = self.begun.take() else {
+            return Err(LineError::Refused(Refusal::Syntax));
+        };
+        if let Form::Label { name } = *form {
+            return self.take_label(alloc, proc, name);
+        }
+        self.take_step(alloc, units, proc, line, form)
+    }
+
+    /// Begins a procedure. It is refused as `Syntax` where one has begun and not ended, as `Arity`
+    /// where `main` has parameters, as `Twice` where its name or a parameter is there already, and
+    /// as `TooMany` where it has more than eight parameters or 65,536 lines were read.
+    #[tactic(auto, using(crate::proofs::Seen::procs_seen_length))]
+    fn take_proc(
+        &mut self,
+        alloc: Global,
+        line: u32,
+        name: &'t [u8],
+        params: &[Word<'t>],
+    ) -> Result<(), LineError>
+        requires { IsDraft (draft_seen self.old) }
+        ensures { Says (draft_seen self.new) result
+            (take_proc (draft_seen self.old) line name.now (texts params.now)) }
+    {
+        if self.begun.is_some() {
+            return Err(LineError::Refused(Refusal::Syntax));
+        }
+        if is_main_with_params(name, params) {
+            return Err(LineError::Refused(Refusal::Arity));
+        }
+        if self.is_taken(alloc, name, params)? {
+            return Err(LineError::Refused(Refusal::Twice));
+        }
+        if self.lines >= 65536 || params.len() > 8 {
+            return Err(LineError::Refused(Refusal::TooMany));
+        }
+        let number = self.procs.len() as u32;
+        self.names.add(alloc, name, number)?;
+        self.begun = Some(new_proc(alloc, line, params)?);
+        self.lines += 1;
+        Ok(())
+    }
+
+    // whether a procedure has this name already, or a parameter stands twice
+    fn is_taken(&self, alloc: Global, name: &[u8], params: &[Word]) -> Result<bool, AllocError>
+        ensures { let named = is_some (named_in self.now.names name.now) in
+            IfOk result (λ taken. taken ≡ (named || has_twice (texts params.now))) }
+    {
+        if self.names.get(name).is_some() {
+            return Ok(true);
+        }
+        let twice = has_twice(alloc, params)?;
+        Ok(twice)
+    }
+
+    /// Declares a label of a begun procedure that was moved out of the draft. It is refused as
+    /// `Twice` where the procedure has it already, and as `TooMany` where 65,536 lines were read.
+    #[tactic(auto, using(crate::proofs::Seen::steps_seen_length))]
+    fn take_label(
+        &mut self,
+        alloc: Global,
+        mut proc: DraftProc<'t>,
+        name: &'t [u8],
+    ) -> Result<(), LineError>
+        requires { IsBegun self.old.lines (proc_seen proc) }
+        ensures { Says (draft_seen self.new) result
+            (take_label (draft_seen self.old) (proc_seen proc.entry) name.now) }
+    {
+        if proc.labels.get(name).is_some() {
+            return Err(LineError::Refused(Refusal::Twice));
+        }
+        if self.lines >= 65536 {
+            return Err(LineError::Refused(Refusal::TooMany));
+        }
+        let step = proc.steps.len() as u32;
+        proc.labels.add(alloc, name, step)?;
+        self.begun = Some(proc);
+        self.lines += 1;
+        Ok(())
+    }
+
+    /// Takes a step of a begun procedure that was moved out of the draft. It is refused as
+    /// `UnknownOp` or `Arity` by its operation, and as `TooMany` where it has more than eight
+    /// arguments, brings the procedure's 4,097th variable, or 65,536 lines were read.
+    #[tactic(auto, using(crate::proofs::Seen::steps_seen_append, crate::proofs::Seen::procs_seen_append))]
+    fn take_step(
+        &mut self,
+        alloc: Global,
+        units: &UnitSet,
+        mut proc: DraftProc<'t>,
+        line: u32,
+        form: &Form<'_, 't>,
+    ) -> Result<(), LineError>
+        requires moved { self.old.begun ≡ None }
+        requires begun { IsBegun self.old.lines (proc_seen proc) }
+        ensures { Says (draft_seen self.new) result (take_step (stated unit_meaning units.now)
+            (draft_seen self.old) (proc_seen proc.entry) line (form_seen form.now)) }
+    {
+        check_op(units, form)?;
+        if self.lines >= 65536 || has_many_args(form) {
+            return Err(LineError::Refused(Refusal::TooMany));
+        }
+        declare_names(alloc, &mut proc.vars, form)?;
+        if proc.vars.len() > 4096 {
+            return Err(LineError::Refused(Refusal::TooMany));
+        }
+        let Some(step) = step_of(alloc, units, &proc.vars, form) else {
+            return Err(LineError::Refused(Refusal::Syntax));
+        };
+        proc.steps.push(step)?;
+        proc.lines.push(line)?;
+        self.lines += 1;
+        if is_end(form) {
+            self.procs.push(proc)?;
+        } else {
+            self.begun = Some(proc);
+        }
+        Ok(())
+    }
+}
+
+// whether a procedure is `main` and has parameters, which it may not
+#[tactic(auto, using(crate::proofs::Seen::texts_length))]
+fn is_main_with_params(name: &[u8], params: &[Word]) -> bool
+    ensures { let count = length (texts params.now) in
+        result ≡ (bytes_eq name.now (codes "main") && nat_lt 0 count) }
+{
+    name == b"main".as_slice() && params.len() > 0
+}
+
+// a procedure of which only the first line was read
+#[tactic(auto, using(crate::proofs::Seen::texts_length))]
+fn new_proc<'t>(alloc: Global, line: u32, params: &[Word]) -> Result<DraftProc<'t>, AllocError>
+    requires few { length params.now ≤ 8 }
+    requires once { has_twice (texts params.now) ≡ false }
+    ensures { IfOk result (λ q. proc_seen q ≡ record {
+      line = line;
+      params = length (texts params.now);
+      vars = numbered 0 (texts params.now);
+      labels = [];
+      steps = [];
+      lines = [];
+    }) }
+{
+    let vars = numbered(alloc, params)?;
+    Ok(DraftProc {
+        line,
+        params: params.len() as u32,
+        vars,
+        labels: Names::new(alloc),
+        steps: Items::new(alloc),
+        lines: Items::new(alloc),
+    })
+}
