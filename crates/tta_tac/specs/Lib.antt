@@ -8,3 +8,4 @@ pub mod FirstPass
 pub mod SecondPass
 pub mod Text
 pub mod Seen
+pub mod Cycles

@@ -2,8 +2,10 @@
 
 mod assign;
 mod calls;
+mod cycles;
 mod draft;
 mod forms;
+mod order;
 mod pieces;
 mod read;
 mod refusal;
