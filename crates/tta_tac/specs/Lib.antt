@@ -9,3 +9,5 @@ pub mod SecondPass
 pub mod Text
 pub mod Seen
 pub mod Cycles
+pub mod Kept
+pub mod Told

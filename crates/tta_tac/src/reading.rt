@@ -5,6 +5,7 @@ mod calls;
 mod cycles;
 mod draft;
 mod forms;
+mod link;
 mod order;
 mod pieces;
 mod read;
