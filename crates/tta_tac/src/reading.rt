@@ -4,6 +4,7 @@ mod assign;
 mod calls;
 mod cycles;
 mod draft;
+mod finish;
 mod forms;
 mod link;
 mod order;
