@@ -64,7 +64,7 @@ abbrev is_end : Step → Bool
 is_end step.End = true
 is_end s = false
 
-abbrev is_nil : {A : Type 0} → List A → Bool
+abbrev pub is_nil : {A : Type 0} → List A → Bool
 is_nil [] = true
 is_nil (x ∷ xs) = false
 
@@ -83,7 +83,7 @@ ends_cons step.End [] = refl
 ends_cons step.End (y ∷ ys) = refl
 ends_cons x xs = refl
 
-closes_cons : (s : Unlinked) (ss : List Unlinked) → closes_once (s ∷ ss) ≡ (if is_end_step s then is_nil ss else closes_once ss)
+pub closes_cons : (s : Unlinked) (ss : List Unlinked) → closes_once (s ∷ ss) ≡ (if is_end_step s then is_nil ss else closes_once ss)
 closes_cons (Plain step.End) [] = refl
 closes_cons (Plain step.End) (y ∷ ys) = refl
 closes_cons s ss = refl
