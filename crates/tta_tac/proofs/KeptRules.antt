@@ -88,7 +88,7 @@ closes_cons (Plain step.End) [] = refl
 closes_cons (Plain step.End) (y ∷ ys) = refl
 closes_cons s ss = refl
 
-at_line_ok : {A : Type 0} (line : ℕ) (r : Result A Refusal) (x : A) → at_line line r ≡ Ok x → r ≡ Ok x
+pub at_line_ok : {A : Type 0} (line : ℕ) (r : Result A Refusal) (x : A) → at_line line r ≡ Ok x → r ≡ Ok x
 at_line_ok line (Ok y) x e = let same : y ≡ x = cc in ap Ok same
 at_line_ok line (Err y) x e = absurd cc
 
