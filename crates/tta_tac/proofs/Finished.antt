@@ -1,28 +1,20 @@
 -- What the second pass makes of a draft, and what it tells.
-use Rattle.std.proofs.Common.{◌≡◌, ℕ, suc, zero, ◌+◌, ◌<◌, ◌≤◌, Bool, true, false, List, [], ◌∷◌, length, get_or, Option, Some, None, Result, Ok, Err, refl, sym, ◌∙◌, ap, subst, arith, nat_lt}
+use Rattle.std.proofs.Common.{◌≡◌, ℕ, suc, zero, ◌<◌, List, [], ◌∷◌, length, get_or, Some, None, Result, Ok, Err, refl, sym, ◌∙◌, ap, arith}
 use Rattle.std.specs.Prelude.{slice_get, codes}
 use Rattle.std.specs.Option.{option_map_or}
-use Rattle.std.specs.List.{AllByRecursion}
-use Rattle.std.proofs.lemmas.Option.{slice_get_read, slice_get_past}
-use Rattle.tta_reading.specs.Lines.{lines_of}
 use Rattle.tta_reading.specs.Names.{named_in}
 use Rattle.tta_reading.specs.Steps.{◌>>=◌}
 use Rattle.tta_ops.specs.Units.{Units}
-use Rattle.tta_tac.specs.declared.step.Step.{Step}
 use Rattle.tta_tac.specs.declared.program.Proc.{Proc}
 use Rattle.tta_tac.specs.declared.reading.draft.DraftProc.{DraftProc}
-use Rattle.tta_tac.specs.declared.reading.refusal.Refusal.{Refusal}
 use Rattle.tta_tac.specs.declared.reading.refusal.Refusal.TheVariants.{Recursive, NoMain}
 use Rattle.tta_tac.specs.declared.reading.refusal.TacError.{TacError}
 use Rattle.tta_tac.specs.declared.reading.refusal.TacError.TheVariants as tac_error
 use Rattle.tta_tac.specs.Refusals.{code_of}
-use Rattle.tta_tac.specs.Program.{Program}
-use Rattle.tta_tac.specs.Rules.{IsProgram, Reaches}
-use Rattle.tta_tac.specs.Draft.{Draft, ProcDraft, proc_seen, procs_seen, nothing}
+use Rattle.tta_tac.specs.Draft.{Draft, ProcDraft, procs_seen}
 use Rattle.tta_tac.specs.SecondPass.{Refused, link_proc, link_procs}
-use Rattle.tta_tac.specs.Text.{take_lines, linked_text, Linked, with_main, IsFirstRecursive, ProgramText, IsRecursive, LacksMain, IsRefusedAt, InPasses, ByRecursion, WithoutMain, HasCause}
+use Rattle.tta_tac.specs.Text.{linked_text, with_main, IsFirstRecursive, InPasses, ByRecursion, WithoutMain}
 use Rattle.tta_tac.specs.Cycles.{IsAcyclic}
-use Rattle.tta_tac.specs.Kept.{IsKept}
 use Rattle.tta_tac.specs.Told.{Tells, IsDraftOf, MakesProgram, TellsCause, LeadsBack}
 use Rattle.tta_tac.proofs.Calls.{reaches_within}
 

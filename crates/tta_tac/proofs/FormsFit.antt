@@ -1,5 +1,5 @@
 -- The constants of a line are words.
-use Rattle.std.proofs.Common.{◌≡◌, ℕ, suc, zero, ◌+◌, ◌<◌, ◌≤◌, ◌^◌, ◌%◌, Bool, true, false, List, [], ◌∷◌, length, drop, Option, Some, None, refl, sym, ◌∙◌, ap, arith}
+use Rattle.std.proofs.Common.{◌≡◌, ℕ, ◌+◌, ◌^◌, Bool, true, false, List, [], ◌∷◌, length, drop, Option, Some, None, refl, sym, ◌∙◌, ap, arith}
 use Rattle.std.specs.Prelude.{◌&&◌, nat_lt, nat_le, nat_eq, if◌then◌else◌, option_map, codes}
 use Rattle.std.specs.Option.{option_map_or}
 use Rattle.std.specs.List.{list_all, starts_with}
@@ -11,8 +11,8 @@ use Rattle.tta_text.specs.Numbers.{value_below, digits_of, number_of, negated, n
 use Rattle.tta_reading.specs.Lines.{Lexeme, Line}
 use Rattle.tta_reading.specs.Words.{is_keyword, is_mark, constant_of}
 use Rattle.tta_reading.specs.Steps.{◌>>?◌, only_if}
-use Rattle.tta_tac.specs.Forms.{Operand, Named, Constant, free_name, operand_of, or_constant, constant_operand, operands_alone, names_alone, rel_of, Form, LabelForm, HaltForm, EndForm, proc_form, store_form, put_form, if_form, goto_form, when_form, call_form, return_form, alone_form, assign_form, named_form, form_of}
-use Rattle.tta_tac.proofs.Variables.{is_below, below_is, both, fits}
+use Rattle.tta_tac.specs.Forms.{Operand, Named, Constant, free_name, operand_of, or_constant, operands_alone, names_alone, rel_of, Form, LabelForm, HaltForm, EndForm, proc_form, store_form, put_form, if_form, goto_form, when_form, call_form, return_form, alone_form, assign_form, named_form, form_of}
+use Rattle.tta_tac.proofs.Variables.{is_below, both, fits}
 use Rattle.tta_tac.proofs.StepsKept.{fits_form}
 
 -- ---- numbers
@@ -52,6 +52,7 @@ negative_under word = by (starts_with nat_eq word (codes "-")) where
   some : (o : Option ℕ) → under (2 ^ 32) (option_map negated o)
   some None = refl
   some (Some m) = negated_under m
+
   by : (t : Bool) → under (2 ^ 32) (if t then option_map negated (digits_of 10 10 (2 ^ 31 + 1) (drop 1 word)) else None)
   by true = some (digits_of 10 10 (2 ^ 31 + 1) (drop 1 word))
   by false = refl

@@ -1,9 +1,9 @@
 -- Each line that is taken keeps what makes a program keep the rules.
-use Rattle.std.proofs.Common.{◌≡◌, ℕ, suc, zero, ◌+◌, ◌<◌, ◌≤◌, Bool, true, false, List, [], ◌∷◌, ◌++◌, length, Option, Some, None, Result, Ok, Err, refl, sym, ◌∙◌, ap, subst, arith, length-append, append-nil, inl, inr, ◌⊎◌, lit≤}
-use Rattle.std.specs.Prelude.{◌&&◌, ◌||◌, nat_lt, nat_le, if◌then◌else◌, is_some, slice_get, codes, option_to_list}
+use Rattle.std.proofs.Common.{◌≡◌, ℕ, suc, zero, ◌+◌, ◌<◌, ◌≤◌, Bool, true, false, List, [], ◌∷◌, ◌++◌, length, Option, Some, None, Result, Ok, refl, sym, ◌∙◌, ap, subst, arith, length-append, append-nil, inl, inr, ◌⊎◌, lit≤}
+use Rattle.std.specs.Prelude.{◌&&◌, ◌||◌, nat_lt, is_some, slice_get, codes, option_to_list}
 use Rattle.std.specs.Option.{option_map_or, IfSome}
 use Rattle.std.specs.Str.{bytes_eq}
-use Rattle.std.specs.List.{list_all, list_any, sum_by, AllByRecursion}
+use Rattle.std.specs.List.{list_all, sum_by, AllByRecursion}
 use Rattle.std.specs.Cmp.Lexicographic.{nat_list_eq_equiv}
 use Rattle.std.proofs.lemmas.Bool.Decides.{nat_tests}
 use Rattle.std.proofs.lemmas.List.Folds.{list_all-append, list_any-append}
@@ -17,7 +17,7 @@ use Rattle.tta_tac.specs.declared.reading.refusal.Refusal.TheVariants.{Syntax, U
 use Rattle.tta_tac.specs.Forms.{Form, ProcForm, LabelForm}
 use Rattle.tta_tac.specs.Draft.{Unlinked, ProcDraft, Draft, nothing}
 use Rattle.tta_tac.specs.FirstPass.{vars_after, lacks_op, has_wrong_arity, has_many_args, has_twice, is_full, step_of, is_end, close_if, with_step, numbered, take_step, take_label, take_proc, take_inside, take_form}
-use Rattle.tta_tac.specs.Kept.{is_unlinked, is_end_step, closes_once, IsProcDraft, IsOpen, IsEnded, all_procs, IsKept}
+use Rattle.tta_tac.specs.Kept.{is_unlinked, is_end_step, IsProcDraft, IsOpen, IsEnded, all_procs, IsKept}
 use Rattle.tta_tac.proofs.Variables.{both, is_at_most, IsNumbered, Grows, named_more, numbered_length, numbered_below}
 use Rattle.tta_tac.proofs.StepsKept.{fits_form, grows_form, step_fits, step_ends, all_more, closes_last}
 
@@ -83,14 +83,14 @@ with_step_kept q vars s line h g few fit = record {
   among = let a = h.among in let b = g.longer in omega arith;
   numbers = let before : IsNumbered q.vars = record { below = h.numbers } in let n = g.numbered before in n.below;
   steps =
-    list_all-append (is_unlinked (length vars)) q.steps (s ∷ [])
-    ∙ both (list_all (is_unlinked (length vars)) q.steps) (is_unlinked (length vars) s && true)
-        (all_more (length q.vars) (length vars) g.longer q.steps h.steps) (both (is_unlinked (length vars) s) true fit refl);
+      list_all-append (is_unlinked (length vars)) q.steps (s ∷ [])
+      ∙ both (list_all (is_unlinked (length vars)) q.steps) (is_unlinked (length vars) s && true)
+      (all_more (length q.vars) (length vars) g.longer q.steps h.steps) (both (is_unlinked (length vars) s) true fit refl);
   lines =
-    let a = h.lines in
-    let b = length-append q.lines (line ∷ []) in
-    let c = length-append q.steps (s ∷ []) in
-    omega arith;
+      let a = h.lines in
+      let b = length-append q.lines (line ∷ []) in
+      let c = length-append q.steps (s ∷ []) in
+      omega arith;
 }
 
 -- a draft whose last procedure has become another with one step more
@@ -137,7 +137,7 @@ module _ (d : Draft) (q new : ProcDraft) (kept : IsKept d) (begun : d.begun ≡ 
   pub ended_kept : IsEnded new → IsKept (record d { procs = d.procs ++ new ∷ []; begun = None; lines = d.lines + 1 })
   ended_kept h =
       let whole : all_procs (record d { procs = d.procs ++ new ∷ []; begun = None; lines = d.lines + 1 }) ≡ d.procs ++ new ∷ []
-          = append-nil (d.procs ++ new ∷ []) in
+      = append-nil (d.procs ++ new ∷ []) in
       record {
         most = omega arith;
         lines = subst (λ qs. sum_by (λ q. length q.steps) qs + length qs ≤ d.lines + 1) (sym whole) next_lines;
@@ -159,12 +159,12 @@ module _ (u : Units) (d e : Draft) (q : ProcDraft) (kept : IsKept d) (begun : d.
       let p2 = passed (is_full d) TooMany next e p1.1 in
       let same : record d { begun = Some new; lines = d.lines + 1 } ≡ e = cc p2.1 in
       let labels : (m : List ℕ) (k : ℕ) → named_in new.labels m ≡ Some k → k ≤ length q.steps
-          = λ m k at. by m k (named_more q.labels name (length q.steps) m k at) in
+      = λ m k at. by m k (named_more q.labels name (length q.steps) m k at) in
       subst IsKept same (open_kept d q new kept begun (room_left d p2.0) refl (omega arith)
-        (record { draft = record { params = open_now.draft.params; vars = open_now.draft.vars; among = open_now.draft.among; numbers = open_now.draft.numbers; steps = open_now.draft.steps; lines = open_now.draft.lines }; labels = labels; no_end = open_now.no_end })) where
-    by : (m : List ℕ) (k : ℕ) → (named_in q.labels m ≡ Some k) ⊎ ((bytes_eq name m ≡ true) × (length q.steps ≡ k)) → k ≤ length q.steps
-    by m k (inl at) = open_now.labels m k at
-    by m k (inr at) = let same = at.1 in omega arith
+      (record { draft = record { params = open_now.draft.params; vars = open_now.draft.vars; among = open_now.draft.among; numbers = open_now.draft.numbers; steps = open_now.draft.steps; lines = open_now.draft.lines }; labels = labels; no_end = open_now.no_end })) where
+        by : (m : List ℕ) (k : ℕ) → (named_in q.labels m ≡ Some k) ⊎ ((bytes_eq name m ≡ true) × (length q.steps ≡ k)) → k ≤ length q.steps
+        by m k (inl at) = open_now.labels m k at
+        by m k (inr at) = let same = at.1 in omega arith
 
   closed_kept : (ends : Bool) (vars : Declared ℕ) (s : Unlinked) (line : ℕ) → d.lines < 65536 → Grows q.vars vars → length vars ≤ 4096
       → is_unlinked (length vars) s ≡ true → is_end_step s ≡ ends
@@ -196,14 +196,14 @@ module _ (u : Units) (d e : Draft) (q : ProcDraft) (kept : IsKept d) (begun : d.
       let few = is_at_most 4096 (length vars) tests.1 in
       let before : IsNumbered q.vars = record { below = open_now.draft.numbers } in
       by room few (step_of u vars f) (step_fits u q.vars f before fit) (step_ends u vars f) p3.1 where
-    by : d.lines < 65536 → length (vars_after q.vars f) ≤ 4096 → (o : Option Unlinked)
-        → option_map_or (is_unlinked (length (vars_after q.vars f))) o true ≡ true → option_map_or is_end_step o false ≡ is_end f
-        → (or_refuse Syntax o >>= λ s. Ok (close_if (is_end f) (record d { lines = d.lines + 1 }) (with_step q (vars_after q.vars f) s line))) ≡ Ok e
-        → IsKept e
-    by room few None fits end taken = absurd cc
-    by room few (Some s) fits end taken =
-        let same : close_if (is_end f) (record d { lines = d.lines + 1 }) (with_step q (vars_after q.vars f) s line) ≡ e = cc in
-        subst IsKept same (closed_kept (is_end f) (vars_after q.vars f) s line room (grows_form q.vars f) few fits end)
+        by : d.lines < 65536 → length (vars_after q.vars f) ≤ 4096 → (o : Option Unlinked)
+            → option_map_or (is_unlinked (length (vars_after q.vars f))) o true ≡ true → option_map_or is_end_step o false ≡ is_end f
+            → (or_refuse Syntax o >>= λ s. Ok (close_if (is_end f) (record d { lines = d.lines + 1 }) (with_step q (vars_after q.vars f) s line))) ≡ Ok e
+            → IsKept e
+        by room few None fits end taken = absurd cc
+        by room few (Some s) fits end taken =
+            let same : close_if (is_end f) (record d { lines = d.lines + 1 }) (with_step q (vars_after q.vars f) s line) ≡ e = cc in
+            subst IsKept same (closed_kept (is_end f) (vars_after q.vars f) s line room (grows_form q.vars f) few fits end)
 
   take_inside_kept : (line : ℕ) (f : Form) → fits_form f ≡ true → take_inside u d q line f ≡ Ok e → IsKept e
   take_inside_kept line (LabelForm name) fit taken = take_label_kept name taken
@@ -265,8 +265,8 @@ module _ (d e : Draft) (kept : IsKept d) (line : ℕ) (name : List ℕ) (params 
     fresh_main : (k : ℕ) (r : ProcDraft)
         → (named_in d.names (codes "main") ≡ Some k) ⊎ ((bytes_eq name (codes "main") ≡ true) × (length d.procs ≡ k))
         → (slice_get d.procs k ≡ Some r)
-          ⊎ ((k ≡ length d.procs)
-            × (◌≡◌ {A = ProcDraft} (record { line = line; params = length params; vars = numbered 0 params; labels = []; steps = []; lines = [] }) r))
+        ⊎ ((k ≡ length d.procs)
+        × (◌≡◌ {A = ProcDraft} (record { line = line; params = length params; vars = numbered 0 params; labels = []; steps = []; lines = [] }) r))
         → r.params ≡ 0
     fresh_main k r (inl at) (inl on) = kept.main k r at (ap (λ qs. slice_get qs k) old_are ∙ on)
     fresh_main k r (inl at) (inr on) = let w = old_within (codes "main") k at in let same = on.0 in absurd (omega arith)
@@ -279,17 +279,17 @@ module _ (d e : Draft) (kept : IsKept d) (line : ℕ) (name : List ℕ) (params 
     fresh_kept = record {
       most = omega arith;
       lines =
-        let before = subst (λ qs. sum_by (λ q. length q.steps) qs + length qs ≤ d.lines) old_are kept.lines in
-        let a = sum_last d.procs (record { line = line; params = length params; vars = numbered 0 params; labels = []; steps = []; lines = [] }) in
-        let b = length-append d.procs (option_to_list with_fresh.begun) in
-        omega arith;
+          let before = subst (λ qs. sum_by (λ q. length q.steps) qs + length qs ≤ d.lines) old_are kept.lines in
+          let a = sum_last d.procs (record { line = line; params = length params; vars = numbered 0 params; labels = []; steps = []; lines = [] }) in
+          let b = length-append d.procs (option_to_list with_fresh.begun) in
+          omega arith;
       ended = kept.ended;
       begun = fresh_open line params few;
       names = λ m k at. fresh_names m k (named_more d.names name (length d.procs) m k at);
       once = λ a b k at on.
-        fresh_once a b k (named_more d.names name (length d.procs) a k at) (named_more d.names name (length d.procs) b k on);
+          fresh_once a b k (named_more d.names name (length d.procs) a k at) (named_more d.names name (length d.procs) b k on);
       main = λ k r at on.
-        fresh_main k r (named_more d.names name (length d.procs) (codes "main") k at) (get_last d.procs _ k r on);
+          fresh_main k r (named_more d.names name (length d.procs) (codes "main") k at) (get_last d.procs _ k r on);
     }
 
   pub take_proc_kept : take_proc d line name params ≡ Ok e → IsKept e

@@ -1,12 +1,11 @@
 -- A draft that was kept right gives a program that keeps the rules.
-use Rattle.std.proofs.Common.{◌≡◌, ℕ, suc, zero, ◌+◌, ◌<◌, ◌≤◌, ◌≢◌, Bool, true, false, List, [], ◌∷◌, ◌++◌, length, get_or, Option, Some, None, Result, Ok, Err, refl, sym, ◌∙◌, ap, subst, arith, append-nil, inl, inr, ◌⊎◌}
+use Rattle.std.proofs.Common.{◌≡◌, ℕ, suc, zero, ◌+◌, ◌<◌, ◌≤◌, ◌≢◌, Bool, true, false, List, [], ◌∷◌, ◌++◌, length, Option, Some, None, Result, Ok, Err, refl, sym, ◌∙◌, ap, subst, arith, append-nil, inl, inr, ◌⊎◌}
 use Rattle.std.specs.Prelude.{◌&&◌, ◌==◌, not, nat_lt, if◌then◌else◌, slice_get, codes, option_to_list}
 use Rattle.std.specs.Option.{option_map_or}
 use Rattle.std.specs.Str.{bytes_eq}
 use Rattle.std.specs.List.{AllByRecursion, list_all, sum_by}
 use Rattle.std.proofs.lemmas.Bool.{eqb-true, eq-eqb}
 use Rattle.std.proofs.lemmas.Bool.Decides.{eqb_tells}
-use Rattle.std.proofs.lemmas.Option.{slice_get_past, slice_get-get_or}
 use Rattle.std.proofs.lemmas.List.Sums.{sum_by-cons}
 use Rattle.std.proofs.Math.Dec.{eqb}
 use Rattle.tta_reading.specs.Names.{Declared, named_in}
@@ -17,10 +16,10 @@ use Rattle.tta_tac.specs.declared.step.Step.TheVariants as step
 use Rattle.tta_tac.specs.declared.program.Proc.{Proc}
 use Rattle.tta_tac.specs.declared.reading.refusal.Refusal.{Refusal}
 use Rattle.tta_tac.specs.declared.reading.refusal.Refusal.TheVariants.{UnknownLabel, UnknownProc, Arity}
-use Rattle.tta_tac.specs.Program.{Program, step_count}
-use Rattle.tta_tac.specs.Rules.{is_src, is_call, is_step, ends_once, IsProc, IsProgram, calls, Reaches, ByCall, ByMore}
+use Rattle.tta_tac.specs.Program.{Program}
+use Rattle.tta_tac.specs.Rules.{is_src, is_call, is_step, ends_once, IsProc, IsProgram, Reaches, ByCall, ByMore}
 use Rattle.tta_tac.specs.Draft.{Draft, ProcDraft, Unlinked, Plain, IfTo, GotoTo, CallTo}
-use Rattle.tta_tac.specs.SecondPass.{Refused, at_line, callee_named, params_of, link_step, link_steps, link_proc, link_procs}
+use Rattle.tta_tac.specs.SecondPass.{at_line, callee_named, params_of, link_step, link_steps, link_proc, link_procs}
 use Rattle.tta_tac.specs.Text.{with_main}
 use Rattle.tta_tac.specs.Cycles.{IsAcyclic}
 use Rattle.tta_tac.specs.Kept.{bare, is_unlinked, is_end_step, closes_once, IsEnded, all_procs, IsKept}

@@ -1,8 +1,7 @@
 -- What a search along calls has found.
 use Rattle.std.proofs.Common.{◌≡◌, ℕ, suc, ◌+◌, ◌<◌, ◌≤◌, Bool, true, false, List, [], ◌∷◌, ◌++◌, length, get_or, take, set, replicate, zero, refl, sym, ◌∙◌, ap, arith, append_assoc, length-append, append-nil, inl, inr, ◌≢◌, ◌⊎◌}
-use Rattle.std.specs.Prelude.{◌||◌, ◌&&◌, ◌==◌, nat_lt, if◌then◌else◌}
+use Rattle.std.specs.Prelude.{◌||◌, ◌&&◌, ◌==◌, nat_lt}
 use Rattle.std.specs.List.{list_any}
-use Rattle.std.proofs.lemmas.Grind.{common_steps}
 use Rattle.std.proofs.lemmas.List.Folds.{list_any-append, list_any_more, list_any_at}
 use Rattle.std.proofs.lemmas.Bool.{eqb-true, eq-eqb}
 use Rattle.std.proofs.lemmas.Bool.Decides.{eqb_tells}
@@ -11,7 +10,7 @@ use Rattle.std.proofs.lemmas.List.{take_all, take-append-le}
 use Rattle.std.proofs.Common.{get_or-set_same, get_or-set_other, length-set}
 use Rattle.tta_tac.specs.declared.step.Step.{Step}
 use Rattle.tta_tac.specs.declared.program.Proc.{Proc}
-use Rattle.tta_tac.specs.Rules.{calls, calls_proc, Reaches, ByCall, ByMore}
+use Rattle.tta_tac.specs.Rules.{calls, calls_proc, Reaches, ByCall}
 use Rattle.tta_tac.specs.Text.{with_main}
 use Rattle.tta_tac.specs.Cycles.{is_found, unset, IsMarked, Finds}
 use Rattle.tta_tac.proofs.Calls.{calls_of, all_found, reaches_on}

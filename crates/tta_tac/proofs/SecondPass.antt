@@ -1,5 +1,5 @@
 -- Steps and procedures that get their numbers one after the other.
-use Rattle.std.proofs.Common.{◌≡◌, ℕ, suc, zero, ◌+◌, ◌<◌, List, [], ◌∷◌, ◌++◌, length, get_or, drop, Option, Some, None, Result, Ok, Err, refl, sym, ◌∙◌, ap, append_assoc, subst, arith}
+use Rattle.std.proofs.Common.{◌≡◌, ℕ, suc, zero, ◌+◌, ◌<◌, List, [], ◌∷◌, ◌++◌, length, get_or, drop, Result, Ok, Err, refl, sym, ◌∙◌, ap, append_assoc, subst, arith}
 use Rattle.std.specs.Prelude.{slice_get, ◌≤◌}
 use Rattle.std.specs.Option.{option_map_or}
 use Rattle.std.specs.List.{AllByRecursion}
@@ -12,7 +12,7 @@ use Rattle.tta_tac.specs.declared.program.Proc.{Proc}
 use Rattle.tta_tac.specs.declared.reading.draft.NamedStep.{NamedStep}
 use Rattle.tta_tac.specs.declared.reading.draft.DraftProc.{DraftProc}
 use Rattle.tta_tac.specs.declared.reading.refusal.Refusal.{Refusal}
-use Rattle.tta_tac.specs.Draft.{Draft, ProcDraft, Unlinked, step_seen, steps_seen, proc_seen, procs_seen}
+use Rattle.tta_tac.specs.Draft.{Draft, step_seen, steps_seen, proc_seen, procs_seen}
 use Rattle.tta_tac.specs.Kept.{IsEnded}
 use Rattle.tta_tac.specs.declared.reading.refusal.TacError.{TacError}
 use Rattle.tta_tac.specs.declared.reading.refusal.TacError.TheVariants as tac_error

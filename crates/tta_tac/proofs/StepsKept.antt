@@ -1,9 +1,9 @@
 -- The step of a line keeps to the variables of its procedure.
-use Rattle.std.proofs.Common.{◌≡◌, ℕ, ◌+◌, ◌<◌, ◌≤◌, Bool, true, false, List, [], ◌∷◌, ◌++◌, length, Option, Some, None, refl, sym, ◌∙◌, ap, arith}
-use Rattle.std.specs.Prelude.{◌&&◌, ◌||◌, nat_lt, if◌then◌else◌, is_some}
+use Rattle.std.proofs.Common.{◌≡◌, ℕ, ◌≤◌, Bool, true, false, List, [], ◌∷◌, ◌++◌, length, Option, Some, None, refl, ◌∙◌, ap, arith}
+use Rattle.std.specs.Prelude.{◌&&◌, ◌||◌, nat_lt, if◌then◌else◌}
 use Rattle.std.specs.Option.{option_map_or}
 use Rattle.std.specs.List.{list_all, list_any}
-use Rattle.tta_reading.specs.Names.{Declared, named_in}
+use Rattle.tta_reading.specs.Names.{Declared}
 use Rattle.tta_ops.specs.Units.{Units}
 use Rattle.tta_tac.specs.declared.operand.Src.{Src}
 use Rattle.tta_tac.specs.declared.operand.Src.TheVariants.{Var, Word}
@@ -16,7 +16,7 @@ use Rattle.tta_tac.specs.Draft.{Unlinked, Plain, IfTo, GotoTo, CallTo}
 use Rattle.tta_tac.specs.FirstPass.{with_var, var_number, with_operand, with_operands, src_of, srcs_of, vars_after, step_of, is_end}
 use Rattle.tta_tac.specs.Kept.{bare, is_unlinked, is_end_step, closes_once}
 use Rattle.tta_tac.proofs.KeptRules.{is_nil, closes_cons}
-use Rattle.tta_tac.proofs.Variables.{is_below, below_is, both, and_left, and_right, IsNumbered, Grows, grows_not, grows_on, grows_var, has_var, var_kept, fits, has, grows_operand, has_operand, has_more, src_kept, grows_operands, has_operands, srcs_kept}
+use Rattle.tta_tac.proofs.Variables.{is_below, below_is, both, and_left, and_right, IsNumbered, Grows, grows_not, grows_on, grows_var, has_var, var_kept, fits, grows_operand, has_operand, has_more, src_kept, grows_operands, has_operands, srcs_kept}
 
 -- whether the constants of a line are words
 abbrev pub fits_form : Form → Bool
@@ -56,32 +56,33 @@ grows_form vars EndForm = grows_not vars
 -- a variable and an operand behind it
 one_kept : (vars : Declared ℕ) (d : List ℕ) (o : Operand) → IsNumbered vars → fits o ≡ true
     → let all = with_operand (with_var vars d) o in
-      (nat_lt (var_number all d) (length all) && is_src (length all) (src_of all o)) ≡ true
+    (nat_lt (var_number all d) (length all) && is_src (length all) (src_of all o)) ≡ true
 one_kept vars d o h f =
     let g = grows_operand (with_var vars d) o in
     let all = g.numbered ((grows_var vars d).numbered h) in
     both _ _ (var_kept (with_operand (with_var vars d) o) d all (g.stays d (has_var vars d)))
-        (src_kept (with_operand (with_var vars d) o) o all (has_operand (with_var vars d) o f))
+    (src_kept (with_operand (with_var vars d) o) o all (has_operand (with_var vars d) o f))
 
 -- two operands
 two_kept : (vars : Declared ℕ) (a b : Operand) → IsNumbered vars → (fits a && fits b) ≡ true
     → let all = with_operand (with_operand vars a) b in
-      (is_src (length all) (src_of all a) && is_src (length all) (src_of all b)) ≡ true
+    (is_src (length all) (src_of all a) && is_src (length all) (src_of all b)) ≡ true
 two_kept vars a b h f =
     let g = grows_operand (with_operand vars a) b in
     let all = g.numbered ((grows_operand vars a).numbered h) in
     both _ _ (src_kept (with_operand (with_operand vars a) b) a all (has_more g a (has_operand vars a (and_left (fits a) (fits b) f))))
-        (src_kept (with_operand (with_operand vars a) b) b all (has_operand (with_operand vars a) b (and_right (fits a) (fits b) f)))
+    (src_kept (with_operand (with_operand vars a) b) b all (has_operand (with_operand vars a) b (and_right (fits a) (fits b) f)))
 
 -- a destination and operands behind it
 some_kept : (vars : Declared ℕ) (d : List ℕ) (os : List Operand) → IsNumbered vars → list_all fits os ≡ true
     → let all = with_operands (with_var vars d) os in
-      (nat_lt (var_number all d) (length all) ≡ true) × (list_all (is_src (length all)) (srcs_of all os) ≡ true)
+    (nat_lt (var_number all d) (length all) ≡ true) × (list_all (is_src (length all)) (srcs_of all os) ≡ true)
 some_kept vars d os h f =
     let g = grows_operands (with_var vars d) os in
-    let all = g.numbered ((grows_var vars d).numbered h) in
-    (var_kept (with_operands (with_var vars d) os) d all (g.stays d (has_var vars d)),
-     srcs_kept (with_operands (with_var vars d) os) os all (has_operands (with_var vars d) os f))
+    let all = g.numbered ((grows_var vars d).numbered h) in (
+      var_kept (with_operands (with_var vars d) os) d all (g.stays d (has_var vars d)),
+      srcs_kept (with_operands (with_var vars d) os) os all (has_operands (with_var vars d) os f),
+    )
 
 -- a step has only variables that there are
 pub step_fits : (u : Units) (vars : Declared ℕ) (f : Form) → IsNumbered vars → fits_form f ≡ true
@@ -111,7 +112,7 @@ step_fits u vars (WhenForm rel a b d s) h f =
     let has_b = has_more g3 b (has_operand (with_operand vars a) b (and_right (fits a) (fits b) fits_ab)) in
     let rest = one_kept v2 d s (g2.numbered h) (and_right (fits a && fits b) (fits s) f) in
     both _ _ (both _ _ (both _ _ (src_kept v4 a all has_a) (src_kept v4 b all has_b)) (and_left (nat_lt (var_number v4 d) (length v4)) (is_src (length v4) (src_of v4 s)) rest))
-        (and_right (nat_lt (var_number v4 d) (length v4)) (is_src (length v4) (src_of v4 s)) rest)
+    (and_right (nat_lt (var_number v4 d) (length v4)) (is_src (length v4) (src_of v4 s)) rest)
 step_fits u vars (CallForm (Some d) callee args) h f = let k = some_kept vars d args h f in both _ _ k.0 k.1
 step_fits u vars (CallForm None callee args) h f =
     srcs_kept (with_operands vars args) args ((grows_operands vars args).numbered h) (has_operands vars args f)
@@ -158,7 +159,7 @@ module _ (m n : ℕ) (more : m ≤ n) where
   plain_more (step.Apply d op a b) h =
       let front = and_left (nat_lt d m && is_src m a) (is_src m b) h in
       both _ _ (both _ _ (lt_more d (and_left _ _ front)) (src_more a (and_right (nat_lt d m) _ front)))
-          (src_more b (and_right (nat_lt d m && is_src m a) _ h))
+      (src_more b (and_right (nat_lt d m && is_src m a) _ h))
   plain_more (step.Load d a) h = both _ _ (lt_more d (and_left _ _ h)) (src_more a (and_right (nat_lt d m) _ h))
   plain_more (step.Store a v) h = both _ _ (src_more a (and_left _ _ h)) (src_more v (and_right (is_src m a) _ h))
   plain_more (step.Put v) h = src_more v h
@@ -170,11 +171,11 @@ module _ (m n : ℕ) (more : m ≤ n) where
       let f2 = and_left (is_src m a && is_src m b && nat_lt d m) (is_src m s) h in
       let f1 = and_left (is_src m a && is_src m b) (nat_lt d m) f2 in
       both _ _ (both _ _ (both _ _ (src_more a (and_left _ _ f1)) (src_more b (and_right (is_src m a) _ f1)))
-          (lt_more d (and_right (is_src m a && is_src m b) _ f2))) (src_more s (and_right (is_src m a && is_src m b && nat_lt d m) _ h))
+      (lt_more d (and_right (is_src m a && is_src m b) _ f2))) (src_more s (and_right (is_src m a && is_src m b && nat_lt d m) _ h))
   plain_more (step.Invoke d callee args) h =
       let front = and_left (option_map_or (λ x. nat_lt x m) d true && list_all (is_src m) args) (is_call (with_main [] 0) callee args) h in
       both _ _ (both _ _ (dest_more d (and_left _ _ front)) (srcs_more args (and_right (option_map_or (λ x. nat_lt x m) d true) _ front)))
-          (and_right (option_map_or (λ x. nat_lt x m) d true && list_all (is_src m) args) _ h)
+      (and_right (option_map_or (λ x. nat_lt x m) d true && list_all (is_src m) args) _ h)
   plain_more (step.Return None) h = refl
   plain_more (step.Return (Some s)) h = src_more s h
   plain_more step.Halt h = refl
@@ -199,9 +200,10 @@ closes_last (x ∷ xs) s none last =
     closes_cons x (xs ++ s ∷ [])
     ∙ ap (λ t. if t then is_nil (xs ++ s ∷ []) else closes_once (xs ++ s ∷ [])) (first (is_end_step x) _ none)
     ∙ closes_last xs s (rest (is_end_step x) _ none) last where
-  first : (a b : Bool) → (a || b) ≡ false → a ≡ false
-  first true b e = e
-  first false b e = refl
-  rest : (a b : Bool) → (a || b) ≡ false → b ≡ false
-  rest true b e = absurd cc
-  rest false b e = e
+      first : (a b : Bool) → (a || b) ≡ false → a ≡ false
+      first true b e = e
+      first false b e = refl
+
+      rest : (a b : Bool) → (a || b) ≡ false → b ≡ false
+      rest true b e = absurd cc
+      rest false b e = e

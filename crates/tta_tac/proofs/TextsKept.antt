@@ -1,16 +1,15 @@
 -- A text whose lines were all taken made a draft that keeps the rules, and in which no procedure is left open.
-use Rattle.std.proofs.Common.{◌≡◌, ℕ, ◌+◌, true, List, [], ◌∷◌, Option, Some, None, Result, Ok, Err, refl, sym, ◌∙◌, ap, subst}
+use Rattle.std.proofs.Common.{◌≡◌, ℕ, ◌+◌, true, List, [], ◌∷◌, Option, Some, None, Ok, refl, sym, ◌∙◌, ap, subst}
 use Rattle.std.specs.Option.{option_map_or}
-use Rattle.tta_reading.specs.Lines.{Lexeme, Line, lines_of}
+use Rattle.tta_reading.specs.Lines.{Line, lines_of}
 use Rattle.tta_reading.specs.Names.{Declared}
 use Rattle.tta_reading.specs.Steps.{◌>>=◌, or_refuse}
 use Rattle.tta_ops.specs.Units.{Units}
-use Rattle.tta_tac.specs.declared.reading.refusal.Refusal.{Refusal}
 use Rattle.tta_tac.specs.declared.reading.refusal.Refusal.TheVariants.{Syntax}
 use Rattle.tta_tac.specs.Forms.{Form, form_of}
 use Rattle.tta_tac.specs.Draft.{ProcDraft, Draft, nothing}
 use Rattle.tta_tac.specs.FirstPass.{take_form, take_line}
-use Rattle.tta_tac.specs.SecondPass.{Refused, at_line}
+use Rattle.tta_tac.specs.SecondPass.{at_line}
 use Rattle.tta_tac.specs.Text.{take_lines}
 use Rattle.tta_tac.specs.Kept.{IsKept}
 use Rattle.tta_tac.specs.Told.{IsDraftOf}

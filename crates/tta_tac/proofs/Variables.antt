@@ -1,14 +1,12 @@
 -- Variables get their numbers, and operands are among them.
-use Rattle.std.proofs.Common.{◌≡◌, ℕ, suc, zero, ◌+◌, ◌<◌, ◌≤◌, ◌^◌, Bool, true, false, List, [], ◌∷◌, ◌++◌, length, Option, Some, None, refl, sym, ◌∙◌, ap, subst, arith, length-append, inl, inr, ◌⊎◌}
-use Rattle.std.specs.Prelude.{◌&&◌, ◌||◌, nat_lt, if◌then◌else◌, is_some}
+use Rattle.std.proofs.Common.{◌≡◌, ℕ, suc, ◌+◌, ◌<◌, ◌≤◌, ◌^◌, Bool, true, false, List, [], ◌∷◌, ◌++◌, length, Option, Some, None, refl, ◌∙◌, ap, arith, length-append, inl, inr, ◌⊎◌}
+use Rattle.std.specs.Prelude.{◌&&◌, nat_lt, if◌then◌else◌, is_some}
 use Rattle.std.specs.Option.{option_map_or}
 use Rattle.std.specs.Str.{bytes_eq}
 use Rattle.std.specs.List.{list_all}
 use Rattle.std.proofs.lemmas.Bool.Decides.{nat_tests}
 use Rattle.std.specs.Cmp.Lexicographic.{nat_list_eq_equiv}
 use Rattle.tta_reading.specs.Names.{Declared, named_in}
-use Rattle.tta_tac.specs.declared.operand.Src.{Src}
-use Rattle.tta_tac.specs.declared.operand.Src.TheVariants.{Var, Word}
 use Rattle.tta_tac.specs.Rules.{is_src}
 use Rattle.tta_tac.specs.Forms.{Operand, Named, Constant}
 use Rattle.tta_tac.specs.FirstPass.{with_var, var_number, with_operand, with_operands, src_of, srcs_of, numbered}

@@ -1,10 +1,9 @@
 -- Labels and callees get their numbers, once all lines were read.
-use Rattle.std.specs.Prelude.{ℕ, ◌==◌, Bool, not, ◌||◌, if◌then◌else◌, List, [], ◌∷◌, length, Option, Some, None, slice_get, Result, Ok, Err, codes}
+use Rattle.std.specs.Prelude.{ℕ, ◌==◌, not, List, [], ◌∷◌, length, slice_get, Result, Ok, Err, codes}
 use Rattle.std.specs.Str.{bytes_eq}
 use Rattle.std.specs.Option.{option_map_or}
 use Rattle.tta_reading.specs.Names.{Declared, named_in}
 use Rattle.tta_reading.specs.Steps.{◌>>=◌, or_refuse, refuse_if}
-use Rattle.tta_tac.specs.declared.operand.Src.{Src}
 use Rattle.tta_tac.specs.declared.step.Step.{Step}
 use Rattle.tta_tac.specs.declared.step.Step.TheVariants as step
 use Rattle.tta_tac.specs.declared.program.Proc.{Proc}

@@ -1,5 +1,5 @@
 -- What the code reads of a line, as the definitions see it.
-use Rattle.std.specs.Prelude.{◌≡◌, ℕ, List, [], ◌∷◌, map, Option, Some, None, Result, Ok, Err, option_map}
+use Rattle.std.specs.Prelude.{◌≡◌, ℕ, List, [], ◌∷◌, map, Result, Ok, Err, option_map}
 use Rattle.std.specs.List.{filter_map}
 use Rattle.tta_reading.specs.declared.word.Word.{Word}
 use Rattle.tta_reading.specs.Lines.{plain}

@@ -1,5 +1,5 @@
 -- Which program a text is, and where it is refused.
-use Rattle.std.specs.Prelude.{◌≡◌, ℕ, ◌+◌, ◌<◌, Bool, if◌then◌else◌, List, [], ◌∷◌, length, Option, Some, None, slice_get, Result, Ok, Err, codes}
+use Rattle.std.specs.Prelude.{◌≡◌, ℕ, ◌+◌, ◌<◌, List, [], ◌∷◌, Option, Some, None, slice_get, Result, Ok, Err, codes}
 use Rattle.std.specs.Option.{option_map_or}
 use Rattle.tta_reading.specs.Lines.{Line, lines_of}
 use Rattle.tta_reading.specs.Names.{named_in}

@@ -1,7 +1,7 @@
 -- The search keeps what it has found, up to the end.
-use Rattle.std.proofs.Common.{◌≡◌, ◌<◌, ◌≤◌, false, length, replicate, get_or, arith, rules, sym, ◌∙◌, ap, refl}
+use Rattle.std.proofs.Common.{◌≡◌, ◌<◌, ◌≤◌, false, length, replicate, get_or, arith, rules, sym, ◌∙◌, ap}
 use Rattle.std.proofs.lemmas.List.{length-replicate}
-use Rattle.tta_tac.proofs.Search.{unmarked, search_first, place_within, search_step, search_back, search_no}
+use Rattle.tta_tac.proofs.Search.{unmarked, search_first, place_within, search_step, search_no}
 use Rattle.tta_tac.proofs.reading.cycles.leads_back.Goals as goal
 
 pub mark_callees-requires : goal.mark_callees-requires

@@ -1,5 +1,5 @@
 -- The place was not marked, and now is.
-use Rattle.std.proofs.Common.{◌≡◌, ◌<◌, false, length, get_or, arith, sym, ◌∙◌}
+use Rattle.std.proofs.Common.{◌≡◌, ◌<◌, false, length, get_or, arith}
 use Rattle.tta_tac.proofs.Search.{marks_one}
 use Rattle.tta_tac.proofs.reading.cycles.mark.Goals as goal
 

@@ -1,5 +1,5 @@
 -- The first procedure that leads back is one of the draft's.
-use Rattle.std.proofs.Common.{◌≡◌, ◌<◌, ◌∙◌, sym, ap, subst, length, get_or, Some}
+use Rattle.std.proofs.Common.{◌<◌, ◌∙◌, sym, ap, subst, length, get_or, Some}
 use Rattle.tta_tac.specs.Text.{IsFirstRecursive}
 use Rattle.tta_tac.proofs.Finished.{first_within, line_there}
 use Rattle.tta_tac.proofs.reading.finish.check_calls.Goals as goal

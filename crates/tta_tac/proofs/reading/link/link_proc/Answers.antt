@@ -1,5 +1,4 @@
 use Rattle.std.proofs.Common.{◌∙◌, sym, ap, length}
-use Rattle.tta_tac.specs.Draft.{steps_seen}
 use Rattle.tta_tac.proofs.SecondPass.{steps_length}
 use Rattle.tta_tac.proofs.reading.link.link_proc.Goals as goal
 

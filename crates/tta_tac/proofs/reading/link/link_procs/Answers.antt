@@ -1,5 +1,5 @@
 -- Each procedure is linked behind those that were.
-use Rattle.std.proofs.Common.{◌≡◌, ◌+◌, ◌<◌, ◌∙◌, sym, ap, subst, length, get_or}
+use Rattle.std.proofs.Common.{◌+◌, ◌<◌, ◌∙◌, sym, ap, subst, length, get_or}
 use Rattle.tta_tac.specs.Draft.{draft_seen}
 use Rattle.tta_tac.proofs.SecondPass.{ended_at, behind, procs_from, procs_more, procs_told}
 use Rattle.tta_tac.proofs.reading.link.link_procs.Goals as goal

@@ -1,4 +1,4 @@
-use Rattle.std.proofs.Common.{◌≡◌, ◌+◌, ◌<◌, Ok, sym, ◌∙◌, ap, get_or, length, rules}
+use Rattle.std.proofs.Common.{◌+◌, sym, ◌∙◌, ap}
 use Rattle.tta_tac.specs.Draft.{draft_seen}
 use Rattle.tta_tac.proofs.SecondPass.{steps_more, behind, steps_from}
 use Rattle.tta_tac.proofs.reading.link.link_steps.Goals as goal

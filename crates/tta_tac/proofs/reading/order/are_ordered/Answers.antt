@@ -1,5 +1,5 @@
 -- All procedures were looked at.
-use Rattle.std.proofs.Common.{arith, length}
+use Rattle.std.proofs.Common.{arith}
 use Rattle.tta_tac.proofs.Calls.{none_back}
 use Rattle.tta_tac.proofs.reading.order.are_ordered.Goals as goal
 
