@@ -9,3 +9,7 @@ pub mod FirstPass
 pub mod SecondPass
 pub mod Text
 pub mod Seen
+pub mod Cycles
+pub mod Kept
+pub mod Told
+pub mod Whole

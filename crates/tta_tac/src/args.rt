@@ -42,6 +42,17 @@ impl Args {
         self.operands.push_reserved(s);
     }
 
+    /// The same operands once more.
+    pub fn copy(&self, alloc: Global) -> Self
+        ensures { result ≡ self.now }
+    {
+        let mut copy = Args::new(alloc);
+        for s in self.as_slice() {
+            copy.push(*s);
+        }
+        copy
+    }
+
     /// The operands in order.
     pub fn as_slice(&self) -> &[Src]
         ensures all { result.now ≡ self.now }

@@ -2,11 +2,15 @@
 
 mod assign;
 mod calls;
+mod cycles;
 mod declarations;
 mod draft;
+mod finish;
 mod first_pass;
 mod forms;
+mod link;
 mod operations;
+mod order;
 mod params;
 mod pieces;
 mod read;

@@ -1,7 +1,10 @@
 //! The steps of a program.
 
+ghost use Rattle.std.specs.Prelude.{◌≡◌};
+
 use crate::args::Args;
 use crate::operand::{Rel, Src};
+use std::alloc::Global;
 use tta_ops::OpId;
 
 /// A step of a procedure. Variables and target steps are those of the procedure, counted from 0.
@@ -66,4 +69,46 @@ pub enum Step {
     Halt,
     /// `end`: the last step of a procedure; it returns 0.
     End,
+}
+
+impl Step {
+    /// The same step once more. The allocator is kept by a call's arguments and never used.
+    pub fn copy(&self, alloc: Global) -> Self
+        ensures { result ≡ self.now }
+    {
+        match self {
+            Step::Copy { d, s } => Step::Copy { d: *d, s: *s },
+            Step::Apply { d, op, a, b } => Step::Apply {
+                d: *d,
+                op: *op,
+                a: *a,
+                b: *b,
+            },
+            Step::Load { d, a } => Step::Load { d: *d, a: *a },
+            Step::Store { a, v } => Step::Store { a: *a, v: *v },
+            Step::Put { v } => Step::Put { v: *v },
+            Step::If { rel, a, b, to } => Step::If {
+                rel: *rel,
+                a: *a,
+                b: *b,
+                to: *to,
+            },
+            Step::Goto { to } => Step::Goto { to: *to },
+            Step::When { rel, a, b, d, s } => Step::When {
+                rel: *rel,
+                a: *a,
+                b: *b,
+                d: *d,
+                s: *s,
+            },
+            Step::Invoke { d, callee, args } => Step::Invoke {
+                d: *d,
+                callee: *callee,
+                args: args.copy(alloc),
+            },
+            Step::Return { s } => Step::Return { s: *s },
+            Step::Halt => Step::Halt,
+            Step::End => Step::End,
+        }
+    }
 }

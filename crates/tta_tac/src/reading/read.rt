@@ -2,12 +2,53 @@
 
 ghost use Rattle.std.specs.Prelude.{◌≤◌, ◌^◌, length, IfOk, IfErr};
 ghost use Rattle.tta_ops.specs.Set.{stated};
+ghost use Rattle.tta_tac.specs.Draft.{draft_seen};
 ghost use Rattle.tta_tac.specs.Text.{ProgramText, HasCause};
+ghost use Rattle.tta_tac.specs.Whole.{DraftEnds};
 
 use crate::program::Program;
-use crate::reading::TacError;
+use crate::reading::draft::Draft;
+use crate::reading::finish::finish;
+use crate::reading::refusal::{LineError, Refusal, TacError};
 use std::alloc::Global;
 use tta_ops::UnitSet;
+use tta_reading::Lines;
+
+// What all lines of a text say. A text that ends inside a procedure is refused at the line behind it.
+#[tactic(auto, using(crate::proofs::Whole::line_refused, crate::proofs::Whole::text_ended, crate::proofs::Whole::text_open))]
+fn read_draft<'t>(
+    alloc: Global,
+    text: &'t [u8],
+    units: &UnitSet,
+) -> Result<Draft<'t>, TacError>
+    requires { length text.now ≤ 2 ^ 24 }
+    ensures { DraftEnds (stated unit_meaning units.now) text.now (λ d. draft_seen d) result }
+{
+    let mut lines = Lines::new(text);
+    let mut words = Vec::new(alloc);
+    let mut draft = Draft::new(alloc);
+    let mut line: u32 = 0;
+    while lines.next_line(&mut words)? {
+        line += 1;
+        match draft.take_line(alloc, units, line, words.as_slice()) {
+            Ok(()) => {}
+            Err(LineError::Refused(refusal)) => {
+                return Err(TacError::Refused {
+                    line,
+                    code: refusal.code(),
+                });
+            }
+            Err(LineError::NoMemory) => return Err(TacError::NoMemory),
+        }
+    }
+    if draft.begun.is_some() {
+        return Err(TacError::Refused {
+            line: line + 1,
+            code: Refusal::Syntax.code(),
+        });
+    }
+    Ok(draft)
+}
 
 /// The program of a text, over these operation units. The text has at most 2^24 bytes.
 ///
@@ -17,5 +58,8 @@ pub fn read_program(alloc: Global, text: &[u8], units: &UnitSet) -> Result<Progr
     ensures read { IfOk result (ProgramText (stated unit_meaning units.now) text.now) }
     ensures refused { IfErr result (HasCause (stated unit_meaning units.now) text.now) }
 {
-    Err(TacError::NoMemory)
+    match read_draft(alloc, text, units) {
+        Ok(draft) => finish(alloc, &draft),
+        Err(error) => Err(error),
+    }
 }

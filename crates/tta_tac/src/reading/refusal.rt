@@ -56,6 +56,28 @@ pub enum TacError {
     NoMemory,
 }
 
+impl From<AllocError> for TacError {
+    ghost use Rattle.std.specs.Prelude.{◌≡◌};
+    ghost use Rattle.tta_tac.specs.declared.reading.refusal.TacError.TheVariants.{NoMemory};
+
+    ghost from_gives = { λ _ e. e ≡ NoMemory };
+
+    fn from(_: AllocError) -> TacError {
+        TacError::NoMemory
+    }
+}
+
+impl<T: Drop> From<AllocFailed<T>> for TacError {
+    ghost use Rattle.std.specs.Prelude.{◌≡◌};
+    ghost use Rattle.tta_tac.specs.declared.reading.refusal.TacError.TheVariants.{NoMemory};
+
+    ghost from_gives = { λ _ e. e ≡ NoMemory };
+
+    fn from(_: AllocFailed<T>) -> TacError {
+        TacError::NoMemory
+    }
+}
+
 /// Why a line could not be taken.
 #[derive(Clone, Copy, Debug, PartialEq, Eq)]
 pub enum LineError {

@@ -1,0 +1,210 @@
+-- The constants of a line are words.
+use Rattle.std.proofs.Common.{◌≡◌, ℕ, ◌+◌, ◌^◌, Bool, true, false, List, [], ◌∷◌, length, drop, Option, Some, None, refl, sym, ◌∙◌, ap, arith}
+use Rattle.std.specs.Prelude.{◌&&◌, nat_lt, nat_le, nat_eq, if◌then◌else◌, option_map, codes}
+use Rattle.std.specs.Option.{option_map_or}
+use Rattle.std.specs.List.{list_all, starts_with}
+use Rattle.std.specs.Char.{is_digit}
+use Rattle.std.specs.Str.Parse.{digits_value}
+use Rattle.tta_text.specs.declared.lexeme.Kind.{Kind}
+use Rattle.tta_text.specs.declared.lexeme.Kind.TheVariants.{Number, Negative}
+use Rattle.tta_text.specs.Numbers.{value_below, digits_of, number_of, negated, negative_of}
+use Rattle.tta_reading.specs.Lines.{Lexeme, Line}
+use Rattle.tta_reading.specs.Words.{is_keyword, is_mark, constant_of}
+use Rattle.tta_reading.specs.Steps.{◌>>?◌, only_if}
+use Rattle.tta_tac.specs.Forms.{Operand, Named, Constant, free_name, operand_of, or_constant, operands_alone, names_alone, rel_of, Form, LabelForm, HaltForm, EndForm, proc_form, store_form, put_form, if_form, goto_form, when_form, call_form, return_form, alone_form, assign_form, named_form, form_of}
+use Rattle.tta_tac.proofs.Variables.{is_below, both, fits}
+use Rattle.tta_tac.proofs.StepsKept.{fits_form}
+
+-- ---- numbers
+
+-- whether a value is below a limit, where there is one
+abbrev under : ℕ → Option ℕ → Type 0
+under limit o = option_map_or (λ n. nat_lt n limit) o true ≡ true
+
+value_under : (base limit : ℕ) (digits : List ℕ) → under limit (value_below base limit digits)
+unfolding value_below
+value_under base limit digits = by (list_all (λ digit. is_digit digit base) digits) (nat_lt (digits_value base digits) limit) refl where
+  by : (a b : Bool) → nat_lt (digits_value base digits) limit ≡ b → under limit (if a && b then Some (digits_value base digits) else None)
+  by true true e = e
+  by true false e = refl
+  by false b e = refl
+
+digits_under : (base most limit : ℕ) (digits : List ℕ) → under limit (digits_of base most limit digits)
+unfolding digits_of
+digits_under base most limit digits = by (nat_lt 0 (length digits) && nat_le (length digits) most) where
+  by : (t : Bool) → under limit (if t then value_below base limit digits else None)
+  by true = value_under base limit digits
+  by false = refl
+
+number_under : (word : List ℕ) → under (2 ^ 32) (number_of word)
+unfolding number_of
+number_under word = by (starts_with nat_eq word (codes "0x")) where
+  by : (t : Bool) → under (2 ^ 32) (if t then digits_of 16 8 (2 ^ 32) (drop 2 word) else digits_of 10 10 (2 ^ 32) word)
+  by true = digits_under 16 8 (2 ^ 32) (drop 2 word)
+  by false = digits_under 10 10 (2 ^ 32) word
+
+negated_under : (m : ℕ) → nat_lt (negated m) (2 ^ 32) ≡ true
+negated_under m = is_below (negated m) (2 ^ 32) (omega arith)
+
+negative_under : (word : List ℕ) → under (2 ^ 32) (negative_of word)
+unfolding negative_of
+negative_under word = by (starts_with nat_eq word (codes "-")) where
+  some : (o : Option ℕ) → under (2 ^ 32) (option_map negated o)
+  some None = refl
+  some (Some m) = negated_under m
+
+  by : (t : Bool) → under (2 ^ 32) (if t then option_map negated (digits_of 10 10 (2 ^ 31 + 1) (drop 1 word)) else None)
+  by true = some (digits_of 10 10 (2 ^ 31 + 1) (drop 1 word))
+  by false = refl
+
+constant_under : (kind : Kind) (text : List ℕ) → under (2 ^ 32) (constant_of (record { kind = kind; text = text }))
+constant_under Number text = number_under text
+constant_under Negative text = negative_under text
+constant_under kind text = refl
+
+-- ---- operands
+
+operand_fits : (w : Lexeme) (o : Operand) → operand_of w ≡ Some o → fits o ≡ true
+operand_fits w o e = by (free_name w) (constant_of w) (constant_under w.kind w.text) e where
+  by : (name : Option (List ℕ)) (constant : Option ℕ) → under (2 ^ 32) constant → or_constant name constant ≡ Some o → fits o ≡ true
+  by (Some name) constant h e = let same : Named name ≡ o = cc in ap fits (sym same)
+  by None None h e = absurd cc
+  by None (Some n) h e = let same : Constant n ≡ o = cc in ap fits (sym same) ∙ h
+
+bind_some : {A B : Type 0} (o : Option A) (f : A → Option B) (y : B) → (o >>? f) ≡ Some y → (x : A) × (o ≡ Some x) × (f x ≡ Some y)
+bind_some None f y e = absurd cc
+bind_some (Some x) f y e = (x, refl, e)
+
+operands_fit : (ws : Line) (os : List Operand) → operands_alone ws ≡ Some os → list_all fits os ≡ true
+operands_fit [] os e = let same : [] ≡ os = cc in ap (list_all fits) (sym same)
+operands_fit (w ∷ ws) os e =
+    let first = bind_some (operand_of w) _ os e in
+    let rest = bind_some (operands_alone ws) _ os first.2 in
+    let same : first.0 ∷ rest.0 ≡ os = cc rest.2 in
+    ap (list_all fits) (sym same)
+    ∙ both (fits first.0) (list_all fits rest.0) (operand_fits w first.0 first.1) (operands_fit ws rest.0 rest.1)
+
+-- ---- lines
+
+-- whether the constants of a form are words, where there is one
+abbrev fit : Option Form → Type 0
+fit o = option_map_or fits_form o true ≡ true
+
+fit_bind : {A : Type 0} (o : Option A) (f : A → Option Form) → ((x : A) → o ≡ Some x → fit (f x)) → fit (o >>? f)
+fit_bind None f h = refl
+fit_bind (Some x) f h = h x refl
+
+fit_only : (t : Bool) (o : Option Form) → fit o → fit (only_if t o)
+fit_only true o h = h
+fit_only false o h = refl
+
+fit_if : (t : Bool) (a b : Option Form) → fit a → fit b → fit (if t then a else b)
+fit_if true a b h k = h
+fit_if false a b h k = k
+
+proc_fit : (line : Line) → fit (proc_form line)
+unfolding proc_form
+proc_fit [] = refl
+proc_fit (n ∷ params) = fit_bind (free_name n) _ (λ name e. fit_bind (names_alone params) _ (λ all f. refl))
+
+store_fit : (line : Line) → fit (store_form line)
+unfolding store_form
+store_fit [] = refl
+store_fit (a ∷ []) = refl
+store_fit (a ∷ v ∷ []) =
+    fit_bind (operand_of a) _ (λ x e. fit_bind (operand_of v) _ (λ y f. both (fits x) (fits y) (operand_fits a x e) (operand_fits v y f)))
+store_fit (a ∷ v ∷ w ∷ more) = refl
+
+put_fit : (line : Line) → fit (put_form line)
+unfolding put_form
+put_fit [] = refl
+put_fit (v ∷ []) = fit_bind (operand_of v) _ (λ x e. operand_fits v x e)
+put_fit (v ∷ w ∷ more) = refl
+
+if_fit : (line : Line) → fit (if_form line)
+unfolding if_form
+if_fit [] = refl
+if_fit (r ∷ []) = refl
+if_fit (r ∷ a ∷ []) = refl
+if_fit (r ∷ a ∷ b ∷ []) = refl
+if_fit (r ∷ a ∷ b ∷ goto ∷ []) = refl
+if_fit (r ∷ a ∷ b ∷ goto ∷ n ∷ []) =
+    fit_only (is_keyword (codes "goto") goto) _ (
+    fit_bind (rel_of r) _ (λ rel e. fit_bind (operand_of a) _ (λ x f. fit_bind (operand_of b) _ (λ y g. fit_bind (free_name n) _ (λ label h.
+    both (fits x) (fits y) (operand_fits a x f) (operand_fits b y g))))))
+if_fit (r ∷ a ∷ b ∷ goto ∷ n ∷ w ∷ more) = refl
+
+goto_fit : (line : Line) → fit (goto_form line)
+unfolding goto_form
+goto_fit [] = refl
+goto_fit (n ∷ []) = fit_bind (free_name n) _ (λ label e. refl)
+goto_fit (n ∷ w ∷ more) = refl
+
+when_fit : (line : Line) → fit (when_form line)
+unfolding when_form
+when_fit [] = refl
+when_fit (r ∷ []) = refl
+when_fit (r ∷ a ∷ []) = refl
+when_fit (r ∷ a ∷ b ∷ []) = refl
+when_fit (r ∷ a ∷ b ∷ d ∷ []) = refl
+when_fit (r ∷ a ∷ b ∷ d ∷ equals ∷ []) = refl
+when_fit (r ∷ a ∷ b ∷ d ∷ equals ∷ s ∷ []) =
+    fit_only (is_mark (codes "=") equals) _ (
+    fit_bind (rel_of r) _ (λ rel e. fit_bind (operand_of a) _ (λ x f. fit_bind (operand_of b) _ (λ y g. fit_bind (free_name d) _ (λ target h.
+    fit_bind (operand_of s) _ (λ z i.
+    both (fits x && fits y) (fits z) (both (fits x) (fits y) (operand_fits a x f) (operand_fits b y g)) (operand_fits s z i)))))))
+when_fit (r ∷ a ∷ b ∷ d ∷ equals ∷ s ∷ w ∷ more) = refl
+
+call_fit : (d : Option (List ℕ)) (line : Line) → fit (call_form d line)
+unfolding call_form
+call_fit d [] = refl
+call_fit d (n ∷ args) = fit_bind (free_name n) _ (λ callee e. fit_bind (operands_alone args) _ (λ all f. operands_fit args all f))
+
+return_fit : (line : Line) → fit (return_form line)
+unfolding return_form
+return_fit [] = refl
+return_fit (s ∷ []) = fit_bind (operand_of s) _ (λ x e. operand_fits s x e)
+return_fit (s ∷ w ∷ more) = refl
+
+alone_fit : (f : Form) → fits_form f ≡ true → (line : Line) → fit (alone_form f line)
+alone_fit f h [] = h
+alone_fit f h (w ∷ more) = refl
+
+assign_fit : (d : List ℕ) (line : Line) → fit (assign_form d line)
+unfolding assign_form
+assign_fit d [] = refl
+assign_fit d (s ∷ []) = fit_bind (operand_of s) _ (λ x e. operand_fits s x e)
+assign_fit d (w ∷ a ∷ []) =
+    fit_if (is_keyword (codes "call") w) _ _ (call_fit (Some d) (a ∷ []))
+    (fit_if (is_keyword (codes "load") w) _ _ (fit_bind (operand_of a) _ (λ x e. operand_fits a x e))
+    (fit_bind (free_name w) _ (λ op e. fit_bind (operand_of a) _ (λ x f. both (fits x) true (operand_fits a x f) refl))))
+assign_fit d (w ∷ a ∷ b ∷ []) =
+    fit_if (is_keyword (codes "call") w) _ _ (call_fit (Some d) (a ∷ b ∷ []))
+    (fit_if (is_keyword (codes "load") w) _ _ refl
+    (fit_bind (free_name w) _ (λ op e. fit_bind (operand_of a) _ (λ x f. fit_bind (operand_of b) _ (λ y g.
+    both (fits x) (fits y && true) (operand_fits a x f) (both (fits y) true (operand_fits b y g) refl))))))
+assign_fit d (w ∷ a ∷ b ∷ c ∷ more) =
+    fit_if (is_keyword (codes "call") w) _ _ (call_fit (Some d) (a ∷ b ∷ c ∷ more)) (fit_if (is_keyword (codes "load") w) _ _ refl refl)
+
+named_fit : (n : Lexeme) (line : Line) → fit (named_form n line)
+unfolding named_form
+named_fit n [] = refl
+named_fit n (mark ∷ rest) =
+    fit_bind (free_name n) _ (λ name e.
+    fit_if (is_mark (codes "=") mark) _ _ (assign_fit name rest) (fit_only (is_mark (codes ":") mark) _ (alone_fit (LabelForm name) refl rest)))
+
+-- a line's constants are words
+pub form_fit : (key : Lexeme) (words : Line) → option_map_or fits_form (form_of key words) true ≡ true
+unfolding form_of
+form_fit key words =
+    fit_if (is_keyword (codes "proc") key) _ _ (proc_fit words)
+    (fit_if (is_keyword (codes "store") key) _ _ (store_fit words)
+    (fit_if (is_keyword (codes "out") key) _ _ (put_fit words)
+    (fit_if (is_keyword (codes "if") key) _ _ (if_fit words)
+    (fit_if (is_keyword (codes "goto") key) _ _ (goto_fit words)
+    (fit_if (is_keyword (codes "when") key) _ _ (when_fit words)
+    (fit_if (is_keyword (codes "call") key) _ _ (call_fit None words)
+    (fit_if (is_keyword (codes "return") key) _ _ (return_fit words)
+    (fit_if (is_keyword (codes "halt") key) _ _ (alone_fit HaltForm refl words)
+    (fit_if (is_keyword (codes "end") key) _ _ (alone_fit EndForm refl words)
+    (named_fit key words))))))))))

@@ -1,0 +1,50 @@
+-- Taking the lines of a text one by one.
+use Rattle.std.proofs.Common.{◌≡◌, ℕ, ◌+◌, List, [], ◌∷◌, Option, Some, None, Result, Ok, Err, refl, sym, ap, ◌∙◌}
+use Rattle.tta_reading.specs.Lines.{Line, lines_of}
+use Rattle.tta_reading.specs.Steps.{◌>>=◌}
+use Rattle.tta_ops.specs.Units.{Units}
+use Rattle.tta_tac.specs.declared.reading.refusal.Refusal.{Refusal}
+use Rattle.tta_tac.specs.declared.reading.refusal.Refusal.TheVariants.{Syntax}
+use Rattle.tta_tac.specs.declared.reading.refusal.TacError.TheVariants as tac_error
+use Rattle.tta_tac.specs.Refusals.{code_of}
+use Rattle.tta_tac.specs.Draft.{Draft, ProcDraft, nothing}
+use Rattle.tta_tac.specs.FirstPass.{take_line}
+use Rattle.tta_tac.specs.SecondPass.{Refused}
+use Rattle.tta_tac.specs.Text.{take_lines, linked_text, HasCause, InPasses}
+use Rattle.tta_tac.specs.Whole.{TakesAll}
+use Rattle.tta_tac.proofs.TextsKept.{text_kept}
+
+-- a line was taken, and the others are left
+pub line_taken : (u : Units) (k : ℕ) (d next : Draft) (line : Line) (before rest : List Line) → before ≡ line ∷ rest
+    → take_line u k d line ≡ Ok next → take_lines u k d before ≡ take_lines u (k + 1) next rest
+line_taken u k d next line before rest e taken = rw (e, taken) refl
+
+-- a text whose lines are refused has that cause
+refused_text : (u : Units) (text : List ℕ) (line : ℕ) (refusal : Refusal) → take_lines u 1 nothing (lines_of text) ≡ Err (line, refusal)
+    → HasCause u text (tac_error.Refused line (code_of refusal))
+unfolding linked_text
+refused_text u text line refusal refused = (refusal, refl, InPasses line refusal (rw refused refl))
+
+-- a line was refused, and so is the text
+pub line_refused : (u : Units) (text : List ℕ) (k : ℕ) (d : Draft) (line : Line) (before rest : List Line) (refusal : Refusal)
+    → take_lines u k d before ≡ take_lines u 1 nothing (lines_of text) → before ≡ line ∷ rest → take_line u k d line ≡ Err refusal
+    → HasCause u text (tac_error.Refused k (code_of refusal))
+line_refused u text k d line before rest refusal left e refused =
+    let stops : take_lines u k d before ≡ Err (k, refusal) = rw (e, refused) refl in
+    refused_text u text k refusal (sym left ∙ stops)
+
+-- no line is left, and no procedure is open
+pub text_ended : (u : Units) (text : List ℕ) (k : ℕ) (d : Draft) (before : List Line)
+    → take_lines u k d before ≡ take_lines u 1 nothing (lines_of text) → before ≡ [] → d.begun ≡ None → TakesAll u text d
+text_ended u text k d before left e none =
+    let taken : take_lines u 1 nothing (lines_of text) ≡ Ok d = sym left ∙ (rw (e, none) refl) in
+    let kept = text_kept u text d taken in
+    record { taken = taken; kept = kept.0; ended = none }
+
+-- no line is left, and a procedure is open
+pub text_open : (u : Units) (text : List ℕ) (k : ℕ) (d : Draft) (q : ProcDraft) (before : List Line)
+    → take_lines u k d before ≡ take_lines u 1 nothing (lines_of text) → before ≡ [] → d.begun ≡ Some q
+    → HasCause u text (tac_error.Refused k (code_of Syntax))
+text_open u text k d q before left e some =
+    let stops : take_lines u k d before ≡ Err (k, Syntax) = rw (e, some) refl in
+    refused_text u text k Syntax (sym left ∙ stops)

@@ -1,0 +1,99 @@
+//! Which procedure leads back to itself by calls.
+//!
+//! Where no procedure does, the order in which a walk along the calls leaves the procedures shows it: each is left
+//! after those that it calls. That takes time in proportion to the calls. Only where this fails, a search from one
+//! procedure after the other finds the first that leads back.
+
+ghost use Rattle.std.specs.Prelude.{◌≡◌, ◌<◌, ◌==◌, true, false, length, IfOk, OnOk, MatchOption};
+ghost use Rattle.std.specs.List.{list_any};
+ghost use Rattle.tta_tac.specs.Cycles.{IsAcyclic, IsMarked, Finds};
+ghost use Rattle.tta_tac.specs.Rules.{Reaches, calls_proc};
+ghost use Rattle.tta_tac.specs.Text.{with_main, IsFirstRecursive};
+
+use super::order::{are_ordered, ends_of};
+use crate::program::Proc;
+use crate::step::Step;
+use std::alloc::{AllocError, Global};
+
+/// The place of the first procedure that leads back to itself by calls, or `None` where there is none.
+pub fn first_recursive(alloc: Global, procs: &[Proc]) -> Result<Option<usize>, AllocError>
+    ensures { IfOk result (λ first. MatchOption first (IsAcyclic procs.now) (IsFirstRecursive procs.now)) }
+{
+    let ends = ends_of(alloc, procs)?;
+    if are_ordered(procs, ends.as_slice()) {
+        return Ok(None);
+    }
+    for place in 0..procs.len() {
+        if leads_back(alloc, procs, place)? {
+            return Ok(Some(place));
+        }
+    }
+    Ok(None)
+}
+
+/// Whether a procedure leads back to itself.
+fn leads_back(alloc: Global, procs: &[Proc], from: usize) -> Result<bool, AllocError>
+    requires { from < length procs.now }
+    ensures back { IfOk result (λ back. back ≡ true → Reaches (with_main procs.now 0) from from) }
+    ensures no { IfOk result (λ back. back ≡ false → Reaches (with_main procs.now 0) from from → ⊥) }
+{
+    let mut marks = vec![in alloc; false; procs.len()]?;
+    let mut found = Vec::new(alloc);
+    mark_callees(procs[from].steps.as_slice(), &mut marks, &mut found)?;
+    let mut next = 0;
+    while next < found.len() {
+        let place = found[next];
+        mark_callees(procs[place].steps.as_slice(), &mut marks, &mut found)?;
+        next += 1;
+    }
+    Ok(marks[from])
+}
+
+/// Finds the procedures that steps call.
+fn mark_callees(
+    steps: &[Step],
+    marks: &mut Vec<bool>,
+    found: &mut Vec<usize>,
+) -> Result<(), AllocError>
+    requires { IsMarked marks.old.items found.old.items }
+    ensures size { OnOk result (length marks.new.items ≡ length marks.old.items) }
+    ensures marked { OnOk result (IsMarked marks.new.items found.new.items) }
+    ensures finds { OnOk result (Finds (length marks.old.items) (λ k. list_any (calls_proc k) steps.now)
+        found.old.items found.new.items) }
+{
+    for step in steps {
+        mark_callee(step, marks, found)?;
+    }
+    Ok(())
+}
+
+/// Finds the procedure that a step calls, if it is a call.
+fn mark_callee(step: &Step, marks: &mut Vec<bool>, found: &mut Vec<usize>) -> Result<(), AllocError>
+    requires { IsMarked marks.old.items found.old.items }
+    ensures size { OnOk result (length marks.new.items ≡ length marks.old.items) }
+    ensures marked { OnOk result (IsMarked marks.new.items found.new.items) }
+    ensures finds { OnOk result (Finds (length marks.old.items) (λ k. calls_proc k step.now)
+        found.old.items found.new.items) }
+{
+    match step {
+        Step::Invoke { callee, .. } => mark(*callee as usize, marks, found)?,
+        _ => {}
+    }
+    Ok(())
+}
+
+/// Finds a procedure, where it is there and was not found before.
+fn mark(place: usize, marks: &mut Vec<bool>, found: &mut Vec<usize>) -> Result<(), AllocError>
+    requires { IsMarked marks.old.items found.old.items }
+    ensures size { OnOk result (length marks.new.items ≡ length marks.old.items) }
+    ensures marked { OnOk result (IsMarked marks.new.items found.new.items) }
+    ensures finds { OnOk result (Finds (length marks.old.items) (λ k. place == k)
+        found.old.items found.new.items) }
+{
+    if place >= marks.len() || marks[place] {
+        return Ok(());
+    }
+    found.push(place)?;
+    marks[place] = true;
+    Ok(())
+}
