@@ -41,13 +41,13 @@ fn read_draft<'t>(
             Err(LineError::NoMemory) => return Err(TacError::NoMemory),
         }
     }
-    if draft.begun.is_some() {
-        return Err(TacError::Refused {
+    match draft.begun {
+        Some(_) => Err(TacError::Refused {
             line: line + 1,
             code: Refusal::Syntax.code(),
-        });
+        }),
+        None => Ok(draft),
     }
-    Ok(draft)
 }
 
 /// The program of a text, over these operation units. The text has at most 2^24 bytes.
