@@ -35,3 +35,7 @@ pub mod Whole
 pub mod OnlyOne
 pub mod Limits
 pub mod LineKinds
+pub mod Widths
+pub mod CodeLists
+pub mod BusSources
+pub mod Layouts

