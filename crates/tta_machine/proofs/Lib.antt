@@ -31,6 +31,7 @@ pub mod ContinuedParts
 pub mod ContinuedUnits
 pub mod ContinuedSpaces
 pub mod Said
+pub mod Completed
 pub mod Whole
 pub mod OnlyOne
 pub mod Limits
