@@ -1,5 +1,5 @@
 -- Where the reading of a draft ends: in its machine, or in a refusal.
-use Rattle.std.proofs.Common.{◌≡◌, ℕ, zero, suc, ◌+◌, ◌<◌, ◌≤◌, Bool, true, false, List, [], ◌∷◌, length, map, filter, max, drop, get_or, Option, Some, None, Result, Ok, Err, lit≤, refl, sym, ap, ap₂, subst, ◌∙◌, arith}
+use Rattle.std.proofs.Common.{◌≡◌, ℕ, zero, suc, ◌+◌, ◌<◌, ◌≤◌, Bool, true, false, List, [], ◌∷◌, length, filter, max, drop, get_or, Option, Some, None, Ok, Err, lit≤, refl, sym, ap, ap₂, subst, ◌∙◌, arith}
 use Rattle.std.specs.Prelude.{nat_lt, if◌then◌else◌, ◌==◌, unwrap_or}
 use Rattle.std.specs.Option.{option_map_or}
 use Rattle.std.specs.List.{sum_by}
@@ -18,7 +18,7 @@ use Rattle.tta_machine.specs.Joins.{has_bit, has_socket, source_socket, dest_soc
 use Rattle.tta_machine.specs.Fields.{width_for, numbers, all_sources, all_dests, sources_on, dests_on, guard_width, short_width, bus_width, taken_width}
 use Rattle.tta_machine.specs.Rules.{IsMachine, is_control}
 use Rattle.tta_machine.specs.Draft.{machine_of}
-use Rattle.tta_machine.specs.Text.{Refused, narrow_line, complete}
+use Rattle.tta_machine.specs.Text.{narrow_line, complete}
 use Rattle.tta_machine.specs.Kept.{IsDraft}
 use Rattle.tta_machine.proofs.Distinct.{names_good_without, names_different_without}
 use Rattle.tta_machine.proofs.TakenLines.{ended_with, is_machine}

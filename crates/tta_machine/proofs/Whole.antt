@@ -1,5 +1,5 @@
 -- Taking the lines of a text one by one.
-use Rattle.std.proofs.Common.{◌≡◌, ℕ, ◌+◌, List, [], ◌∷◌, Result, Ok, Err, IfOk, IfErr, refl, ap, sym, ◌∙◌}
+use Rattle.std.proofs.Common.{◌≡◌, ℕ, ◌+◌, List, [], ◌∷◌, Result, Ok, Err, IfOk, IfErr, refl, ap, ◌∙◌}
 use Rattle.tta_reading.specs.Lines.{Line, lines_of}
 use Rattle.tta_reading.specs.Steps.{◌>>=◌}
 use Rattle.tta_ops.specs.Units.{Units}
@@ -9,7 +9,7 @@ use Rattle.tta_machine.specs.declared.reading.refusal.MachineError.{MachineError
 use Rattle.tta_machine.specs.declared.reading.refusal.MachineError.TheVariants as machine_error
 use Rattle.tta_machine.specs.Machine.{Machine}
 use Rattle.tta_machine.specs.Grammar.{IsMachineText}
-use Rattle.tta_machine.specs.Draft.{nothing, code_of}
+use Rattle.tta_machine.specs.Draft.{nothing}
 use Rattle.tta_machine.specs.Text.{take_line, take_lines, complete, machine_of_text, HasCause, Refused}
 use Rattle.tta_machine.specs.Whole.{DraftEnds, CompleteEnds, TakesAll}
 use Rattle.tta_machine.specs.Kept.{IsDraft}

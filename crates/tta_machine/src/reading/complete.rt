@@ -59,7 +59,12 @@ pub fn complete(alloc: Global, draft: Draft) -> Result<Machine, MachineError>
         frame_words: frame_words.unwrap_or(0),
     };
     let layout = Layout::of(alloc, &machine)?;
-    match narrow_line(&machine, &layout, templates.as_slice(), template_lines.as_slice()) {
+    match narrow_line(
+        &machine,
+        &layout,
+        templates.as_slice(),
+        template_lines.as_slice(),
+    ) {
         Some(line) => Err(at_line(line, Refusal::TooNarrow)),
         None => {
             machine.templates = templates;
@@ -79,12 +84,7 @@ fn at_line(line: u32, refusal: Refusal) -> MachineError
 }
 
 // the line of the first template whose buses have fewer than 32 bits together
-fn narrow_line(
-    m: &Machine,
-    layout: &Layout,
-    templates: &[Template],
-    lines: &[u32],
-) -> Option<u32>
+fn narrow_line(m: &Machine, layout: &Layout, templates: &[Template], lines: &[u32]) -> Option<u32>
     requires layout { layout.now ≡ layout_of m.now }
     requires fits { sum_by (λ f. f.width) layout.now.buses < 2 ^ 32 }
     requires lines { length lines.now ≡ length templates.now }
