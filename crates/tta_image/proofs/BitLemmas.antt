@@ -2,11 +2,12 @@
 use Rattle.std.proofs.Common.{◌≡◌, ℕ, zero, suc, ◌+◌, ◌-◌, ◌*◌, ◌/◌, ◌%◌, ◌^◌, ◌<◌, ◌≤◌, ◌==◌, Bool, true, false, List, [], ◌∷◌, ◌++◌, replicate, take, drop, refl, sym, ap, ◌∙◌, arith, add-one}
 use Rattle.std.proofs.lemmas.List.{append_assoc, append-nil, replicate_more}
 use Rattle.std.proofs.lemmas.List.Concat.{flat_map-append}
-use Rattle.std.proofs.lemmas.Nat.{shr-shr, shr_split, pow-add, pow_pos, div_below}
+use Rattle.std.proofs.lemmas.Nat.{shr-shr, shr_split}
 use Rattle.std.specs.List.{flat_map, AllByRecursion}
 use Rattle.tta_image.specs.Bits.{bits_of}
 use Rattle.tta_image.specs.Image.{AreBytesOf}
 use Rattle.tta_image.specs.Sink.{bit_value}
+use Rattle.tta_machine.proofs.Widths.{no_high}
 
 half : (n : ℕ) (b : Bool) → (2 * n + bit_value b) / 2 ≡ n
 half n true = omega arith
@@ -112,16 +113,6 @@ bytes_of_filled bytes bytes' filled last last' shown some below small shifted fi
           ∙ sym (append_assoc (flat_map (bits_of 8) bytes) (bits_of filled last) (replicate (8 - filled) false))
           ∙ ap (λ l. l ++ replicate (8 - filled) false) was;
     }
-
--- a number has no bits above its own
-pub no_high : (n w k : ℕ) → n < 2 ^ w → w ≤ k → n / 2 ^ k ≡ 0
-no_high n w k small h =
-    let e : w + (k - w) ≡ k = omega arith in
-    let p : 2 ^ k ≡ 2 ^ w * 2 ^ (k - w) = ap (λ j. 2 ^ j) (sym e) ∙ pow-add 2 w (k - w) in
-    let some : 0 < 2 ^ (k - w) = pow_pos (k - w) in
-    let below : n < 1 * 2 ^ k = rw p (grind arith) in
-    let quotient : n / 2 ^ k < 1 = div_below n (2 ^ k) 1 (pow_pos k) below in
-    omega arith
 
 -- a number without the bits above its own
 pub low_whole : (n w k : ℕ) → n < 2 ^ w → w ≤ k → n % 2 ^ k ≡ n

@@ -12,7 +12,7 @@ use Rattle.tta_machine.specs.declared.ends.Dest.TheVariants as dest
 use Rattle.tta_machine.specs.Machine.{Machine}
 use Rattle.tta_machine.specs.Joins.{within, has_socket, is_same, is_same_guard, is_source_on, is_dest_on, has_guard}
 use Rattle.tta_machine.specs.Fields.{numbers, all_sources, all_dests, sources_on, dests_on, guards_on, same_source, same_dest, source_code, dest_code, guard_code}
-use Rattle.tta_image.specs.Layout.{has_source_socket}
+use Rattle.tta_machine.specs.Layout.{has_source_socket}
 use Rattle.tta_image.proofs.Places.{place_inside, one_item, any_left, any_right, any_kept, any_both, any_pieces, any_numbered}
 
 both_eq : (a b c d : ℕ) → (a == b && c == d) ≡ true → (a ≡ b) × (c ≡ d)

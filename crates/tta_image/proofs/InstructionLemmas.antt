@@ -17,9 +17,9 @@ use Rattle.tta_code.specs.declared.code.Long.{Long}
 use Rattle.tta_code.specs.declared.code.Instruction.{Instruction}
 use Rattle.tta_code.specs.Legal.{ends_of, slots_of, taken, is_long, is_instruction, is_legal}
 use Rattle.tta_image.specs.Bits.{bits_of, slot_bits, slots_bits, template_code, long_bits, instruction_bits}
-use Rattle.tta_image.proofs.LayoutLemmas.{set_width_at, no_bus_in_none}
+use Rattle.tta_machine.proofs.Layouts.{set_width_at, no_bus_in_none}
 use Rattle.tta_image.proofs.Unique.{split_same, length-bits_of, same_number}
-use Rattle.tta_image.proofs.WidthLemmas.{pow_le}
+use Rattle.tta_machine.proofs.Widths.{pow_le}
 use Rattle.tta_image.proofs.SlotLemmas.{length-slot_bits, is_joined_slot, slot_bits_tell, code_tells}
 
 -- how many bits of a long immediate the buses from this one on have

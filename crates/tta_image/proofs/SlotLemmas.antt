@@ -13,10 +13,10 @@ use Rattle.tta_machine.specs.Fields.{width_for, sources_on, dests_on, guards_on,
 use Rattle.tta_machine.specs.Rules.{IsMachine}
 use Rattle.tta_code.specs.declared.code.Move.{Move}
 use Rattle.tta_image.specs.Bits.{bits_of, source_bits, slot_bits}
-use Rattle.tta_image.specs.Layout.{has_source_socket}
-use Rattle.tta_image.proofs.BitLemmas.{no_high}
+use Rattle.tta_machine.specs.Layout.{has_source_socket}
+use Rattle.tta_machine.proofs.Widths.{no_high}
 use Rattle.tta_image.proofs.Unique.{split_same, length-bits_of, same_number}
-use Rattle.tta_image.proofs.WidthLemmas.{width_for-enough, pow_le}
+use Rattle.tta_machine.proofs.Widths.{width_for-enough, pow_le}
 use Rattle.tta_image.proofs.ShortWords.{value_tells}
 use Rattle.tta_image.proofs.EndsLemmas.{source_code_inside, source_code_tells, dest_code_inside, dest_code_tells, guard_code_inside, guard_code_tells}
 

@@ -1,5 +1,5 @@
 pub mod Bits
 pub mod Image
 pub mod Sink
-pub mod Layout
+pub mod Fields
 pub mod Laws

@@ -4,13 +4,12 @@ ghost use Rattle.std.specs.Prelude.{◌≡◌, ◌+◌, ◌≤◌, ◌<◌, ◌%
 ghost use Rattle.std.specs.List.{position, position_or_len};
 ghost use Rattle.tta_machine.specs.Joins.{is_same_guard};
 ghost use Rattle.tta_machine.specs.Fields.{same_source, same_dest};
-ghost use Rattle.tta_image.specs.Layout.{guard_number, dest_number, source_field, slot_field, bus_field, left_after};
+ghost use Rattle.tta_image.specs.Fields.{guard_number, dest_number, source_field, slot_field, bus_field, left_after};
 
-use crate::layout::BusFields;
 use crate::sink::{BitSink, without_low};
 use std::alloc::AllocError;
 use tta_code::Move;
-use tta_machine::{Dest, Guard, GuardRef, Source};
+use tta_machine::{BusFields, Dest, Guard, GuardRef, Source};
 
 /// Whether two sources are one.
 fn same_source(a: Source, b: Source) -> bool
@@ -78,87 +77,85 @@ fn place_of_dest(dests: &[Dest], dst: Dest) -> Option<usize>
     dests.iter().position(|d| same_dest(dst, *d))
 }
 
-impl BusFields {
-    /// The code of a source.
-    fn source_code(&self, src: Source) -> usize
-        ensures { result ≡ position_or_len (same_source src) self.now.sources }
-    {
-        let sources = self.sources.as_slice();
-        place_of_source(sources, src).unwrap_or(sources.len())
-    }
+/// The code of a source.
+fn source_code(fields: &BusFields, src: Source) -> usize
+    ensures { result ≡ position_or_len (same_source src) fields.now.sources }
+{
+    let sources = fields.sources.as_slice();
+    place_of_source(sources, src).unwrap_or(sources.len())
+}
 
-    /// The code of a guard, 0 for none.
-    fn guard_code(&self, guard: Option<GuardRef>) -> usize
-        ensures { result ≡ guard_number self.now guard }
-    {
-        let Some(on) = guard else {
-            return 0;
-        };
-        let guards = self.guards.as_slice();
-        1 + place_of_guard(guards, on).unwrap_or(guards.len())
-    }
+/// The code of a guard, 0 for none.
+fn guard_code(fields: &BusFields, guard: Option<GuardRef>) -> usize
+    ensures { result ≡ guard_number fields.now guard }
+{
+    let Some(on) = guard else {
+        return 0;
+    };
+    let guards = fields.guards.as_slice();
+    1 + place_of_guard(guards, on).unwrap_or(guards.len())
+}
 
-    /// The code of a destination.
-    fn dest_code(&self, dst: Dest) -> usize
-        ensures { result ≡ dest_number self.now dst }
-    {
-        let dests = self.dests.as_slice();
-        1 + place_of_dest(dests, dst).unwrap_or(dests.len())
-    }
+/// The code of a destination.
+fn dest_code(fields: &BusFields, dst: Dest) -> usize
+    ensures { result ≡ dest_number fields.now dst }
+{
+    let dests = fields.dests.as_slice();
+    1 + place_of_dest(dests, dst).unwrap_or(dests.len())
+}
 
-    /// Puts a source field at the end.
-    fn push_source(&self, sink: &mut BitSink, src: Source) -> Result<(), AllocError>
-        ensures ok { OnOk result (sink.new ≡ sink.old ++ source_field self.now src) }
-    {
-        if let Source::Value(word) = src {
-            sink.push(true)?;
-            sink.push_number(
-                low_bits(u64::from(word), self.short_width),
-                self.payload_width,
-            )?;
-        } else {
-            sink.push(false)?;
-            sink.push_number(self.source_code(src) as u64, self.payload_width)?;
-        }
-        Ok(())
+/// Puts a source field at the end.
+fn push_source(fields: &BusFields, sink: &mut BitSink, src: Source) -> Result<(), AllocError>
+    ensures ok { OnOk result (sink.new ≡ sink.old ++ source_field fields.now src) }
+{
+    if let Source::Value(word) = src {
+        sink.push(true)?;
+        sink.push_number(
+            low_bits(u64::from(word), fields.short_width),
+            fields.payload_width,
+        )?;
+    } else {
+        sink.push(false)?;
+        sink.push_number(source_code(fields, src) as u64, fields.payload_width)?;
     }
+    Ok(())
+}
 
-    /// Puts the three fields of a slot at the end.
-    fn push_slot(&self, sink: &mut BitSink, slot: Option<Move>) -> Result<(), AllocError>
-        ensures ok { OnOk result (sink.new ≡ sink.old ++ slot_field self.now slot) }
-    {
-        if let Some(v) = slot {
-            sink.push_number(self.guard_code(v.guard) as u64, self.guard_width)?;
-            self.push_source(sink, v.src)?;
-            sink.push_number(self.dest_code(v.dst) as u64, self.dest_width)?;
-        } else {
-            sink.push_zeros(self.width)?;
-        }
-        Ok(())
+/// Puts the three fields of a slot at the end.
+fn push_slot(fields: &BusFields, sink: &mut BitSink, slot: Option<Move>) -> Result<(), AllocError>
+    ensures ok { OnOk result (sink.new ≡ sink.old ++ slot_field fields.now slot) }
+{
+    if let Some(v) = slot {
+        sink.push_number(guard_code(fields, v.guard) as u64, fields.guard_width)?;
+        push_source(fields, sink, v.src)?;
+        sink.push_number(dest_code(fields, v.dst) as u64, fields.dest_width)?;
+    } else {
+        sink.push_zeros(fields.width)?;
     }
+    Ok(())
+}
 
-    /// Puts what the bus has in an instruction at the end: its slot, or the highest bits that are
-    /// left of the long immediate. Tells how many bits of the long immediate are left after it.
-    pub fn push_bus(
-        &self,
-        sink: &mut BitSink,
-        is_taken: bool,
-        left: u32,
-        value: u32,
-        slot: Option<Move>,
-    ) -> Result<u32, AllocError>
-        requires { is_taken ≡ true → self.now.width ≤ left }
-        ensures bits { OnOk result
-            (sink.new ≡ sink.old ++ bus_field self.now is_taken left value slot) }
-        ensures left { IfOk result (λ n. n ≡ left_after self.now is_taken left) }
-    {
-        if is_taken {
-            let rest = left - self.width;
-            sink.push_number(without_low(u64::from(value), rest), self.width)?;
-            Ok(rest)
-        } else {
-            self.push_slot(sink, slot)?;
-            Ok(left)
-        }
+/// Puts what the bus has in an instruction at the end: its slot, or the highest bits that are
+/// left of the long immediate. Tells how many bits of the long immediate are left after it.
+pub fn push_bus(
+    fields: &BusFields,
+    sink: &mut BitSink,
+    is_taken: bool,
+    left: u32,
+    value: u32,
+    slot: Option<Move>,
+) -> Result<u32, AllocError>
+    requires { is_taken ≡ true → fields.now.width ≤ left }
+    ensures bits { OnOk result
+        (sink.new ≡ sink.old ++ bus_field fields.now is_taken left value slot) }
+    ensures left { IfOk result (λ n. n ≡ left_after fields.now is_taken left) }
+{
+    if is_taken {
+        let rest = left - fields.width;
+        sink.push_number(without_low(u64::from(value), rest), fields.width)?;
+        Ok(rest)
+    } else {
+        push_slot(fields, sink, slot)?;
+        Ok(left)
     }
 }

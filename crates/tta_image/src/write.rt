@@ -5,17 +5,17 @@ ghost use Rattle.std.specs.Int.{w32, to_be_bytes};
 ghost use Rattle.std.specs.List.{flat_map, sum_by};
 ghost use Rattle.tta_machine.specs.Joins.{has_bit};
 ghost use Rattle.tta_machine.specs.Fields.{taken_width, word_width};
+ghost use Rattle.tta_machine.specs.Layout.{layout_of};
 ghost use Rattle.tta_code.specs.Legal.{IsLegalCode};
 ghost use Rattle.tta_image.specs.Bits.{bits_of, template_code, slots_bits, instruction_bits};
 ghost use Rattle.tta_image.specs.Image.{Image};
-ghost use Rattle.tta_image.specs.Layout.{layout_of, width_of_set, buses_of, value_of};
+ghost use Rattle.tta_image.specs.Fields.{buses_of, value_of};
 
-use crate::joins::has_bus;
-use crate::layout::{BusFields, Layout};
+use crate::fields::push_bus;
 use crate::sink::BitSink;
 use std::alloc::{AllocError, Global};
 use tta_code::{Code, Instruction, Long, Move};
-use tta_machine::Machine;
+use tta_machine::{Layout, Machine, has_bus};
 
 /// The code of a template, 0 for none.
 fn template_code(long: Option<Long>) -> u64
@@ -50,26 +50,6 @@ fn value_of(long: Option<Long>) -> u32
     }
 }
 
-/// How many bits a bus has where it is in a set, 0 where it is not.
-fn width_in_set(set: u16, bus: usize, fields: &BusFields) -> u32
-    ensures { result ≡ (if has_bit set bus then fields.now.width else 0) }
-{
-    if has_bus(set, bus) { fields.width } else { 0 }
-}
-
-/// How many bits the buses of a set have.
-fn width_of_set(layout: &Layout, set: u16) -> u32
-    requires { sum_by (λ f. f.width) layout.now.buses < 2 ^ 32 }
-    ensures { result ≡ width_of_set layout.now set }
-{
-    let buses = layout.buses.as_slice();
-    let mut width = 0;
-    for (bus, fields) in buses.iter().enumerate() {
-        width += width_in_set(set, bus, fields);
-    }
-    width
-}
-
 /// Puts what each bus has in an instruction at the end: its slot, or its share of the long
 /// immediate.
 fn push_slots(
@@ -87,10 +67,10 @@ fn push_slots(
         (sink.new ≡ sink.old
         ++ slots_bits m.now taken (bits_of (taken_width m.now taken) value) 0 moves.now) }
 {
-    let mut left = width_of_set(layout, taken);
+    let mut left = layout.width_of_set(taken);
     for (bus, slot) in moves.iter().enumerate() {
         let fields = &layout.buses.as_slice()[bus];
-        left = fields.push_bus(sink, has_bus(taken, bus), left, value, *slot)?;
+        left = push_bus(fields, sink, has_bus(taken, bus), left, value, *slot)?;
     }
     Ok(())
 }

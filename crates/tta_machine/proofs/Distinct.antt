@@ -11,6 +11,8 @@ use Rattle.tta_machine.specs.declared.reading.draft.Named.TheVariants as place
 use Rattle.tta_machine.specs.Rules.{IsMachineName, are_different, names_of}
 use Rattle.tta_machine.specs.declared.reading.draft.Draft.{Draft}
 use Rattle.tta_machine.specs.declared.parts.Control.{Control}
+use Rattle.tta_machine.specs.declared.parts.Template.{Template}
+use Rattle.tta_machine.specs.Machine.{Machine}
 use Rattle.tta_machine.specs.Draft.{machine_of}
 use Rattle.tta_machine.specs.Kept.{AreNamed, IsDraft}
 use Rattle.tta_machine.proofs.Lists.{all_append, all_weaker}
@@ -101,22 +103,38 @@ next_kind name at names kind ns parts r named of_kind apart = record {
 
 -- ---- machines
 
-all_apart : (d : Draft) (c : Control) → IsDraft d → AreApart d.names 6 (names_of (machine_of d c))
-all_apart d c r =
+-- the machine of a draft, with these of its templates
+abbrev with_templates : Draft → Control → List Template → Machine
+with_templates d c templates = record (machine_of d c) { templates = templates }
+
+all_apart : (d : Draft) (c : Control) (templates : List Template) → IsDraft d → AreNamed (λ t. t.name) place.Template d.names templates
+    → AreApart d.names 6 (names_of (with_templates d c templates))
+all_apart d c templates r named =
     let none : AreApart d.names 0 [] = record { before = tt; different = refl } in
     let buses = next_kind (λ x. x.name) place.Bus d.names 0 [] d.buses none r.named.buses (λ k. refl) (λ i j e. cc) in
     let sockets = next_kind (λ x. x.name) place.Socket d.names 1 _ d.sockets buses r.named.sockets (λ k. refl) (λ i j e. cc) in
     let files = next_kind (λ x. x.name) place.File d.names 2 _ d.files sockets r.named.files (λ k. refl) (λ i j e. cc) in
     let imms = next_kind (λ x. x.name) place.Imm d.names 3 _ d.imms files r.named.imms (λ k. refl) (λ i j e. cc) in
     let units = next_kind (λ x. x.name) place.Unit d.names 4 _ d.units imms r.named.units (λ k. refl) (λ i j e. cc) in
-    next_kind (λ x. x.name) place.Template d.names 5 _ d.templates units r.named.templates (λ k. refl) (λ i j e. cc)
+    next_kind (λ x. x.name) place.Template d.names 5 _ templates units named (λ k. refl) (λ i j e. cc)
+
+all_good : (d : Draft) (c : Control) (templates : List Template) → IsDraft d → AreNamed (λ t. t.name) place.Template d.names templates
+    → AllByRecursion IsMachineName (names_of (with_templates d c templates))
+all_good d c templates r named =
+    all_weaker (λ n. (p : Named) × (named_in d.names n ≡ Some p) × (kind_of p < 6)) IsMachineName (names_of (with_templates d c templates))
+    (λ n h. r.there.good n h.0 h.1) (all_apart d c templates r named).before
 
 -- all names of the machine of a draft are good
 pub names_good : (d : Draft) (c : Control) → IsDraft d → AllByRecursion IsMachineName (names_of (machine_of d c))
-names_good d c r =
-    all_weaker (λ n. (p : Named) × (named_in d.names n ≡ Some p) × (kind_of p < 6)) IsMachineName (names_of (machine_of d c))
-    (λ n h. r.there.good n h.0 h.1) (all_apart d c r).before
+names_good d c r = all_good d c d.templates r r.named.templates
 
 -- and differ
 pub names_different : (d : Draft) (c : Control) → IsDraft d → are_different bytes_eq (names_of (machine_of d c)) ≡ true
-names_different d c r = (all_apart d c r).different
+names_different d c r = (all_apart d c d.templates r r.named.templates).different
+
+-- the same without its templates
+pub names_good_without : (d : Draft) (c : Control) → IsDraft d → AllByRecursion IsMachineName (names_of (record (machine_of d c) { templates = [] }))
+names_good_without d c r = all_good d c [] r (λ k t e. cc)
+
+pub names_different_without : (d : Draft) (c : Control) → IsDraft d → are_different bytes_eq (names_of (record (machine_of d c) { templates = [] })) ≡ true
+names_different_without d c r = (all_apart d c [] r (λ k t e. cc)).different

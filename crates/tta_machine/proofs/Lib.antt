@@ -31,7 +31,12 @@ pub mod ContinuedParts
 pub mod ContinuedUnits
 pub mod ContinuedSpaces
 pub mod Said
+pub mod Completed
 pub mod Whole
 pub mod OnlyOne
 pub mod Limits
 pub mod LineKinds
+pub mod Widths
+pub mod CodeLists
+pub mod BusSources
+pub mod Layouts

@@ -205,11 +205,11 @@ pub record IsComplete (d : Draft) (m : Machine) : Type 0 where
   pub made : machine_of d control ≡ m
 
 -- what a text ends with, by the line of its first template that is too narrow
-abbrev ended : Machine → Option ℕ → Result Machine Refused
+abbrev pub ended : Machine → Option ℕ → Result Machine Refused
 ended m narrow = option_map_or (λ line. Err (line, TooNarrow)) narrow (Ok m)
 
 -- what a text with control ends with
-abbrev ended_with : Draft → Control → Result Machine Refused
+abbrev pub ended_with : Draft → Control → Result Machine Refused
 ended_with d c = if nat_lt 0 (length d.buses) then ended (machine_of d c) (narrow_line (machine_of d c) d.templates d.template_lines) else Err (0, Missing)
 
 pub complete-ok : (d : Draft) (m : Machine) → complete d ≡ Ok m → IsComplete d m

@@ -1,13 +1,20 @@
 -- Taking the lines of a text one by one.
-use Rattle.std.proofs.Common.{◌≡◌, ℕ, ◌+◌, List, [], ◌∷◌, Result, Ok, Err, refl, sym, ◌∙◌}
-use Rattle.tta_reading.specs.Lines.{Line}
+use Rattle.std.proofs.Common.{◌≡◌, ℕ, ◌+◌, List, [], ◌∷◌, Result, Ok, Err, IfOk, IfErr, refl, ap, ◌∙◌}
+use Rattle.tta_reading.specs.Lines.{Line, lines_of}
+use Rattle.tta_reading.specs.Steps.{◌>>=◌}
 use Rattle.tta_ops.specs.Units.{Units}
 use Rattle.tta_machine.specs.declared.reading.refusal.Refusal.{Refusal}
 use Rattle.tta_machine.specs.declared.reading.draft.Draft.{Draft}
-use Rattle.tta_machine.specs.Draft.{code_of}
-use Rattle.tta_machine.specs.Text.{take_line, take_lines, Refused}
+use Rattle.tta_machine.specs.declared.reading.refusal.MachineError.{MachineError}
+use Rattle.tta_machine.specs.declared.reading.refusal.MachineError.TheVariants as machine_error
+use Rattle.tta_machine.specs.Machine.{Machine}
+use Rattle.tta_machine.specs.Grammar.{IsMachineText}
+use Rattle.tta_machine.specs.Draft.{nothing}
+use Rattle.tta_machine.specs.Text.{take_line, take_lines, complete, machine_of_text, HasCause, Refused}
+use Rattle.tta_machine.specs.Whole.{DraftEnds, CompleteEnds, TakesAll}
 use Rattle.tta_machine.specs.Kept.{IsDraft}
 use Rattle.tta_machine.proofs.TakenLines.{take_line-keeps}
+use Rattle.tta_machine.proofs.Said.{machine-said}
 
 -- a line was taken, and the others are left
 pub lines_taken : (u : Units) (k : ℕ) (d next : Draft) (line : Line) (before rest : List Line) → before ≡ line ∷ rest
@@ -26,3 +33,39 @@ lines_ended u k d before e = rw e refl
 -- a line that was taken keeps the rules of drafts
 pub line_kept : (u : Units) (k : ℕ) (d next : Draft) (line : Line) → IsDraft d → take_line u k d line ≡ Ok next → IsDraft next
 line_kept u k d next line kept taken = take_line-keeps u k d next line kept taken
+
+-- ---- the whole text
+
+-- a text whose lines were all taken is read as what they declare
+whole_text : (u : Units) (text : List ℕ) (d : Draft) → take_lines u 1 nothing (lines_of text) ≡ Ok d → machine_of_text u text ≡ complete d
+unfolding machine_of_text
+whole_text u text d taken = ap (λ r. r >>= complete) taken
+
+-- a text of which a line was refused is refused
+refused_text : (u : Units) (text : List ℕ) (refused : Refused) → take_lines u 1 nothing (lines_of text) ≡ Err refused → machine_of_text u text ≡ Err refused
+unfolding machine_of_text
+refused_text u text refused is = ap (λ r. r >>= complete) is
+
+-- what is told where the lines were not all taken
+pub lines_told : (u : Units) (text : List ℕ) (e : MachineError) → DraftEnds u (lines_of text) (Err e) → HasCause u text e
+lines_told u text (machine_error.Refused line code) h = (h.refusal, h.told, refused_text u text (line, h.refusal) h.refused)
+lines_told u text machine_error.NoMemory h = tt
+
+-- the machine, where they were
+pub text_read : (u : Units) (text : List ℕ) (d : Draft) (r : Result Machine MachineError) → TakesAll u (lines_of text) d → CompleteEnds d r
+    → IfOk r (λ m. machine_of_text u text ≡ Ok m)
+text_read u text d (Ok m) t h = whole_text u text d t.taken ∙ h
+text_read u text d (Err e) t h = tt
+
+-- it is the one that the lines describe
+pub text_said : (u : Units) (text : List ℕ) (r : Result Machine MachineError) → IfOk r (λ m. machine_of_text u text ≡ Ok m)
+    → IfOk r (λ m. IsMachineText u (lines_of text) m)
+text_said u text (Ok m) h = machine-said u text m h
+text_said u text (Err e) h = tt
+
+-- what is told where something is refused of what they declare
+pub text_told : (u : Units) (text : List ℕ) (d : Draft) (r : Result Machine MachineError) → TakesAll u (lines_of text) d → CompleteEnds d r
+    → IfErr r (HasCause u text)
+text_told u text d (Ok m) t h = tt
+text_told u text d (Err (machine_error.Refused line code)) t h = (h.refusal, h.told, whole_text u text d t.taken ∙ h.refused)
+text_told u text d (Err machine_error.NoMemory) t h = tt

@@ -3,6 +3,7 @@ pub mod Joins
 pub mod Effects
 pub mod Legal
 pub mod Fields
+pub mod Layout
 pub mod Rules
 pub mod Draft
 pub mod Forms

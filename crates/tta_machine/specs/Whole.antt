@@ -7,7 +7,8 @@ use Rattle.tta_machine.specs.declared.reading.refusal.MachineError.{MachineError
 use Rattle.tta_machine.specs.declared.reading.refusal.MachineError.TheVariants as machine_error
 use Rattle.tta_machine.specs.declared.reading.draft.Draft.{Draft}
 use Rattle.tta_machine.specs.Draft.{nothing, code_of}
-use Rattle.tta_machine.specs.Text.{take_lines}
+use Rattle.tta_machine.specs.Machine.{Machine}
+use Rattle.tta_machine.specs.Text.{take_lines, complete}
 use Rattle.tta_machine.specs.Kept.{IsDraft}
 
 -- all lines were taken, and the rules of drafts hold
@@ -26,3 +27,15 @@ abbrev pub DraftEnds : Units → List Line → Result Draft MachineError → Typ
 DraftEnds u lines (Ok d) = TakesAll u lines d
 DraftEnds u lines (Err (machine_error.Refused line code)) = RefusesLine u lines line code
 DraftEnds u lines (Err machine_error.NoMemory) = Unit {0}
+
+-- the lines of a text say nothing more, and this is refused of what they declare
+pub record RefusesDraft (d : Draft) (line code : ℕ) : Type 0 where
+  pub refusal : Refusal
+  pub refused : complete d ≡ Err (line, refusal)
+  pub told : code ≡ code_of refusal
+
+-- what is declared is a machine, or something is refused of it, or there was no memory
+abbrev pub CompleteEnds : Draft → Result Machine MachineError → Type 0
+CompleteEnds d (Ok m) = complete d ≡ Ok m
+CompleteEnds d (Err (machine_error.Refused line code)) = RefusesDraft d line code
+CompleteEnds d (Err machine_error.NoMemory) = Unit {0}

@@ -1,13 +1,20 @@
-//! What a machine is made of, and which of its places a bus joins.
+//! What a machine is made of, which of its places a bus joins, and how its instructions are laid out.
 #![tactic(auto)]
 
+mod codes;
 mod ends;
+mod joins;
+mod layout;
 mod machine;
 mod parts;
 mod reading;
+#[cfg(test)]
+mod tests;
 mod word;
 
 pub use ends::{Dest, GuardRef, Source};
+pub use joins::has_bus;
+pub use layout::{BusFields, Layout};
 pub use machine::Machine;
 pub use parts::{Bus, Control, File, Guard, ImmUnit, Op, Socket, Template, Unit, UnitOp};
 pub use reading::{MachineError, Refusal, read_machine};

@@ -2,6 +2,7 @@
 
 mod bus_sets;
 mod buses;
+mod complete;
 mod control;
 mod draft;
 mod files;

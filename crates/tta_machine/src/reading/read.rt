@@ -3,10 +3,12 @@
 ghost use Rattle.std.specs.Prelude.{◌≡◌, ◌≤◌, ◌^◌, length, Ok, IfOk, IfErr};
 ghost use Rattle.tta_reading.specs.Lines.{lines_of};
 ghost use Rattle.tta_ops.specs.Set.{stated};
+ghost use Rattle.tta_machine.specs.Grammar.{IsMachineText};
 ghost use Rattle.tta_machine.specs.Text.{machine_of_text, HasCause};
 ghost use Rattle.tta_machine.specs.Whole.{DraftEnds};
 
 use crate::machine::Machine;
+use crate::reading::complete::complete;
 use crate::reading::draft::Draft;
 use crate::reading::refusal::{LineError, MachineError};
 use std::alloc::Global;
@@ -44,11 +46,14 @@ fn read_draft(alloc: Global, text: &[u8], units: &UnitSet) -> Result<Draft, Mach
 /// `Refused` tells the first refusal of the text with its line, counted from 1 (0 stands for the whole text).
 pub fn read_machine(alloc: Global, text: &[u8], units: &UnitSet) -> Result<Machine, MachineError>
     requires { length text.now ≤ 2 ^ 24 }
-    ensures read { IfOk result (λ m. machine_of_text (stated unit_meaning units.now) text.now ≡ Ok m) }
+    ensures read { let U = stated unit_meaning units.now in
+        IfOk result (λ m. machine_of_text U text.now ≡ Ok m) }
+    ensures grammar { let U = stated unit_meaning units.now in
+        IfOk result (λ m. IsMachineText U (lines_of text.now) m) }
     ensures refused { IfErr result (HasCause (stated unit_meaning units.now) text.now) }
 {
     match read_draft(alloc, text, units) {
-        Ok(_) => Err(MachineError::NoMemory),
-        Err(_) => Err(MachineError::NoMemory),
+        Ok(draft) => complete(alloc, draft),
+        Err(e) => Err(e),
     }
 }

@@ -1,7 +1,8 @@
 use Rattle.std.proofs.Common.{◌≡◌, ℕ, ◌-◌, ◌<◌, ◌∙◌, ◌++◌, length, refl, sym, ap, arith}
 use Rattle.std.specs.List.{sum_by, range_with_len}
 use Rattle.tta_image.specs.Bits.{bits_of, slots_bits}
-use Rattle.tta_image.proofs.LayoutLemmas.{set_width_at, set_width, layout_bus_read, layout_buses, slots_more, left_more, left_enough}
+use Rattle.tta_machine.proofs.Layouts.{set_width_at, set_width, layout_bus_read, layout_buses}
+use Rattle.tta_image.proofs.LayoutLemmas.{slots_more, left_more, left_enough}
 use Rattle.tta_image.proofs.write.push_slots.Goals as goal
 
 pub loop-bus-init : goal.loop-bus-init

@@ -2,7 +2,7 @@ use Rattle.std.proofs.Common.{◌≡◌, ◌++◌, List, ap, ◌∙◌, length}
 use Rattle.std.specs.List.{flat_map}
 use Rattle.std.proofs.lemmas.List.Elements.{All-same}
 use Rattle.tta_code.specs.declared.code.Instruction.{Instruction}
-use Rattle.tta_image.specs.declared.layout.Layout.{Layout}
+use Rattle.tta_machine.specs.declared.layout.Layout.{Layout}
 use Rattle.tta_image.specs.Bits.{instruction_bits}
 use Rattle.tta_image.proofs.ImageLemmas.{parts_from, are_bytes_of_same, legal_slots}
 use Rattle.tta_image.proofs.write.write_image.Goals as goal

@@ -1,9 +1,0 @@
-use Rattle.std.proofs.Common.{ℕ, ◌+◌, ap}
-use Rattle.tta_machine.specs.Fields.{same_dest}
-use Rattle.tta_image.proofs.ListLemmas.{place_or_len}
-use Rattle.tta_image.proofs.layout.BusFields.dest_code.Goals as goal
-
-pub returns : goal.returns
-returns c =
-    ap (λ (n : ℕ). 1 + n)
-    (place_or_len (same_dest c.args.dst) c.as_slice-dests.result.now c.args.self.now.dests _ _ c.as_slice-dests.ensures c.place_of_dest.ensures c.unwrap_or.ensures)

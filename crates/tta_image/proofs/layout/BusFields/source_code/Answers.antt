@@ -1,7 +1,0 @@
-use Rattle.tta_machine.specs.Fields.{same_source}
-use Rattle.tta_image.proofs.ListLemmas.{place_or_len}
-use Rattle.tta_image.proofs.layout.BusFields.source_code.Goals as goal
-
-pub returns : goal.returns
-returns c =
-    place_or_len (same_source c.args.src) c.as_slice-sources.result.now c.args.self.now.sources _ _ c.as_slice-sources.ensures c.place_of_source.ensures c.unwrap_or.ensures

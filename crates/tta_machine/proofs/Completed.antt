@@ -1,0 +1,209 @@
+-- Where the reading of a draft ends: in its machine, or in a refusal.
+use Rattle.std.proofs.Common.{◌≡◌, ℕ, zero, suc, ◌+◌, ◌<◌, ◌≤◌, Bool, true, false, List, [], ◌∷◌, length, filter, max, drop, get_or, Option, Some, None, Ok, Err, lit≤, refl, sym, ap, ap₂, subst, ◌∙◌, arith}
+use Rattle.std.specs.Prelude.{nat_lt, if◌then◌else◌, ◌==◌, unwrap_or}
+use Rattle.std.specs.Option.{option_map_or}
+use Rattle.std.specs.List.{sum_by}
+use Rattle.std.proofs.lemmas.List.{drop_more}
+use Rattle.std.proofs.lemmas.Bool.{lt-ltb, le-ltb}
+use Rattle.tta_machine.specs.declared.reading.refusal.Refusal.TheVariants.{Missing, TooNarrow}
+use Rattle.tta_machine.specs.declared.reading.draft.Draft.{Draft}
+use Rattle.tta_machine.specs.declared.parts.Template.{Template}
+use Rattle.tta_machine.specs.declared.parts.Control.{Control}
+use Rattle.tta_machine.specs.declared.ends.Source.{Source}
+use Rattle.tta_machine.specs.declared.ends.Source.TheVariants as source
+use Rattle.tta_machine.specs.declared.ends.Dest.{Dest}
+use Rattle.tta_machine.specs.declared.ends.Dest.TheVariants as dest
+use Rattle.tta_machine.specs.Machine.{Machine}
+use Rattle.tta_machine.specs.Joins.{has_bit, has_socket, source_socket, dest_socket, is_source_on, is_dest_on}
+use Rattle.tta_machine.specs.Fields.{width_for, numbers, all_sources, all_dests, sources_on, dests_on, guard_width, short_width, bus_width, taken_width}
+use Rattle.tta_machine.specs.Rules.{IsMachine, is_control}
+use Rattle.tta_machine.specs.Draft.{machine_of}
+use Rattle.tta_machine.specs.Text.{narrow_line, complete}
+use Rattle.tta_machine.specs.Kept.{IsDraft}
+use Rattle.tta_machine.proofs.Distinct.{names_good_without, names_different_without}
+use Rattle.tta_machine.proofs.TakenLines.{ended_with, is_machine}
+
+-- ---- a machine without its templates
+
+abbrev pub without_templates : Machine → Machine
+without_templates m = record m { templates = [] }
+
+-- it keeps the rules of machines
+pub rules_without : (d : Draft) (c : Control) → IsDraft d → d.control ≡ Some c → 0 < length d.buses → IsMachine (without_templates (machine_of d c))
+rules_without d c r has_control has_bus = record {
+  limits = record {
+    some_bus = has_bus;
+    buses = r.limits.buses;
+    sockets = r.limits.sockets;
+    files = r.limits.files;
+    imms = r.limits.imms;
+    units = r.limits.units;
+    guards = r.limits.guards;
+    templates = lit≤ tt;
+    data_words = r.limits.data_words;
+    frame_words = r.limits.frame_words;
+  };
+  names = names_good_without d c r;
+  different = names_different_without d c r;
+  buses = r.rules.buses;
+  sockets = r.rules.sockets;
+  files = r.rules.files;
+  imms = r.rules.imms;
+  units = r.rules.units;
+  one_data = r.rules.one_data;
+  one_frame = r.rules.one_frame;
+  one_output = r.rules.one_output;
+  guards = r.rules.guards;
+  different_guards = r.rules.different_guards;
+  templates = refl;
+  template_buses = tt;
+  wide = tt;
+  control = subst (λ o. option_map_or (is_control d.sockets) o true ≡ true) has_control r.rules.control;
+}
+
+-- and its buses are as wide
+socket-same : (m : Machine) (input : Bool) (socket : Option ℕ) (bus : ℕ) → has_socket (without_templates m) input socket bus ≡ has_socket m input socket bus
+socket-same m input None bus = refl
+socket-same m input (Some k) bus = refl
+
+source-same : (m : Machine) (bus : ℕ) (src : Source) → is_source_on (without_templates m) bus src ≡ is_source_on m bus src
+source-same m bus (source.Reg f i) = socket-same m false (source_socket m (source.Reg f i)) bus
+source-same m bus (source.Imm u i) = socket-same m false (source_socket m (source.Imm u i)) bus
+source-same m bus (source.Shown u) = socket-same m false (source_socket m (source.Shown u)) bus
+source-same m bus source.Ra = socket-same m false (source_socket m source.Ra) bus
+source-same m bus (source.Value w) = refl
+
+dest-same : (m : Machine) (bus : ℕ) (dst : Dest) → is_dest_on (without_templates m) bus dst ≡ is_dest_on m bus dst
+dest-same m bus (dest.Reg f i) = socket-same m true (dest_socket m (dest.Reg f i)) bus
+dest-same m bus (dest.Operand u) = socket-same m true (dest_socket m (dest.Operand u)) bus
+dest-same m bus (dest.Trigger u o) = socket-same m true (dest_socket m (dest.Trigger u o)) bus
+dest-same m bus dest.Jump = socket-same m true (dest_socket m dest.Jump) bus
+dest-same m bus dest.Call = socket-same m true (dest_socket m dest.Call) bus
+dest-same m bus dest.Halt = socket-same m true (dest_socket m dest.Halt) bus
+
+sources-same : (m : Machine) (bus : ℕ) → sources_on (without_templates m) bus ≡ sources_on m bus
+sources-same m bus = ap (λ (p : Source → Bool). filter p (all_sources m)) (λ i src. source-same m bus src i)
+
+dests-same : (m : Machine) (bus : ℕ) → dests_on (without_templates m) bus ≡ dests_on m bus
+dests-same m bus = ap (λ (p : Dest → Bool). filter p (all_dests m)) (λ i dst. dest-same m bus dst i)
+
+bus_width-same : (m : Machine) (bus : ℕ) → bus_width (without_templates m) bus ≡ bus_width m bus
+bus_width-same m bus =
+    ap₂ (λ (ss : List Source) (ds : List Dest). guard_width m bus + (1 + max (short_width m bus) (width_for (length ss))) + width_for (1 + length ds))
+    (sources-same m bus) (dests-same m bus)
+
+taken_width-same : (m : Machine) (set : ℕ) → taken_width (without_templates m) set ≡ taken_width m set
+taken_width-same m set =
+    ap (λ (width : ℕ → ℕ). sum_by (λ bus. if has_bit set bus then width bus else 0) (numbers (length m.buses))) (λ i bus. bus_width-same m bus i)
+
+-- so templates are too narrow for it where they are for the whole machine
+pub narrow_same : (m : Machine) (ts : List Template) (lines : List ℕ) → narrow_line (without_templates m) ts lines ≡ narrow_line m ts lines
+narrow_same m [] lines = refl
+narrow_same m (t ∷ ts) [] = refl
+narrow_same m (t ∷ ts) (line ∷ lines) =
+    ap₂ (λ (width : ℕ) (later : Option ℕ). if nat_lt width 32 then Some line else later) (taken_width-same m t.buses) (narrow_same m ts lines)
+
+-- ---- templates one by one
+
+-- the next template is too narrow
+pub narrow_found : (m : Machine) (ts : List Template) (lines : List ℕ) (k : ℕ) (t : Template) (width : ℕ) → k < length ts → length lines ≡ length ts → t ≡ get_or ts k t
+    → width ≡ taken_width m t.buses → width < 32 → narrow_line m (drop k ts) (drop k lines) ≡ Some (get_or lines k 0)
+narrow_found m ts lines k t width h same is wide narrow =
+    let line : drop k lines ≡ get_or lines k 0 ∷ drop (k + 1) lines = drop_more lines k 0 (omega arith) in
+    ap₂ (narrow_line m) (drop_more ts k t h) line
+    ∙ ap (λ (x : Template). narrow_line m (x ∷ drop (k + 1) ts) (get_or lines k 0 ∷ drop (k + 1) lines)) (sym is)
+    ∙ ap (λ b. if b then Some (get_or lines k 0) else narrow_line m (drop (k + 1) ts) (drop (k + 1) lines)) (ap (λ w. nat_lt w 32) (sym wide) ∙ lt-ltb width 32 narrow)
+
+-- the next template is wide enough
+pub narrow_later : (m : Machine) (ts : List Template) (lines : List ℕ) (k : ℕ) (t : Template) (width : ℕ) → k < length ts → length lines ≡ length ts → t ≡ get_or ts k t
+    → width ≡ taken_width m t.buses → 32 ≤ width → narrow_line m (drop k ts) (drop k lines) ≡ narrow_line m (drop (k + 1) ts) (drop (k + 1) lines)
+narrow_later m ts lines k t width h same is wide enough =
+    let line : drop k lines ≡ get_or lines k 0 ∷ drop (k + 1) lines = drop_more lines k 0 (omega arith) in
+    ap₂ (narrow_line m) (drop_more ts k t h) line
+    ∙ ap (λ (x : Template). narrow_line m (x ∷ drop (k + 1) ts) (get_or lines k 0 ∷ drop (k + 1) lines)) (sym is)
+    ∙ ap (λ b. if b then Some (get_or lines k 0) else narrow_line m (drop (k + 1) ts) (drop (k + 1) lines)) (ap (λ w. nat_lt w 32) (sym wide) ∙ le-ltb width 32 enough)
+
+-- ---- the end
+
+-- by whether control is there
+complete_by : (d : Draft) (o : Option Control) → d.control ≡ o → complete d ≡ option_map_or (ended_with d) o (Err (0, Missing))
+complete_by d o is = opened d.control ∙ ap (λ x. option_map_or (ended_with d) x (Err (0, Missing))) is where
+  opened : (x : Option Control) → complete (record d { control = x }) ≡ option_map_or (ended_with d) x (Err (0, Missing))
+  opened None = refl
+  opened (Some c) = refl
+
+-- control is missing
+pub without_control : (d : Draft) → d.control ≡ None → complete d ≡ Err (0, Missing)
+without_control d is = complete_by d None is
+
+-- no bus is there
+pub without_bus : (d : Draft) (c : Control) → d.control ≡ Some c → length d.buses ≡ 0 → complete d ≡ Err (0, Missing)
+without_bus d c is none = complete_by d (Some c) is ∙ rw none refl
+
+-- a template is too narrow
+pub too_narrow : (d : Draft) (c : Control) (line : ℕ) → d.control ≡ Some c → 0 < length d.buses
+    → narrow_line (machine_of d c) d.templates d.template_lines ≡ Some line → complete d ≡ Err (line, TooNarrow)
+too_narrow d c line is some narrow = complete_by d (Some c) is ∙ rw (lt-ltb 0 (length d.buses) some, narrow) refl
+
+-- nothing is missing, and every template is wide enough
+pub is_complete : (d : Draft) (c : Control) → d.control ≡ Some c → 0 < length d.buses
+    → narrow_line (machine_of d c) d.templates d.template_lines ≡ None → complete d ≡ Ok (machine_of d c)
+is_complete d c is some wide = complete_by d (Some c) is ∙ rw (lt-ltb 0 (length d.buses) some, wide) refl
+
+-- ---- a machine built from a draft part by part
+
+some_bus : (buses : ℕ) (is_empty : Bool) → is_empty ≡ (buses == 0) → is_empty ≡ false → 0 < buses
+some_bus zero is_empty is some = cc
+some_bus (suc n) is_empty is some = omega arith
+
+-- the machine of a draft, with these of its templates and so many words of its spaces
+abbrev pub built : Draft → Control → List Template → (data_words frame_words : ℕ) → Machine
+built d c templates data_words frame_words = record (machine_of d c) { templates = templates; data_words = data_words; frame_words = frame_words }
+
+-- that it is without templates so far
+pub record IsBare (d : Draft) (c : Control) (templates : List Template) (words frame : ℕ) : Type 0 where
+  pub has_control : d.control ≡ Some c
+  pub has_bus : 0 < length d.buses
+  pub no_template : templates ≡ []
+  pub data_words : words ≡ unwrap_or d.data_words 0
+  pub frame_words : frame ≡ unwrap_or d.frame_words 0
+
+pub is_bare : (d : Draft) (c : Control) (templates : List Template) (words frame : ℕ) (is_empty : Bool) → d.control ≡ Some c → is_empty ≡ (length d.buses == 0)
+    → is_empty ≡ false → templates ≡ [] → words ≡ unwrap_or d.data_words 0 → frame ≡ unwrap_or d.frame_words 0 → IsBare d c templates words frame
+is_bare d c templates words frame is_empty has_control empty some none data_said frame_said = record {
+  has_control = has_control;
+  has_bus = some_bus (length d.buses) is_empty empty some;
+  no_template = none;
+  data_words = data_said;
+  frame_words = frame_said;
+}
+
+bare : (d : Draft) (c : Control) (templates : List Template) (words frame : ℕ) → IsBare d c templates words frame
+    → built d c templates words frame ≡ without_templates (machine_of d c)
+bare d c templates words frame b = rw (b.no_template, b.data_words, b.frame_words) refl
+
+filled : (d : Draft) (c : Control) (templates : List Template) (words frame : ℕ) → IsBare d c templates words frame
+    → built d c d.templates words frame ≡ machine_of d c
+filled d c templates words frame b = rw (b.data_words, b.frame_words) refl
+
+pub bare_rules : (d : Draft) (c : Control) (templates : List Template) (words frame : ℕ) → IsDraft d → IsBare d c templates words frame
+    → IsMachine (built d c templates words frame)
+bare_rules d c templates words frame r b = subst IsMachine (sym (bare d c templates words frame b)) (rules_without d c r b.has_control b.has_bus)
+
+-- what the bare machine tells of templates is so of the whole machine
+pub narrow_whole : (d : Draft) (c : Control) (templates ts : List Template) (words frame : ℕ) (lines : List ℕ) (o : Option ℕ) → IsBare d c templates words frame
+    → ts ≡ d.templates → lines ≡ d.template_lines → o ≡ narrow_line (built d c templates words frame) ts lines
+    → narrow_line (machine_of d c) d.templates d.template_lines ≡ o
+narrow_whole d c templates ts words frame lines o b same same_lines is =
+    sym (is ∙ ap₂ (narrow_line (built d c templates words frame)) same same_lines
+    ∙ ap (λ (m : Machine). narrow_line m d.templates d.template_lines) (bare d c templates words frame b)
+    ∙ narrow_same (machine_of d c) d.templates d.template_lines)
+
+-- the templates stand in it
+pub filled_rules : (d : Draft) (c : Control) (templates : List Template) (words frame : ℕ) → IsDraft d → IsBare d c templates words frame
+    → narrow_line (machine_of d c) d.templates d.template_lines ≡ None → IsMachine (built d c d.templates words frame)
+filled_rules d c templates words frame r b wide = subst IsMachine (sym (filled d c templates words frame b)) (is_machine d c r b.has_control b.has_bus wide)
+
+pub filled_end : (d : Draft) (c : Control) (templates : List Template) (words frame : ℕ) → IsBare d c templates words frame
+    → narrow_line (machine_of d c) d.templates d.template_lines ≡ None → complete d ≡ Ok (built d c d.templates words frame)
+filled_end d c templates words frame b wide = is_complete d c b.has_control b.has_bus wide ∙ ap (λ (m : Machine). Ok m) (sym (filled d c templates words frame b))
