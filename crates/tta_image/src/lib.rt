@@ -4,8 +4,6 @@
 mod fields;
 mod laws;
 mod sink;
-#[cfg(test)]
-mod tests;
 mod write;
 
 pub use laws::{one_code, one_image};

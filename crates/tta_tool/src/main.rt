@@ -4,16 +4,17 @@
 mod build;
 mod command;
 mod status;
+#[cfg(test)]
+mod tests;
 
 use command::tool;
 use status::Status;
-use std::alloc::AllocError;
+use std::alloc::{AllocError, Global};
 use std::env;
 use std::process::ExitCode;
 use std::rt::Env;
 use tta_ops::{Arith, Compare, Divide, Logic, OpUnit, Shift, UnitSet};
-use tta_ports::{RealFiles, RealSink};
-
+use tta_ports::{Files, RealFiles, RealSink, Sink};
 
 // The words behind the program's name. A word that is not UTF-8 makes no command.
 fn words_of(rt: &(impl Env + AllocGlobal)) -> Result<Vec<String>, Status> {
@@ -29,9 +30,13 @@ fn words_of(rt: &(impl Env + AllocGlobal)) -> Result<Vec<String>, Status> {
     Ok(words)
 }
 
-// Carries out the words over the five standard units, the host's files and its standard output.
-fn run(rt: &HostRuntime, words: &Vec<String>) -> Result<Status, AllocError> {
-    let alloc = rt.alloc();
+// Carries out the words over the five standard units.
+fn run<F: Files, S: Sink>(
+    alloc: Global,
+    words: &Vec<String>,
+    files: &mut F,
+    sink: &mut S,
+) -> Result<Status, AllocError> {
     let mut boxes: Vec<Box<dyn OpUnit>> = Vec::new(alloc);
     boxes.push(Box::new(alloc, Arith)?)?;
     boxes.push(Box::new(alloc, Logic)?)?;
@@ -44,14 +49,14 @@ fn run(rt: &HostRuntime, words: &Vec<String>) -> Result<Status, AllocError> {
     let Ok(units) = UnitSet::new(alloc, boxes) else {
         return Ok(Status::NoMemory);
     };
-    let mut files = RealFiles::new(rt);
-    let mut sink = RealSink::new(rt);
-    Ok(tool(alloc, words, &units, &mut files, &mut sink))
+    Ok(tool(alloc, words, &units, files, sink))
 }
 
 fn main(rt: HostRuntime) -> ExitCode {
+    let mut files = RealFiles::new(&rt);
+    let mut sink = RealSink::new(&rt);
     let status = match words_of(&rt) {
-        Ok(words) => run(&rt, &words).unwrap_or(Status::NoMemory),
+        Ok(words) => run(rt.alloc(), &words, &mut files, &mut sink).unwrap_or(Status::NoMemory),
         Err(status) => status,
     };
     if status != Status::Ok {
