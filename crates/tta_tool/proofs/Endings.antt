@@ -31,11 +31,13 @@ pub image_ends : {T : Type 0} → (u : Units) (P text : List ℕ) (m : Machine) 
     → ReadsProgram u P m p before after → ImageEnds m p (sha256 text) items result
     → CompileProgramEnds u P text m before after items result
 image_ends u P text m p before after items (Ok v) reads ends = record { program = p; reads = reads; image = ends }
-image_ends u P text m p before after items (Err (status.CodeFull words have)) reads ends = λ M OUT has same.
-    (reads.untouched, record {
-      pair = record { machine = has; text = reads.text; program = p; holds = reads.holds; read = reads.read; direct = subst (λ x. is_direct x p ≡ true) same reads.direct };
-      lacks = subst (λ x. LacksRoom x p words have) same ends;
-    })
+image_ends u P text m p before after items (Err (status.CodeFull words have)) reads ends = λ M OUT has same. (
+  reads.untouched,
+  record {
+    pair = record { machine = has; text = reads.text; program = p; holds = reads.holds; read = reads.read; direct = subst (λ x. is_direct x p ≡ true) same reads.direct };
+    lacks = subst (λ x. LacksRoom x p words have) same ends;
+  },
+)
 image_ends u P text m p before after items (Err status.NoMemory) reads ends = λ M OUT has same. reads.untouched
 image_ends u P text m p before after items (Err s) reads ends = absurd ends
 
@@ -54,12 +56,15 @@ compile_ends {T} u M P text m before between after items result reads ends =
     of result (subst (λ w. CompileProgramEnds u P text m w after items result) (same_world before between reads.untouched) ends) where
       has : HasMachine u before.contents M
       has = record { text = text; machine = m; holds = reads.holds; read = reads.read; first = reads.first }
+
       of : (r : Result T Status) → CompileProgramEnds u P text m before after items r → CompileEnds u M P before after items r
-      of (Ok v) ends =
-          (record {
-            pair = record { machine = has; text = ends.reads.text; program = ends.program; holds = ends.reads.holds; read = ends.reads.read; direct = ends.reads.direct };
-            image = ends.image;
-          }, ends.reads.untouched)
+      of (Ok v) ends = (
+        record {
+          pair = record { machine = has; text = ends.reads.text; program = ends.program; holds = ends.reads.holds; read = ends.reads.read; direct = ends.reads.direct };
+          image = ends.image;
+        },
+        ends.reads.untouched,
+      )
       of (Err s) ends = λ OUT. ends M OUT has refl
 
 -- an image that was made, and what became of its file

@@ -16,11 +16,7 @@ use tta_reading::Lines;
 
 // What all lines of a text say. A text that ends inside a procedure is refused at the line behind it.
 #[tactic(auto, using(crate::proofs::Whole::line_refused, crate::proofs::Whole::text_ended, crate::proofs::Whole::text_open))]
-fn read_draft<'t>(
-    alloc: Global,
-    text: &'t [u8],
-    units: &UnitSet,
-) -> Result<Draft<'t>, TacError>
+fn read_draft<'t>(alloc: Global, text: &'t [u8], units: &UnitSet) -> Result<Draft<'t>, TacError>
     requires { length text.now ≤ 2 ^ 24 }
     ensures { DraftEnds (stated unit_meaning units.now) text.now (λ d. draft_seen d) result }
 {

@@ -15,7 +15,7 @@ returns-in-Ok g c =
     let bytes = c.in-Ok.image.items in
     let Ends : List ℕ → Type 0 = λ bytes. WriteEnds c.args.out.now bytes between after c.write_out.result in
     build_ends U c.args.machine.now c.args.program.now c.args.out.now bytes before between after c.write_out.result
-        c.in-Ok.ensures.0 c.in-Ok.ensures.1 (subst Ends c.as_slice.ensures.value c.write_out.ensures)
+    c.in-Ok.ensures.0 c.in-Ok.ensures.1 (subst Ends c.as_slice.ensures.value c.write_out.ensures)
 
 pub returns-in-Err : goal.returns-in-Err
 returns-in-Err g c = c.in-Err.ensures c.args.out.now

@@ -12,7 +12,7 @@ returns-in-Ok g c =
     let after = world (f.contents c.compile_program.new.files) (f.faults c.compile_program.new.files) (f.latest c.compile_program.new.files) in
     let file = c.in-Ok.file in
     compile_ends U c.args.machine.now c.args.program.now file.text.items file.machine before between after (λ v. v.items) c.compile_program.result
-        c.in-Ok.ensures c.compile_program.ensures
+    c.in-Ok.ensures c.compile_program.ensures
 
 pub returns-in-Err : goal.returns-in-Err
 returns-in-Err g c = λ OUT. c.in-Err.ensures c.args.program.now OUT

@@ -15,4 +15,4 @@ returns-in-Ok g c =
     let file = c.args.file.now in
     let Ends : List ℕ → Type 0 = λ text. ImageEnds file.machine c.in-Ok.program (sha256 text) (λ v. v.items) c.image_of.result in
     image_ends U c.args.name.now file.text.items file.machine c.in-Ok.program before after (λ v. v.items) c.image_of.result
-        c.in-Ok.ensures (subst Ends c.as_slice.ensures.value c.image_of.ensures)
+    c.in-Ok.ensures (subst Ends c.as_slice.ensures.value c.image_of.ensures)

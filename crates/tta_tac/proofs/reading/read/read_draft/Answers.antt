@@ -42,15 +42,15 @@ returns-in-Err-Refused g c =
     let words = map plain c.next_line.new.words.items in
     let rest = c.next_line.new.self in
     let Told : LineError → List Word → Type 0 = λ e ws.
-        Says {A = Unit} (draft_seen c.take_line.new.self) (Err e) (take_line U line before (map plain ws)) in
+    Says {A = Unit} (draft_seen c.take_line.new.self) (Err e) (take_line U line before (map plain ws)) in
     let told : Told (line_error.Refused c.in-Err-Refused.refusal) c.next_line.new.words.items =
-        subst (Told (line_error.Refused c.in-Err-Refused.refusal)) c.as_slice.ensures.value
-            (subst (λ e. Told e c.as_slice.result.now) c.in-Err-Refused.field-0-is c.in-Err-Refused.ensures.says) in
+    subst (Told (line_error.Refused c.in-Err-Refused.refusal)) c.as_slice.ensures.value
+    (subst (λ e. Told e c.as_slice.result.now) c.in-Err-Refused.field-0-is c.in-Err-Refused.ensures.says) in
     let split : c.loop-draft.lines ≡ words ∷ rest = c.in_ok-next_line.ensures.more c.if-branch.true in
     let cause = line_refused U c.args.text.now line before words c.loop-draft.lines rest c.in-Err-Refused.refusal
-        c.loop-draft.invariant.rest split told in
-    subst (λ code. HasCause U c.args.text.now (tac_error.Refused line code)) 
-        (sym (c.code.ensures ∙ ap code_of c.in-Err-Refused.refusal-is)) cause
+    c.loop-draft.invariant.rest split told in
+    subst (λ code. HasCause U c.args.text.now (tac_error.Refused line code))
+    (sym (c.code.ensures ∙ ap code_of c.in-Err-Refused.refusal-is)) cause
 
 -- no line is left, and a procedure is open
 pub returns-in-Some : goal.returns-in-Some
@@ -61,7 +61,7 @@ returns-in-Some g c =
     let begun : (draft_seen d).begun ≡ Some (proc_seen c.in-Some.field-0) = ap (λ b. option_map_or (λ q. Some (proc_seen q)) b None) c.in-Some.is in
     let left : c.loop-draft.lines ≡ [] = (c.in_ok-next_line.ensures.none c.if-branch.false).0 in
     let cause = text_open U c.args.text.now line (draft_seen d) (proc_seen c.in-Some.field-0) c.loop-draft.lines
-        c.loop-draft.invariant.rest left begun in
+    c.loop-draft.invariant.rest left begun in
     subst (λ code. HasCause U c.args.text.now (tac_error.Refused line code)) (sym c.code-in-Some.ensures) cause
 
 -- no line is left, and no procedure is open
