@@ -1,0 +1,4 @@
+pub mod Entered
+pub mod First
+pub mod Kept
+pub mod Passed

@@ -1,0 +1,15 @@
+//! The run of a three-address program by its sequential meaning, one step a call.
+#![tactic(auto)]
+
+mod answer;
+mod calls;
+mod carry;
+mod entry;
+mod pass;
+mod phase;
+mod relations;
+mod seq;
+mod words;
+
+pub use answer::SeqStep;
+pub use seq::Seq;
