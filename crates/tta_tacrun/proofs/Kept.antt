@@ -1,12 +1,12 @@
 -- How the calls that are kept change with a call and its end.
-use Rattle.std.proofs.Common.{◌≡◌, ◌≢◌, ◌<◌, ◌≤◌, ℕ, zero, suc, Bool, true, false, eqb, inl, inr, List, [], ◌∷◌, ◌++◌, length, map, reverse, get_or, set, refl, ap, sym, ◌∙◌, subst, arith, length-set}
+use Rattle.std.proofs.Common.{◌≡◌, ◌≢◌, ◌<◌, ◌≤◌, ℕ, zero, suc, true, false, eqb, inl, inr, List, [], ◌∷◌, ◌++◌, length, map, reverse, get_or, set, refl, ap, sym, ◌∙◌, subst, arith}
 use Rattle.std.specs.Prelude.{◌||◌}
 use Rattle.std.specs.List.{AllByRecursion, IsDistinct, list_any}
 use Rattle.std.proofs.lemmas.List.{get_or-set_same, get_or-set_other, length-map, length-reverse, reverse-append}
 use Rattle.std.proofs.lemmas.Map.Keys.{IsDistinct-cons, IsDistinct-head, IsDistinct-tail}
 use Rattle.std.proofs.lemmas.Map.Steps.{length-le_from_distinct_below}
 use Rattle.std.proofs.lemmas.Bool.Decides.{eqb_tells}
-use Rattle.tta_tacrun.specs.Calls.{Calls, IsFresh, frame_of, calls_of, kept_procs, AreKept}
+use Rattle.tta_tacrun.specs.Calls.{IsFresh, frame_of, calls_of, kept_procs, AreKept}
 use Rattle.tta_tacrun.specs.declared.entry.Entry.{Entry}
 
 -- ---- lists

@@ -1,4 +1,6 @@
+pub mod Calling
 pub mod Entered
 pub mod First
 pub mod Kept
 pub mod Passed
+pub mod Stands

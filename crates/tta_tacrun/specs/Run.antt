@@ -72,6 +72,11 @@ abbrev pub state_of : Phase → Calls → (memory output : List ℕ) (steps : �
 state_of phase c memory output steps =
     record { stack = stack_of phase c; memory = memory; output = output; steps = steps; outcome = outcome_of phase }
 
+-- what is held where these are kept
+abbrev pub run_of : Phase → Calls → (memory : List ℕ) (steps : ℕ) → Run
+run_of phase c memory steps =
+    record { sizes = c.sizes; stack = stack_of phase c; memory = memory; steps = steps; outcome = outcome_of phase }
+
 -- the calls are those of a run of the program
 pub record AreCallsOf (p : Program) (c : Calls) : Type 0 where
   pub sizes : c.sizes ≡ map (λ q. q.vars) p.procs

@@ -1,8 +1,9 @@
 //! One step.
 
-ghost use Rattle.std.specs.Prelude.{◌≡◌, ℕ, List, ◌+◌, ◌<◌, ◌^◌, Some, OnSome, IsSome, option_copied};
+ghost use Rattle.std.specs.Prelude.{◌≡◌, ℕ, List, ◌+◌, ◌<◌, ◌^◌, ◌∷◌, Some, OnSome, IsSome, option_copied};
 ghost use Rattle.tta_ops.specs.Set.{stated};
-ghost use Rattle.tta_tac.specs.Sequential.{step_at, returns, carry_out};
+ghost use Rattle.tta_tac.specs.Rules.{IsProgram};
+ghost use Rattle.tta_tac.specs.Sequential.{State, step_at, returns, carry_out};
 ghost use Rattle.tta_tac.specs.Sequential.{take_value as value_taken};
 ghost use Rattle.tta_tacrun.specs.Run.{AreCallsOf, state_of, put, destination};
 
@@ -18,6 +19,7 @@ use tta_tac::{Program, Step};
 pub fn step_of(p: &Program, call: Entry) -> Option<&Step>
     ensures value { option_copied result ≡ step_at p.now call.proc call.at }
     ensures within { OnSome result (call.at + 1 < 2 ^ 64) }
+    ensures rules { IsProgram p.now }
 {
     match p.procs.as_slice().get(call.proc) {
         Some(q) => q.steps.as_slice().get(call.at),
@@ -40,10 +42,9 @@ fn take_value(calls: &mut Calls, p: &Program, value: u32)
     requires loaded { AreCallsOf p.now calls.old }
     requires called { IsSome (step_at p.now calls.old.top.proc calls.old.top.at) }
     ensures loaded { AreCallsOf p.now calls.new }
-    ensures taken { (memory output : List ℕ) (steps : ℕ)
-        → let s = state_of Phase.Running calls.old memory output steps in
-        let step = step_at p.now calls.old.top.proc calls.old.top.at in
-        state_of Phase.Running calls.new memory output steps
+    ensures taken { (s : State)
+        → let step = step_at p.now calls.old.top.proc calls.old.top.at in
+        record s { stack = calls.new.top ∷ calls.new.below }
         ≡ value_taken s calls.old.top calls.old.below value step }
 {
     let call = calls.top();
@@ -76,6 +77,7 @@ pub fn carry(
     units: &UnitSet,
     step: &Step,
 ) -> (Phase, Option<u32>)
+    requires rules { IsProgram p.now }
     requires loaded { AreCallsOf p.now calls.old }
     requires at { step_at p.now calls.old.top.proc calls.old.top.at ≡ Some step.now }
     requires more { calls.old.top.at + 1 < 2 ^ 64 }

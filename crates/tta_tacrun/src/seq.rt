@@ -26,17 +26,11 @@ pub struct Seq {
 }
 
 impl Model for Seq {
-    ghost use Rattle.tta_tacrun.specs.Run.{Run, stack_of, outcome_of};
+    ghost use Rattle.tta_tacrun.specs.Run.{Run, run_of};
 
     ghost Value = { Run };
 
-    ghost view = { λ s. record {
-        sizes = s.calls.sizes;
-        stack = stack_of s.phase s.calls;
-        memory = s.memory;
-        steps = s.steps;
-        outcome = outcome_of s.phase;
-    } };
+    ghost view = { λ s. run_of s.phase s.calls s.memory s.steps };
 }
 
 impl Seq {

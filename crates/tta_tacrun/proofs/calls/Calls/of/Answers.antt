@@ -1,9 +1,7 @@
-use Rattle.std.proofs.Common.{◌≡◌, ◌<◌, ◌≤◌, length, ap, sym, ◌∙◌, arith}
+use Rattle.std.proofs.Common.{◌≡◌, length, ap, ◌∙◌, arith}
 use Rattle.std.proofs.lemmas.List.{length-map}
-use Rattle.tta_tac.specs.declared.program.Proc.{Proc}
 use Rattle.tta_tac.specs.Program.{Program}
-use Rattle.tta_tac.specs.Rules.{IsProgram}
-use Rattle.tta_tacrun.proofs.First.{main_within, calls_first, zeros_of}
+use Rattle.tta_tacrun.proofs.First.{main_within, calls_first}
 use Rattle.tta_tacrun.proofs.Kept.{kept_first}
 use Rattle.tta_tacrun.proofs.calls.Calls.of.Goals as goal
 
@@ -13,7 +11,7 @@ invariant_of-result c =
     let zeros = rw (← c.p.view_is) at c.in_ok-variables.ensures in
     let many : length c.in_ok-variables.variables.items ≡ length p.procs = ap length zeros ∙ length-map p.procs _ in
     kept_first c.in_ok-variables.variables.items _ c.in_ok-callers.callers.items _ c.in_ok-callers.ensures.items
-    (omega (arith, many, main_within p c.p.invariant)) ?
+    (omega (arith, many, main_within p c.p.invariant)) (omega (arith, c.in_ok-callers.ensures.exact, c.len.ensures))
 
 pub returns : goal.returns
 returns c =
