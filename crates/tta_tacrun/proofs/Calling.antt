@@ -19,20 +19,20 @@ use Rattle.tta_tacrun.proofs.First.{within_if}
 same_number : (n : ℕ) → eqb n n ≡ true
 same_number n = elim (eqb_tells n n) [ inl same ↦ same.0 | inr different ↦ absurd (different.1 refl) ]
 
-second : (a b : Bool) → (a && b) ≡ true → b ≡ true
+pub second : (a b : Bool) → (a && b) ≡ true → b ≡ true
 second true b both = both
 second false b both = cc
 
-first : (a b : Bool) → (a && b) ≡ true → a ≡ true
+pub first : (a b : Bool) → (a && b) ≡ true → a ≡ true
 first true b both = refl
 first false b both = cc
 
-all_at : {A : Type 0} (P : A → Type 0) (xs : List A) (i : ℕ) (x : A) → AllByRecursion P xs → slice_get xs i ≡ Some x → P x
+pub all_at : {A : Type 0} (P : A → Type 0) (xs : List A) (i : ℕ) (x : A) → AllByRecursion P xs → slice_get xs i ≡ Some x → P x
 all_at P [] i x all here = cc
 all_at P (y ∷ ys) zero x all here = let same : y ≡ x = cc in subst P same all.0
 all_at P (y ∷ ys) (suc i) x all here = all_at P ys i x all.1 here
 
-passes_at : {A : Type 0} (test : A → Bool) (xs : List A) (i : ℕ) (x : A) → list_all test xs ≡ true → slice_get xs i ≡ Some x → test x ≡ true
+pub passes_at : {A : Type 0} (test : A → Bool) (xs : List A) (i : ℕ) (x : A) → list_all test xs ≡ true → slice_get xs i ≡ Some x → test x ≡ true
 passes_at test [] i x all here = cc
 passes_at test (y ∷ ys) zero x all here = let same : x ≡ y = cc in rw same (first (test y) (list_all test ys) all)
 passes_at test (y ∷ ys) (suc i) x all here = passes_at test ys i x (second (test y) (list_all test ys) all) here
@@ -92,7 +92,7 @@ fit_of p rules callee args call =
           omega (arith, many, proc.among)
 
 -- the rules of a call
-call_of : (p : Program) → IsProgram p → (proc at : ℕ) (d : Option ℕ) (callee : ℕ) (args : List Src)
+pub call_of : (p : Program) → IsProgram p → (proc at : ℕ) (d : Option ℕ) (callee : ℕ) (args : List Src)
     → step_at p proc at ≡ Some (Invoke d callee args) → is_call p callee args ≡ true
 call_of p rules proc at d callee args here = by (slice_get p.procs proc) refl here where
   by : (q : Option Proc) → slice_get p.procs proc ≡ q → option_map_or (λ q. slice_get q.steps at) q None ≡ Some (Invoke d callee args)

@@ -3,4 +3,5 @@ pub mod Entered
 pub mod First
 pub mod Kept
 pub mod Passed
+pub mod Placed
 pub mod Stands

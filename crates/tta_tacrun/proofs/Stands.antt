@@ -48,22 +48,6 @@ module _ (u : Units) (p : Program) (c : Calls) (memory : List ℕ) (steps : ℕ)
   ran_answer after new_memory phase word step here carried s same =
       (sym same.outcome, ap (λ t. t.output) (next_is after new_memory phase word step here carried s same) ∙ put_is s.output word)
 
-  -- where there is no step, nothing happens
-  stuck_is : step_at p c.top.proc c.top.at ≡ None → (s : State) → Stands (run_of GoesOn c memory steps) s → next u p s ≡ s
-  unfolding next
-  stuck_is none s same =
-      let is = state_is GoesOn c memory steps s same in
-      ap (next u p) is ∙ rw none (sym is)
-
-  pub stuck_stands : step_at p c.top.proc c.top.at ≡ None → (s : State) → Stands (run_of GoesOn c memory steps) s
-      → Stands (run_of GoesOn c memory steps) (next u p s)
-  stuck_stands none s same = rw (stuck_is none s same) same
-
-  pub stuck_answer : step_at p c.top.proc c.top.at ≡ None → (s : State) → Stands (run_of GoesOn c memory steps) s
-      → IsAnswer u p s (Ran None)
-  stuck_answer none s same =
-      (sym same.outcome, ap (λ t. t.output) (stuck_is none s same) ∙ sym (append-nil s.output))
-
 -- a run that has halted
 module _ (u : Units) (p : Program) (r : Run) (over : r.outcome ≡ Halted) (s : State) (same : Stands r s) where
   pub halted_answer : IsAnswer u p s DoesNotRun

@@ -1,5 +1,5 @@
 -- What a run holds, and which state it stands for.
-use Rattle.std.specs.Prelude.{◌≡◌, ℕ, Bool, true, false, ◌&&◌, List, [], ◌∷◌, ◌++◌, map, Option, None, Some, option_to_list}
+use Rattle.std.specs.Prelude.{◌≡◌, ℕ, Bool, true, false, ◌&&◌, List, [], ◌∷◌, ◌++◌, map, Option, None, Some, is_some, option_to_list}
 use Rattle.std.specs.Option.{option_map_or}
 use Rattle.tta_ops.specs.Units.{Units}
 use Rattle.tta_tac.specs.declared.step.Step.{Step}
@@ -33,6 +33,11 @@ abbrev pub IsAnswer : Units → Program → State → SeqStep → Type 0
 IsAnswer u p s DoesNotRun = s.outcome ≡ Halted
 IsAnswer u p s (Ran word) = (s.outcome ≡ Running) × ((next u p s).output ≡ s.output ++ option_to_list word)
 
+-- the steps that an answer stands for: one, but for a run that has halted before
+abbrev pub steps_of : SeqStep → ℕ
+steps_of DoesNotRun = 0
+steps_of (Ran word) = 1
+
 -- whether a state has halted
 abbrev pub is_over : Outcome → Bool
 is_over Running = false
@@ -50,10 +55,16 @@ abbrev pub is_path : Program → List Frame → Bool
 is_path p [] = true
 is_path p (f ∷ rest) = is_called p f.proc rest && is_path p rest
 
+-- the innermost call stands at a step
+abbrev pub is_placed : Program → List Frame → Bool
+is_placed p [] = true
+is_placed p (f ∷ rest) = is_some (step_at p f.proc f.at)
+
 -- A run that was loaded with a program, and made steps of it.
 pub record IsRunOf (p : Program) (r : Run) : Type 0 where
   pub sizes : r.sizes ≡ map (λ q. q.vars) p.procs
   pub path : is_path p r.stack ≡ true
+  pub placed : is_placed p r.stack ≡ true
 
 -- ---- how a run is kept
 

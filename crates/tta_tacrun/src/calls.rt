@@ -1,6 +1,7 @@
 //! The calls that are under way.
 
 ghost use Rattle.std.specs.Prelude.{◌≡◌, ◌+◌, ◌<◌, ◌≤◌, ◌^◌, ◌∷◌, [], length, map, replicate, if◌then◌else◌, slice_index, slice_set, IfOk, IsFalse};
+ghost use Rattle.tta_tac.specs.Rules.{IsProgram};
 ghost use Rattle.tta_tac.specs.Sequential.{operand, enter};
 ghost use Rattle.tta_tacrun.specs.Calls.{IsFresh, begun};
 
@@ -51,15 +52,14 @@ fn all_variables(alloc: Global, p: &Program) -> Result<Vec<Words>, AllocError>
 impl Calls {
     /// The call that a run of the program begins with.
     pub fn of(alloc: Global, p: &Program) -> Result<Self, AllocError>
-        ensures { IfOk result (λ c. c ≡ record {
+        ensures first { IfOk result (λ c. c ≡ record {
             sizes = map (λ q. q.vars) p.now.procs; top = enter p.now p.now.main []; below = [] }) }
+        ensures rules { IsProgram p.now }
     {
+        let proc = p.main as usize;
         let variables = all_variables(alloc, p)?;
         let callers = Vec::with_capacity(alloc, variables.len())?;
-        let top = Entry {
-            proc: p.main as usize,
-            at: 0,
-        };
+        let top = Entry { proc, at: 0 };
         Ok(Calls {
             variables,
             top,

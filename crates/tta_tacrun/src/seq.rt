@@ -3,7 +3,7 @@
 ghost use Rattle.std.specs.Prelude.{◌≡◌, ◌+◌, ◌<◌, ◌^◌, length, slice_index, IfOk};
 ghost use Rattle.tta_ops.specs.Set.{stated};
 ghost use Rattle.tta_tac.specs.Sequential.{State, next, start};
-ghost use Rattle.tta_tacrun.specs.Run.{Stands, IsAnswer, IsRunOf, is_over};
+ghost use Rattle.tta_tacrun.specs.Run.{Stands, IsAnswer, IsRunOf, is_over, steps_of};
 
 use crate::answer::SeqStep;
 use crate::calls::Calls;
@@ -57,6 +57,7 @@ impl Seq {
         requires loaded { IsRunOf p.now self.old }
         requires few { self.old.steps < 2 ^ 62 }
         ensures loaded { IsRunOf p.now self.new }
+        ensures counted { self.new.steps ≡ self.old.steps + steps_of result }
         ensures next { let U = stated unit_meaning units.now in
             (s : State) → Stands self.old s → Stands self.new (next U p.now s) }
         ensures answer { let U = stated unit_meaning units.now in
@@ -66,10 +67,7 @@ impl Seq {
             Phase::Running => {}
             Phase::Stopped | Phase::Returned => return SeqStep::Halted,
         }
-        // In a program there is a step; where there is none, the meaning has nothing happen.
-        let Some(step) = step_of(p, self.calls.top()) else {
-            return SeqStep::Ran(None);
-        };
+        let step = step_of(p, self.calls.top()).unwrap();
         let (phase, word) = carry(&mut self.calls, &mut self.memory, p, units, step);
         self.phase = phase;
         self.steps += 1;

@@ -13,6 +13,6 @@ invariant_of-result c =
     kept_first c.in_ok-variables.variables.items _ c.in_ok-callers.callers.items _ c.in_ok-callers.ensures.items
     (omega (arith, many, main_within p c.p.invariant)) (omega (arith, c.in_ok-callers.ensures.exact, c.len.ensures))
 
-pub returns : goal.returns
-returns c =
+pub returns-clause-first : goal.returns-clause-first
+returns-clause-first c =
     rw (← c.p.view_is) (calls_first _ c.in_ok-variables.variables.items c.in_ok-callers.callers.items (rw (← c.p.view_is) at c.in_ok-variables.ensures) c.in_ok-callers.ensures.items)
