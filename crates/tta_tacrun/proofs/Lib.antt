@@ -4,4 +4,5 @@ pub mod First
 pub mod Kept
 pub mod Passed
 pub mod Placed
+pub mod Squares
 pub mod Stands

@@ -1,6 +1,6 @@
 //! One step.
 
-ghost use Rattle.std.specs.Prelude.{◌≡◌, ℕ, List, ◌+◌, ◌<◌, ◌^◌, ◌∷◌, Some, OnSome, IsSome, option_copied};
+ghost use Rattle.std.specs.Prelude.{◌≡◌, ℕ, List, ◌+◌, ◌<◌, ◌^◌, ◌∷◌, length, Some, OnSome, IsSome, option_copied};
 ghost use Rattle.tta_ops.specs.Set.{stated};
 ghost use Rattle.tta_tac.specs.Rules.{IsProgram};
 ghost use Rattle.tta_tac.specs.Sequential.{State, step_at, returns, carry_out};
@@ -82,6 +82,7 @@ pub fn carry(
     requires at { step_at p.now calls.old.top.proc calls.old.top.at ≡ Some step.now }
     requires more { calls.old.top.at + 1 < 2 ^ 64 }
     ensures loaded { AreCallsOf p.now calls.new }
+    ensures space { length memory.new ≡ length memory.old }
     ensures carried { (output : List ℕ) (steps : ℕ)
         → let U = stated unit_meaning units.now in
         let s = state_of Phase.Running calls.old memory.old output steps in

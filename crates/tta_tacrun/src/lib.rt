@@ -9,6 +9,8 @@ mod pass;
 mod phase;
 mod relations;
 mod seq;
+#[cfg(test)]
+mod tests;
 mod words;
 
 pub use answer::SeqStep;

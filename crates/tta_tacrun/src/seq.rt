@@ -57,6 +57,7 @@ impl Seq {
         requires loaded { IsRunOf p.now self.old }
         requires few { self.old.steps < 2 ^ 62 }
         ensures loaded { IsRunOf p.now self.new }
+        ensures space { length self.new.memory ≡ length self.old.memory }
         ensures counted { self.new.steps ≡ self.old.steps + steps_of result }
         ensures next { let U = stated unit_meaning units.now in
             (s : State) → Stands self.old s → Stands self.new (next U p.now s) }

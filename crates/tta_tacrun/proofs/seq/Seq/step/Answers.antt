@@ -14,6 +14,7 @@ returns-in-Stopped g c =
     let over = ap (λ r. r.outcome) (sym c.self.view_is) ∙ ended in
     record {
       loaded = c.requires.loaded;
+      space = refl;
       counted = sym (add-zero c.args.self.now.steps);
       next = λ s same. halted_stands U c.args.p.now c.args.self.now over s same;
       answer = λ s same. halted_answer U c.args.p.now c.args.self.now over s same;
