@@ -62,7 +62,7 @@ fn small_program_runs_to_its_halt(rt: HostRuntime) -> Result<(), Fail> {
     let p = squares(alloc)?;
     let mut seq = Seq::load(alloc, &p, vec![in alloc; 0; 2]?)?;
     let mut output = Vec::new(alloc);
-    for _ in 0..30 {
+    for _ in 0..30u64 {
         if let SeqStep::Ran(Some(word)) = seq.step(&p, &units) {
             output.push(word)?;
         }
