@@ -68,9 +68,10 @@ fresh_path : (p : Program) → IsProgram p → (callee : ℕ) (f : Frame) (rest 
 fresh_path p rules callee f [] path reaches = (other_proc p rules f.proc callee reaches, tt)
 fresh_path p rules callee f (g ∷ rest) path reaches =
     let called = first (is_called p f.proc (g ∷ rest)) (is_path p (g ∷ rest)) path in
-    let call = calls_of_step f.proc g.at (slice_get p.procs g.proc) called in
-    (other_proc p rules f.proc callee reaches,
-    fresh_path p rules callee g rest (second (is_called p f.proc (g ∷ rest)) (is_path p (g ∷ rest)) path) (ByMore g.proc f.proc callee call reaches))
+    let call = calls_of_step f.proc g.at (slice_get p.procs g.proc) called in (
+      other_proc p rules f.proc callee reaches,
+      fresh_path p rules callee g rest (second (is_called p f.proc (g ∷ rest)) (is_path p (g ∷ rest)) path) (ByMore g.proc f.proc callee call reaches),
+    )
 
 -- what a call finds: the procedure is there, not under way, and has a variable for each argument
 pub record IsMet (p : Program) (callee : ℕ) (args : List Src) (f : Frame) (rest : List Frame) : Type 0 where

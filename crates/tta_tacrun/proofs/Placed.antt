@@ -158,8 +158,8 @@ run_carried p rules u c after memory new_memory phase word step steps path here 
   sizes = calls.sizes;
   path = path_of p phase after calls;
   placed =
-  ap (λ s. is_placed p s.stack) (carried [] 0)
-  ∙ carried_placed p rules u (state_of GoesOn c memory [] 0) c.top c.below path refl step here;
+      ap (λ s. is_placed p s.stack) (carried [] 0)
+      ∙ carried_placed p rules u (state_of GoesOn c memory [] 0) c.top c.below path refl step here;
 }
 
 pub run_started : (p : Program) → IsProgram p → (c : Calls) (memory : List ℕ) (steps : ℕ)

@@ -1,10 +1,9 @@
 -- The program of the test keeps the rules of programs.
-use Rattle.std.proofs.Common.{◌≡◌, ◌≤◌, ℕ, zero, suc, Bool, true, false, eqb, inl, inr, List, [], ◌∷◌, Some, refl, sym, ◌∙◌, lit≤, arith}
+use Rattle.std.proofs.Common.{◌≡◌, ℕ, zero, suc, true, inl, inr, [], ◌∷◌, Some, refl, sym, lit≤, arith}
 use Rattle.std.proofs.lemmas.Bool.Decides.{eqb_tells}
 use Rattle.tta_ops.specs.declared.OpId.{OpId}
 use Rattle.tta_tac.specs.declared.operand.Src.TheVariants.{Var, Word}
 use Rattle.tta_tac.specs.declared.operand.Rel.TheVariants.{Ltu}
-use Rattle.tta_tac.specs.declared.step.Step.{Step}
 use Rattle.tta_tac.specs.declared.step.Step.TheVariants.{Copy, Apply, Load, Store, Put, If, Invoke, Return, Halt, End}
 use Rattle.tta_tac.specs.declared.program.Proc.{Proc}
 use Rattle.tta_tac.specs.Program.{Program}

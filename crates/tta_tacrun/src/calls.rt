@@ -53,7 +53,10 @@ impl Calls {
     /// The call that a run of the program begins with.
     pub fn of(alloc: Global, p: &Program) -> Result<Self, AllocError>
         ensures first { IfOk result (λ c. c ≡ record {
-            sizes = map (λ q. q.vars) p.now.procs; top = enter p.now p.now.main []; below = [] }) }
+          sizes = map (λ q. q.vars) p.now.procs;
+          top = enter p.now p.now.main [];
+          below = [];
+        }) }
         ensures rules { IsProgram p.now }
     {
         let proc = p.main as usize;
@@ -107,8 +110,9 @@ impl Calls {
         ensures { let words = map (operand self.old.top.vars) args.now in
             let vars = begun words (slice_index self.old.sizes callee) in
             self.new ≡ record self.old {
-                top = record { proc = callee; at = 0; vars = vars };
-                below = self.old.top ∷ self.old.below } }
+              top = record { proc = callee; at = 0; vars = vars };
+              below = self.old.top ∷ self.old.below;
+            } }
     {
         pass(&mut self.variables, self.top.proc, callee, args);
         self.callers.push_reserved(self.top);

@@ -10,7 +10,7 @@ ghost use Rattle.tta_tacrun.specs.Run.{AreCallsOf, state_of, put, destination};
 use crate::calls::Calls;
 use crate::entry::Entry;
 use crate::phase::Phase;
-use crate::relations::is_held;
+use crate::relations::Relations;
 use crate::words::Words;
 use tta_ops::UnitSet;
 use tta_tac::{Program, Step};
@@ -73,6 +73,7 @@ fn give_back(calls: &mut Calls, p: &Program, value: u32) -> Phase
 pub fn carry(
     calls: &mut Calls,
     memory: &mut Words,
+    relations: &mut Relations,
     p: &Program,
     units: &UnitSet,
     step: &Step,
@@ -113,12 +114,12 @@ pub fn carry(
             calls.go_to(next);
         }
         Step::If { rel, a, b, to } => {
-            let held = is_held(units, *rel, calls.value(*a), calls.value(*b));
+            let held = relations.is_held(units, *rel, calls.value(*a), calls.value(*b));
             calls.go_to(if held { *to as usize } else { next });
         }
         Step::Goto { to } => calls.go_to(*to as usize),
         Step::When { rel, a, b, d, s } => {
-            if is_held(units, *rel, calls.value(*a), calls.value(*b)) {
+            if relations.is_held(units, *rel, calls.value(*a), calls.value(*b)) {
                 let value = calls.value(*s);
                 calls.assign(*d, value);
             } else {

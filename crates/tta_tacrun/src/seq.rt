@@ -9,6 +9,7 @@ use crate::answer::SeqStep;
 use crate::calls::Calls;
 use crate::carry::{carry, step_of};
 use crate::phase::Phase;
+use crate::relations::Relations;
 use crate::words::Words;
 use std::alloc::{AllocError, Global};
 use std::marker::Model;
@@ -21,6 +22,7 @@ use tta_tac::Program;
 pub struct Seq {
     calls: Calls,
     memory: Words,
+    relations: Relations,
     steps: u64,
     phase: Phase,
 }
@@ -45,6 +47,7 @@ impl Seq {
         Ok(Seq {
             calls: Calls::of(alloc, p)?,
             memory: Words::of(memory),
+            relations: Relations::new(),
             steps: 0,
             phase: Phase::Running,
         })
@@ -69,7 +72,14 @@ impl Seq {
             Phase::Stopped | Phase::Returned => return SeqStep::Halted,
         }
         let step = step_of(p, self.calls.top()).unwrap();
-        let (phase, word) = carry(&mut self.calls, &mut self.memory, p, units, step);
+        let (phase, word) = carry(
+            &mut self.calls,
+            &mut self.memory,
+            &mut self.relations,
+            p,
+            units,
+            step,
+        );
         self.phase = phase;
         self.steps += 1;
         SeqStep::Ran(word)

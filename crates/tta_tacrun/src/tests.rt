@@ -9,6 +9,7 @@ use tta_ops::{Arith, Compare, OpId, OpUnit, UnitSet};
 use tta_tac::{Args, Proc, Program, Rel, Src, Step};
 
 const ADD: OpId = OpId(0);
+
 const MUL: OpId = OpId(2);
 
 /// Puts out the squares of 3, 4 and 5, which a procedure gives, by way of the first data word.
@@ -16,19 +17,49 @@ fn squares(alloc: Global) -> Result<Program, AllocError> {
     let mut args = Args::new(alloc);
     args.push(Src::Var(0));
     let main = vec![in alloc;
-        Step::Copy { d: 0, s: Src::Word(3) },
-        Step::Invoke { d: Some(1), callee: 1, args },
-        Step::Store { a: Src::Word(0), v: Src::Var(1) },
-        Step::Load { d: 2, a: Src::Word(0) },
-        Step::Apply { d: 0, op: ADD, a: Src::Var(0), b: Src::Word(1) },
+        Step::Copy {
+            d: 0,
+            s: Src::Word(3)
+        },
+        Step::Invoke {
+            d: Some(1),
+            callee: 1,
+            args
+        },
+        Step::Store {
+            a: Src::Word(0),
+            v: Src::Var(1)
+        },
+        Step::Load {
+            d: 2,
+            a: Src::Word(0)
+        },
+        Step::Apply {
+            d: 0,
+            op: ADD,
+            a: Src::Var(0),
+            b: Src::Word(1)
+        },
         Step::Put { v: Src::Var(2) },
-        Step::If { rel: Rel::Ltu, a: Src::Var(0), b: Src::Word(6), to: 1 },
+        Step::If {
+            rel: Rel::Ltu,
+            a: Src::Var(0),
+            b: Src::Word(6),
+            to: 1
+        },
         Step::Halt,
         Step::End,
     ]?;
     let square = vec![in alloc;
-        Step::Apply { d: 1, op: MUL, a: Src::Var(0), b: Src::Var(0) },
-        Step::Return { s: Some(Src::Var(1)) },
+        Step::Apply {
+            d: 1,
+            op: MUL,
+            a: Src::Var(0),
+            b: Src::Var(0)
+        },
+        Step::Return {
+            s: Some(Src::Var(1))
+        },
         Step::End,
     ]?;
     let main_lines = vec![in alloc; 2, 4, 5, 6, 7, 8, 9, 10, 11]?;
