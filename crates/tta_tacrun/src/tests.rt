@@ -1,6 +1,8 @@
 //! What no clause says: that a run is loaded where there is memory, and what a small program
 //! puts out.
 
+ghost use Rattle.std.specs.Prelude.{◌≡◌, length, IfOk};
+
 use crate::{Seq, SeqStep};
 use std::alloc::{AllocError, Global};
 use std::test::Fail;
@@ -82,22 +84,32 @@ fn squares(alloc: Global) -> Result<Program, AllocError> {
     Ok(Program { procs, main: 0 })
 }
 
+/// What the program puts out in 30 steps, and the run after them.
+fn run(alloc: Global, p: &Program, units: &UnitSet) -> Result<(Vec<u32>, Seq), AllocError>
+    ensures { IfOk result (λ r. length r.1.memory ≡ 2) }
+{
+    let mut seq = Seq::load(alloc, p, vec![in alloc; 0; 2]?)?;
+    let mut output = Vec::new(alloc);
+    for _ in 0..30u64 {
+        if let SeqStep::Ran(Some(word)) = seq.step(p, units) {
+            output.push(word)?;
+        }
+    }
+    Ok((output, seq))
+}
+
 #[test]
 fn small_program_runs_to_its_halt(rt: HostRuntime) -> Result<(), Fail> {
     let alloc = rt.alloc();
     let mut boxes: Vec<Box<dyn OpUnit>> = Vec::new(alloc);
-    assert!(rt; boxes.push(Box::new(alloc, Arith)?).is_ok());
-    assert!(rt; boxes.push(Box::new(alloc, Compare)?).is_ok());
+    boxes.push(Box::new(alloc, Arith)?).ok().ok_or("no memory")?;
+    boxes
+        .push(Box::new(alloc, Compare)?)
+        .ok()
+        .ok_or("no memory")?;
     assert!(rt; UnitSet::fits(boxes.as_slice()));
     let units = UnitSet::new(alloc, boxes).ok().ok_or("refused")?;
-    let p = squares(alloc)?;
-    let mut seq = Seq::load(alloc, &p, vec![in alloc; 0; 2]?)?;
-    let mut output = Vec::new(alloc);
-    for _ in 0..30u64 {
-        if let SeqStep::Ran(Some(word)) = seq.step(&p, &units) {
-            output.push(word)?;
-        }
-    }
+    let (output, seq) = run(alloc, &squares(alloc)?, &units)?;
     assert_eq!(rt; output.as_slice(), [9, 16, 25].as_slice());
     assert!(rt; seq.halted());
     assert_eq!(rt; seq.steps(), 26);
