@@ -60,7 +60,8 @@ abbrev pub is_placed : Program → List Frame → Bool
 is_placed p [] = true
 is_placed p (f ∷ rest) = is_some (step_at p f.proc f.at)
 
--- A run that was loaded with a program, and made steps of it.
+-- A run that was loaded with a program, and made steps of it: it has the variables of each procedure, its calls were made
+-- one by the other, and there is a step to go on with.
 pub record IsRunOf (p : Program) (r : Run) : Type 0 where
   pub sizes : r.sizes ≡ map (λ q. q.vars) p.procs
   pub path : is_path p r.stack ≡ true

@@ -1,6 +1,7 @@
 //! The calls that are under way.
 
-ghost use Rattle.std.specs.Prelude.{◌≡◌, ◌+◌, ◌<◌, ◌≤◌, ◌^◌, ◌∷◌, [], length, map, replicate, if◌then◌else◌, slice_index, slice_set, IfOk, IsFalse};
+ghost use Rattle.std.specs.Prelude.{◌≡◌, ◌+◌, ◌<◌, ◌≤◌, ◌^◌, ◌∷◌, [], length, map, replicate};
+ghost use Rattle.std.specs.Prelude.{if◌then◌else◌, slice_index, slice_set, IfOk, IsFalse};
 ghost use Rattle.tta_tac.specs.Rules.{IsProgram};
 ghost use Rattle.tta_tac.specs.Sequential.{operand, enter};
 ghost use Rattle.tta_tacrun.specs.Calls.{IsFresh, begun};
@@ -34,7 +35,8 @@ impl Model for Calls {
 
     ghost view = { λ c. calls_of c.variables.items c.top c.callers.items };
 
-    ghost invariant = { λ c. AreKept c.variables.items c.top c.callers.items (vec_capacity c.callers) };
+    ghost invariant = { λ c.
+        AreKept c.variables.items c.top c.callers.items (vec_capacity c.callers) };
 }
 
 /// Variables for each procedure, every one 0.
@@ -96,7 +98,8 @@ impl Calls {
     pub fn assign(&mut self, d: u32, word: u32)
         requires { self.old.top.at + 1 < 2 ^ 64 }
         ensures { let f = self.old.top in
-            self.new ≡ record self.old { top = record f { at = f.at + 1; vars = slice_set f.vars d word } } }
+            let g = record f { at = f.at + 1; vars = slice_set f.vars d word } in
+            self.new ≡ record self.old { top = g } }
     {
         self.variables[self.top.proc].set(d as usize, word);
         self.top.at += 1;
