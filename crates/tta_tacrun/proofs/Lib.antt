@@ -1,0 +1,8 @@
+pub mod Calling
+pub mod Entered
+pub mod First
+pub mod Kept
+pub mod Passed
+pub mod Placed
+pub mod Squares
+pub mod Stands

@@ -1,0 +1,105 @@
+-- What a run holds, and which state it stands for.
+use Rattle.std.specs.Prelude.{◌≡◌, ℕ, Bool, true, false, ◌&&◌, List, [], ◌∷◌, ◌++◌, map, Option, None, Some, is_some, option_to_list}
+use Rattle.std.specs.Option.{option_map_or}
+use Rattle.tta_ops.specs.Units.{Units}
+use Rattle.tta_tac.specs.declared.step.Step.{Step}
+use Rattle.tta_tac.specs.declared.step.Step.TheVariants.{Invoke}
+use Rattle.tta_tac.specs.Program.{Program}
+use Rattle.tta_tac.specs.Rules.{calls_proc}
+use Rattle.tta_tac.specs.Sequential.{Frame, Outcome, State, Running, Halted, step_at, next}
+use Rattle.tta_tacrun.specs.declared.answer.SeqStep.{SeqStep}
+use Rattle.tta_tacrun.specs.declared.answer.SeqStep.TheVariants.{Ran, Halted as DoesNotRun}
+use Rattle.tta_tacrun.specs.declared.phase.Phase.{Phase}
+use Rattle.tta_tacrun.specs.declared.phase.Phase.TheVariants.{Running as GoesOn, Stopped, Returned}
+use Rattle.tta_tacrun.specs.Calls.{Calls}
+
+-- all of a state but what was put out, and how many variables each procedure of the program has
+pub record Run : Type 0 where
+  pub sizes : List ℕ
+  pub stack : List Frame
+  pub memory : List ℕ
+  pub steps : ℕ
+  pub outcome : Outcome
+
+-- A run stands for each state that agrees with all that it holds.
+pub record Stands (r : Run) (s : State) : Type 0 where
+  pub stack : r.stack ≡ s.stack
+  pub memory : r.memory ≡ s.memory
+  pub steps : r.steps ≡ s.steps
+  pub outcome : r.outcome ≡ s.outcome
+
+-- The answer of a step from a state: Halted where the state has halted, and else the word that the step puts out, if any.
+abbrev pub IsAnswer : Units → Program → State → SeqStep → Type 0
+IsAnswer u p s DoesNotRun = s.outcome ≡ Halted
+IsAnswer u p s (Ran word) = (s.outcome ≡ Running) × ((next u p s).output ≡ s.output ++ option_to_list word)
+
+-- the steps that an answer stands for: one, but for a run that has halted before
+abbrev pub steps_of : SeqStep → ℕ
+steps_of DoesNotRun = 0
+steps_of (Ran word) = 1
+
+-- whether a state has halted
+abbrev pub is_over : Outcome → Bool
+is_over Running = false
+is_over Halted = true
+
+-- ---- the program of a run
+
+-- the innermost of these calls stands at a call of the procedure; where there is none, nobody called it
+abbrev pub is_called : Program → (callee : ℕ) → List Frame → Bool
+is_called p callee [] = true
+is_called p callee (caller ∷ rest) = option_map_or (calls_proc callee) (step_at p caller.proc caller.at) false
+
+-- each call was made by the one behind it
+abbrev pub is_path : Program → List Frame → Bool
+is_path p [] = true
+is_path p (f ∷ rest) = is_called p f.proc rest && is_path p rest
+
+-- the innermost call stands at a step
+abbrev pub is_placed : Program → List Frame → Bool
+is_placed p [] = true
+is_placed p (f ∷ rest) = is_some (step_at p f.proc f.at)
+
+-- A run that was loaded with a program, and made steps of it: it has the variables of each procedure, its calls were made
+-- one by the other, and there is a step to go on with.
+pub record IsRunOf (p : Program) (r : Run) : Type 0 where
+  pub sizes : r.sizes ≡ map (λ q. q.vars) p.procs
+  pub path : is_path p r.stack ≡ true
+  pub placed : is_placed p r.stack ≡ true
+
+-- ---- how a run is kept
+
+abbrev pub stack_of : Phase → Calls → List Frame
+stack_of GoesOn c = c.top ∷ c.below
+stack_of Stopped c = c.top ∷ c.below
+stack_of Returned c = []
+
+abbrev pub outcome_of : Phase → Outcome
+outcome_of GoesOn = Running
+outcome_of Stopped = Halted
+outcome_of Returned = Halted
+
+-- a state of which the calls, the data words and the phase are kept
+abbrev pub state_of : Phase → Calls → (memory output : List ℕ) (steps : ℕ) → State
+state_of phase c memory output steps =
+    record { stack = stack_of phase c; memory = memory; output = output; steps = steps; outcome = outcome_of phase }
+
+-- what is held where these are kept
+abbrev pub run_of : Phase → Calls → (memory : List ℕ) (steps : ℕ) → Run
+run_of phase c memory steps =
+    record { sizes = c.sizes; stack = stack_of phase c; memory = memory; steps = steps; outcome = outcome_of phase }
+
+-- the calls are those of a run of the program
+pub record AreCallsOf (p : Program) (c : Calls) : Type 0 where
+  pub sizes : c.sizes ≡ map (λ q. q.vars) p.procs
+  pub path : is_path p (c.top ∷ c.below) ≡ true
+
+-- the output with a word behind it, if there is one
+abbrev pub put : List ℕ → Option ℕ → List ℕ
+put output None = output
+put output (Some word) = output ++ word ∷ []
+
+-- the variable that takes the value of a call, where a step is a call that has one
+abbrev pub destination : Step → Option ℕ
+destination (Invoke d callee args) = d
+destination step = None

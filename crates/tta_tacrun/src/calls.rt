@@ -1,0 +1,143 @@
+//! The calls that are under way.
+
+ghost use Rattle.std.specs.Prelude.{◌≡◌, ◌+◌, ◌<◌, ◌≤◌, ◌^◌, ◌∷◌, [], length, map, replicate};
+ghost use Rattle.std.specs.Prelude.{if◌then◌else◌, slice_index, slice_set, IfOk, IsFalse};
+ghost use Rattle.tta_tac.specs.Rules.{IsProgram};
+ghost use Rattle.tta_tac.specs.Sequential.{operand, enter};
+ghost use Rattle.tta_tacrun.specs.Calls.{IsFresh, begun};
+
+use crate::entry::Entry;
+use crate::pass::{pass, value_of};
+use crate::words::Words;
+use std::alloc::{AllocError, Global};
+use std::marker::Model;
+use tta_tac::{Program, Src};
+
+/// The calls that are under way. One always is.
+///
+/// Each procedure is under way at most once, since calls form no cycle. So each has its variables
+/// in a place of its own, and a call takes no memory.
+#[derive(Drop)]
+pub struct Calls {
+    /// The variables of each procedure.
+    variables: Vec<Words>,
+    /// The innermost call.
+    top: Entry,
+    /// The other calls, the outermost first.
+    callers: Vec<Entry>,
+}
+
+impl Model for Calls {
+    ghost use Rattle.std.specs.Vec.{vec_capacity};
+    ghost use Rattle.tta_tacrun.specs.Calls.{Calls, calls_of, AreKept};
+
+    ghost Value = { Calls };
+
+    ghost view = { λ c. calls_of c.variables.items c.top c.callers.items };
+
+    ghost invariant = { λ c.
+        AreKept c.variables.items c.top c.callers.items (vec_capacity c.callers) };
+}
+
+/// Variables for each procedure, every one 0.
+fn all_variables(alloc: Global, p: &Program) -> Result<Vec<Words>, AllocError>
+    ensures { IfOk result (λ v. v.items ≡ map (λ q. replicate q.vars 0) p.now.procs) }
+{
+    let procs = p.procs.as_slice();
+    let mut variables = Vec::with_capacity(alloc, procs.len())?;
+    for q in procs {
+        variables.push(Words::zeros(alloc, q.vars as usize)?)?;
+    }
+    Ok(variables)
+}
+
+impl Calls {
+    /// The call that a run of the program begins with.
+    pub fn of(alloc: Global, p: &Program) -> Result<Self, AllocError>
+        ensures first { IfOk result (λ c. c ≡ record {
+          sizes = map (λ q. q.vars) p.now.procs;
+          top = enter p.now p.now.main [];
+          below = [];
+        }) }
+        ensures rules { IsProgram p.now }
+    {
+        let proc = p.main as usize;
+        let variables = all_variables(alloc, p)?;
+        let callers = Vec::with_capacity(alloc, variables.len())?;
+        let top = Entry { proc, at: 0 };
+        Ok(Calls {
+            variables,
+            top,
+            callers,
+        })
+    }
+
+    /// Where the innermost call is.
+    pub fn top(&self) -> Entry
+        ensures proc { result.proc ≡ self.now.top.proc }
+        ensures at { result.at ≡ self.now.top.at }
+    {
+        self.top
+    }
+
+    /// The word that an operand of the innermost call stands for.
+    pub fn value(&self, s: Src) -> u32
+        ensures { result ≡ operand self.now.top.vars s }
+    {
+        value_of(&self.variables[self.top.proc], s)
+    }
+
+    /// The innermost call goes on at a step.
+    pub fn go_to(&mut self, at: usize)
+        ensures { self.new ≡ record self.old { top = record self.old.top { at = at } } }
+    {
+        self.top.at = at;
+    }
+
+    /// A variable of the innermost call becomes a word, and the next step comes.
+    pub fn assign(&mut self, d: u32, word: u32)
+        requires { self.old.top.at + 1 < 2 ^ 64 }
+        ensures { let f = self.old.top in
+            let g = record f { at = f.at + 1; vars = slice_set f.vars d word } in
+            self.new ≡ record self.old { top = g } }
+    {
+        self.variables[self.top.proc].set(d as usize, word);
+        self.top.at += 1;
+    }
+
+    /// A procedure is called, with arguments that are operands of the innermost call.
+    pub fn enter(&mut self, callee: usize, args: &[Src])
+        requires there { callee < length self.old.sizes }
+        requires fresh { IsFresh callee self.old }
+        requires fit { length args.now ≤ slice_index self.old.sizes callee }
+        ensures { let words = map (operand self.old.top.vars) args.now in
+            let vars = begun words (slice_index self.old.sizes callee) in
+            self.new ≡ record self.old {
+              top = record { proc = callee; at = 0; vars = vars };
+              below = self.old.top ∷ self.old.below;
+            } }
+    {
+        pass(&mut self.variables, self.top.proc, callee, args);
+        self.callers.push_reserved(self.top);
+        self.top = Entry {
+            proc: callee,
+            at: 0,
+        };
+    }
+
+    /// The innermost call ends. It answers whether there is a call behind it; where there is none,
+    /// nothing changes.
+    pub fn leave(&mut self) -> bool
+        ensures sizes { self.new.sizes ≡ self.old.sizes }
+        ensures left { self.old.below ≡ (if result then self.new.top ∷ self.new.below else []) }
+        ensures last { IsFalse result → self.new ≡ self.old }
+    {
+        match self.callers.pop() {
+            Some(caller) => {
+                self.top = caller;
+                true
+            }
+            None => false,
+        }
+    }
+}

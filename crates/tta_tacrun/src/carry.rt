@@ -1,0 +1,139 @@
+//! One step.
+
+ghost use Rattle.std.specs.Prelude.{◌≡◌, ℕ, List, ◌+◌, ◌<◌, ◌^◌, ◌∷◌, length};
+ghost use Rattle.std.specs.Prelude.{Some, OnSome, IsSome, option_copied};
+ghost use Rattle.tta_ops.specs.Set.{stated};
+ghost use Rattle.tta_tac.specs.Rules.{IsProgram};
+ghost use Rattle.tta_tac.specs.Sequential.{State, step_at, returns, carry_out};
+ghost use Rattle.tta_tac.specs.Sequential.{take_value as value_taken};
+ghost use Rattle.tta_tacrun.specs.Run.{AreCallsOf, state_of, put, destination};
+
+use crate::calls::Calls;
+use crate::entry::Entry;
+use crate::phase::Phase;
+use crate::relations::Relations;
+use crate::words::Words;
+use tta_ops::UnitSet;
+use tta_tac::{Program, Step};
+
+/// The step that a call has come to, if there is one.
+pub fn step_of(p: &Program, call: Entry) -> Option<&Step>
+    ensures value { option_copied result ≡ step_at p.now call.proc call.at }
+    ensures within { OnSome result (call.at + 1 < 2 ^ 64) }
+    ensures rules { IsProgram p.now }
+{
+    match p.procs.as_slice().get(call.proc) {
+        Some(q) => q.steps.as_slice().get(call.at),
+        None => None,
+    }
+}
+
+/// The variable that takes the value that a call returns, where the step is a call that has one.
+fn destination_of(step: &Step) -> Option<u32>
+    ensures { result ≡ destination step.now }
+{
+    match step {
+        Step::Invoke { d, .. } => *d,
+        _ => None,
+    }
+}
+
+/// The innermost call, which stands at a call, takes the value that this returned.
+fn take_value(calls: &mut Calls, p: &Program, value: u32)
+    requires loaded { AreCallsOf p.now calls.old }
+    requires called { IsSome (step_at p.now calls.old.top.proc calls.old.top.at) }
+    ensures loaded { AreCallsOf p.now calls.new }
+    ensures taken { (s : State)
+        → let step = step_at p.now calls.old.top.proc calls.old.top.at in
+        record s { stack = calls.new.top ∷ calls.new.below }
+        ≡ value_taken s calls.old.top calls.old.below value step }
+{
+    let call = calls.top();
+    match destination_of(step_of(p, call).unwrap()) {
+        Some(d) => calls.assign(d, value),
+        None => calls.go_to(call.at + 1),
+    }
+}
+
+/// The innermost call ends with a value.
+fn give_back(calls: &mut Calls, p: &Program, value: u32) -> Phase
+    requires { AreCallsOf p.now calls.old }
+    ensures loaded { AreCallsOf p.now calls.new }
+    ensures returned { (memory output : List ℕ) (steps : ℕ)
+        → let s = state_of Phase.Running calls.old memory output steps in
+        state_of result calls.new memory output steps ≡ returns p.now s calls.old.below value }
+{
+    if !calls.leave() {
+        return Phase::Returned;
+    }
+    take_value(calls, p, value);
+    Phase::Running
+}
+
+/// Carries out a step. It answers whether the run goes on, and the word put out, if any.
+pub fn carry(
+    calls: &mut Calls,
+    memory: &mut Words,
+    relations: &mut Relations,
+    p: &Program,
+    units: &UnitSet,
+    step: &Step,
+) -> (Phase, Option<u32>)
+    requires rules { IsProgram p.now }
+    requires loaded { AreCallsOf p.now calls.old }
+    requires at { step_at p.now calls.old.top.proc calls.old.top.at ≡ Some step.now }
+    requires more { calls.old.top.at + 1 < 2 ^ 64 }
+    ensures loaded { AreCallsOf p.now calls.new }
+    ensures space { length memory.new ≡ length memory.old }
+    ensures carried { (output : List ℕ) (steps : ℕ)
+        → let U = stated unit_meaning units.now in
+        let s = state_of Phase.Running calls.old memory.old output steps in
+        state_of result.0 calls.new memory.new (put output result.1) steps
+        ≡ carry_out U p.now s calls.old.top calls.old.below step.now }
+{
+    let next = calls.top().at + 1;
+    let mut word = None;
+    match step {
+        Step::Copy { d, s } => {
+            let value = calls.value(*s);
+            calls.assign(*d, value);
+        }
+        Step::Apply { d, op, a, b } => {
+            let value = units.apply(*op, calls.value(*a), calls.value(*b));
+            calls.assign(*d, value);
+        }
+        Step::Load { d, a } => {
+            let value = memory.get(calls.value(*a) as usize);
+            calls.assign(*d, value);
+        }
+        Step::Store { a, v } => {
+            memory.set(calls.value(*a) as usize, calls.value(*v));
+            calls.go_to(next);
+        }
+        Step::Put { v } => {
+            word = Some(calls.value(*v));
+            calls.go_to(next);
+        }
+        Step::If { rel, a, b, to } => {
+            let held = relations.is_held(units, *rel, calls.value(*a), calls.value(*b));
+            calls.go_to(if held { *to as usize } else { next });
+        }
+        Step::Goto { to } => calls.go_to(*to as usize),
+        Step::When { rel, a, b, d, s } => {
+            if relations.is_held(units, *rel, calls.value(*a), calls.value(*b)) {
+                let value = calls.value(*s);
+                calls.assign(*d, value);
+            } else {
+                calls.go_to(next);
+            }
+        }
+        Step::Invoke { callee, args, .. } => calls.enter(*callee as usize, args.as_slice()),
+        Step::Return { s: Some(s) } => {
+            let value = calls.value(*s);
+            return (give_back(calls, p, value), None);
+        }
+        Step::Return { s: None } | Step::End => return (give_back(calls, p, 0), None),
+        Step::Halt => return (Phase::Stopped, None),
+    }
+    (Phase::Running, word)
+}

@@ -1,0 +1,8 @@
+//! A call that is under way.
+
+/// Which procedure was called, and the step that comes next in it.
+#[derive(Clone, Copy, Debug)]
+pub struct Entry {
+    pub proc: usize,
+    pub at: usize,
+}

@@ -1,0 +1,17 @@
+//! The run of a three-address program by its sequential meaning, one step a call.
+#![tactic(auto)]
+
+mod answer;
+mod calls;
+mod carry;
+mod entry;
+mod pass;
+mod phase;
+mod relations;
+mod seq;
+#[cfg(test)]
+mod tests;
+mod words;
+
+pub use answer::SeqStep;
+pub use seq::Seq;

@@ -1,0 +1,112 @@
+//! A run.
+
+ghost use Rattle.std.specs.Prelude.{◌≡◌, ◌+◌, ◌<◌, ◌^◌, length, slice_index, IfOk};
+ghost use Rattle.tta_ops.specs.Set.{stated};
+ghost use Rattle.tta_tac.specs.Sequential.{State, next, start};
+ghost use Rattle.tta_tacrun.specs.Run.{Stands, IsAnswer, IsRunOf, is_over, steps_of};
+
+use crate::answer::SeqStep;
+use crate::calls::Calls;
+use crate::carry::{carry, step_of};
+use crate::phase::Phase;
+use crate::relations::Relations;
+use crate::words::Words;
+use std::alloc::{AllocError, Global};
+use std::marker::Model;
+use tta_ops::UnitSet;
+use tta_tac::Program;
+
+/// The run of a program by its sequential meaning: the calls that are under way, the data words
+/// and the number of steps. What was put out is not kept.
+#[derive(Drop)]
+pub struct Seq {
+    calls: Calls,
+    memory: Words,
+    relations: Relations,
+    steps: u64,
+    phase: Phase,
+}
+
+impl Model for Seq {
+    ghost use Rattle.tta_tacrun.specs.Run.{Run, run_of};
+
+    ghost Value = { Run };
+
+    ghost view = { λ s. run_of s.phase s.calls s.memory s.steps };
+}
+
+impl Seq {
+    /// The start of a run: `main` at its first step with every variable 0, and these data words.
+    ///
+    /// It takes all memory that the run needs: room for the variables of each procedure and for a
+    /// call of each.
+    pub fn load(alloc: Global, p: &Program, memory: Vec<u32>) -> Result<Self, AllocError>
+        ensures start { IfOk result (λ r. Stands r (start p.now memory.items)) }
+        ensures loaded { IfOk result (λ r. IsRunOf p.now r) }
+    {
+        Ok(Seq {
+            calls: Calls::of(alloc, p)?,
+            memory: Words::of(memory),
+            relations: Relations::new(),
+            steps: 0,
+            phase: Phase::Running,
+        })
+    }
+
+    /// Carries out one step of the program that was loaded, and answers `Ran` with the word that
+    /// it put out, if any. It answers `Halted` exactly where the run has halted before, and then
+    /// changes nothing. It takes no memory.
+    pub fn step(&mut self, p: &Program, units: &UnitSet) -> SeqStep
+        requires loaded { IsRunOf p.now self.old }
+        requires few { self.old.steps < 2 ^ 62 }
+        ensures loaded { IsRunOf p.now self.new }
+        ensures space { length self.new.memory ≡ length self.old.memory }
+        ensures counted { self.new.steps ≡ self.old.steps + steps_of result }
+        ensures next { let U = stated unit_meaning units.now in
+            (s : State) → Stands self.old s → Stands self.new (next U p.now s) }
+        ensures answer { let U = stated unit_meaning units.now in
+            (s : State) → Stands self.old s → IsAnswer U p.now s result }
+    {
+        match self.phase {
+            Phase::Running => {}
+            Phase::Stopped | Phase::Returned => return SeqStep::Halted,
+        }
+        let step = step_of(p, self.calls.top()).unwrap();
+        let (phase, word) = carry(
+            &mut self.calls,
+            &mut self.memory,
+            &mut self.relations,
+            p,
+            units,
+            step,
+        );
+        self.phase = phase;
+        self.steps += 1;
+        SeqStep::Ran(word)
+    }
+
+    /// Whether the run has halted.
+    pub fn halted(&self) -> bool
+        ensures { result ≡ is_over self.now.outcome }
+    {
+        match self.phase {
+            Phase::Running => false,
+            Phase::Stopped | Phase::Returned => true,
+        }
+    }
+
+    /// How many steps were carried out.
+    pub fn steps(&self) -> u64
+        ensures { result ≡ self.now.steps }
+    {
+        self.steps
+    }
+
+    /// A data word.
+    pub fn mem(&self, i: u32) -> u32
+        requires { i < length self.now.memory }
+        ensures { result ≡ slice_index self.now.memory i }
+    {
+        self.memory.get(i as usize)
+    }
+}

@@ -1,0 +1,60 @@
+//! A row of words.
+
+ghost use Rattle.std.specs.Prelude.{◌≡◌, length, replicate, slice_index, slice_set, IfOk};
+
+use std::alloc::{AllocError, Global};
+use std::marker::Model;
+
+/// Words that are read as 0 past their end, where a write changes nothing.
+#[derive(Drop)]
+pub struct Words {
+    words: Vec<u32>,
+}
+
+impl Model for Words {
+    ghost use Rattle.std.specs.Prelude.{ℕ, List};
+
+    ghost Value = { List ℕ };
+
+    ghost view = { λ w. w.words.items };
+}
+
+impl Words {
+    pub fn of(words: Vec<u32>) -> Self
+        ensures { result ≡ words.items }
+    {
+        Words { words }
+    }
+
+    /// So many words, each 0.
+    pub fn zeros(alloc: Global, count: usize) -> Result<Self, AllocError>
+        ensures { IfOk result (λ w. w ≡ replicate count 0) }
+    {
+        let words = vec![in alloc; 0; count]?;
+        Ok(Words { words })
+    }
+
+    pub fn get(&self, i: usize) -> u32
+        ensures { result ≡ slice_index self.now i }
+    {
+        match self.words.get(i) {
+            Some(word) => *word,
+            None => 0,
+        }
+    }
+
+    pub fn set(&mut self, i: usize, word: u32)
+        ensures { self.new ≡ slice_set self.old i word }
+    {
+        if i < self.words.len() {
+            self.words[i] = word;
+        }
+    }
+
+    /// Makes each word 0.
+    pub fn clear(&mut self)
+        ensures { self.new ≡ replicate (length self.old) 0 }
+    {
+        self.words.fill(0);
+    }
+}
