@@ -4,5 +4,6 @@ pub mod First
 pub mod Kept
 pub mod Passed
 pub mod Placed
+pub mod Samples
 pub mod Squares
 pub mod Stands
