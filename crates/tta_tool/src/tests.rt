@@ -15,12 +15,16 @@ const SMALL: &str =
 
 const PROGRAM: &str = "proc main\nout 7\nhalt\nend\n";
 
-/// The machine `M`, the program `P` and a machine `S` of two addresses, with the calls that fail.
+/// Code of three words, which two addresses do not hold.
+const LONG: &str = "proc main\nout 7\nout 7\nhalt\nend\n";
+
+/// The machines `M` and `S`, the programs `P` and `Q`, and the calls that fail.
 fn files_of(alloc: Global, failing: Vec<u64>) -> Result<MemFiles, Fail> {
     let mut files = MemFiles::new(alloc, failing);
     files.add("M", MACHINE.as_bytes())?;
     files.add("S", SMALL.as_bytes())?;
     files.add("P", PROGRAM.as_bytes())?;
+    files.add("Q", LONG.as_bytes())?;
     Ok(files)
 }
 
@@ -54,7 +58,7 @@ fn refusals_write_nothing(rt: HostRuntime) -> Result<(), Fail> {
     let refusals = [
         ("M", "M", Status::BadProgram { line: 1, code: 20 }),
         ("P", "P", Status::BadMachine { line: 1, code: 10 }),
-        ("S", "P", Status::CodeFull { words: 3, have: 2 }),
+        ("S", "Q", Status::CodeFull { words: 3, have: 2 }),
         ("M", "X", Status::ReadFault { word: 2 }),
     ];
     for (machine, program, refusal) in refusals {
