@@ -1,0 +1,61 @@
+-- How a text is put piece by piece.
+use Rattle.std.proofs.Common.{◌≡◌, ℕ, List, [], ◌++◌, length, take, drop, Option, Some, None, refl, sym, ap, ◌∙◌, append_assoc, append-nil, true≢false}
+use Rattle.std.proofs.Math.Seq.{take-append_seam}
+use Rattle.std.proofs.lemmas.List.{take-append-drop}
+use Rattle.std.specs.Prelude.{Result, Ok, Err, IsErr}
+use Rattle.std.specs.Io.KnownBytes.{append_known}
+use Rattle.tta_ports.specs.Sink.{PutsBytes}
+
+-- of a whole text, all but what is left has been put
+pub record HasPut (old new : Option (List ℕ)) (whole left : List ℕ) : Type 0 where
+  pub done : List ℕ
+  pub taken : new ≡ append_known old done
+  pub parts : whole ≡ done ++ left
+
+-- nothing is appended
+pub append_known-nil : (known : Option (List ℕ)) → append_known known [] ≡ known
+append_known-nil None = refl
+append_known-nil (Some xs) = ap Some (append-nil xs)
+
+-- one text is appended behind another
+pub append_known-twice : (known : Option (List ℕ)) (xs ys : List ℕ) → append_known (append_known known xs) ys ≡ append_known known (xs ++ ys)
+append_known-twice None xs ys = refl
+append_known-twice (Some zs) xs ys = ap Some (append_assoc zs xs ys)
+
+-- nothing has been put yet
+pub put_none : (old : Option (List ℕ)) (whole : List ℕ) → HasPut old old whole whole
+put_none old whole = record { done = []; taken = sym (append_known-nil old); parts = refl }
+
+-- a piece more
+pub put_more : (old new newer : Option (List ℕ)) (whole piece left : List ℕ)
+    → HasPut old new whole (piece ++ left) → newer ≡ append_known new piece → HasPut old newer whole left
+put_more old new newer whole piece left has more = record {
+  done = has.done ++ piece;
+  taken = more ∙ ap (λ t. append_known t piece) has.taken ∙ append_known-twice old has.done piece;
+  parts = has.parts ∙ sym (append_assoc has.done piece left);
+}
+
+-- all has been put where nothing is left
+pub put_all : (old new : Option (List ℕ)) (whole : List ℕ) → HasPut old new whole [] → new ≡ append_known old whole
+put_all old new whole has = has.taken ∙ ap (append_known old) (sym (has.parts ∙ append-nil has.done))
+
+-- a front of the next piece was put, and so was a front of the whole
+pub put_part : (old new newer : Option (List ℕ)) (whole piece left : List ℕ) (count : ℕ)
+    → HasPut old new whole (piece ++ left) → newer ≡ append_known new (take count piece)
+    → (n : ℕ) × (newer ≡ append_known old (take n whole))
+put_part old new newer whole piece left count has part =
+    let front = take count piece in
+    let rest = drop count piece ++ left in
+    let again : whole ≡ (has.done ++ front) ++ rest =
+    has.parts ∙ ap (λ l. has.done ++ (l ++ left)) (sym (take-append-drop count piece))
+    ∙ ap (λ l. has.done ++ l) (append_assoc front (drop count piece) left) ∙ sym (append_assoc has.done front rest) in (
+      length (has.done ++ front),
+      part ∙ ap (λ t. append_known t front) has.taken ∙ append_known-twice old has.done front
+          ∙ ap (append_known old) (sym (ap (take (length (has.done ++ front))) again ∙ take-append_seam (has.done ++ front) rest)),
+    )
+
+-- the answer of a put that failed says that a front was put
+pub part_is_put : {T E : Type 0} → (whole : List ℕ) (old new : Option (List ℕ)) (result : Result T E) → IsErr result
+    → (n : ℕ) × (new ≡ append_known old (take n whole)) → PutsBytes whole old new result
+part_is_put whole old new (Ok v) is part = absurd (true≢false (sym is))
+part_is_put whole old new (Err e) is part = part

@@ -1,0 +1,27 @@
+-- The lines of a memory, word by word.
+use Rattle.std.proofs.Common.{◌≡◌, ◌<◌, ℕ, ◌+◌, ◌==◌, Bool, true, false, if◌then◌else◌, List, [], ◌∷◌, ◌++◌, length, drop, slice_index, refl, sym, ap, ◌∙◌, append-nil}
+use Rattle.std.proofs.lemmas.List.{drop_more}
+use Rattle.tta_print.specs.declared.line.Line.TheVariants as line
+use Rattle.tta_print.specs.declared.line.Line.{Line}
+use Rattle.tta_print.specs.Lines.{line_text, lines_text, memory_lines}
+
+-- the line of the first word, if it has one, and then the others
+pub first_word : (address word : ℕ) (words : List ℕ)
+    → lines_text (memory_lines address (word ∷ words)) ≡ lines_text (memory_lines address (word ∷ [])) ++ lines_text (memory_lines (address + 1) words)
+first_word address word words = parts (word == 0) where
+  rest : List Line
+  rest = memory_lines (address + 1) words
+
+  it : Line
+  it = line.Memory address word
+
+  parts : (none : Bool) → lines_text (if none then rest else it ∷ rest) ≡ lines_text (if none then [] else it ∷ []) ++ lines_text rest
+  parts true = refl
+  parts false = ap (λ l. l ++ lines_text rest) (sym (append-nil (line_text it)))
+
+-- the lines from a word on, the first of them at this address
+pub word_at : (words : List ℕ) (address k : ℕ) → k < length words
+    → lines_text (memory_lines address (drop k words))
+    ≡ lines_text (memory_lines address (slice_index words k ∷ [])) ++ lines_text (memory_lines (address + 1) (drop (k + 1) words))
+word_at words address k below =
+    ap (λ l. lines_text (memory_lines address l)) (drop_more words k 0 below) ∙ first_word address (slice_index words k) (drop (k + 1) words)

@@ -1,0 +1,25 @@
+-- What the lines of a run say.
+use Rattle.std.specs.Prelude.{ℕ, ◌+◌, ◌==◌, if◌then◌else◌, List, [], ◌∷◌, ◌++◌, codes, decimal}
+use Rattle.std.specs.List.{flat_map}
+use Rattle.tta_print.specs.declared.line.Line.{Line}
+use Rattle.tta_print.specs.declared.line.Line.TheVariants as line
+
+-- a line with its end
+abbrev pub line_text : Line → List ℕ
+line_text (line.Word word) = decimal word ++ codes "\n"
+line_text line.Halted = codes "halted\n"
+line_text line.Running = codes "running\n"
+line_text (line.Fault code cycle) = codes "fault " ++ decimal code ++ codes " " ++ decimal cycle ++ codes "\n"
+line_text (line.Memory address word) = codes "mem " ++ decimal address ++ codes " " ++ decimal word ++ codes "\n"
+line_text (line.Steps count) = codes "steps " ++ decimal count ++ codes "\n"
+line_text (line.Cycles count) = codes "cycles " ++ decimal count ++ codes "\n"
+
+-- lines one after another
+abbrev pub lines_text : List Line → List ℕ
+lines_text lines = flat_map line_text lines
+
+-- a line for each word that is not 0, the first of them at this address
+abbrev pub memory_lines : (address : ℕ) → List ℕ → List Line
+memory_lines address [] = []
+memory_lines address (word ∷ words) =
+    if word == 0 then memory_lines (address + 1) words else line.Memory address word ∷ memory_lines (address + 1) words

@@ -1,0 +1,20 @@
+//! What a line tells.
+
+/// A line of what a run prints. Every number is printed in decimal.
+#[derive(Clone, Copy, Debug, PartialEq, Eq)]
+pub enum Line {
+    /// A word that the run put out: `W`.
+    Word(u32),
+    /// The run has halted: `halted`.
+    Halted,
+    /// The run goes on past its bound: `running`.
+    Running,
+    /// The machine has faulted, after so many cycles without a fault: `fault CODE CYCLE`.
+    Fault { code: u8, cycle: u64 },
+    /// A data word that is not 0, at its address: `mem A W`.
+    Memory { address: u32, word: u32 },
+    /// How many steps of the program were carried out: `steps K`.
+    Steps(u64),
+    /// How many cycles were carried out: `cycles K`.
+    Cycles(u64),
+}
