@@ -1,52 +1,42 @@
 -- What the command `build` does, and why it does not.
-use Rattle.std.specs.Prelude.{◌≡◌, ◌⊎◌, ℕ, true, List, Option, Some, Result, Ok, Err}
+use Rattle.std.specs.Prelude.{◌≡◌, ◌⊎◌, ℕ, true, false, List, Option, Some, Result, Ok, Err}
 use Rattle.sha2.specs.Sha256.{sha256}
 use Rattle.tta_ops.specs.Units.{Units}
 use Rattle.tta_machine.specs.Machine.{Machine}
-use Rattle.tta_machine.specs.Text.{machine_of_text}
-use Rattle.tta_tac.specs.Program.{Program}
-use Rattle.tta_tac.specs.Text.{ProgramText}
 use Rattle.tta_build.specs.First.{is_first_machine, is_direct}
 use Rattle.tta_ports.specs.declared.fault.Fault.TheVariants.{Write}
 use Rattle.tta_ports.specs.Store.{Store}
 use Rattle.tta_ports.specs.Faults.{Rose}
-use Rattle.tta_ports.specs.Files.{Holds, written, IsPartlyWritten}
+use Rattle.tta_ports.specs.Files.{written, IsPartlyWritten}
 use Rattle.tta_tool.specs.declared.status.Status.{Status}
 use Rattle.tta_tool.specs.declared.status.Status.TheVariants as status
 use Rattle.tta_tool.specs.World.{World, IsUntouched, ReadFailed, IsTooLong}
-use Rattle.tta_tool.specs.Stages.{IsBadMachine, IsBadProgram, IsOther, IsOtherProgram, IsImageOf, LacksRoom}
+use Rattle.tta_tool.specs.Stages.{IsBadMachine, IsBadProgram, IsImageOf, LacksRoom}
+use Rattle.tta_tool.specs.Contents.{HasMachine, HasProgram, HasText}
 
 -- ---- what was read
 
 -- the file of a name holds the text of a machine that can be compiled for
-pub record HasMachine (u : Units) (files : Option Store) (M : List ℕ) : Type 0 where
-  pub text : List ℕ
-  pub machine : Machine
-  pub holds : Holds files M text
-  pub read : machine_of_text u text ≡ Ok machine
-  pub first : is_first_machine machine ≡ true
+pub record HasFirst (u : Units) (files : Option Store) (M : List ℕ) : Type 0 where
+  pub file : HasMachine u files M
+  pub first : is_first_machine file.machine ≡ true
 
 -- and another holds the text of a program that can be compiled for it
 pub record HasPair (u : Units) (files : Option Store) (M P : List ℕ) : Type 0 where
-  pub machine : HasMachine u files M
-  pub text : List ℕ
-  pub program : Program
-  pub holds : Holds files P text
-  pub read : ProgramText u text program
-  pub direct : is_direct machine.machine program ≡ true
+  pub machine : HasFirst u files M
+  pub program : HasProgram u files P
+  pub direct : is_direct machine.file.machine program.program ≡ true
 
--- the file of a name holds a text of which something is true
-pub record HasText (files : Option Store) (name : List ℕ) (Is : List ℕ → Type 0) : Type 0 where
-  pub text : List ℕ
-  pub holds : Holds files name text
-  pub is : Is text
+-- a sound machine that cannot be compiled for yet
+pub record HasOther (u : Units) (files : Option Store) (M : List ℕ) : Type 0 where
+  pub file : HasMachine u files M
+  pub other : is_first_machine file.machine ≡ false
 
--- the same of a program's text, where the machine has passed
-pub record HasProgramText (u : Units) (files : Option Store) (M P : List ℕ) (Is : Machine → List ℕ → Type 0) : Type 0 where
-  pub machine : HasMachine u files M
-  pub text : List ℕ
-  pub holds : Holds files P text
-  pub is : Is machine.machine text
+-- a sound program that cannot be compiled yet for a machine that can be compiled for
+pub record HasOtherPair (u : Units) (files : Option Store) (M P : List ℕ) : Type 0 where
+  pub machine : HasFirst u files M
+  pub program : HasProgram u files P
+  pub other : is_direct machine.file.machine program.program ≡ false
 
 -- ---- what was made
 
@@ -54,7 +44,7 @@ pub record HasProgramText (u : Units) (files : Option Store) (M P : List ℕ) (I
 -- digest of the machine's text
 pub record IsResult (u : Units) (files : Option Store) (M P bytes : List ℕ) : Type 0 where
   pub pair : HasPair u files M P
-  pub image : IsImageOf pair.machine.machine pair.program (sha256 pair.machine.text) bytes
+  pub image : IsImageOf pair.machine.file.machine pair.program.program (sha256 pair.machine.file.text) bytes
 
 -- OUT holds the result, and every other file what it held
 pub record IsBuilt (u : Units) (M P OUT : List ℕ) (before after : World) : Type 0 where
@@ -77,81 +67,56 @@ pub record WriteFailed (u : Units) (M P OUT : List ℕ) (before after : World) :
 -- the code needs these many words, and the machine has fewer addresses
 pub record IsFull (u : Units) (files : Option Store) (M P : List ℕ) (words have : ℕ) : Type 0 where
   pub pair : HasPair u files M P
-  pub lacks : LacksRoom pair.machine.machine pair.program words have
+  pub lacks : LacksRoom pair.machine.file.machine pair.program.program words have
 
 -- a read of word 1 has failed, or of word 2 where word 1 has passed
 abbrev pub ReadFault : Units → (M P : List ℕ) → (before after : World) → (word : ℕ) → Type 0
 ReadFault u M P before after word =
-    ((word ≡ 1) × ReadFailed M before after) ⊎ ((word ≡ 2) × HasMachine u before.contents M × ReadFailed P before after)
+    ((word ≡ 1) × ReadFailed M before after) ⊎ ((word ≡ 2) × HasFirst u before.contents M × ReadFailed P before after)
 
 -- a file is too long: that of word 1, or that of word 2 where word 1 has passed
 abbrev pub TooLong : Units → (M P : List ℕ) → (before after : World) → (word : ℕ) → Type 0
 TooLong u M P before after word =
-    ((word ≡ 1) × IsTooLong M before after) ⊎ ((word ≡ 2) × HasMachine u before.contents M × IsTooLong P before after)
+    ((word ≡ 1) × IsTooLong M before after) ⊎ ((word ≡ 2) × HasFirst u before.contents M × IsTooLong P before after)
 
 -- the machine is sound and cannot be compiled for yet, or it can and the program is sound and cannot be compiled yet
-abbrev pub NotYet : Units → (M P : List ℕ) → (before after : World) → (word : ℕ) → Type 0
-NotYet u M P before after word =
-    IsUntouched before after
-    × (((word ≡ 1) × HasText before.contents M (IsOther u)) ⊎ ((word ≡ 2) × HasProgramText u before.contents M P (IsOtherProgram u)))
+abbrev pub NotYet : Units → (files : Option Store) → (M P : List ℕ) → (word : ℕ) → Type 0
+NotYet u files M P word = ((word ≡ 1) × HasOther u files M) ⊎ ((word ≡ 2) × HasOtherPair u files M P)
 
 -- How `build M P OUT` ends. Each ending but want of memory has its cause, and the causes exclude each other: so each
 -- comes exactly where its cause holds, as far as memory and files do not fail.
 abbrev pub Builds : Units → (M P OUT : List ℕ) → (before after : World) → Status → Type 0
 Builds u M P OUT before after status.Ok = IsBuilt u M P OUT before after
-Builds u M P OUT before after status.Usage = ⊥
 Builds u M P OUT before after (status.BadMachine line code) =
     IsUntouched before after × HasText before.contents M (λ text. IsBadMachine u text line code)
 Builds u M P OUT before after (status.BadProgram line code) =
-    IsUntouched before after × HasProgramText u before.contents M P (λ m text. IsBadProgram u text line code)
+    IsUntouched before after × HasFirst u before.contents M × HasText before.contents P (λ text. IsBadProgram u text line code)
 Builds u M P OUT before after (status.CodeFull words have) = IsUntouched before after × IsFull u before.contents M P words have
 Builds u M P OUT before after (status.ReadFault word) = ReadFault u M P before after word
 Builds u M P OUT before after status.WriteFault = WriteFailed u M P OUT before after
 Builds u M P OUT before after (status.TooLong word) = TooLong u M P before after word
 Builds u M P OUT before after status.NoMemory = IsUntouched before after
-Builds u M P OUT before after (status.NotYet word) = NotYet u M P before after word
+Builds u M P OUT before after (status.NotYet word) = IsUntouched before after × NotYet u before.contents M P word
+Builds u M P OUT before after s = ⊥
 
--- ---- the command's two halves
+-- ---- the command's halves
 
 -- the image was made and no file was touched, or the command ends
 abbrev pub CompileEnds : {T : Type 0} → Units → (M P : List ℕ) → (before after : World) → (T → List ℕ) → Result T Status → Type 0
 CompileEnds u M P before after items (Ok v) = IsResult u before.contents M P (items v) × IsUntouched before after
 CompileEnds u M P before after items (Err s) = (OUT : List ℕ) → Builds u M P OUT before after s
 
--- the machine was read and no file was touched, or the command ends
-pub record ReadsMachine (u : Units) (M text : List ℕ) (machine : Machine) (before after : World) : Type 0 where
-  pub holds : Holds before.contents M text
-  pub read : machine_of_text u text ≡ Ok machine
-  pub first : is_first_machine machine ≡ true
-  pub untouched : IsUntouched before after
-
-abbrev pub MachineFileEnds : {T : Type 0} → Units → (M : List ℕ) → (before after : World) → (T → List ℕ) → (T → Machine) → Result T Status → Type 0
-MachineFileEnds u M before after text machine (Ok v) = ReadsMachine u M (text v) (machine v) before after
-MachineFileEnds u M before after text machine (Err s) = (P OUT : List ℕ) → Builds u M P OUT before after s
-
--- the program was read and no file was touched, or the command ends, where a file held the machine
-pub record ReadsProgram (u : Units) (P : List ℕ) (machine : Machine) (program : Program) (before after : World) : Type 0 where
-  pub text : List ℕ
-  pub holds : Holds before.contents P text
-  pub read : ProgramText u text program
-  pub direct : is_direct machine program ≡ true
-  pub untouched : IsUntouched before after
-
-abbrev pub ProgramFileEnds : Units → (P : List ℕ) → Machine → (before after : World) → Result Program Status → Type 0
-ProgramFileEnds u P machine before after (Ok program) = ReadsProgram u P machine program before after
-ProgramFileEnds u P machine before after (Err s) =
-    (M OUT : List ℕ) (has : HasMachine u before.contents M) → machine ≡ has.machine → Builds u M P OUT before after s
-
 -- the image of a program was made for a machine that was read, and no file was touched, or the command ends
 pub record MakesImage (u : Units) (P text : List ℕ) (machine : Machine) (bytes : List ℕ) (before after : World) : Type 0 where
-  pub program : Program
-  pub reads : ReadsProgram u P machine program before after
-  pub image : IsImageOf machine program (sha256 text) bytes
+  pub program : HasProgram u before.contents P
+  pub direct : is_direct machine program.program ≡ true
+  pub untouched : IsUntouched before after
+  pub image : IsImageOf machine program.program (sha256 text) bytes
 
 abbrev pub CompileProgramEnds : {T : Type 0} → Units → (P text : List ℕ) → Machine → (before after : World) → (T → List ℕ) → Result T Status → Type 0
 CompileProgramEnds u P text machine before after items (Ok v) = MakesImage u P text machine (items v) before after
 CompileProgramEnds u P text machine before after items (Err s) =
-    (M OUT : List ℕ) (has : HasMachine u before.contents M) → machine ≡ has.machine → Builds u M P OUT before after s
+    (M OUT : List ℕ) (has : HasFirst u before.contents M) → machine ≡ has.file.machine → Builds u M P OUT before after s
 
 -- bytes were written, or they were not
 abbrev pub WriteEnds : (OUT bytes : List ℕ) → (before after : World) → Status → Type 0

@@ -1,5 +1,9 @@
 pub mod Status
 pub mod World
-pub mod Build
+pub mod Output
 pub mod Stages
+pub mod Contents
+pub mod Build
+pub mod Bound
+pub mod Exec
 pub mod Command

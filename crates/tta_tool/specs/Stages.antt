@@ -13,6 +13,7 @@ use Rattle.tta_code.specs.declared.code.Code.{Code}
 use Rattle.tta_code.specs.Agrees.{Agrees}
 use Rattle.tta_image.specs.Image.{Image}
 use Rattle.tta_build.specs.First.{is_first_machine, is_direct, code_length}
+use Rattle.tta_input.specs.Input.{input_of}
 use Rattle.tta_ports.specs.Files.{Holds}
 use Rattle.tta_tool.specs.declared.status.Status.{Status}
 use Rattle.tta_tool.specs.declared.status.Status.TheVariants as status
@@ -43,33 +44,26 @@ pub record IsBadProgram (u : Units) (text : List ℕ) (line code : ℕ) : Type 0
   pub refused : IsRefusedAt u text line refusal
   pub told : code ≡ program_code refusal
 
--- a machine that is sound and not one of the first path
-pub record IsOther (u : Units) (text : List ℕ) : Type 0 where
-  pub machine : Machine
-  pub read : machine_of_text u text ≡ Ok machine
-  pub other : is_first_machine machine ≡ false
-
--- a text is a machine that can be compiled for, or there is a cause
+-- a text is a machine, or there is a cause
 abbrev pub MachineEnds : Units → (text : List ℕ) → Result Machine Status → Type 0
-MachineEnds u text (Ok m) = (machine_of_text u text ≡ Ok m) × (is_first_machine m ≡ true)
+MachineEnds u text (Ok m) = machine_of_text u text ≡ Ok m
 MachineEnds u text (Err (status.BadMachine line code)) = IsBadMachine u text line code
-MachineEnds u text (Err (status.NotYet word)) = (word ≡ 1) × IsOther u text
 MachineEnds u text (Err status.NoMemory) = Unit {0}
 MachineEnds u text (Err s) = ⊥
 
--- a program that is sound and no pair of the first path
-pub record IsOtherProgram (u : Units) (m : Machine) (text : List ℕ) : Type 0 where
-  pub program : Program
-  pub read : ProgramText u text program
-  pub other : is_direct m program ≡ false
+-- a text is a program, or there is a cause
+abbrev pub ProgramEnds : Units → (text : List ℕ) → Result Program Status → Type 0
+ProgramEnds u text (Ok p) = ProgramText u text p
+ProgramEnds u text (Err (status.BadProgram line code)) = IsBadProgram u text line code
+ProgramEnds u text (Err status.NoMemory) = Unit {0}
+ProgramEnds u text (Err s) = ⊥
 
--- a text is a program that can be compiled for the machine, or there is a cause
-abbrev pub ProgramEnds : Units → Machine → (text : List ℕ) → Result Program Status → Type 0
-ProgramEnds u m text (Ok p) = ProgramText u text p × (is_direct m p ≡ true)
-ProgramEnds u m text (Err (status.BadProgram line code)) = IsBadProgram u text line code
-ProgramEnds u m text (Err (status.NotYet word)) = (word ≡ 2) × IsOtherProgram u m text
-ProgramEnds u m text (Err status.NoMemory) = Unit {0}
-ProgramEnds u m text (Err s) = ⊥
+-- bytes are the words of a data space, or there is a cause
+abbrev pub InputEnds : {T : Type 0} → (space : ℕ) → (bytes : List ℕ) → (T → List ℕ) → Result T Status → Type 0
+InputEnds space bytes items (Ok v) = input_of space bytes ≡ Ok (items v)
+InputEnds space bytes items (Err (status.BadInput line)) = input_of space bytes ≡ Err line
+InputEnds space bytes items (Err status.NoMemory) = Unit {0}
+InputEnds space bytes items (Err s) = ⊥
 
 -- bytes are an image of code that does what the program does
 pub record IsImageOf (m : Machine) (p : Program) (digest bytes : List ℕ) : Type 0 where

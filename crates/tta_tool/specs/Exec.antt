@@ -1,0 +1,108 @@
+-- What the command `exec` does, and why it does not.
+use Rattle.std.specs.Prelude.{◌≡◌, ◌⊎◌, ℕ, List, [], ◌∷◌, ◌++◌, map, take, Option, Result, Ok, Err}
+use Rattle.std.specs.Io.KnownBytes.{append_known}
+use Rattle.tta_ops.specs.Units.{Units}
+use Rattle.tta_tac.specs.Program.{Program}
+use Rattle.tta_tac.specs.Sequential.{State, Outcome, Running, Halted, seq}
+use Rattle.tta_ports.specs.Store.{Store}
+use Rattle.tta_ports.specs.Faults.{Rose}
+use Rattle.tta_input.specs.Input.{input_of}
+use Rattle.tta_print.specs.declared.line.Line.{Line}
+use Rattle.tta_print.specs.declared.line.Line.TheVariants as line
+use Rattle.tta_print.specs.Lines.{lines_text, memory_lines}
+use Rattle.tta_tool.specs.declared.status.Status.{Status}
+use Rattle.tta_tool.specs.declared.status.Status.TheVariants as status
+use Rattle.tta_tool.specs.World.{World, IsUntouched, ReadFailed, IsTooLong}
+use Rattle.tta_tool.specs.Output.{Output, IsQuiet}
+use Rattle.tta_tool.specs.Stages.{IsBadMachine, IsBadProgram}
+use Rattle.tta_tool.specs.Contents.{HasMachine, HasProgram, HasInput, HasText}
+
+-- ---- what is printed
+
+-- a line for each word that was put out
+abbrev pub word_lines : List ℕ → List Line
+word_lines words = map line.Word words
+
+-- whether the run has halted
+abbrev pub outcome_line : Outcome → Line
+outcome_line Running = line.Running
+outcome_line Halted = line.Halted
+
+-- what follows the words: the outcome, the data words that are not 0, and the number of steps
+abbrev pub ending_lines : Outcome → (memory : List ℕ) → (steps : ℕ) → List Line
+ending_lines outcome memory steps = outcome_line outcome ∷ (memory_lines 0 memory ++ line.Steps steps ∷ [])
+
+-- all that is printed of a run that has come to a state
+abbrev pub run_text : State → List ℕ
+run_text s = lines_text (word_lines s.output) ++ lines_text (ending_lines s.outcome s.memory s.steps)
+
+-- ---- what was read
+
+-- three files hold a machine, a program, and the words of the machine's data space
+pub record HasRun (u : Units) (files : Option Store) (M P IN : List ℕ) : Type 0 where
+  pub machine : HasMachine u files M
+  pub program : HasProgram u files P
+  pub input : HasInput machine.machine.data_words files IN
+
+-- the state to which a run has come after so many steps
+abbrev pub state_at : {u : Units} {files : Option Store} {M P IN : List ℕ} → HasRun u files M P IN → (bound : ℕ) → State
+state_at {u} run bound = seq u run.program.program run.input.memory bound
+
+-- ---- how the command ends
+
+-- the run has come to this outcome within the bound, and all of its text was put
+pub record IsExecuted (u : Units) (M P IN : List ℕ) (bound : ℕ) (before after : World) (old new : Output) (outcome : Outcome) : Type 0 where
+  pub run : HasRun u before.contents M P IN
+  pub outcome : (state_at run bound).outcome ≡ outcome
+  pub taken : new.taken ≡ append_known old.taken (run_text (state_at run bound))
+  pub faults : new.faults ≡ old.faults
+  pub untouched : IsUntouched before after
+
+-- a put has failed: the front of the text was put
+pub record IsCutShort (u : Units) (M P IN : List ℕ) (bound : ℕ) (before after : World) (old new : Output) : Type 0 where
+  pub run : HasRun u before.contents M P IN
+  pub count : ℕ
+  pub taken : new.taken ≡ append_known old.taken (take count (run_text (state_at run bound)))
+  pub rose : Rose old.faults new.faults
+  pub untouched : IsUntouched before after
+
+-- a read of word 1 has failed, or of word 2 where word 1 has passed, or of word 3 where both have
+abbrev pub ReadFault : Units → (M P IN : List ℕ) → (before after : World) → (word : ℕ) → Type 0
+ReadFault u M P IN before after word =
+    ((word ≡ 1) × ReadFailed M before after)
+    ⊎ ((word ≡ 2) × HasMachine u before.contents M × ReadFailed P before after)
+    ⊎ ((word ≡ 3) × HasMachine u before.contents M × HasProgram u before.contents P × ReadFailed IN before after)
+
+-- the same of a file that is too long
+abbrev pub TooLong : Units → (M P IN : List ℕ) → (before after : World) → (word : ℕ) → Type 0
+TooLong u M P IN before after word =
+    ((word ≡ 1) × IsTooLong M before after)
+    ⊎ ((word ≡ 2) × HasMachine u before.contents M × IsTooLong P before after)
+    ⊎ ((word ≡ 3) × HasMachine u before.contents M × HasProgram u before.contents P × IsTooLong IN before after)
+
+-- a file's words are refused at a line: one that is no word, or one more than the data space has
+pub record HasBadInput (u : Units) (files : Option Store) (M P IN : List ℕ) (line : ℕ) : Type 0 where
+  pub machine : HasMachine u files M
+  pub program : HasProgram u files P
+  pub input : HasText files IN (λ bytes. input_of machine.machine.data_words bytes ≡ Err line)
+
+-- why no run was begun
+abbrev pub BeginFails : Units → (M P IN : List ℕ) → (before after : World) → Status → Type 0
+BeginFails u M P IN before after (status.BadMachine line code) =
+    IsUntouched before after × HasText before.contents M (λ text. IsBadMachine u text line code)
+BeginFails u M P IN before after (status.BadProgram line code) =
+    IsUntouched before after × HasMachine u before.contents M × HasText before.contents P (λ text. IsBadProgram u text line code)
+BeginFails u M P IN before after (status.BadInput line) = IsUntouched before after × HasBadInput u before.contents M P IN line
+BeginFails u M P IN before after (status.ReadFault word) = ReadFault u M P IN before after word
+BeginFails u M P IN before after (status.TooLong word) = TooLong u M P IN before after word
+BeginFails u M P IN before after status.NoMemory = IsUntouched before after
+BeginFails u M P IN before after s = ⊥
+
+-- How `exec M P IN N` ends. Each ending but want of memory has its cause, and the causes exclude each other: so each
+-- comes exactly where its cause holds, as far as memory, files and output do not fail. Nothing is put but at the end of
+-- a run: all of its text, or the front of it where a put has failed.
+abbrev pub Execs : Units → (M P IN : List ℕ) → (bound : ℕ) → (before after : World) → (old new : Output) → Status → Type 0
+Execs u M P IN bound before after old new status.Ok = IsExecuted u M P IN bound before after old new Halted
+Execs u M P IN bound before after old new status.Running = IsExecuted u M P IN bound before after old new Running
+Execs u M P IN bound before after old new status.WriteFault = IsCutShort u M P IN bound before after old new
+Execs u M P IN bound before after old new s = BeginFails u M P IN before after s × IsQuiet old new
