@@ -51,7 +51,7 @@ no_return : (is : Bool) (lines others : List (List ℕ)) → (if is && false the
 no_return true lines others = refl
 no_return false lines others = refl
 
-lines_of-newline : (byte : ℕ) (bytes : List ℕ) → byte ≡ 10 → lines_of (byte ∷ bytes) ≡ [] ∷ lines_of bytes
+pub lines_of-newline : (byte : ℕ) (bytes : List ℕ) → byte ≡ 10 → lines_of (byte ∷ bytes) ≡ [] ∷ lines_of bytes
 unfolding lines_of
 lines_of-newline byte bytes newline = rw newline refl
 
@@ -60,7 +60,7 @@ lines_of-short : (byte next : ℕ) (bytes : List ℕ) → is_newline byte ≡ fa
 unfolding lines_of
 lines_of-short byte next bytes other newline = rw newline (rw other (one_byte (is_return byte) byte bytes))
 
-lines_of-byte : (byte : ℕ) (bytes : List ℕ) → is_newline byte ≡ false → begins_with_newline bytes ≡ false
+pub lines_of-byte : (byte : ℕ) (bytes : List ℕ) → is_newline byte ≡ false → begins_with_newline bytes ≡ false
     → lines_of (byte ∷ bytes) ≡ onto_first byte (lines_of bytes)
 unfolding lines_of
 lines_of-byte byte bytes other more =

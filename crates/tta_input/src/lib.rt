@@ -6,10 +6,12 @@
 #![tactic(auto)]
 
 mod error;
+mod law;
 mod lines;
 mod read;
 #[cfg(test)]
 mod tests;
 
 pub use error::InputError;
+pub use law::lines_are_words;
 pub use read::read_input;
