@@ -22,6 +22,88 @@ fn refusal(alloc: Global, text: &[u8], units: &UnitSet) -> Option<(u32, u8)> {
     }
 }
 
+/// A unit of one operation, which gives its word back.
+#[derive(Clone, Copy)]
+struct Named {
+    name: &'static str,
+}
+
+impl OpUnit for Named {
+    ghost unit_size = { λ _. 1 };
+
+    ghost unit_name = { λ unit _. unit.name.now };
+
+    ghost unit_arity = { λ _ _. 1 };
+
+    ghost unit_meaning = { λ _ _ a b. b };
+
+    fn count(&self) -> usize {
+        1
+    }
+
+    fn name(&self, _i: usize) -> &str {
+        self.name
+    }
+
+    fn arity(&self, _i: usize) -> u8 {
+        1
+    }
+
+    fn apply(&self, _i: usize, _a: u32, b: u32) -> u32 {
+        b
+    }
+}
+
+const LETTERS: [&str; 33] = [
+    "a", "b", "c", "d", "e", "f", "g", "h", "i", "j", "k", "l", "m", "n", "o", "p", "q", "r", "s",
+    "t", "u", "v", "w", "x", "y", "z", "A", "B", "C", "D", "E", "F", "G",
+];
+
+/// Operations that are called after letters.
+fn letters(alloc: Global) -> Result<UnitSet, Fail> {
+    let mut boxes: Vec<Box<dyn OpUnit>> = Vec::new(alloc);
+    for name in LETTERS {
+        let unit = Box::new(alloc, Named { name })?;
+        if boxes.push(unit).is_err() {
+            return Err(Fail::new("no memory"));
+        }
+    }
+    if !UnitSet::fits(boxes.as_slice()) {
+        return Err(Fail::new("too many"));
+    }
+    Ok(UnitSet::new(alloc, boxes).ok().ok_or("no units")?)
+}
+
+/// A machine of a unit that offers so many of these operations.
+fn machine_of_letters(alloc: Global, count: usize) -> Result<String, Fail> {
+    let mut text = String::from_str(
+        alloc,
+        "bus B short 8 unsigned\nsocket I in B\nsocket O out B\nunit U t I r O\n",
+    )?;
+    for name in LETTERS.iter().take(count) {
+        text.push_str("op U ")?;
+        text.push_str(name)?;
+        text.push_str(" 1\n")?;
+    }
+    text.push_str("control delay 0 address 8 t I\n")?;
+    Ok(text)
+}
+
+#[test]
+fn unit_has_at_most_32_operations(rt: HostRuntime) -> Result<(), Fail> {
+    let alloc = rt.alloc();
+    let units = letters(alloc)?;
+    let most = machine_of_letters(alloc, 32)?;
+    assert!(rt; most.len() < 1000);
+    let m = read_machine(alloc, most.as_bytes(), &units)
+        .ok()
+        .ok_or("refused")?;
+    assert_eq!(rt; m.units.as_slice()[0].ops.len(), 32);
+    let more = machine_of_letters(alloc, 33)?;
+    assert_eq!(rt; refusal(alloc, more.as_bytes(), &units), Some((37, 13)));
+    Ok(())
+}
+
 #[test]
 fn machine_of_one_bus_is_read(rt: HostRuntime) -> Result<(), Fail> {
     let alloc = rt.alloc();

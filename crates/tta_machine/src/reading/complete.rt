@@ -24,50 +24,36 @@ pub fn complete(alloc: Global, draft: Draft) -> Result<Machine, MachineError>
     requires { IsDraft draft }
     ensures { CompleteEnds draft result }
 {
-    let Draft {
-        names: _names,
-        buses,
-        sockets,
-        files,
-        imms,
-        units,
-        guards,
-        templates,
-        template_lines,
-        control,
-        data_words,
-        frame_words,
-    } = draft;
-    let Some(control) = control else {
+    let Some(control) = draft.control else {
         return Err(at_line(0, Refusal::Missing));
     };
-    if buses.is_empty() {
+    if draft.buses.is_empty() {
         return Err(at_line(0, Refusal::Missing));
     }
     // How wide a bus is does not depend on templates, so they are left out until they are known to
     // be wide enough.
     let mut machine = Machine {
-        buses,
-        sockets,
-        files,
-        imms,
-        units,
-        guards,
+        buses: draft.buses,
+        sockets: draft.sockets,
+        files: draft.files,
+        imms: draft.imms,
+        units: draft.units,
+        guards: draft.guards,
         templates: Items::new(alloc),
         control,
-        data_words: data_words.unwrap_or(0),
-        frame_words: frame_words.unwrap_or(0),
+        data_words: draft.data_words.unwrap_or(0),
+        frame_words: draft.frame_words.unwrap_or(0),
     };
     let layout = Layout::of(alloc, &machine)?;
     match narrow_line(
         &machine,
         &layout,
-        templates.as_slice(),
-        template_lines.as_slice(),
+        draft.templates.as_slice(),
+        draft.template_lines.as_slice(),
     ) {
         Some(line) => Err(at_line(line, Refusal::TooNarrow)),
         None => {
-            machine.templates = templates;
+            machine.templates = draft.templates;
             Ok(machine)
         }
     }

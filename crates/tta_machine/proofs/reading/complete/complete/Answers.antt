@@ -38,8 +38,8 @@ invariant_of-machine-in-None c =
     c.in-None.ensures in
     filled_rules d c.in-Some.control c.new.result c.unwrap_or.result c.unwrap_or-2.result c.requires bare wide
 
-pub returns : goal.returns
-returns c =
+pub returns-in-None : goal.returns-in-None
+returns-in-None c =
     let d = c.args.draft in
     let bare = is_bare d c.in-Some.control c.new.result c.unwrap_or.result c.unwrap_or-2.result c.is_empty.result c.in-Some.is c.is_empty.ensures c.if-is_empty.false
     c.new.ensures c.unwrap_or.ensures c.unwrap_or-2.ensures in

@@ -1,0 +1,31 @@
+//! Why a file gives no memory.
+
+ghost use Rattle.std.specs.Prelude.{◌≡◌};
+ghost use Rattle.tta_input.specs.declared.error.InputError.TheVariants.{NoMemory};
+
+use std::alloc::{AllocError, AllocFailed};
+
+/// Why no input was read.
+#[derive(Clone, Copy, Debug, PartialEq, Eq)]
+pub enum InputError {
+    /// This line, counted from 1, is the first that is no word, or the first past the end of the
+    /// data space.
+    Refused { line: u32 },
+    NoMemory,
+}
+
+impl From<AllocError> for InputError {
+    ghost from_gives = { λ _ e. e ≡ NoMemory };
+
+    fn from(_: AllocError) -> InputError {
+        InputError::NoMemory
+    }
+}
+
+impl<T: Drop> From<AllocFailed<T>> for InputError {
+    ghost from_gives = { λ _ e. e ≡ NoMemory };
+
+    fn from(_: AllocFailed<T>) -> InputError {
+        InputError::NoMemory
+    }
+}

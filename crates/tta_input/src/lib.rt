@@ -1,0 +1,17 @@
+//! The reader of input files, whose words fill the data space before a run.
+//!
+//! A file is lines, and each line is one word: exactly eight hexadecimal digits of either case, the
+//! most significant first. A newline ends a line, a carriage return directly before it is dropped,
+//! and the last newline may be missing. An empty file has no words.
+#![tactic(auto)]
+
+mod error;
+mod law;
+mod lines;
+mod read;
+#[cfg(test)]
+mod tests;
+
+pub use error::InputError;
+pub use law::lines_are_words;
+pub use read::read_input;
