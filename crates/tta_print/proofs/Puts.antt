@@ -1,5 +1,5 @@
 -- How a text is put piece by piece.
-use Rattle.std.proofs.Common.{◌≡◌, ℕ, List, [], ◌++◌, length, take, drop, Option, Some, None, refl, sym, ap, ◌∙◌, append_assoc, append-nil, true≢false}
+use Rattle.std.proofs.Common.{◌≡◌, ℕ, List, [], ◌++◌, length, take, drop, Option, Some, None, refl, sym, ap, ◌∙◌, append_assoc, append-nil, subst, true≢false}
 use Rattle.std.proofs.Math.Seq.{take-append_seam}
 use Rattle.std.proofs.lemmas.List.{take-append-drop}
 use Rattle.std.specs.Prelude.{Result, Ok, Err, IsErr}
@@ -59,3 +59,29 @@ pub part_is_put : {T E : Type 0} → (whole : List ℕ) (old new : Option (List 
     → (n : ℕ) × (new ≡ append_known old (take n whole)) → PutsBytes whole old new result
 part_is_put whole old new (Ok v) is part = absurd (true≢false (sym is))
 part_is_put whole old new (Err e) is part = part
+
+-- two texts one after the other: the first was put, and the second, or a front of it
+pub puts_both : {T E : Type 0} → (first second : List ℕ) (old new newer : Option (List ℕ)) (result : Result T E)
+    → new ≡ append_known old first → PutsBytes second new newer result → PutsBytes (first ++ second) old newer result
+puts_both first second old new newer (Ok v) one two =
+    two ∙ ap (λ t. append_known t second) one ∙ append_known-twice old first second
+puts_both first second old new newer (Err e) one two =
+    let start : HasPut old new (first ++ second) second = record { done = first; taken = one; parts = refl } in
+    put_part old new newer (first ++ second) second [] two.0 (subst (HasPut old new (first ++ second)) (sym (append-nil second)) start) two.1
+
+-- a front of the first of two texts is a front of both
+pub puts_first : {T E T' E' : Type 0} → (first second : List ℕ) (old new : Option (List ℕ)) (result : Result T E) (result' : Result T' E')
+    → IsErr result → IsErr result' → PutsBytes first old new result → PutsBytes (first ++ second) old new result'
+puts_first first second old new (Ok v) result' is is' puts = absurd (true≢false (sym is))
+puts_first first second old new (Err e) result' is is' puts =
+    part_is_put (first ++ second) old new result' is' (put_part old old new (first ++ second) first second puts.0 (put_none old (first ++ second)) puts.1)
+
+-- an answer that is a fault is one
+pub is_err_of : {T E : Type 0} → {result : Result T E} {e : E} → result ≡ Err e → IsErr result
+is_err_of {T = T} {E = E} is = subst (IsErr {T = T} {E = E}) (sym is) refl
+
+-- what a put that failed has done is the same whatever its answer carries
+pub puts_again : {T E T' E' : Type 0} → (text : List ℕ) (old new : Option (List ℕ)) (result : Result T E) (result' : Result T' E')
+    → IsErr result → IsErr result' → PutsBytes text old new result → PutsBytes text old new result'
+puts_again text old new (Ok v) result' is is' puts = absurd (true≢false (sym is))
+puts_again text old new (Err e) result' is is' puts = part_is_put text old new result' is' puts

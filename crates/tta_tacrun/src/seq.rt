@@ -102,6 +102,13 @@ impl Seq {
         self.steps
     }
 
+    /// All data words, from address 0 on.
+    pub fn memory(&self) -> &[u32]
+        ensures { result.now ≡ self.now.memory }
+    {
+        self.memory.as_slice()
+    }
+
     /// A data word.
     pub fn mem(&self, i: u32) -> u32
         requires { i < length self.now.memory }

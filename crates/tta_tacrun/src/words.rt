@@ -34,6 +34,12 @@ impl Words {
         Ok(Words { words })
     }
 
+    pub fn as_slice(&self) -> &[u32]
+        ensures { result.now ≡ self.now }
+    {
+        self.words.as_slice()
+    }
+
     pub fn get(&self, i: usize) -> u32
         ensures { result ≡ slice_index self.now i }
     {

@@ -1,69 +1,114 @@
--- How the endings of a command's stages make the endings of the command.
-use Rattle.std.proofs.Common.{◌≡◌, ℕ, true, List, Option, Result, Ok, Err, refl, ap, ◌∙◌, subst, inr}
+-- How the endings of the parts of `build` make its own.
+use Rattle.std.proofs.Common.{◌≡◌, ℕ, true, false, List, Option, Result, Ok, Err, refl, ap, ◌∙◌, subst, inl, inr}
 use Rattle.sha2.specs.Sha256.{sha256}
 use Rattle.tta_ops.specs.Units.{Units}
 use Rattle.tta_machine.specs.Machine.{Machine}
 use Rattle.tta_tac.specs.Program.{Program}
-use Rattle.tta_ports.specs.Files.{Holds}
 use Rattle.tta_tool.specs.declared.status.Status.{Status}
 use Rattle.tta_tool.specs.declared.status.Status.TheVariants as status
 use Rattle.tta_ports.specs.declared.fault.Fault.{Fault}
 use Rattle.tta_ports.specs.Store.{Store}
-use Rattle.tta_build.specs.First.{is_direct}
+use Rattle.tta_build.specs.First.{is_first_machine, is_direct}
 use Rattle.tta_tool.specs.World.{World, world, IsUntouched}
-use Rattle.tta_tool.specs.Stages.{WasRead, ProgramEnds, IsOtherProgram, ImageEnds, LacksRoom}
-use Rattle.tta_tool.specs.Build.{HasMachine, HasProgramText, Builds, ProgramFileEnds, ReadsProgram, CompileProgramEnds, ReadsMachine, CompileEnds, IsResult, WriteEnds}
-
--- what became of a program's text says how its file ends the command
-pub program_ends : (u : Units) (P : List ℕ) (m : Machine) (text : List ℕ) (before after : World) (result : Result Program Status)
-    → ProgramEnds u m text result → WasRead P text before after → ProgramFileEnds u P m before after result
-program_ends u P m text before after (Ok p) ends was =
-    record { text = text; holds = was.holds; read = ends.0; direct = ends.1; untouched = was.untouched }
-program_ends u P m text before after (Err (status.BadProgram line code)) ends was =
-    λ M OUT has same. (was.untouched, record { machine = has; text = text; holds = was.holds; is = ends })
-program_ends u P m text before after (Err (status.NotYet word)) ends was =
-    λ M OUT has same. (was.untouched, inr (ends.0, record { machine = has; text = text; holds = was.holds; is = subst (λ x. IsOtherProgram u x text) same ends.1 }))
-program_ends u P m text before after (Err status.NoMemory) ends was = λ M OUT has same. was.untouched
-program_ends u P m text before after (Err s) ends was = absurd ends
-
--- a program that was read, and what became of its image
-pub image_ends : {T : Type 0} → (u : Units) (P text : List ℕ) (m : Machine) (p : Program) (before after : World) (items : T → List ℕ) (result : Result T Status)
-    → ReadsProgram u P m p before after → ImageEnds m p (sha256 text) items result
-    → CompileProgramEnds u P text m before after items result
-image_ends u P text m p before after items (Ok v) reads ends = record { program = p; reads = reads; image = ends }
-image_ends u P text m p before after items (Err (status.CodeFull words have)) reads ends = λ M OUT has same. (
-  reads.untouched,
-  record {
-    pair = record { machine = has; text = reads.text; program = p; holds = reads.holds; read = reads.read; direct = subst (λ x. is_direct x p ≡ true) same reads.direct };
-    lacks = subst (λ x. LacksRoom x p words have) same ends;
-  },
-)
-image_ends u P text m p before after items (Err status.NoMemory) reads ends = λ M OUT has same. reads.untouched
-image_ends u P text m p before after items (Err s) reads ends = absurd ends
+use Rattle.tta_tool.specs.Stages.{PairEnds, LacksRoom}
+use Rattle.tta_tool.specs.Contents.{HasMachine, MachineFails, ProgramFails, ReadsMachine, ReadsProgram}
+use Rattle.tta_tool.specs.Build.{HasFirst, Builds, CompileProgramEnds, CompileForEnds, CompileEnds, IsResult, WriteEnds}
 
 -- files that were not touched are the files as they were
-same_world : (before after : World) → IsUntouched before after → after ≡ before
+pub same_world : (before after : World) → IsUntouched before after → after ≡ before
 same_world before after e =
     let of : Option Store → ℕ → Option Fault → World = world in
     ap (λ c. of c after.faults after.latest) e.contents ∙ ap (λ n. of before.contents n after.latest) e.faults
     ∙ ap (λ l. of before.contents before.faults l) e.latest
 
+-- ---- a file that is refused ends the command
+
+pub machine_fails : (u : Units) (M P OUT : List ℕ) (before after : World) (s : Status)
+    → MachineFails u M before after s → Builds u M P OUT before after s
+machine_fails u M P OUT before after (status.BadMachine line code) fails = fails
+machine_fails u M P OUT before after (status.ReadFault word) fails = inl fails
+machine_fails u M P OUT before after (status.TooLong word) fails = inl fails
+machine_fails u M P OUT before after status.NoMemory fails = fails
+machine_fails u M P OUT before after s fails = absurd fails
+
+pub program_fails : (u : Units) (P : List ℕ) (machine : Machine) (before after : World) (s : Status)
+    → ProgramFails u P before after s
+    → (M OUT : List ℕ) (has : HasFirst u before.contents M) → machine ≡ has.file.machine → Builds u M P OUT before after s
+program_fails u P machine before after (status.BadProgram line code) fails M OUT has same = (fails.0, has, fails.1)
+program_fails u P machine before after (status.ReadFault word) fails M OUT has same = inr (fails.0, has, fails.1)
+program_fails u P machine before after (status.TooLong word) fails M OUT has same = inr (fails.0, has, fails.1)
+program_fails u P machine before after status.NoMemory fails M OUT has same = fails
+program_fails u P machine before after s fails M OUT has same = absurd fails
+
+-- ---- the parts
+
+-- a program that was read, and what became of its image
+pub pair_ends : {T : Type 0} → (u : Units) (P text : List ℕ) (m : Machine) (p : Program) (before after : World) (items : T → List ℕ) (result : Result T Status)
+    → ReadsProgram u P p before after → PairEnds m p (sha256 text) items result
+    → CompileProgramEnds u P text m before after items result
+pair_ends u P text m p before after items (Ok v) reads ends = record {
+  program = record { text = reads.text; program = p; holds = reads.holds; read = reads.read };
+  direct = ends.0;
+  untouched = reads.untouched;
+  image = ends.1;
+}
+pair_ends u P text m p before after items (Err (status.CodeFull words have)) reads ends = λ M OUT has same. (
+  reads.untouched,
+  record {
+    pair = record {
+      machine = has;
+      program = record { text = reads.text; program = p; holds = reads.holds; read = reads.read };
+      direct = subst (λ x. is_direct x p ≡ true) same ends.0;
+    };
+    lacks = subst (λ x. LacksRoom x p words have) same ends.1;
+  },
+)
+pair_ends u P text m p before after items (Err status.NoMemory) reads ends = λ M OUT has same. reads.untouched
+pair_ends u P text m p before after items (Err (status.NotYet word)) reads ends = λ M OUT has same. (
+  reads.untouched,
+  inr (
+    ends.1,
+    record {
+      machine = has;
+      program = record { text = reads.text; program = p; holds = reads.holds; read = reads.read };
+      other = subst (λ x. is_direct x p ≡ false) same ends.0;
+    },
+  ),
+)
+pair_ends u P text m p before after items (Err s) reads ends = absurd ends
+
+-- a machine that cannot be compiled for
+pub other_machine : (u : Units) (P : List ℕ) (machine : Machine) (before : World) → is_first_machine machine ≡ false
+    → (M OUT : List ℕ) (has : HasMachine u before.contents M) → machine ≡ has.machine → Builds u M P OUT before before (status.NotYet 1)
+other_machine u P machine before other M OUT has same = (
+  record { contents = refl; faults = refl; latest = refl },
+  inl (refl, record { file = has; other = subst (λ x. is_first_machine x ≡ false) same other }),
+)
+
+-- a machine that can be compiled for, and what became of the program
+pub first_machine : {T : Type 0} → (u : Units) (P text : List ℕ) (m : Machine) (before after : World) (items : T → List ℕ) (result : Result T Status)
+    → is_first_machine m ≡ true → CompileProgramEnds u P text m before after items result
+    → CompileForEnds u P text m before after items result
+first_machine u P text m before after items (Ok v) first ends = (first, ends)
+first_machine u P text m before after items (Err s) first ends = λ M OUT has same.
+    ends M OUT (record { file = has; first = subst (λ x. is_first_machine x ≡ true) same first }) same
+
 -- a machine that was read, and what became of the program
 pub compile_ends : {T : Type 0} → (u : Units) (M P text : List ℕ) (m : Machine) (before between after : World) (items : T → List ℕ) (result : Result T Status)
-    → ReadsMachine u M text m before between → CompileProgramEnds u P text m between after items result
+    → ReadsMachine u M text m before between → CompileForEnds u P text m between after items result
     → CompileEnds u M P before after items result
 compile_ends {T} u M P text m before between after items result reads ends =
-    of result (subst (λ w. CompileProgramEnds u P text m w after items result) (same_world before between reads.untouched) ends) where
+    of result (subst (λ w. CompileForEnds u P text m w after items result) (same_world before between reads.untouched) ends) where
       has : HasMachine u before.contents M
-      has = record { text = text; machine = m; holds = reads.holds; read = reads.read; first = reads.first }
+      has = record { text = text; machine = m; holds = reads.holds; read = reads.read }
 
-      of : (r : Result T Status) → CompileProgramEnds u P text m before after items r → CompileEnds u M P before after items r
+      of : (r : Result T Status) → CompileForEnds u P text m before after items r → CompileEnds u M P before after items r
       of (Ok v) ends = (
         record {
-          pair = record { machine = has; text = ends.reads.text; program = ends.program; holds = ends.reads.holds; read = ends.reads.read; direct = ends.reads.direct };
-          image = ends.image;
+          pair = record { machine = record { file = has; first = ends.0 }; program = ends.1.program; direct = ends.1.direct };
+          image = ends.1.image;
         },
-        ends.reads.untouched,
+        ends.1.untouched,
       )
       of (Err s) ends = λ OUT. ends M OUT has refl
 

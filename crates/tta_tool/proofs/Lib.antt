@@ -1,1 +1,4 @@
 pub mod Endings
+pub mod Runs
+pub mod Beginnings
+pub mod Reports

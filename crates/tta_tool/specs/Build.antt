@@ -118,6 +118,13 @@ CompileProgramEnds u P text machine before after items (Ok v) = MakesImage u P t
 CompileProgramEnds u P text machine before after items (Err s) =
     (M OUT : List ℕ) (has : HasFirst u before.contents M) → machine ≡ has.file.machine → Builds u M P OUT before after s
 
+-- the same where it is not known yet whether the machine can be compiled for
+abbrev pub CompileForEnds : {T : Type 0} → Units → (P text : List ℕ) → Machine → (before after : World) → (T → List ℕ) → Result T Status → Type 0
+CompileForEnds u P text machine before after items (Ok v) =
+    (is_first_machine machine ≡ true) × MakesImage u P text machine (items v) before after
+CompileForEnds u P text machine before after items (Err s) =
+    (M OUT : List ℕ) (has : HasMachine u before.contents M) → machine ≡ has.machine → Builds u M P OUT before after s
+
 -- bytes were written, or they were not
 abbrev pub WriteEnds : (OUT bytes : List ℕ) → (before after : World) → Status → Type 0
 WriteEnds OUT bytes before after status.Ok =

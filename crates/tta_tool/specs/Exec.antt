@@ -53,7 +53,7 @@ state_at {u} run bound = seq u run.program.program run.input.memory bound
 -- the run has come to this outcome within the bound, and all of its text was put
 pub record IsExecuted (u : Units) (M P IN : List ℕ) (bound : ℕ) (before after : World) (old new : Output) (outcome : Outcome) : Type 0 where
   pub run : HasRun u before.contents M P IN
-  pub outcome : (state_at run bound).outcome ≡ outcome
+  pub ended : (state_at run bound).outcome ≡ outcome
   pub taken : new.taken ≡ append_known old.taken (run_text (state_at run bound))
   pub faults : new.faults ≡ old.faults
   pub untouched : IsUntouched before after
@@ -106,3 +106,47 @@ Execs u M P IN bound before after old new status.Ok = IsExecuted u M P IN bound 
 Execs u M P IN bound before after old new status.Running = IsExecuted u M P IN bound before after old new Running
 Execs u M P IN bound before after old new status.WriteFault = IsCutShort u M P IN bound before after old new
 Execs u M P IN bound before after old new s = BeginFails u M P IN before after s × IsQuiet old new
+
+-- ---- the command's parts
+
+-- a run can begin with a program and these data words, and no file was touched
+pub record Begins (u : Units) (M P IN : List ℕ) (program : Program) (memory : List ℕ) (before after : World) : Type 0 where
+  pub run : HasRun u before.contents M P IN
+  pub same_program : run.program.program ≡ program
+  pub same_memory : run.input.memory ≡ memory
+  pub untouched : IsUntouched before after
+
+abbrev pub BeginEnds : {T : Type 0} → Units → (M P IN : List ℕ) → (before after : World) → (T → Program) → (T → List ℕ) → Result T Status → Type 0
+BeginEnds u M P IN before after program memory (Ok v) = Begins u M P IN (program v) (memory v) before after
+BeginEnds u M P IN before after program memory (Err s) = BeginFails u M P IN before after s
+
+-- the same where a machine with this data space was read
+pub record BeginsWith (u : Units) (P IN : List ℕ) (space : ℕ) (program : Program) (memory : List ℕ) (before after : World) : Type 0 where
+  pub file : HasProgram u before.contents P
+  pub input : HasInput space before.contents IN
+  pub same_program : file.program ≡ program
+  pub same_memory : input.memory ≡ memory
+  pub untouched : IsUntouched before after
+
+abbrev pub BeginWithEnds : {T : Type 0} → Units → (P IN : List ℕ) → (space : ℕ) → (before after : World) → (T → Program) → (T → List ℕ) → Result T Status → Type 0
+BeginWithEnds u P IN space before after program memory (Ok v) = BeginsWith u P IN space (program v) (memory v) before after
+BeginWithEnds u P IN space before after program memory (Err s) =
+    (M : List ℕ) (has : HasMachine u before.contents M) → has.machine.data_words ≡ space → BeginFails u M P IN before after s
+
+-- a run has come to a state, and what was put of its text
+pub record IsRun (outcome : Outcome) (s : State) (old new : Output) : Type 0 where
+  pub ended : s.outcome ≡ outcome
+  pub taken : new.taken ≡ append_known old.taken (run_text s)
+  pub faults : new.faults ≡ old.faults
+
+pub record IsCut (s : State) (old new : Output) : Type 0 where
+  pub count : ℕ
+  pub taken : new.taken ≡ append_known old.taken (take count (run_text s))
+  pub rose : Rose old.faults new.faults
+
+abbrev pub RunEnds : State → (old new : Output) → Status → Type 0
+RunEnds s old new status.Ok = IsRun Halted s old new
+RunEnds s old new status.Running = IsRun Running s old new
+RunEnds s old new status.WriteFault = IsCut s old new
+RunEnds s old new status.NoMemory = IsQuiet old new
+RunEnds s old new other = ⊥

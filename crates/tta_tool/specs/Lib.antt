@@ -5,5 +5,6 @@ pub mod Stages
 pub mod Contents
 pub mod Build
 pub mod Bound
+pub mod Steps
 pub mod Exec
 pub mod Command

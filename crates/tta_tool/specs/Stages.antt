@@ -1,5 +1,5 @@
 -- How the stages of a command end.
-use Rattle.std.specs.Prelude.{◌≡◌, ◌<◌, ◌≤◌, ◌^◌, ◌⊎◌, ℕ, true, false, List, length, Result, Ok, Err}
+use Rattle.std.specs.Prelude.{◌≡◌, ◌<◌, ◌≤◌, ◌^◌, ℕ, true, false, List, length, Result, Ok, Err}
 use Rattle.tta_ops.specs.Units.{Units}
 use Rattle.tta_machine.specs.Machine.{Machine}
 use Rattle.tta_machine.specs.declared.reading.refusal.Refusal.{Refusal as MachineRefusal}
@@ -12,7 +12,7 @@ use Rattle.tta_tac.specs.Text.{ProgramText, IsRefusedAt}
 use Rattle.tta_code.specs.declared.code.Code.{Code}
 use Rattle.tta_code.specs.Agrees.{Agrees}
 use Rattle.tta_image.specs.Image.{Image}
-use Rattle.tta_build.specs.First.{is_first_machine, is_direct, code_length}
+use Rattle.tta_build.specs.First.{is_direct, code_length}
 use Rattle.tta_input.specs.Input.{input_of}
 use Rattle.tta_ports.specs.Files.{Holds}
 use Rattle.tta_tool.specs.declared.status.Status.{Status}
@@ -83,3 +83,11 @@ ImageEnds m p digest items (Ok v) = IsImageOf m p digest (items v)
 ImageEnds m p digest items (Err (status.CodeFull words have)) = LacksRoom m p words have
 ImageEnds m p digest items (Err status.NoMemory) = Unit {0}
 ImageEnds m p digest items (Err s) = ⊥
+
+-- a pair has its image, or the code is too long, or the pair cannot be compiled yet
+abbrev pub PairEnds : {T : Type 0} → Machine → Program → (digest : List ℕ) → (T → List ℕ) → Result T Status → Type 0
+PairEnds m p digest items (Ok v) = (is_direct m p ≡ true) × IsImageOf m p digest (items v)
+PairEnds m p digest items (Err (status.CodeFull words have)) = (is_direct m p ≡ true) × LacksRoom m p words have
+PairEnds m p digest items (Err status.NoMemory) = Unit {0}
+PairEnds m p digest items (Err (status.NotYet word)) = (is_direct m p ≡ false) × (word ≡ 2)
+PairEnds m p digest items (Err s) = ⊥

@@ -1,10 +1,10 @@
 -- The files before and after a command.
 use Rattle.std.specs.Prelude.{◌≡◌, ℕ, ◌<◌, ◌^◌, List, Option, Some}
 use Rattle.tta_ports.specs.declared.fault.Fault.{Fault}
-use Rattle.tta_ports.specs.declared.fault.Fault.TheVariants.{Read, Write}
+use Rattle.tta_ports.specs.declared.fault.Fault.TheVariants.{Read}
 use Rattle.tta_ports.specs.Store.{Store}
 use Rattle.tta_ports.specs.Faults.{Rose}
-use Rattle.tta_ports.specs.Files.{Holds, HoldsMore}
+use Rattle.tta_ports.specs.Files.{HoldsMore}
 
 -- what files hold where they tell it, how often they failed, and the latest fault
 pub record World : Type 0 where

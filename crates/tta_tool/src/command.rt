@@ -4,20 +4,27 @@ ghost use Rattle.std.specs.Prelude.{◌≡◌, map};
 ghost use Rattle.std.specs.String.{string_bytes};
 ghost use Rattle.tta_ops.specs.Set.{stated};
 ghost use Rattle.tta_tool.specs.World.{world};
+ghost use Rattle.tta_tool.specs.Output.{output};
 ghost use Rattle.tta_tool.specs.Command.{Ends, request_of};
 
+use crate::bound::bound_of;
 use crate::build::build_image;
+use crate::exec::exec_program;
 use crate::status::Status;
 use std::alloc::Global;
 use tta_ops::UnitSet;
 use tta_ports::{Files, Sink};
 
-/// Carries out the command that the words ask for, the first of them the command's name, over these operation units and
-/// files.
+/// Carries out the command that the words ask for, the first of them the command's name, over these operation units,
+/// files and output.
 ///
 /// `build M P OUT` compiles the program of the file P for the machine of the file M and makes OUT hold the image. Where
 /// it is refused, every file is as it was, but after a fault of the write OUT may hold the front of an image. It puts
 /// nothing out.
+///
+/// `exec M P IN N` runs the program of the file P for at most N steps, from the words of the file IN in the data space of
+/// the machine of the file M. It puts out each word as it comes, then how the run ended, the data words that are not 0 and
+/// the number of steps. Where it is refused, it puts nothing out. It changes no file.
 pub fn tool<F: Files, S: Sink>(
     alloc: Global,
     words: &Vec<String>,
@@ -27,9 +34,9 @@ pub fn tool<F: Files, S: Sink>(
 ) -> Status
     ensures ends { Ends (stated unit_meaning units.now) (request_of (map (λ w. string_bytes w) words.now.items))
         (world (F.contents files.old) (F.faults files.old) (F.latest files.old))
-        (world (F.contents files.new) (F.faults files.new) (F.latest files.new)) result }
-    ensures taken { S.taken sink.new ≡ S.taken sink.old }
-    ensures put { S.faults sink.new ≡ S.faults sink.old }
+        (world (F.contents files.new) (F.faults files.new) (F.latest files.new))
+        (output (S.taken sink.old) (S.faults sink.old)) (output (S.taken sink.new) (S.faults sink.new))
+        result }
 {
     match words.as_slice() {
         [word, machine, program, out] => {
@@ -44,6 +51,24 @@ pub fn tool<F: Files, S: Sink>(
                 )
             } else {
                 Status::Usage
+            }
+        }
+        [word, machine, program, input, bound] => {
+            if word.as_str() != "exec" {
+                return Status::Usage;
+            }
+            match bound_of(bound.as_bytes()) {
+                Some(bound) => exec_program(
+                    alloc,
+                    units,
+                    files,
+                    sink,
+                    machine.as_str(),
+                    program.as_str(),
+                    input.as_str(),
+                    bound,
+                ),
+                None => Status::Usage,
             }
         }
         _ => Status::Usage,

@@ -1,9 +1,14 @@
 //! The command line of the toolset.
 #![tactic(auto)]
 
+mod bound;
 mod build;
 mod command;
+mod contents;
+mod exec;
+mod report;
 mod status;
+mod steps;
 #[cfg(test)]
 mod tests;
 

@@ -24,10 +24,16 @@ pub enum Status {
     /// The code needs more words than the machine has addresses.
     #[error("code full: words {words}, have {have}")]
     CodeFull { words: u64, have: u32 },
+    /// The file of the data words is refused at a line: it is no word, or one more than the data space has.
+    #[error("input: line {line}")]
+    BadInput { line: u32 },
+    /// The run goes on past its bound.
+    #[error("running")]
+    Running,
     /// The file that a word names could not be read.
     #[error("read fault: word {word}")]
     ReadFault { word: u8 },
-    /// The result could not be written.
+    /// The result could not be written, or a line not be put out.
     #[error("write fault")]
     WriteFault,
     /// The file that a word names has more than 16 MiB.
@@ -52,6 +58,8 @@ impl Status {
             Status::BadMachine { .. } => 2,
             Status::BadProgram { .. } => 3,
             Status::CodeFull { .. } => 7,
+            Status::BadInput { .. } => 10,
+            Status::Running => 12,
             Status::ReadFault { .. } => 13,
             Status::WriteFault => 14,
             Status::TooLong { .. } => 15,

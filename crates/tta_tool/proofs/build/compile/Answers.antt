@@ -1,6 +1,6 @@
 use Rattle.tta_ops.specs.Set.{stated}
 use Rattle.tta_tool.specs.World.{world}
-use Rattle.tta_tool.proofs.Endings.{compile_ends}
+use Rattle.tta_tool.proofs.Endings.{compile_ends, machine_fails}
 use Rattle.tta_tool.proofs.build.compile.Goals as goal
 
 pub returns-in-Ok : goal.returns-in-Ok
@@ -9,10 +9,10 @@ returns-in-Ok g c =
     let U = stated (λ v. (goal.OpUnit-dyn g v).unit_meaning v.1) c.args.units.now in
     let before = world (f.contents c.args.files.now) (f.faults c.args.files.now) (f.latest c.args.files.now) in
     let between = world (f.contents c.machine_file.new.files) (f.faults c.machine_file.new.files) (f.latest c.machine_file.new.files) in
-    let after = world (f.contents c.compile_program.new.files) (f.faults c.compile_program.new.files) (f.latest c.compile_program.new.files) in
+    let after = world (f.contents c.compile_for.new.files) (f.faults c.compile_for.new.files) (f.latest c.compile_for.new.files) in
     let file = c.in-Ok.file in
-    compile_ends U c.args.machine.now c.args.program.now file.text.items file.machine before between after (λ v. v.items) c.compile_program.result
-    c.in-Ok.ensures c.compile_program.ensures
+    compile_ends U c.args.machine.now c.args.program.now file.text.items file.machine before between after (λ v. v.items) c.compile_for.result
+    c.in-Ok.ensures c.compile_for.ensures
 
 pub returns-in-Err : goal.returns-in-Err
-returns-in-Err g c = λ OUT. c.in-Err.ensures c.args.program.now OUT
+returns-in-Err g c = λ OUT. machine_fails _ _ _ _ _ _ _ c.in-Err.ensures

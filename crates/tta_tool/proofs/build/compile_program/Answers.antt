@@ -1,9 +1,6 @@
-use Rattle.std.proofs.Common.{ℕ, List, subst}
-use Rattle.sha2.specs.Sha256.{sha256}
 use Rattle.tta_ops.specs.Set.{stated}
 use Rattle.tta_tool.specs.World.{world}
-use Rattle.tta_tool.specs.Stages.{ImageEnds}
-use Rattle.tta_tool.proofs.Endings.{image_ends}
+use Rattle.tta_tool.proofs.Endings.{pair_ends, program_fails}
 use Rattle.tta_tool.proofs.build.compile_program.Goals as goal
 
 pub returns-in-Ok : goal.returns-in-Ok
@@ -13,6 +10,8 @@ returns-in-Ok g c =
     let before = world (f.contents c.args.files.now) (f.faults c.args.files.now) (f.latest c.args.files.now) in
     let after = world (f.contents c.program_file.new.files) (f.faults c.program_file.new.files) (f.latest c.program_file.new.files) in
     let file = c.args.file.now in
-    let Ends : List ℕ → Type 0 = λ text. ImageEnds file.machine c.in-Ok.program (sha256 text) (λ v. v.items) c.image_of.result in
-    image_ends U c.args.name.now file.text.items file.machine c.in-Ok.program before after (λ v. v.items) c.image_of.result
-    c.in-Ok.ensures (subst Ends c.as_slice.ensures.value c.image_of.ensures)
+    pair_ends U c.args.name.now file.text.items file.machine c.in-Ok.program before after (λ v. v.items) c.image_of_pair.result
+    c.in-Ok.ensures c.image_of_pair.ensures
+
+pub returns-in-Err : goal.returns-in-Err
+returns-in-Err g c = program_fails _ _ _ _ _ _ c.in-Err.ensures

@@ -1,0 +1,20 @@
+use Rattle.tta_ops.specs.Set.{stated}
+use Rattle.tta_tool.specs.World.{world}
+use Rattle.tta_tool.specs.Output.{output}
+use Rattle.tta_tool.proofs.Beginnings.{exec_ends, not_begun}
+use Rattle.tta_tool.proofs.exec.exec_program.Goals as goal
+
+pub returns-in-Ok : goal.returns-in-Ok
+returns-in-Ok g c =
+    let f = g.F.Files in
+    let sink = g.S.Sink in
+    let U = stated (λ v. (goal.OpUnit-dyn g v).unit_meaning v.1) c.args.units.now in
+    let before = world (f.contents c.args.files.now) (f.faults c.args.files.now) (f.latest c.args.files.now) in
+    let after = world (f.contents c.begin.new.files) (f.faults c.begin.new.files) (f.latest c.begin.new.files) in
+    let old = output (sink.taken c.args.sink.now) (sink.faults c.args.sink.now) in
+    let new = output (sink.taken c.carry_out.new.sink) (sink.faults c.carry_out.new.sink) in
+    exec_ends U c.args.machine.now c.args.program.now c.args.input.now c.in-Ok.beginning.program c.in-Ok.beginning.memory.items
+    c.args.bound before after old new c.carry_out.result c.in-Ok.ensures.ends c.carry_out.ensures
+
+pub returns-in-Err : goal.returns-in-Err
+returns-in-Err g c = not_begun _ _ _ _ _ _ _ _ _ c.in-Err.ensures.ends

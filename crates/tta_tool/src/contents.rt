@@ -1,0 +1,133 @@
+//! What the files of a command hold.
+
+ghost use Rattle.std.specs.Prelude.{◌≡◌, ◌≤◌, ◌^◌, length, IfOk};
+ghost use Rattle.tta_ops.specs.Set.{stated};
+ghost use Rattle.tta_tool.specs.World.{world};
+ghost use Rattle.tta_tool.specs.Stages.{ReadEnds, MachineEnds, ProgramEnds, InputEnds};
+ghost use Rattle.tta_tool.specs.Contents.{MachineFileEnds, ProgramFileEnds, InputFileEnds};
+
+use crate::status::Status;
+use std::alloc::Global;
+use tta_input::{InputError, read_input};
+use tta_machine::{Machine, MachineError, read_machine};
+use tta_ops::UnitSet;
+use tta_ports::{Files, ReadError};
+use tta_tac::{Program, TacError, read_program};
+
+/// How many bytes of a file are read at the most: 16 MiB.
+const LIMIT: u64 = 16_777_216;
+
+// The bytes of the file that a word names.
+fn read_file<F: Files>(files: &mut F, name: &str, word: u8) -> Result<Vec<u8>, Status>
+    ensures { ReadEnds name.now word
+        (world (F.contents files.old) (F.faults files.old) (F.latest files.old))
+        (world (F.contents files.new) (F.faults files.new) (F.latest files.new)) (λ v. v.items) result }
+{
+    match files.read(name, LIMIT) {
+        Ok(bytes) => Ok(bytes),
+        Err(ReadError::Failed) => Err(Status::ReadFault { word }),
+        Err(ReadError::TooLong { .. }) => Err(Status::TooLong { word }),
+        Err(ReadError::NoMemory) => Err(Status::NoMemory),
+    }
+}
+
+// The machine of a text.
+fn machine_of(alloc: Global, text: &[u8], units: &UnitSet) -> Result<Machine, Status>
+    requires { length text.now ≤ 2 ^ 24 }
+    ensures { MachineEnds (stated unit_meaning units.now) text.now result }
+{
+    match read_machine(alloc, text, units) {
+        Ok(machine) => Ok(machine),
+        Err(MachineError::Refused { line, code }) => Err(Status::BadMachine { line, code }),
+        Err(MachineError::NoMemory) => Err(Status::NoMemory),
+    }
+}
+
+// The program of a text.
+fn program_of(alloc: Global, text: &[u8], units: &UnitSet) -> Result<Program, Status>
+    requires { length text.now ≤ 2 ^ 24 }
+    ensures { ProgramEnds (stated unit_meaning units.now) text.now result }
+{
+    match read_program(alloc, text, units) {
+        Ok(program) => Ok(program),
+        Err(TacError::Refused { line, code }) => Err(Status::BadProgram { line, code }),
+        Err(TacError::NoMemory) => Err(Status::NoMemory),
+    }
+}
+
+// The data words that a file's bytes give, as many as the space has.
+fn words_of(alloc: Global, bytes: &[u8], space: u32) -> Result<Vec<u32>, Status>
+    requires { length bytes.now ≤ 2 ^ 24 }
+    ensures ends { InputEnds space bytes.now (λ v. v.items) result }
+    ensures whole { IfOk result (λ v. length v.items ≡ space) }
+{
+    match read_input(alloc, bytes, space) {
+        Ok(memory) => Ok(memory),
+        Err(InputError::Refused { line }) => Err(Status::BadInput { line }),
+        Err(InputError::NoMemory) => Err(Status::NoMemory),
+    }
+}
+
+/// A machine with the text that describes it.
+#[derive(Drop)]
+pub struct MachineFile {
+    pub text: Vec<u8>,
+    pub machine: Machine,
+}
+
+/// The machine of the file that word 1 names.
+pub fn machine_file<F: Files>(
+    alloc: Global,
+    units: &UnitSet,
+    files: &mut F,
+    name: &str,
+) -> Result<MachineFile, Status>
+    ensures { MachineFileEnds (stated unit_meaning units.now) name.now
+        (world (F.contents files.old) (F.faults files.old) (F.latest files.old))
+        (world (F.contents files.new) (F.faults files.new) (F.latest files.new))
+        (λ f. f.text.items) (λ f. f.machine) result }
+{
+    let text = read_file(files, name, 1)?;
+    match machine_of(alloc, text.as_slice(), units) {
+        Ok(machine) => Ok(MachineFile { text, machine }),
+        Err(status) => Err(status),
+    }
+}
+
+/// The program of the file that word 2 names.
+pub fn program_file<F: Files>(
+    alloc: Global,
+    units: &UnitSet,
+    files: &mut F,
+    name: &str,
+) -> Result<Program, Status>
+    ensures { ProgramFileEnds (stated unit_meaning units.now) name.now
+        (world (F.contents files.old) (F.faults files.old) (F.latest files.old))
+        (world (F.contents files.new) (F.faults files.new) (F.latest files.new)) result }
+{
+    let text = read_file(files, name, 2)?;
+    match program_of(alloc, text.as_slice(), units) {
+        Ok(program) => Ok(program),
+        Err(status) => Err(status),
+    }
+}
+
+/// The data words of the file that word 3 names, as many as the space has.
+pub fn input_file<F: Files>(
+    alloc: Global,
+    files: &mut F,
+    name: &str,
+    space: u32,
+) -> Result<Vec<u32>, Status>
+    ensures ends { InputFileEnds space name.now
+        (world (F.contents files.old) (F.faults files.old) (F.latest files.old))
+        (world (F.contents files.new) (F.faults files.new) (F.latest files.new))
+        (λ v. v.items) result }
+    ensures whole { IfOk result (λ v. length v.items ≡ space) }
+{
+    let bytes = read_file(files, name, 3)?;
+    match words_of(alloc, bytes.as_slice(), space) {
+        Ok(memory) => Ok(memory),
+        Err(status) => Err(status),
+    }
+}
