@@ -1,10 +1,9 @@
 -- Small programs, and what the meaning makes of them.
-use Rattle.std.proofs.Common.{◌≡◌, ℕ, ◌+◌, ◌*◌, ◌%◌, ◌^◌, ◌∙◌, ap, true, false, List, [], ◌∷◌, Some, None, refl, replicate, codes}
+use Rattle.std.proofs.Common.{◌≡◌, ℕ, ◌+◌, ◌*◌, ◌%◌, ◌^◌, ◌∙◌, ap, true, false, [], ◌∷◌, Some, refl, replicate, codes}
 use Rattle.tta_ops.specs.declared.OpId.{OpId}
 use Rattle.tta_ops.specs.Units.{Units}
 use Rattle.tta_tac.specs.declared.operand.Src.TheVariants.{Var, Word}
 use Rattle.tta_tac.specs.declared.operand.Rel.TheVariants.{Ge}
-use Rattle.tta_tac.specs.declared.step.Step.{Step}
 use Rattle.tta_tac.specs.declared.step.Step.TheVariants.{Copy, Apply, Load, Store, Put, When, Invoke, Return, Halt, End}
 use Rattle.tta_tac.specs.declared.program.Proc.{Proc}
 use Rattle.tta_tac.specs.Program.{Program}
