@@ -2,3 +2,4 @@ mod Cuts
 mod Digits
 mod Filled
 mod GrammarHolds
+mod Samples

@@ -1,7 +1,7 @@
 //! A small machine that is read, and texts that are refused at a line with a number.
 
 use crate::{Layout, MachineError, read_machine};
-use std::alloc::Global;
+use std::alloc::{AllocError, Global};
 use std::test::Fail;
 use tta_ops::{OpUnit, UnitSet};
 
@@ -23,15 +23,17 @@ fn refusal(alloc: Global, text: &[u8], units: &UnitSet) -> Option<(u32, u8)> {
 }
 
 /// A unit of one operation, which gives its word back.
-#[derive(Clone, Copy)]
+#[derive(Drop)]
 struct Named {
-    name: &'static str,
+    name: String,
 }
 
 impl OpUnit for Named {
+    ghost use Rattle.std.specs.String.{string_bytes};
+
     ghost unit_size = { λ _. 1 };
 
-    ghost unit_name = { λ unit _. unit.name.now };
+    ghost unit_name = { λ unit _. string_bytes unit.name };
 
     ghost unit_arity = { λ _ _. 1 };
 
@@ -42,7 +44,7 @@ impl OpUnit for Named {
     }
 
     fn name(&self, _i: usize) -> &str {
-        self.name
+        self.name.as_str()
     }
 
     fn arity(&self, _i: usize) -> u8 {
@@ -54,52 +56,57 @@ impl OpUnit for Named {
     }
 }
 
-const LETTERS: [&str; 33] = [
-    "a", "b", "c", "d", "e", "f", "g", "h", "i", "j", "k", "l", "m", "n", "o", "p", "q", "r", "s",
-    "t", "u", "v", "w", "x", "y", "z", "A", "B", "C", "D", "E", "F", "G",
-];
+/// Puts a unit with the operation `n` and this number at the end.
+fn push_named(
+    alloc: Global,
+    boxes: &mut Vec<Box<dyn OpUnit>>,
+    number: usize,
+) -> Result<(), AllocError> {
+    let name = format!(in alloc; "n{number}")?;
+    let unit = Box::new(alloc, Named { name })?;
+    match boxes.push(unit) {
+        Ok(()) => Ok(()),
+        Err(_) => Err(AllocError),
+    }
+}
 
-/// Operations that are called after letters.
-fn letters(alloc: Global) -> Result<UnitSet, Fail> {
+/// The operations `n0` to `n32`.
+fn numbered(alloc: Global) -> Result<Vec<Box<dyn OpUnit>>, AllocError> {
     let mut boxes: Vec<Box<dyn OpUnit>> = Vec::new(alloc);
-    for name in LETTERS {
-        let unit = Box::new(alloc, Named { name })?;
-        if boxes.push(unit).is_err() {
-            return Err(Fail::new("no memory"));
-        }
+    for number in 0..33 {
+        push_named(alloc, &mut boxes, number)?;
     }
-    if !UnitSet::fits(boxes.as_slice()) {
-        return Err(Fail::new("too many"));
-    }
-    Ok(UnitSet::new(alloc, boxes).ok().ok_or("no units")?)
+    Ok(boxes)
 }
 
 /// A machine of a unit that offers so many of these operations.
-fn machine_of_letters(alloc: Global, count: usize) -> Result<String, Fail> {
+fn machine_of_numbered(alloc: Global, count: usize) -> Result<String, AllocError> {
     let mut text = String::from_str(
         alloc,
         "bus B short 8 unsigned\nsocket I in B\nsocket O out B\nunit U t I r O\n",
     )?;
-    for name in LETTERS.iter().take(count) {
-        text.push_str("op U ")?;
-        text.push_str(name)?;
-        text.push_str(" 1\n")?;
+    for number in 0..count {
+        let line = format!(in alloc; "op U n{number} 1\n")?;
+        text.push_str(line.as_str())?;
     }
     text.push_str("control delay 0 address 8 t I\n")?;
     Ok(text)
 }
 
+/// Whether a short text describes a machine.
+fn is_read(alloc: Global, text: &[u8], units: &UnitSet) -> bool {
+    text.len() <= 1000 && read_machine(alloc, text, units).is_ok()
+}
+
 #[test]
 fn unit_has_at_most_32_operations(rt: HostRuntime) -> Result<(), Fail> {
     let alloc = rt.alloc();
-    let units = letters(alloc)?;
-    let most = machine_of_letters(alloc, 32)?;
-    assert!(rt; most.len() < 1000);
-    let m = read_machine(alloc, most.as_bytes(), &units)
-        .ok()
-        .ok_or("refused")?;
-    assert_eq!(rt; m.units.as_slice()[0].ops.len(), 32);
-    let more = machine_of_letters(alloc, 33)?;
+    let boxes = numbered(alloc)?;
+    assert!(rt; UnitSet::fits(boxes.as_slice()));
+    let units = UnitSet::new(alloc, boxes).ok().ok_or("no units")?;
+    let most = machine_of_numbered(alloc, 32)?;
+    assert!(rt; is_read(alloc, most.as_bytes(), &units));
+    let more = machine_of_numbered(alloc, 33)?;
     assert_eq!(rt; refusal(alloc, more.as_bytes(), &units), Some((37, 13)));
     Ok(())
 }

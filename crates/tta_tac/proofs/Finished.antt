@@ -97,9 +97,5 @@ line_there [] k q below is = absurd (omega arith)
 line_there (p ∷ qs) zero q below is = ap (λ x. Some x.line) (sym is)
 line_there (p ∷ qs) (suc k) q below is = line_there qs k q (omega arith) is
 
-pub seen_length : (qs : List DraftProc) → length (procs_seen qs) ≡ length qs
-seen_length [] = refl
-seen_length (q ∷ qs) = ap suc (seen_length qs)
-
 pub first_within : (procs : List Proc) (k : ℕ) → IsFirstRecursive procs k → k < length procs
 first_within procs k first = reaches_within procs k k first.returns

@@ -1,192 +1,29 @@
 -- A draft that was kept right gives a program that keeps the rules.
-use Rattle.std.proofs.Common.{◌≡◌, ℕ, suc, zero, ◌+◌, ◌<◌, ◌≤◌, ◌≢◌, Bool, true, false, List, [], ◌∷◌, ◌++◌, length, Option, Some, None, Result, Ok, Err, refl, sym, ◌∙◌, ap, subst, arith, append-nil, inl, inr, ◌⊎◌}
-use Rattle.std.specs.Prelude.{◌&&◌, ◌==◌, not, nat_lt, if◌then◌else◌, slice_get, codes, option_to_list}
+use Rattle.std.proofs.Common.{◌≡◌, ℕ, suc, zero, ◌+◌, ◌<◌, ◌≤◌, ◌≢◌, Bool, true, false, List, [], ◌∷◌, ◌++◌, length, Option, Some, None, Ok, refl, sym, ◌∙◌, ap, subst, arith, append-nil, inl, inr, ◌⊎◌}
+use Rattle.std.specs.Prelude.{◌==◌, not, slice_get, codes, option_to_list}
 use Rattle.std.specs.Option.{option_map_or}
 use Rattle.std.specs.Str.{bytes_eq}
-use Rattle.std.specs.List.{AllByRecursion, list_all, sum_by}
+use Rattle.std.specs.List.{AllByRecursion, sum_by}
 use Rattle.std.proofs.lemmas.Bool.{eqb-true, eq-eqb}
 use Rattle.std.proofs.lemmas.Bool.Decides.{eqb_tells}
 use Rattle.std.proofs.lemmas.List.Sums.{sum_by-cons}
 use Rattle.std.proofs.Math.Dec.{eqb}
 use Rattle.tta_reading.specs.Names.{Declared, named_in}
-use Rattle.tta_reading.specs.Steps.{◌>>=◌, or_refuse, refuse_if}
+use Rattle.tta_reading.specs.Steps.{or_refuse, refuse_if}
 use Rattle.tta_tac.specs.declared.operand.Src.{Src}
 use Rattle.tta_tac.specs.declared.step.Step.{Step}
-use Rattle.tta_tac.specs.declared.step.Step.TheVariants as step
 use Rattle.tta_tac.specs.declared.program.Proc.{Proc}
-use Rattle.tta_tac.specs.declared.reading.refusal.Refusal.{Refusal}
-use Rattle.tta_tac.specs.declared.reading.refusal.Refusal.TheVariants.{UnknownLabel, UnknownProc, Arity}
+use Rattle.tta_tac.specs.declared.reading.refusal.Refusal.TheVariants.{UnknownProc}
 use Rattle.tta_tac.specs.Program.{Program}
-use Rattle.tta_tac.specs.Rules.{is_src, is_call, is_step, ends_once, IsProc, IsProgram, Reaches, ByCall, ByMore}
-use Rattle.tta_tac.specs.Draft.{Draft, ProcDraft, Unlinked, Plain, IfTo, GotoTo, CallTo}
-use Rattle.tta_tac.specs.SecondPass.{at_line, callee_named, params_of, link_step, link_steps, link_proc, link_procs}
+use Rattle.tta_tac.specs.Rules.{is_call, IsProc, IsProgram, Reaches, ByCall, ByMore}
+use Rattle.tta_tac.specs.Draft.{Draft, ProcDraft}
+use Rattle.tta_tac.specs.SecondPass.{callee_named, params_of, link_steps, link_proc, link_procs}
 use Rattle.tta_tac.specs.Text.{with_main}
 use Rattle.tta_tac.specs.Cycles.{IsAcyclic}
-use Rattle.tta_tac.specs.Kept.{bare, is_unlinked, is_end_step, closes_once, IsEnded, all_procs, IsKept}
+use Rattle.tta_tac.specs.Kept.{IsEnded, all_procs, IsKept}
 use Rattle.tta_tac.proofs.Finished.{bind_ok, linked_length}
-
-both : (a b : Bool) → a ≡ true → b ≡ true → (a && b) ≡ true
-both a b e f = ap (λ x. x && b) e ∙ f
-
-left : (a b : Bool) → (a && b) ≡ true → a ≡ true
-left true b e = refl
-left false b e = e
-
-right : (a b : Bool) → (a && b) ≡ true → b ≡ true
-right true b e = e
-right false b e = absurd cc
-
-none_below : (k : ℕ) → nat_lt k 0 ≡ true → ⊥
-none_below k e = grind arith
-
--- ---- steps
-
--- a step that names nothing keeps the rules in each program
-plain_kept : (p : Program) (q : Proc) (s : Step) → is_step (with_main [] 0) (bare q.vars) s ≡ true → is_step p q s ≡ true
-plain_kept p q (step.Copy d s) h = h
-plain_kept p q (step.Apply d op a b) h = h
-plain_kept p q (step.Load d a) h = h
-plain_kept p q (step.Store a v) h = h
-plain_kept p q (step.Put v) h = h
-plain_kept p q (step.If rel a b to) h = absurd (none_below to (right _ _ h))
-plain_kept p q (step.Goto to) h = absurd (none_below to h)
-plain_kept p q (step.When rel a b d s) h = h
-plain_kept p q (step.Invoke d callee args) h = absurd (no_call (not (callee == 0)) (right _ _ h)) where
-  no_call : (a : Bool) → (a && false) ≡ true → ⊥
-  no_call true e = cc
-  no_call false e = cc
-plain_kept p q (step.Return s) h = h
-plain_kept p q step.Halt h = h
-plain_kept p q step.End h = h
-
-abbrev is_end : Step → Bool
-is_end step.End = true
-is_end s = false
-
-abbrev pub is_nil : {A : Type 0} → List A → Bool
-is_nil [] = true
-is_nil (x ∷ xs) = false
-
-nil_same : {A B : Type 0} (xs : List A) (ys : List B) → length xs ≡ length ys → is_nil xs ≡ is_nil ys
-nil_same [] [] e = refl
-nil_same [] (y ∷ ys) e = absurd (omega arith)
-nil_same (x ∷ xs) [] e = absurd (omega arith)
-nil_same (x ∷ xs) (y ∷ ys) e = refl
-
-end_seen : (s : Step) → is_end s ≡ is_end_step (Plain s)
-end_seen step.End = refl
-end_seen s = refl
-
-ends_cons : (x : Step) (xs : List Step) → ends_once (x ∷ xs) ≡ (if is_end x then is_nil xs else ends_once xs)
-ends_cons step.End [] = refl
-ends_cons step.End (y ∷ ys) = refl
-ends_cons x xs = refl
-
-pub closes_cons : (s : Unlinked) (ss : List Unlinked) → closes_once (s ∷ ss) ≡ (if is_end_step s then is_nil ss else closes_once ss)
-closes_cons (Plain step.End) [] = refl
-closes_cons (Plain step.End) (y ∷ ys) = refl
-closes_cons s ss = refl
-
-pub at_line_ok : {A : Type 0} (line : ℕ) (r : Result A Refusal) (x : A) → at_line line r ≡ Ok x → r ≡ Ok x
-at_line_ok line (Ok y) x e = let same : y ≡ x = cc in ap Ok same
-at_line_ok line (Err y) x e = absurd cc
-
--- ---- the steps of one procedure
-
-module _ (d : Draft) (labels : Declared ℕ) where
-  steps_cons : (s : Unlinked) (ss : List Unlinked) (line : ℕ) (lines : List ℕ) (steps : List Step)
-      → link_steps d labels (s ∷ ss) (line ∷ lines) ≡ Ok steps
-      → (x : Step) × (rest : List Step) × (link_step d labels s ≡ Ok x) × (link_steps d labels ss lines ≡ Ok rest) × (x ∷ rest ≡ steps)
-  steps_cons s ss line lines steps e =
-      let first = bind_ok (at_line line (link_step d labels s)) _ steps e in
-      let rest = bind_ok (link_steps d labels ss lines) _ steps first.2 in
-      let all : first.0 ∷ rest.0 ≡ steps = cc rest.2 in
-      (first.0, rest.0, at_line_ok line (link_step d labels s) first.0 first.1, rest.1, all)
-
-  pub steps_length : (ss : List Unlinked) (lines : List ℕ) (steps : List Step) → length lines ≡ length ss
-      → link_steps d labels ss lines ≡ Ok steps → length steps ≡ length ss
-  steps_length [] lines steps same e = let none : [] ≡ steps = cc in ap length (sym none)
-  steps_length (s ∷ ss) [] steps same e = absurd (omega arith)
-  steps_length (s ∷ ss) (line ∷ lines) steps same e =
-      let c = steps_cons s ss line lines steps e in
-      ap length (sym c.4) ∙ ap suc (steps_length ss lines c.1 (omega arith) c.3)
-
-  -- ends stay ends
-  end_kept : (s : Unlinked) (x : Step) → link_step d labels s ≡ Ok x → is_end x ≡ is_end_step s
-  end_kept (Plain s) x e = let same : s ≡ x = cc in ap is_end (sym same) ∙ end_seen s
-  end_kept (IfTo rel a b label) x e =
-      let to = bind_ok (or_refuse UnknownLabel (named_in labels label)) _ x e in
-      let same : step.If rel a b to.0 ≡ x = cc to.2 in ap is_end (sym same)
-  end_kept (GotoTo label) x e =
-      let to = bind_ok (or_refuse UnknownLabel (named_in labels label)) _ x e in
-      let same : step.Goto to.0 ≡ x = cc to.2 in ap is_end (sym same)
-  end_kept (CallTo dst name args) x e =
-      let found = bind_ok (callee_named d.names name) _ x e in
-      by found.0 (not (params_of d.procs found.0 == length args)) found.2 where
-        by : (k : ℕ) (t : Bool) → refuse_if t Arity (Ok (step.Invoke dst k args)) ≡ Ok x → is_end x ≡ false
-        by k false e = let same : step.Invoke dst k args ≡ x = cc in ap is_end (sym same)
-        by k true e = absurd cc
-
-  pub ends_kept : (ss : List Unlinked) (lines : List ℕ) (steps : List Step) → length lines ≡ length ss
-      → link_steps d labels ss lines ≡ Ok steps → ends_once steps ≡ closes_once ss
-  ends_kept [] lines steps same e = let none : [] ≡ steps = cc in ap ends_once (sym none)
-  ends_kept (s ∷ ss) [] steps same e = absurd (omega arith)
-  ends_kept (s ∷ ss) (line ∷ lines) steps same e =
-      let c = steps_cons s ss line lines steps e in
-      let rest = ends_kept ss lines c.1 (omega arith) c.3 in
-      let size = steps_length ss lines c.1 (omega arith) c.3 in
-      ap ends_once (sym c.4) ∙ ends_cons c.0 c.1
-      ∙ ap (λ t. if t then is_nil c.1 else ends_once c.1) (end_kept s c.0 c.2)
-      ∙ ap (λ t. if is_end_step s then t else ends_once c.1) (nil_same c.1 ss size)
-      ∙ ap (λ t. if is_end_step s then is_nil ss else t) rest
-      ∙ sym (closes_cons s ss)
-
-  module _ (p : Program) (q : Proc)
-      (target : (name : List ℕ) (k : ℕ) → named_in labels name ≡ Some k → k < length q.steps)
-      (callee : (name : List ℕ) (k : ℕ) (args : List Src) → callee_named d.names name ≡ Ok k → (params_of d.procs k == length args) ≡ true
-      → is_call p k args ≡ true) where
-    step_kept : (s : Unlinked) (x : Step) → is_unlinked q.vars s ≡ true → link_step d labels s ≡ Ok x → is_step p q x ≡ true
-    step_kept (Plain s) x h e =
-        let same : s ≡ x = cc in subst (λ y. is_step p q y ≡ true) same (plain_kept p q s h)
-    step_kept (IfTo rel a b label) x h e = by (named_in labels label) refl e where
-      by : (o : Option ℕ) → named_in labels label ≡ o → (or_refuse UnknownLabel o >>= λ to. Ok (step.If rel a b to)) ≡ Ok x → is_step p q x ≡ true
-      by None at e = absurd cc
-      by (Some to) at e =
-          let same : step.If rel a b to ≡ x = cc in
-          let below = target label to at in
-          let test : nat_lt to (length q.steps) ≡ true = grind arith in
-          subst (λ y. is_step p q y ≡ true) same (both (is_src q.vars a && is_src q.vars b) (nat_lt to (length q.steps)) h test)
-    step_kept (GotoTo label) x h e = by (named_in labels label) refl e where
-      by : (o : Option ℕ) → named_in labels label ≡ o → (or_refuse UnknownLabel o >>= λ to. Ok (step.Goto to)) ≡ Ok x → is_step p q x ≡ true
-      by None at e = absurd cc
-      by (Some to) at e =
-          let same : step.Goto to ≡ x = cc in
-          let below = target label to at in
-          let test : nat_lt to (length q.steps) ≡ true = grind arith in
-          subst (λ y. is_step p q y ≡ true) same test
-    step_kept (CallTo dst name args) x h e =
-        let found = bind_ok (callee_named d.names name) _ x e in
-        by found.0 found.1 (params_of d.procs found.0 == length args) refl found.2 where
-          by : (k : ℕ) → callee_named d.names name ≡ Ok k → (t : Bool) → (params_of d.procs k == length args) ≡ t
-              → refuse_if (not t) Arity (Ok (step.Invoke dst k args)) ≡ Ok x → is_step p q x ≡ true
-          by k at false test e = absurd cc
-          by k at true test e =
-              let same : step.Invoke dst k args ≡ x = cc in
-              subst (λ y. is_step p q y ≡ true) same
-              (both (option_map_or (λ v. nat_lt v q.vars) dst true && list_all (is_src q.vars) args) (is_call p k args) h (callee name k args at test))
-
-    pub steps_kept : (ss : List Unlinked) (lines : List ℕ) (steps : List Step) → length lines ≡ length ss
-        → list_all (is_unlinked q.vars) ss ≡ true → link_steps d labels ss lines ≡ Ok steps → list_all (is_step p q) steps ≡ true
-    steps_kept [] lines steps same h e = let none : [] ≡ steps = cc in ap (list_all (is_step p q)) (sym none)
-    steps_kept (s ∷ ss) [] steps same h e = absurd (omega arith)
-    steps_kept (s ∷ ss) (line ∷ lines) steps same h e =
-        let c = steps_cons s ss line lines steps e in
-        ap (list_all (is_step p q)) (sym c.4)
-        ∙ both (is_step p q c.0) (list_all (is_step p q) c.1)
-        (step_kept s c.0 (left _ _ h) c.2)
-        (steps_kept ss lines c.1 (omega arith) (right (is_unlinked q.vars s) _ h) c.3)
-
--- ---- procedures
+use Rattle.tta_tac.proofs.Variables.{both}
+use Rattle.tta_tac.proofs.LinkedSteps.{steps_length, ends_kept, steps_kept}
 
 proc_ok : (d : Draft) (q : ProcDraft) (r : Proc) → link_proc d q ≡ Ok r
     → (steps : List Step) × (link_steps d q.labels q.steps q.lines ≡ Ok steps)

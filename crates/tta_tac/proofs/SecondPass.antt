@@ -98,10 +98,6 @@ ended_at [] k q all below is = absurd (omega arith)
 ended_at (p ∷ procs) zero q all below is = subst (λ x. IsEnded (proc_seen x)) (sym is) all.0
 ended_at (p ∷ procs) (suc k) q all below is = ended_at procs k q all.1 (omega arith) is
 
-pub steps_length : (steps : List NamedStep) → length (steps_seen steps) ≡ length steps
-steps_length [] = refl
-steps_length (s ∷ steps) = ap suc (steps_length steps)
-
 -- what is told of a procedure is told of all
 pub procs_told : (d : Draft) (procs : List DraftProc) (k : ℕ) (q : DraftProc) (done : List Proc) (e : TacError) → k < length procs
     → q ≡ get_or procs k q → Tells {A = Proc} (Err e) (link_proc d (proc_seen q))

@@ -14,10 +14,11 @@ use Rattle.tta_tac.specs.Text.{take_lines}
 use Rattle.tta_tac.specs.Kept.{IsKept}
 use Rattle.tta_tac.specs.Told.{IsDraftOf}
 use Rattle.tta_tac.proofs.Finished.{bind_ok}
-use Rattle.tta_tac.proofs.KeptRules.{at_line_ok}
+use Rattle.tta_tac.proofs.LinkedSteps.{at_line_ok}
 use Rattle.tta_tac.proofs.StepsKept.{fits_form}
 use Rattle.tta_tac.proofs.FormsFit.{form_fit}
-use Rattle.tta_tac.proofs.Keeps.{nothing_kept, take_form_kept}
+use Rattle.tta_tac.proofs.Growing.{nothing_kept}
+use Rattle.tta_tac.proofs.Keeps.{take_form_kept}
 
 module _ (u : Units) where
   -- a line that is taken keeps the rules

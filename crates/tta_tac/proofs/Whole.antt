@@ -1,7 +1,6 @@
 -- Taking the lines of a text one by one.
-use Rattle.std.proofs.Common.{◌≡◌, ℕ, ◌+◌, List, [], ◌∷◌, Option, Some, None, Result, Ok, Err, refl, sym, ap, ◌∙◌}
+use Rattle.std.proofs.Common.{◌≡◌, ℕ, ◌+◌, List, [], ◌∷◌, Some, None, Ok, Err, refl, sym, ◌∙◌}
 use Rattle.tta_reading.specs.Lines.{Line, lines_of}
-use Rattle.tta_reading.specs.Steps.{◌>>=◌}
 use Rattle.tta_ops.specs.Units.{Units}
 use Rattle.tta_tac.specs.declared.reading.refusal.Refusal.{Refusal}
 use Rattle.tta_tac.specs.declared.reading.refusal.Refusal.TheVariants.{Syntax}
@@ -9,7 +8,6 @@ use Rattle.tta_tac.specs.declared.reading.refusal.TacError.TheVariants as tac_er
 use Rattle.tta_tac.specs.Refusals.{code_of}
 use Rattle.tta_tac.specs.Draft.{Draft, ProcDraft, nothing}
 use Rattle.tta_tac.specs.FirstPass.{take_line}
-use Rattle.tta_tac.specs.SecondPass.{Refused}
 use Rattle.tta_tac.specs.Text.{take_lines, linked_text, HasCause, InPasses}
 use Rattle.tta_tac.specs.Whole.{TakesAll}
 use Rattle.tta_tac.proofs.TextsKept.{text_kept}

@@ -105,6 +105,17 @@ impl Calls {
         self.top.at += 1;
     }
 
+    /// A variable of the innermost call becomes the word of an operand, and the next step comes.
+    pub fn copy(&mut self, d: u32, s: Src)
+        requires { self.old.top.at + 1 < 2 ^ 64 }
+        ensures { let f = self.old.top in
+            let g = record f { at = f.at + 1; vars = slice_set f.vars d (operand f.vars s) } in
+            self.new ≡ record self.old { top = g } }
+    {
+        let word = self.value(s);
+        self.assign(d, word);
+    }
+
     /// A procedure is called, with arguments that are operands of the innermost call.
     pub fn enter(&mut self, callee: usize, args: &[Src])
         requires there { callee < length self.old.sizes }

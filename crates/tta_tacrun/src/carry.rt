@@ -94,10 +94,7 @@ pub fn carry(
     let next = calls.top().at + 1;
     let mut word = None;
     match step {
-        Step::Copy { d, s } => {
-            let value = calls.value(*s);
-            calls.assign(*d, value);
-        }
+        Step::Copy { d, s } => calls.copy(*d, *s),
         Step::Apply { d, op, a, b } => {
             let value = units.apply(*op, calls.value(*a), calls.value(*b));
             calls.assign(*d, value);
@@ -121,8 +118,7 @@ pub fn carry(
         Step::Goto { to } => calls.go_to(*to as usize),
         Step::When { rel, a, b, d, s } => {
             if relations.is_held(units, *rel, calls.value(*a), calls.value(*b)) {
-                let value = calls.value(*s);
-                calls.assign(*d, value);
+                calls.copy(*d, *s);
             } else {
                 calls.go_to(next);
             }

@@ -69,18 +69,39 @@ fn refusals_write_nothing(rt: HostRuntime) -> Result<(), Fail> {
     Ok(())
 }
 
+/// The bytes of the image that a good run writes.
+fn good_image(alloc: Global) -> Result<Vec<u8>, Fail> {
+    let mut files = files_of(alloc, Vec::new(alloc))?;
+    let status = ends(alloc, &mut files, &["build", "M", "P", "OUT"])?;
+    if status != Status::Ok {
+        return Err(Fail::new("a good run fails"));
+    }
+    let image = files.get("OUT").ok_or("no image")?;
+    Ok(Vec::from_slice(alloc, image)?)
+}
+
+/// Whether the machine and the program are as they were.
+fn are_inputs_kept(files: &MemFiles) -> bool {
+    files.get("M") == Some(MACHINE.as_bytes()) && files.get("P") == Some(PROGRAM.as_bytes())
+}
+
 #[test]
 fn faults_of_each_call_are_told(rt: HostRuntime) -> Result<(), Fail> {
     let alloc = rt.alloc();
+    let image = good_image(alloc)?;
+    let first_half = image.get(..image.len() / 2).ok_or("no half")?;
     let faults = [
-        (1, Status::ReadFault { word: 1 }),
-        (2, Status::ReadFault { word: 2 }),
-        (3, Status::WriteFault),
+        (1, Status::ReadFault { word: 1 }, b"before".as_slice()),
+        (2, Status::ReadFault { word: 2 }, b"before".as_slice()),
+        (3, Status::WriteFault, first_half),
     ];
-    for (call, fault) in faults {
+    for (call, fault, left) in faults {
         let mut files = files_of(alloc, vec![in alloc; call]?)?;
+        files.add("OUT", b"before")?;
         let status = ends(alloc, &mut files, &["build", "M", "P", "OUT"])?;
         assert_eq!(rt; status, fault, "at call {call}");
+        assert_eq!(rt; files.get("OUT"), Some(left), "after call {call}");
+        assert!(rt; are_inputs_kept(&files), "after call {call}");
     }
     Ok(())
 }

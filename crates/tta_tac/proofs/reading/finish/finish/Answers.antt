@@ -3,7 +3,8 @@ use Rattle.std.proofs.Common.{sym, ◌∙◌, ap, subst, length}
 use Rattle.tta_tac.specs.Cycles.{IsAcyclic}
 use Rattle.tta_tac.specs.Told.{LeadsBack}
 use Rattle.tta_tac.specs.Draft.{draft_seen, procs_seen}
-use Rattle.tta_tac.proofs.Finished.{linked_length, seen_length, told_in_passes, told_by_recursion, told_without_main, made_program}
+use Rattle.tta_tac.proofs.Finished.{linked_length, told_in_passes, told_by_recursion, told_without_main, made_program}
+use Rattle.tta_tac.proofs.Seen.{procs_seen_length}
 use Rattle.tta_tac.proofs.KeptRules.{keeps_rules}
 use Rattle.tta_tac.proofs.reading.finish.finish.Goals as goal
 
@@ -14,7 +15,7 @@ pub check_calls-requires : goal.check_calls-requires
 check_calls-requires c =
     ap length c.as_slice.ensures
     ∙ linked_length (draft_seen c.args.draft.now) (procs_seen c.args.draft.now.procs) c.in-Ok.procs c.in-Ok.ensures
-    ∙ seen_length c.args.draft.now.procs
+    ∙ procs_seen_length c.args.draft.now.procs
 
 pub returns-in-Err-check_calls-clause-refused : goal.returns-in-Err-check_calls-clause-refused
 returns-in-Err-check_calls-clause-refused c =

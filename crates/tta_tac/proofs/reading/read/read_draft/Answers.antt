@@ -1,4 +1,4 @@
-use Rattle.std.proofs.Common.{◌≡◌, Some, None, [], ap, ◌+◌, ◌∷◌, List, Ok, Err, length, map, true, sym, subst, ◌∙◌, arith}
+use Rattle.std.proofs.Common.{◌≡◌, Some, None, [], ap, ◌+◌, ◌∷◌, List, Ok, Err, length, map, sym, subst, ◌∙◌, arith}
 use Rattle.tta_reading.specs.declared.word.Word.{Word}
 use Rattle.tta_reading.specs.Lines.{plain}
 use Rattle.tta_ops.specs.Set.{stated}
