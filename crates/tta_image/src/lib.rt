@@ -1,11 +1,17 @@
 //! Instructions as bits, and code as the bytes of an image.
 #![tactic(auto)]
 
+mod bits;
 mod fields;
+mod header;
 mod laws;
+mod refusal;
 mod sink;
+mod slots;
+mod words;
 mod write;
 
-pub use laws::{one_code, one_image};
+pub use laws::{one_code, one_image, said_code};
+pub use refusal::{ImageError, ImageRefusal};
 pub use tta_machine::{BusFields, Layout};
 pub use write::write_image;

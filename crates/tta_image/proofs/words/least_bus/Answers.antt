@@ -1,0 +1,11 @@
+use Rattle.std.proofs.Common.{◌<◌, ◌≤◌, length, sym, ap, ◌∙◌, arith}
+use Rattle.tta_image.proofs.BitsAt.{least_is}
+use Rattle.tta_image.proofs.words.least_bus.Goals as goal
+
+pub returns-then-has_bus : goal.returns-then-has_bus
+returns-then-has_bus c =
+    let inside : c.loop-bus.bus ≤ length c.args.m.now.buses = omega arith in
+    least_is c.args.taken (length c.args.m.now.buses) c.loop-bus.bus inside c.loop-bus.invariant (λ lt. sym c.has_bus.ensures ∙ c.if-has_bus.true)
+
+pub returns : goal.returns
+returns c = ?
