@@ -3,19 +3,21 @@ use Rattle.std.proofs.Common.{◌≡◌, ℕ, zero, suc, ◌+◌, ◌-◌, ◌*�
 use Rattle.std.specs.List.{sum_by, AllByRecursion}
 use Rattle.std.proofs.lemmas.Option.{none-some, same_Some}
 use Rattle.std.proofs.lemmas.Bool.{le-ltb, lt-ltb, ltb-true, ltb-false}
-use Rattle.std.proofs.lemmas.List.{append_assoc, append-nil, length-append, length-take-le, drop_more}
+use Rattle.std.proofs.lemmas.List.{append_assoc, append-nil, length-append, length-take-le, drop-drop, drop_more}
 use Rattle.std.proofs.lemmas.List.Sums.{sum_by-drop_more}
 use Rattle.std.proofs.lemmas.Nat.{pow-add, pow_pos, mul-le}
-use Rattle.tta_reading.specs.Steps.{◌>>=◌}
+use Rattle.tta_reading.specs.Steps.{◌>>=◌, or_refuse}
 use Rattle.tta_machine.specs.declared.layout.BusFields.{BusFields}
 use Rattle.tta_machine.specs.Machine.{Machine}
 use Rattle.tta_machine.specs.Joins.{has_bit}
 use Rattle.tta_code.specs.declared.code.Move.{Move}
+use Rattle.tta_code.specs.declared.code.Long.{Long}
 use Rattle.tta_image.specs.declared.refusal.ImageError.{ImageError}
 use Rattle.tta_image.specs.declared.refusal.ImageError.TheVariants.{Refused, NoMemory}
 use Rattle.tta_image.specs.Narrow.{IsNarrow, AreNarrow}
-use Rattle.tta_image.specs.Decoding.{number_of, field, taken_bits, word_only, bus_said, slots_said}
-use Rattle.tta_image.specs.Refusals.{Answers}
+use Rattle.tta_image.specs.Decoding.{number_of, field, taken_by, taken_bits, least_bus, word_only, long_said, bus_said, slots_said}
+use Rattle.tta_image.specs.declared.refusal.ImageRefusal.TheVariants.{Field}
+use Rattle.tta_image.specs.Refusals.{of_word, Answers}
 use Rattle.tta_image.proofs.Numbers.{number_of-append}
 
 -- ---- answers
@@ -163,3 +165,36 @@ value_end taken bus fs bits value total none small was =
     let same : value ≡ total = omega arith in
     let yes : nat_lt value (2 ^ 32) ≡ true = lt-ltb value (2 ^ 32) small in
     subst (λ (n : ℕ). Some value ≡ word_only n) same (rw yes refl)
+
+-- ---- what a call read
+
+-- the item that an index gives
+pub item_read : {X : Type 0} (items xs : List X) (i : ℕ) (x : X) → items ≡ xs → x ≡ get_or items i x → x ≡ get_or xs i x
+item_read items xs i x same is = is ∙ ap (λ l. get_or l i x) same
+
+-- a long immediate whose upper bits are set
+pub long_refused : (m : Machine) (word : ℕ) (fs : List BusFields) (template : Option ℕ) (bits : List Bool) (t taken bus : ℕ) (value : Option ℕ) (e : ImageError)
+    → template ≡ Some t → taken ≡ taken_by m (Some t) → value ≡ word_only (number_of (taken_bits taken 0 fs bits)) → value ≡ None → bus ≡ least_bus m taken
+    → e ≡ of_word word Field bus → Err e ≡ long_said m word fs template bits
+long_refused m word fs template bits t taken bus value e is takes said none least told =
+    let after : (ℕ → ImageError) → ℕ → Option ℕ → Result (Option Long) ImageError =
+    λ refusal set o. or_refuse (refusal (least_bus m set)) o >>= λ value. Ok (Some (record { template = t; value = value })) in
+    ap (λ (x : ImageError). Err x) (told ∙ ap (λ (b : ℕ). of_word word Field b) least)
+    ∙ ap (λ (o : Option ℕ). after (of_word word Field) taken o) (sym none ∙ said)
+    ∙ ap (λ (k : ℕ). after (of_word word Field) k (word_only (number_of (taken_bits k 0 fs bits)))) takes
+    ∙ ap (λ (o : Option ℕ). long_said m word fs o bits) (sym is)
+
+-- the bits after some of the bits that are left
+pub rest_after : (bits : List Bool) (at width : ℕ) → drop width (drop at bits) ≡ drop (at + width) bits
+rest_after bits at width = drop-drop width at bits
+
+-- a bus lies within the bits that are left for it and those after it
+pub width_here : (fs : List BusFields) (i : ℕ) (f : BusFields) (at most : ℕ) → i < length fs → f ≡ get_or fs i f → at + widths (drop i fs) ≤ most
+    → at + f.width ≤ most
+width_here fs i f at most h is room = let more = width_step fs i f at most h is room in omega arith
+
+-- the number of what is read stays a word
+pub value_small : (is_taken : Bool) (width value share value' : ℕ) → value < 2 ^ 32 → Some value' ≡ value_said is_taken width value share → value' < 2 ^ 32
+value_small true width value share value' small said =
+    let w = word_some (value * 2 ^ width + share) value' said in let is = w.0 in let fits = w.1 in omega arith
+value_small false width value share value' small said = let same = same_Some value' value said in omega arith

@@ -46,6 +46,7 @@ fn has_length(m: &Machine, width: u32, bytes: &[u8], words: u32) -> bool
 
 /// How many words the image has, whose instructions have so many bits; or the first refusal of its
 /// header.
+#[tactic(auto, unfolding(crate::specs::Reading::header_said))]
 pub fn read_header(
     m: &Machine,
     width: u32,

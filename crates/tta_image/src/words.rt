@@ -195,6 +195,7 @@ fn read_slots(
 }
 
 /// The instruction of a word that begins after so many bits.
+#[tactic(auto, unfolding(crate::specs::Decoding::instruction_said), using(crate::proofs::Walks::rest_after))]
 pub fn read_instruction(
     alloc: Global,
     m: &Machine,
@@ -209,9 +210,10 @@ pub fn read_instruction(
     ensures { Answers result
         (instruction_said m.now layout.now word (drop at (bits_in bytes.now))) }
 {
+    let buses = m.buses.len() as u8;
     let code = number_at(bytes, at, layout.template_width);
     let Some(template) = template_of(m, code) else {
-        return Err(ImageRefusal::Field.of_word(word, m.buses.len() as u8));
+        return Err(ImageRefusal::Field.of_word(word, buses));
     };
     let at = at + layout.template_width as usize;
     let long = read_long(m, layout, bytes, at, word, template)?;
