@@ -112,3 +112,8 @@ header_again m digest body words many fits room size =
     ∙ ap (λ (b : Bool). refuse_if (not b) (of_all Width) (refuse_if (not (has_length m bytes (word_count bytes))) (of_all Length) (Ok (word_count bytes)))) s8
     ∙ ap (λ (n : ℕ). refuse_if (not (has_length m bytes n)) (of_all Length) (Ok n)) count
     ∙ ap (λ (b : Bool). refuse_if (not b) (of_all Length) (Ok words)) long
+
+-- numbers that are all bytes, place by place
+pub small_bytes : (bytes : List ℕ) → ((i : ℕ) → get_or bytes i 0 < 256) → AllByRecursion (λ b. b < 256) bytes
+small_bytes [] small = tt
+small_bytes (b ∷ bs) small = (small 0, small_bytes bs (λ i. small (suc i)))

@@ -63,7 +63,7 @@ pub front_none : {A E : Type 0} (r : Result (List A) E) → with_front [] r ≡ 
 front_none (Ok xs) = refl
 front_none (Err e) = refl
 
-front_more : {A E : Type 0} (front : List A) (x : A) (r : Result (List A) E) → with_front front (r >>= λ xs. Ok (x ∷ xs)) ≡ with_front (front ++ x ∷ []) r
+pub front_more : {A E : Type 0} (front : List A) (x : A) (r : Result (List A) E) → with_front front (r >>= λ xs. Ok (x ∷ xs)) ≡ with_front (front ++ x ∷ []) r
 front_more {A = A} front x (Ok xs) = ap (λ (l : List A). Ok l) (sym (append_assoc front (x ∷ []) xs))
 front_more front x (Err e) = refl
 

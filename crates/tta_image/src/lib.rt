@@ -5,6 +5,7 @@ mod bits;
 mod fields;
 mod header;
 mod laws;
+mod read;
 mod refusal;
 mod sink;
 mod slots;
@@ -12,6 +13,7 @@ mod words;
 mod write;
 
 pub use laws::{one_code, one_image, said_code};
+pub use read::read_image;
 pub use refusal::{ImageError, ImageRefusal};
 pub use tta_machine::{BusFields, Layout};
 pub use write::write_image;
