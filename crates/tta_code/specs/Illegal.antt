@@ -1,19 +1,21 @@
 -- Why a machine cannot carry out an instruction: the first rule that is broken, as the buses are walked upwards.
-use Rattle.std.specs.Prelude.{◌≡◌, ℕ, ◌↔◌, Bool, true, false, not, List, [], ◌∷◌, ◌++◌, length, map, Option, Some, None, slice_get, nat_lt, count_by, option_map}
+use Rattle.std.specs.Prelude.{◌≡◌, ℕ, ◌↔◌, Bool, true, false, not, List, [], ◌∷◌, ◌++◌, length, Option, Some, None, slice_get, nat_lt, count_by}
 use Rattle.std.specs.Option.{option_or, option_map_or}
 use Rattle.std.specs.List.{list_any}
 use Rattle.tta_machine.specs.declared.ends.Source.{Source}
 use Rattle.tta_machine.specs.declared.ends.Source.TheVariants as source
 use Rattle.tta_machine.specs.declared.ends.Dest.{Dest}
 use Rattle.tta_machine.specs.declared.ends.Dest.TheVariants as dest
+use Rattle.tta_machine.specs.declared.parts.Template.{Template}
 use Rattle.tta_machine.specs.Machine.{Machine}
 use Rattle.tta_machine.specs.Joins.{has_bit, joins}
-use Rattle.tta_machine.specs.Legal.{Ends, Slots, ends_of, keeps_taken, is_joined, has_reads, has_writes, are_apart, reads_file, reads_imm, writes_file, same_place}
+use Rattle.tta_machine.specs.Legal.{Slots, ends_of, keeps_taken, is_joined, has_reads, has_writes, are_apart, reads_file, reads_imm, writes_file, same_place}
 use Rattle.tta_code.specs.declared.code.Move.{Move}
+use Rattle.tta_code.specs.declared.code.Long.{Long}
 use Rattle.tta_code.specs.declared.code.Instruction.{Instruction}
 use Rattle.tta_code.specs.declared.legality.Illegal.{Illegal}
 use Rattle.tta_code.specs.declared.legality.Illegal.TheVariants.{TakenBus, Unjoined, ReadPorts, WritePorts, TwoIntoOne}
-use Rattle.tta_code.specs.Legal.{ends_of as move_ends, slots_of, taken, is_instruction, is_legal}
+use Rattle.tta_code.specs.Legal.{slots_of, taken, is_instruction, is_legal}
 
 -- the first of the five rules, in this order, that does not hold
 abbrev pub told : (untaken joined reads writes apart : Bool) → Option Illegal
@@ -45,27 +47,37 @@ TellsLegal = (m : Machine) (i : Instruction) → is_instruction m i ≡ true →
 
 -- ---- one move more
 
--- the slots that moves give, and the moves that there are
-abbrev pub slots_from : List (Option Move) → Slots
-slots_from moves = map (option_map move_ends) moves
+-- the buses that a long immediate's template takes
+abbrev pub taken_by : List Template → Option Long → ℕ
+taken_by templates long = option_map_or (λ l. option_map_or (λ t. t.buses) (slice_get templates l.template) 0) long 0
+
+-- how many moves of some slots pass a test
+abbrev pub moves_where : (Move → Bool) → List (Option Move) → ℕ
+moves_where test slots = count_by (λ slot. option_map_or test slot false) slots
 
 -- whether moves leave a source room for one more
-abbrev pub has_read_left : Machine → List Ends → Source → Bool
-has_read_left m vs (source.Reg file index) = nat_lt (count_by (λ v. reads_file file v.src) vs) (option_map_or (λ f. f.read) (slice_get m.files file) 0)
-has_read_left m vs (source.Imm unit index) = nat_lt (count_by (λ v. reads_imm unit v.src) vs) 1
-has_read_left m vs src = true
+abbrev pub has_read_left : Machine → List (Option Move) → Source → Bool
+has_read_left m before (source.Reg file index) =
+    nat_lt (moves_where (λ v. reads_file file v.src) before) (option_map_or (λ f. f.read) (slice_get m.files file) 0)
+has_read_left m before (source.Imm unit index) = nat_lt (moves_where (λ v. reads_imm unit v.src) before) 1
+has_read_left m before src = true
 
 -- whether moves leave a destination room for one more
-abbrev pub has_write_left : Machine → List Ends → Dest → Bool
-has_write_left m vs (dest.Reg file index) = nat_lt (count_by (λ v. writes_file file v.dst) vs) (option_map_or (λ f. f.write) (slice_get m.files file) 0)
-has_write_left m vs dst = true
+abbrev pub has_write_left : Machine → List (Option Move) → Dest → Bool
+has_write_left m before (dest.Reg file index) =
+    nat_lt (moves_where (λ v. writes_file file v.dst) before) (option_map_or (λ f. f.write) (slice_get m.files file) 0)
+has_write_left m before dst = true
+
+-- whether a slot has a move into this place
+abbrev pub goes_into : Dest → Option Move → Bool
+goes_into dst slot = option_map_or (λ v. same_place v.dst dst) slot false
 
 -- whether none of some moves goes into this place
-abbrev pub is_place_free : List Ends → Dest → Bool
-is_place_free vs dst = not (list_any (λ v. same_place v.dst dst) vs)
+abbrev pub is_place_free : List (Option Move) → Dest → Bool
+is_place_free before dst = not (list_any (goes_into dst) before)
 
 -- the first rule that a move on the next bus breaks, where the moves before it break none
-abbrev pub broken_by : Machine → (taken : ℕ) → Slots → Ends → Option Illegal
+abbrev pub broken_by : Machine → (taken : ℕ) → (before : List (Option Move)) → Move → Option Illegal
 broken_by m taken before v =
     told (not (has_bit taken (length before))) (joins m (length before) v.src v.dst v.guard)
-    (has_read_left m (ends_of before) v.src) (has_write_left m (ends_of before) v.dst) (is_place_free (ends_of before) v.dst)
+    (has_read_left m before v.src) (has_write_left m before v.dst) (is_place_free before v.dst)

@@ -4,8 +4,8 @@ ghost use Rattle.std.specs.Prelude.{◌≡◌, ◌<◌, true, false, None, Some,
 ghost use Rattle.std.specs.Prelude.{length};
 ghost use Rattle.std.specs.Result.{result_err};
 ghost use Rattle.tta_connect.specs.Net.{IsNetOf};
-ghost use Rattle.tta_code.specs.Legal.{ends_of, is_instruction, is_legal};
-ghost use Rattle.tta_code.specs.Illegal.{slots_from, broken_by, first_illegal};
+ghost use Rattle.tta_code.specs.Legal.{is_instruction, is_legal};
+ghost use Rattle.tta_code.specs.Illegal.{broken_by, first_illegal};
 
 use crate::code::{Instruction, Move};
 use crate::room::{has_read_left, has_write_left, is_place_free, taken};
@@ -37,7 +37,7 @@ fn check_move(
 ) -> Result<(), Illegal>
     requires net { IsNetOf net.now m.now }
     requires few { length before.now < 16 }
-    ensures { result_err result ≡ broken_by m.now taken (slots_from before.now) (ends_of v) }
+    ensures { result_err result ≡ broken_by m.now taken before.now v }
 {
     let bus = before.len();
     if has_bus(taken, bus) {
@@ -70,7 +70,7 @@ pub fn legal(m: &Machine, net: &Net, i: &Instruction) -> Result<(), Illegal>
         (λ _. first_illegal m.now i.now ≡ None)
         (λ why. first_illegal m.now i.now ≡ Some why) }
 {
-    let taken = taken(m, i);
+    let taken = taken(m.templates.as_slice(), i.long);
     let moves = i.moves.as_slice();
     for (bus, slot) in moves.iter().enumerate() {
         if let Some(v) = slot {

@@ -1,22 +1,22 @@
 //! What the moves of a cycle leave free.
 
-ghost use Rattle.std.specs.Prelude.{◌≡◌, false, count_by};
+ghost use Rattle.std.specs.Prelude.{◌≡◌, false};
+ghost use Rattle.std.specs.List.{list_any};
 ghost use Rattle.std.specs.Option.{option_map_or};
-ghost use Rattle.tta_machine.specs.Legal.{ends_of, reads_file, reads_imm, writes_file, same_place};
-ghost use Rattle.tta_code.specs.Legal.{taken};
-ghost use Rattle.tta_code.specs.Illegal.{slots_from, has_read_left, has_write_left, is_place_free};
+ghost use Rattle.tta_machine.specs.Legal.{reads_file, reads_imm, writes_file, same_place};
+ghost use Rattle.tta_code.specs.Illegal.{taken_by, moves_where, has_read_left, has_write_left, goes_into, is_place_free};
 
-use crate::code::{Instruction, Move};
-use tta_machine::{Dest, Machine, Source};
+use crate::code::{Long, Move};
+use tta_machine::{Dest, Machine, Source, Template};
 
-/// The buses that an instruction's template takes.
-pub fn taken(m: &Machine, i: &Instruction) -> u16
-    ensures { result ≡ taken m.now i.now }
+/// The buses that a long immediate's template takes.
+pub fn taken(templates: &[Template], long: Option<Long>) -> u16
+    ensures { result ≡ taken_by templates.now long }
 {
-    let Some(l) = i.long else {
+    let Some(l) = long else {
         return 0;
     };
-    match m.templates.as_slice().get(usize::from(l.template)) {
+    match templates.get(usize::from(l.template)) {
         None => 0,
         Some(t) => t.buses,
     }
@@ -85,7 +85,7 @@ fn same_place(a: Dest, b: Dest) -> bool
 
 /// Whether a slot has a move into a place.
 fn goes_into(slot: Option<Move>, dst: Dest) -> bool
-    ensures { result ≡ option_map_or (λ v. same_place v.dst dst) slot false }
+    ensures { result ≡ goes_into dst slot }
 {
     match slot {
         None => false,
@@ -95,29 +95,32 @@ fn goes_into(slot: Option<Move>, dst: Dest) -> bool
 
 /// How many moves read a file.
 fn file_reads(moves: &[Option<Move>], file: u8) -> usize
-    ensures { result ≡ count_by (λ v. reads_file file v.src) (ends_of (slots_from moves.now)) }
+    ensures { result ≡ moves_where (λ v. reads_file file v.src) moves.now }
 {
     moves.iter().filter(|slot| reads_file(**slot, file)).count()
 }
 
 /// How many moves read an immediate unit.
 fn imm_reads(moves: &[Option<Move>], unit: u8) -> usize
-    ensures { result ≡ count_by (λ v. reads_imm unit v.src) (ends_of (slots_from moves.now)) }
+    ensures { result ≡ moves_where (λ v. reads_imm unit v.src) moves.now }
 {
     moves.iter().filter(|slot| reads_imm(**slot, unit)).count()
 }
 
 /// How many moves write a file.
 fn file_writes(moves: &[Option<Move>], file: u8) -> usize
-    ensures { result ≡ count_by (λ v. writes_file file v.dst) (ends_of (slots_from moves.now)) }
+    ensures { result ≡ moves_where (λ v. writes_file file v.dst) moves.now }
 {
-    moves.iter().filter(|slot| writes_file(**slot, file)).count()
+    moves
+        .iter()
+        .filter(|slot| writes_file(**slot, file))
+        .count()
 }
 
 /// Whether moves leave a source room for one more: a file has so many reads a cycle, and an
 /// immediate unit one.
 pub fn has_read_left(m: &Machine, moves: &[Option<Move>], src: Source) -> bool
-    ensures { result ≡ has_read_left m.now (ends_of (slots_from moves.now)) src }
+    ensures { result ≡ has_read_left m.now moves.now src }
 {
     match src {
         Source::Reg { file, .. } => match m.files.as_slice().get(usize::from(file)) {
@@ -131,7 +134,7 @@ pub fn has_read_left(m: &Machine, moves: &[Option<Move>], src: Source) -> bool
 
 /// Whether moves leave a destination room for one more: a file has so many writes a cycle.
 pub fn has_write_left(m: &Machine, moves: &[Option<Move>], dst: Dest) -> bool
-    ensures { result ≡ has_write_left m.now (ends_of (slots_from moves.now)) dst }
+    ensures { result ≡ has_write_left m.now moves.now dst }
 {
     match dst {
         Dest::Reg { file, .. } => match m.files.as_slice().get(usize::from(file)) {
@@ -142,9 +145,16 @@ pub fn has_write_left(m: &Machine, moves: &[Option<Move>], dst: Dest) -> bool
     }
 }
 
+/// Whether a move goes into a place.
+fn is_place_taken(moves: &[Option<Move>], dst: Dest) -> bool
+    ensures { result ≡ list_any (goes_into dst) moves.now }
+{
+    moves.iter().any(|slot| goes_into(*slot, dst))
+}
+
 /// Whether no move goes into a place.
 pub fn is_place_free(moves: &[Option<Move>], dst: Dest) -> bool
-    ensures { result ≡ is_place_free (ends_of (slots_from moves.now)) dst }
+    ensures { result ≡ is_place_free moves.now dst }
 {
-    !moves.iter().any(|slot| goes_into(*slot, dst))
+    !is_place_taken(moves, dst)
 }

@@ -1,9 +1,9 @@
 -- The table of guards, as it is filled.
-use Rattle.std.proofs.Common.{◌≡◌, ◌≢◌, ◌<◌, ◌≤◌, ◌+◌, ◌*◌, ℕ, Bool, true, false, List, [], ◌∷◌, ◌++◌, length, take, get_or, set, refl, sym, ap, subst, ◌∙◌, ◌⊎◌, inl, inr, arith}
+use Rattle.std.proofs.Common.{◌≡◌, ◌≢◌, ◌<◌, ◌≤◌, ◌+◌, ◌*◌, ℕ, Bool, true, false, List, [], ◌∷◌, ◌++◌, length, take, get_or, refl, sym, ap, subst, ◌∙◌, inl, inr, arith}
 use Rattle.std.specs.Prelude.{◌==◌, ◌&&◌, ◌||◌, Option, Some, None, slice_get, slice_index, slice_set, nat_lt, if◌then◌else◌}
 use Rattle.std.specs.Option.{option_map_or}
 use Rattle.std.specs.List.{list_any}
-use Rattle.std.proofs.lemmas.Bool.{and_parts, eqb-true, eq-eqb, ltb-true, lt-ltb, le-ltb, cases_lt, false≢true, and_from, false_from_ne_true}
+use Rattle.std.proofs.lemmas.Bool.{and_parts, eqb-true, eq-eqb, ltb-true, lt-ltb, le-ltb, cases_lt, false≢true, and_from}
 use Rattle.std.proofs.lemmas.Option.{slice_get_within, slice_get-get_or}
 use Rattle.std.proofs.lemmas.List.{get_or-set_same, get_or-set_other, get_or_default, take_more}
 use Rattle.std.proofs.lemmas.List.Folds.{list_any-append}
@@ -12,11 +12,10 @@ use Rattle.tta_machine.specs.declared.parts.Guard.{Guard}
 use Rattle.tta_machine.specs.declared.ends.GuardRef.{GuardRef}
 use Rattle.tta_machine.specs.Machine.{Machine}
 use Rattle.tta_machine.specs.Joins.{has_bit, is_same, is_same_guard}
-use Rattle.tta_machine.specs.Rules.{IsMachine, is_guard, is_file, is_from_to, is_socket}
+use Rattle.tta_machine.specs.Rules.{IsMachine, is_guard, is_file, is_from_to}
 use Rattle.tta_machine.proofs.Facts.{from_to-greatest}
 use Rattle.tta_machine.proofs.Lists.{list_all_one}
 use Rattle.tta_connect.specs.Guards.{guard_place, guard_buses}
-use Rattle.tta_connect.proofs.SetLemmas.{has_bit-empty}
 
 -- ---- what the rules of machines say of a guard
 

@@ -1,12 +1,10 @@
 -- A short field holds the words that need no more bits than it has.
-use Rattle.std.proofs.Common.{◌≡◌, ◌≢◌, ◌<◌, ◌≤◌, ◌+◌, ◌-◌, ◌*◌, ◌/◌, ◌%◌, ◌^◌, ℕ, zero, suc, Bool, true, false, refl, sym, ap, ◌∙◌, ◌⊎◌, inl, inr, arith, subst, mul-le-mul_left}
+use Rattle.std.proofs.Common.{◌≡◌, ◌<◌, ◌≤◌, ◌+◌, ◌-◌, ◌*◌, ◌/◌, ◌^◌, ℕ, Bool, true, false, refl, sym, ap, ◌∙◌, inl, inr, arith, subst}
 use Rattle.std.specs.Prelude.{◌==◌, ◌&&◌, ◌||◌, nat_lt, nat_le, if◌then◌else◌, slice_get, Option, Some, None}
 use Rattle.std.specs.Option.{option_map_or}
 use Rattle.std.specs.List.{list_all}
-use Rattle.std.specs.Int.{w32, leading_zeros}
-use Rattle.std.specs.Int.Count.{count_leading_zeros}
-use Rattle.std.proofs.lemmas.Bool.{cases_lt, cases_eq, eq-eqb, ne_eqb, lt-ltb, le-ltb, le-leb, lt-leb}
-use Rattle.std.proofs.lemmas.Nat.{leading_length, pow_pos, pow-add, shr_split, mod_below, div_below, le-div}
+use Rattle.std.proofs.lemmas.Bool.{cases_lt, eq-eqb, ne_eqb, lt-ltb, le-ltb, le-leb, lt-leb}
+use Rattle.std.proofs.lemmas.Nat.{leading_length, pow_pos, pow-add, div_below, le-div}
 use Rattle.std.proofs.Math.Pow.{pow_mono}
 use Rattle.tta_machine.specs.declared.parts.Bus.{Bus}
 use Rattle.tta_machine.specs.declared.ends.Source.TheVariants as source
