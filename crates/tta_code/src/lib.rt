@@ -2,5 +2,10 @@
 #![tactic(auto)]
 
 mod code;
+mod laws;
+mod legality;
+mod room;
 
 pub use code::{Code, Instruction, Long, Move};
+pub use laws::tells_legal;
+pub use legality::{Illegal, legal};
