@@ -1,9 +1,9 @@
 //! The reader of images.
 
-ghost use Rattle.std.specs.Prelude.{◌≡◌, ◌+◌, ◌*◌, ◌<◌, ◌≤◌, ◌^◌, length, drop, true, IfOk};
+ghost use Rattle.std.specs.Prelude.{◌≡◌, ◌+◌, ◌*◌, ◌<◌, ◌≤◌, ◌^◌, length, drop, IfOk};
 ghost use Rattle.std.specs.List.{list_any};
 ghost use Rattle.tta_machine.specs.Layout.{layout_of};
-ghost use Rattle.tta_code.specs.Legal.{is_instruction, is_legal};
+ghost use Rattle.tta_connect.specs.Net.{IsNetOf};
 ghost use Rattle.tta_image.specs.Decoding.{bits_in};
 ghost use Rattle.tta_image.specs.Image.{Image};
 ghost use Rattle.tta_image.specs.Reading.{word_said, words_said, image_said};
@@ -14,16 +14,10 @@ use crate::header::read_header;
 use crate::refusal::{ImageError, ImageRefusal};
 use crate::words::read_instruction;
 use std::alloc::Global;
-use tta_code::{Code, Instruction};
+use tta_code::{Code, Instruction, legal};
+use tta_connect::Net;
 use tta_list::Items;
 use tta_machine::{Layout, Machine};
-
-fn legal_stub(m: &Machine, i: &Instruction) -> bool
-    requires { is_instruction m.now i.now ≡ true }
-    ensures { result ≡ is_legal m.now i.now }
-{
-    m.buses.len() == i.moves.len()
-}
 
 /// The instruction of a word that begins after so many bits.
 #[tactic(auto, using(crate::proofs::Decoded::is_decoded))]
@@ -31,20 +25,21 @@ fn read_word(
     alloc: Global,
     m: &Machine,
     layout: &Layout,
+    net: &Net,
     bytes: &[u8],
     at: usize,
     word: u32,
 ) -> Result<Instruction, ImageError>
     requires layout { layout.now ≡ layout_of m.now }
+    requires net { IsNetOf net.now m.now }
     requires few { 8 * length bytes.now < 2 ^ 64 }
     requires room { at + layout.now.width ≤ 8 * length bytes.now }
     ensures { Answers result (word_said m.now layout.now word (drop at (bits_in bytes.now))) }
 {
     let i = read_instruction(alloc, m, layout, bytes, at, word)?;
-    if legal_stub(m, &i) {
-        Ok(i)
-    } else {
-        Err(ImageRefusal::Illegal.of_word(word, 0))
+    match legal(m, net, &i) {
+        Ok(()) => Ok(i),
+        Err(_) => Err(ImageRefusal::Illegal.of_word(word, 0)),
     }
 }
 
@@ -63,10 +58,12 @@ fn read_words(
     alloc: Global,
     m: &Machine,
     layout: &Layout,
+    net: &Net,
     bytes: &[u8],
     count: u32,
 ) -> Result<Items<Instruction>, ImageError>
     requires layout { layout.now ≡ layout_of m.now }
+    requires net { IsNetOf net.now m.now }
     requires few { 8 * length bytes.now < 2 ^ 64 }
     requires room { count * layout.now.width ≤ 8 * length bytes.now }
     requires short { 8 * length bytes.now < count * layout.now.width + 8 }
@@ -75,7 +72,7 @@ fn read_words(
     let mut words = Items::new(alloc);
     let mut at: usize = 0;
     for word in 0..count {
-        let i = read_word(alloc, m, layout, bytes, at, word)?;
+        let i = read_word(alloc, m, layout, net, bytes, at, word)?;
         words.push(i)?;
         at += layout.width as usize;
     }
@@ -109,7 +106,8 @@ pub fn read_image(
     // An address has at most 16 bits by the rules of a machine, so the words are few.
     let _control = &m.control;
     let layout = Layout::of(alloc, m)?;
-    let count = read_header(m, layout.width, digest, bytes)?;
-    let words = read_words(alloc, m, &layout, body_of(bytes), count)?;
+    let net = Net::of(alloc, m)?;
+    let count = read_header(m, layout.width(), digest, bytes)?;
+    let words = read_words(alloc, m, &layout, &net, body_of(bytes), count)?;
     Ok(Code { words })
 }

@@ -1,4 +1,4 @@
-use Rattle.std.proofs.Common.{◌≡◌, ◌≤◌, ◌<◌, ◌^◌, ℕ, length, subst, ap, sym, ◌∙◌, Ok, Err, arith, rules}
+use Rattle.std.proofs.Common.{◌≡◌, ◌≤◌, ◌<◌, ◌^◌, ℕ, length, subst, ap, sym, ◌∙◌, Ok, Err, arith}
 use Rattle.std.proofs.lemmas.Result.{err_from_is_err_and}
 use Rattle.tta_machine.specs.Machine.{Machine}
 use Rattle.tta_machine.specs.declared.layout.Layout.{Layout}
@@ -17,7 +17,7 @@ pub read_words-requires-clause-few : goal.read_words-requires-clause-few
 read_words-requires-clause-few c =
     let rules = subst (λ (m : Machine). IsMachine m) c.m.view_is c.m.invariant in
     let room = room_of c.args.m.now c.args.digest.now c.args.bytes.now c.in_ok-count.count (sym c.in_ok-count.ensures) in
-    let narrow : c.in_ok-layout.layout.width < 2 ^ 32 = search rules in
+    let narrow : c.in_ok-layout.layout.width < 2 ^ 32 = omega arith in
     words_few c.args.m.now c.args.bytes.now c.body_of.result.now c.in_ok-count.count c.in_ok-layout.layout.width rules room c.body_of.ensures
     (ap (λ (l : Layout). l.width) c.in_ok-layout.ensures) narrow
 
