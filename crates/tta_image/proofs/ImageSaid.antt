@@ -1,5 +1,5 @@
 -- Bytes are the image of a code just where they say the code.
-use Rattle.std.proofs.Common.{◌≡◌, ℕ, ◌+◌, ◌-◌, ◌*◌, ◌/◌, ◌^◌, ◌<◌, ◌≤◌, Bool, true, false, List, [], ◌∷◌, ◌++◌, length, replicate, drop, codes, Result, Ok, IsTrue, refl, sym, ap, ◌∙◌, subst, arith}
+use Rattle.std.proofs.Common.{◌≡◌, ℕ, ◌+◌, ◌-◌, ◌*◌, ◌/◌, ◌^◌, ◌<◌, ◌≤◌, Bool, true, false, List, [], ◌∷◌, ◌++◌, length, replicate, drop, codes, Result, Ok, Err, IsTrue, refl, sym, ap, ◌∙◌, subst, arith}
 use Rattle.std.specs.Int.{w32, to_be_bytes}
 use Rattle.std.specs.List.{flat_map, AllByRecursion}
 use Rattle.std.proofs.lemmas.List.{length-append, length-replicate, length-drop, drop_at}
@@ -13,9 +13,11 @@ use Rattle.tta_code.specs.declared.code.Instruction.{Instruction}
 use Rattle.tta_code.specs.declared.code.Code.{Code}
 use Rattle.tta_code.specs.Legal.{is_legal}
 use Rattle.tta_image.specs.declared.refusal.ImageError.{ImageError}
+use Rattle.tta_image.specs.declared.refusal.ImageError.TheVariants.{Refused, NoMemory}
+use Rattle.tta_image.specs.Refusals.{Answers}
 use Rattle.tta_image.specs.Bits.{bits_of, instruction_bits}
 use Rattle.tta_image.specs.Decoding.{bits_in}
-use Rattle.tta_image.specs.Image.{Image, header}
+use Rattle.tta_image.specs.Image.{Image, IsNoImage, header}
 use Rattle.tta_image.specs.Reading.{bytes_for, header_said, words_said, image_said}
 use Rattle.tta_image.proofs.Unique.{length-bytes}
 use Rattle.tta_image.proofs.ImageLemmas.{words_fit}
@@ -85,3 +87,9 @@ image_of_said m digest code bytes rules many small said =
       };
       legal = record { words = have.legal; room = let r = head.room in let l = have.many in omega arith };
     })
+
+-- bytes that are refused are no image
+pub no_image : (m : Machine) (digest bytes : List ℕ) (e : ImageError) → IsMachine m → length digest ≡ 32 → Answers {A = Code} (Err e) (image_said m digest bytes)
+    → (e ≡ NoMemory → ⊥) → IsNoImage m digest bytes
+no_image m digest bytes NoMemory rules many said apart = absurd (apart refl)
+no_image m digest bytes (Refused code word bus) rules many said apart = λ c h. absurd (let again = said_of_image m digest c bytes rules many h in cc)

@@ -21,7 +21,7 @@ use Rattle.tta_image.specs.Decoding.{bits_in, number_of, field}
 use Rattle.tta_image.specs.Reading.{stands_at, bytes_for, word_count, has_length, header_said, word_said, words_said, image_said}
 use Rattle.tta_image.proofs.ImageLemmas.{short_address, pow_most}
 use Rattle.tta_image.proofs.Numbers.{some_from_number, none_from_number}
-use Rattle.tta_image.proofs.Walks.{with_front, front_more}
+use Rattle.tta_image.proofs.Walks.{answers_same, with_front, front_more}
 use Rattle.tta_image.proofs.WordsSaid.{passes}
 
 -- ---- word by word
@@ -138,3 +138,10 @@ words_few m bytes body count width rules room tail wide small =
     let few = room.addresses in
     let product : count * width ≤ 2 ^ 17 * 2 ^ 32 = mul-le count width (2 ^ 17) (2 ^ 32) (omega arith) (omega arith) in
     omega arith
+
+-- a header that is refused
+pub header_answer : (m : Machine) (digest bytes : List ℕ) (e : ImageError) → header_said m digest bytes ≡ Err e → Answers {A = Code} (Err e) (image_said m digest bytes)
+unfolding image_said
+header_answer m digest bytes e head =
+    answers_same (Err e) (image_said m digest bytes)
+    (sym (ap (λ (h : Result ℕ ImageError). h >>= λ count. words_said m (layout_of m) count 0 (bits_in (drop 48 bytes)) >>= λ words. Ok (code_of_words words)) head))

@@ -1,13 +1,14 @@
 //! The reader of images.
 
-ghost use Rattle.std.specs.Prelude.{◌≡◌, ◌+◌, ◌*◌, ◌<◌, ◌≤◌, ◌^◌, length, drop, IfOk};
+ghost use Rattle.std.specs.Prelude.{◌≡◌, ◌≢◌, ◌+◌, ◌*◌, ◌<◌, ◌≤◌, ◌^◌, length, drop, IfOk, IfErr};
 ghost use Rattle.std.specs.List.{list_any};
 ghost use Rattle.tta_machine.specs.Layout.{layout_of};
 ghost use Rattle.tta_connect.specs.Net.{IsNetOf};
 ghost use Rattle.tta_image.specs.Decoding.{bits_in};
-ghost use Rattle.tta_image.specs.Image.{Image};
+ghost use Rattle.tta_image.specs.Image.{Image, IsNoImage};
 ghost use Rattle.tta_image.specs.Reading.{word_said, words_said, image_said};
 ghost use Rattle.tta_image.specs.Refusals.{Answers};
+ghost use Rattle.tta_image.specs.declared.refusal.ImageError.TheVariants.{NoMemory};
 
 use crate::bits::number_at;
 use crate::header::read_header;
@@ -102,6 +103,8 @@ pub fn read_image(
 ) -> Result<Code, ImageError>
     ensures said { Answers result (image_said m.now digest.now bytes.now) }
     ensures image { IfOk result (λ code. Image m.now digest.now code bytes.now) }
+    ensures refused { IfErr result
+        (λ e. e ≢ NoMemory → IsNoImage m.now digest.now bytes.now) }
 {
     // An address has at most 16 bits by the rules of a machine, so the words are few.
     let _control = &m.control;

@@ -3,9 +3,9 @@ use Rattle.std.proofs.lemmas.Result.{err_from_is_err_and}
 use Rattle.tta_machine.specs.Machine.{Machine}
 use Rattle.tta_machine.specs.declared.layout.Layout.{Layout}
 use Rattle.tta_machine.specs.Rules.{IsMachine}
-use Rattle.tta_image.proofs.ImageSaid.{image_of_said}
+use Rattle.tta_image.proofs.ImageSaid.{image_of_said, no_image}
 use Rattle.tta_image.proofs.HeaderSaid.{small_bytes}
-use Rattle.tta_image.proofs.WordsRead.{room_of, words_room, words_few, image_answer}
+use Rattle.tta_image.proofs.WordsRead.{room_of, words_room, words_few, image_answer, header_answer}
 use Rattle.tta_image.proofs.read.read_image.Goals as goal
 
 pub body_of-requires : goal.body_of-requires
@@ -50,3 +50,18 @@ returns-clause-image c =
     image_of_said c.args.m.now c.args.digest.now _ c.args.bytes.now rules c.told-digest (small_bytes c.args.bytes.now (λ i. (c.type_inv.bytes i).fits))
     (image_answer c.args.m.now c.args.digest.now c.args.bytes.now c.body_of.result.now c.in_ok-layout.layout c.in_ok-count.count (Ok c.in_ok-words.words)
     c.in_ok-layout.ensures c.body_of.ensures (sym c.in_ok-count.ensures) c.in_ok-words.ensures)
+
+pub returns-in_err-count-clause-refused : goal.returns-in_err-count-clause-refused
+returns-in_err-count-clause-refused c =
+    let rules = subst (λ (m : Machine). IsMachine m) c.m.view_is c.m.invariant in
+    let p = err_from_is_err_and c.from_residual-in_err-count.result c.from_residual-in_err-count.ensures.1 in
+    rw (p.1, p.2) (no_image c.args.m.now c.args.digest.now c.args.bytes.now c.in_err-count.field-0.0 rules c.told-digest
+      (header_answer c.args.m.now c.args.digest.now c.args.bytes.now c.in_err-count.field-0.0 (sym c.in_err-count.ensures)))
+
+pub returns-in_err-words-clause-refused : goal.returns-in_err-words-clause-refused
+returns-in_err-words-clause-refused c =
+    let rules = subst (λ (m : Machine). IsMachine m) c.m.view_is c.m.invariant in
+    let p = err_from_is_err_and c.from_residual-in_err-words.result c.from_residual-in_err-words.ensures.1 in
+    rw (p.1, p.2) (no_image c.args.m.now c.args.digest.now c.args.bytes.now c.in_err-words.field-0.0 rules c.told-digest
+      (image_answer c.args.m.now c.args.digest.now c.args.bytes.now c.body_of.result.now c.in_ok-layout.layout c.in_ok-count.count
+      (Err c.in_err-words.field-0.0) c.in_ok-layout.ensures c.body_of.ensures (sym c.in_ok-count.ensures) c.in_err-words.ensures))
