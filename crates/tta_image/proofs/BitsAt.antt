@@ -2,7 +2,7 @@
 use Rattle.std.proofs.Common.{◌≡◌, ℕ, zero, suc, ◌+◌, ◌-◌, ◌*◌, ◌/◌, ◌%◌, ◌^◌, ◌<◌, ◌≤◌, ◌==◌, Bool, true, false, List, [], ◌∷◌, ◌++◌, length, get_or, take, drop, refl, sym, ap, ◌∙◌, inl, inr, arith}
 use Rattle.std.proofs.lemmas.Bool.{cases_lt}
 use Rattle.std.proofs.lemmas.List.{length-drop, length-take-le, drop-drop, take_more, get_or-drop, get_or_append_left, get_or-append_right}
-use Rattle.std.specs.List.{range_with_len, position_or_len}
+use Rattle.std.specs.List.{position_or_len}
 use Rattle.std.proofs.lemmas.List.FromFn.{length-range_with_len, get_or-range_with_len}
 use Rattle.std.proofs.lemmas.List.Sums.{position_or_len_is}
 use Rattle.tta_machine.specs.Joins.{has_bit}
@@ -10,7 +10,7 @@ use Rattle.tta_machine.specs.Fields.{numbers}
 use Rattle.tta_image.specs.Bits.{bits_of}
 use Rattle.tta_image.specs.Sink.{bit_value}
 use Rattle.tta_image.specs.Decoding.{bits_in, number_of, field}
-use Rattle.tta_image.proofs.Unique.{length-bits_of, length-bytes}
+use Rattle.tta_image.proofs.Unique.{length-bytes}
 use Rattle.tta_image.proofs.Numbers.{number_of-below, number_of-with_bit}
 
 -- a bit of a number

@@ -1,8 +1,7 @@
 -- What a code says is what has the code.
-use Rattle.std.proofs.Common.{◌≡◌, ℕ, zero, suc, ◌+◌, ◌-◌, ◌*◌, ◌/◌, ◌%◌, ◌^◌, ◌<◌, ◌≤◌, ◌==◌, Bool, true, false, not, ◌&&◌, ◌||◌, nat_lt, nat_le, if◌then◌else◌, List, [], ◌∷◌, length, filter, get_or, slice_get, Option, Some, None, option_map, refl, sym, ap, ◌∙◌, subst, inl, inr, arith}
-use Rattle.std.specs.Option.{option_map_or}
+use Rattle.std.proofs.Common.{◌≡◌, ℕ, zero, suc, ◌+◌, ◌-◌, ◌==◌, Bool, true, false, not, ◌&&◌, if◌then◌else◌, List, [], ◌∷◌, filter, get_or, slice_get, Option, Some, None, option_map, refl, sym, ap, ◌∙◌, arith}
 use Rattle.std.specs.List.{list_any, position_or_len}
-use Rattle.std.proofs.lemmas.Bool.{false≢true, true≢false, and_parts, and_from, or_left, or_right, eqb-true, eq-eqb, ltb-true, lt-ltb, le-leb, lt-leb, not-true, both_ways, false_from_ne_true}
+use Rattle.std.proofs.lemmas.Bool.{and_parts, and_from, or_left, or_right, eqb-true, eq-eqb, not-true, both_ways, false_from_ne_true}
 use Rattle.std.proofs.lemmas.Option.{none-some, same_Some, slice_get-get_or}
 use Rattle.std.proofs.lemmas.List.Sums.{passes_at_first}
 use Rattle.tta_machine.specs.declared.parts.Guard.{Guard}
@@ -11,7 +10,7 @@ use Rattle.tta_machine.specs.declared.ends.Source.{Source}
 use Rattle.tta_machine.specs.declared.ends.Source.TheVariants as source
 use Rattle.tta_machine.specs.declared.ends.Dest.{Dest}
 use Rattle.tta_machine.specs.Machine.{Machine}
-use Rattle.tta_machine.specs.Joins.{is_same, is_same_guard, is_source_on, is_dest_on, has_guard}
+use Rattle.tta_machine.specs.Joins.{is_same, is_same_guard, is_dest_on, has_guard}
 use Rattle.tta_machine.specs.Fields.{guards_on, sources_on, dests_on, same_source, same_dest, source_code, dest_code, guard_code}
 use Rattle.tta_machine.specs.Layout.{fields_of, has_source_socket}
 use Rattle.tta_machine.specs.Rules.{IsMachine, same_guard, are_different}
@@ -89,9 +88,9 @@ same_guard_itself : (a : GuardRef) → is_same_guard a a ≡ true
 same_guard_itself a =
     and_from (a.file == a.file && a.index == a.index) (is_same a.inverted a.inverted)
     (and_from (a.file == a.file) (a.index == a.index) (eq-eqb a.file a.file refl) (eq-eqb a.index a.index refl)) (alike a.inverted) where
-  alike : (b : Bool) → is_same b b ≡ true
-  alike true = refl
-  alike false = refl
+      alike : (b : Bool) → is_same b b ≡ true
+      alike true = refl
+      alike false = refl
 
 abbrev of_bus : ℕ → Guard → Bool
 of_bus bus g = g.bus == bus
@@ -102,21 +101,21 @@ guard_place bus k x [] apart at = absurd (none-some x at)
 guard_place bus k x (g ∷ gs) apart at =
     let parts = and_parts (not (list_any (same_guard g) gs)) (are_different same_guard gs) apart in
     by (of_bus bus g) refl k at parts.0 (λ j e. guard_place bus j x gs parts.1 e) where
-  by : (b : Bool) → of_bus bus g ≡ b → (j : ℕ) → slice_get (filter (of_bus bus) (g ∷ gs)) j ≡ Some x → not (list_any (same_guard g) gs) ≡ true
-      → ((i : ℕ) → slice_get (filter (of_bus bus) gs) i ≡ Some x → position_or_len (λ y. is_same_guard y.on x.on) (filter (of_bus bus) gs) ≡ i)
-      → position_or_len (λ y. is_same_guard y.on x.on) (filter (of_bus bus) (g ∷ gs)) ≡ j
-  by true is zero e alone more =
-      let same : is_same_guard g.on x.on ≡ true = ap (λ (y : Guard). is_same_guard y.on x.on) (same_Some g x (rw is at e)) ∙ same_guard_itself x.on in
-      rw (is, same) refl
-  by true is (suc j) e alone more =
-      let later : slice_get (filter (of_bus bus) gs) j ≡ Some x = rw is at e in
-      let bus_same : g.bus ≡ x.bus = eqb-true g.bus bus is ∙ sym (eqb-true x.bus bus (kept_passes (of_bus bus) gs j x later)) in
-      let other : is_same_guard g.on x.on ≡ false = false_from_ne_true (is_same_guard g.on x.on)
-      (λ same. both_ways (list_any (same_guard g) gs) (not-true (list_any (same_guard g) gs) alone)
-      (kept_any (of_bus bus) (same_guard g) gs j x later (and_from (g.bus == x.bus) (is_same_guard g.on x.on) (eq-eqb g.bus x.bus bus_same) same))) in
-      let rest = more j later in
-      rw (is, other) (omega arith)
-  by false is j e alone more = let rest = more j (rw is at e) in rw is rest
+      by : (b : Bool) → of_bus bus g ≡ b → (j : ℕ) → slice_get (filter (of_bus bus) (g ∷ gs)) j ≡ Some x → not (list_any (same_guard g) gs) ≡ true
+          → ((i : ℕ) → slice_get (filter (of_bus bus) gs) i ≡ Some x → position_or_len (λ y. is_same_guard y.on x.on) (filter (of_bus bus) gs) ≡ i)
+          → position_or_len (λ y. is_same_guard y.on x.on) (filter (of_bus bus) (g ∷ gs)) ≡ j
+      by true is zero e alone more =
+          let same : is_same_guard g.on x.on ≡ true = ap (λ (y : Guard). is_same_guard y.on x.on) (same_Some g x (rw is at e)) ∙ same_guard_itself x.on in
+          rw (is, same) refl
+      by true is (suc j) e alone more =
+          let later : slice_get (filter (of_bus bus) gs) j ≡ Some x = rw is at e in
+          let bus_same : g.bus ≡ x.bus = eqb-true g.bus bus is ∙ sym (eqb-true x.bus bus (kept_passes (of_bus bus) gs j x later)) in
+          let other : is_same_guard g.on x.on ≡ false = false_from_ne_true (is_same_guard g.on x.on)
+          (λ same. both_ways (list_any (same_guard g) gs) (not-true (list_any (same_guard g) gs) alone)
+          (kept_any (of_bus bus) (same_guard g) gs j x later (and_from (g.bus == x.bus) (is_same_guard g.on x.on) (eq-eqb g.bus x.bus bus_same) same))) in
+          let rest = more j later in
+          rw (is, other) (omega arith)
+      by false is j e alone more = let rest = more j (rw is at e) in rw is rest
 
 -- the guard of a code has this code
 pub guard_code_said : (m : Machine) (bus code : ℕ) (guard : Option GuardRef) → IsMachine m → guard_said (fields_of m bus) code ≡ Some guard → guard_code m bus guard ≡ code

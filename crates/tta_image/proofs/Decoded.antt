@@ -1,12 +1,9 @@
 -- What is read of an image's words, one after another.
-use Rattle.std.proofs.Common.{◌≡◌, ℕ, zero, suc, ◌+◌, ◌-◌, ◌*◌, ◌/◌, ◌^◌, ◌<◌, ◌≤◌, ◌==◌, Bool, true, false, ◌&&◌, nat_lt, is_some, if◌then◌else◌, List, [], ◌∷◌, ◌++◌, length, map, drop, slice_get, Option, Some, None, Result, Ok, Err, refl, sym, ap, ◌∙◌, subst, arith}
+use Rattle.std.proofs.Common.{◌≡◌, ℕ, zero, suc, ◌+◌, ◌-◌, ◌^◌, ◌==◌, Bool, true, false, nat_lt, is_some, if◌then◌else◌, List, [], ◌∷◌, length, drop, slice_get, Option, Some, None, Ok, refl, sym, ap, ◌∙◌, arith}
 use Rattle.std.specs.Option.{option_map_or}
-use Rattle.std.specs.List.{list_any}
 use Rattle.std.proofs.lemmas.Bool.{and_from, eq-eqb, lt-ltb, ltb-true}
-use Rattle.std.proofs.lemmas.Option.{none-some, same_Some, slice_get-get_or}
-use Rattle.std.proofs.lemmas.List.{append-nil}
-use Rattle.tta_reading.specs.Steps.{◌>>=◌, or_refuse, refuse_if}
-use Rattle.tta_machine.specs.declared.parts.Template.{Template}
+use Rattle.std.proofs.lemmas.Option.{none-some, same_Some}
+use Rattle.tta_reading.specs.Steps.{◌>>=◌, or_refuse}
 use Rattle.tta_machine.specs.declared.layout.BusFields.{BusFields}
 use Rattle.tta_machine.specs.declared.layout.Layout.{Layout}
 use Rattle.tta_machine.specs.Machine.{Machine}
@@ -16,7 +13,6 @@ use Rattle.tta_code.specs.declared.code.Move.{Move}
 use Rattle.tta_code.specs.declared.code.Long.{Long}
 use Rattle.tta_code.specs.declared.code.Instruction.{Instruction}
 use Rattle.tta_code.specs.Legal.{is_long, is_instruction}
-use Rattle.tta_image.specs.declared.refusal.ImageError.{ImageError}
 use Rattle.tta_image.specs.declared.refusal.ImageRefusal.TheVariants.{Field}
 use Rattle.tta_image.specs.Refusals.{of_word}
 use Rattle.tta_image.specs.Decoding.{number_of, field, template_said, taken_by, least_bus, taken_bits, word_only, long_said, bus_said, slots_said, instruction_said}

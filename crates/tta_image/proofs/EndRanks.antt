@@ -1,5 +1,5 @@
 -- The sources and the destinations of a machine stand in the order of their ranks.
-use Rattle.std.proofs.Common.{◌≡◌, ℕ, zero, suc, ◌+◌, ◌*◌, ◌<◌, ◌≤◌, ◌==◌, Bool, true, false, ◌&&◌, ◌||◌, nat_le, List, [], ◌∷◌, ◌++◌, length, map, Option, Some, None, refl, sym, ap, ◌∙◌, subst, arith}
+use Rattle.std.proofs.Common.{◌≡◌, ℕ, ◌+◌, ◌*◌, ◌≤◌, ◌==◌, Bool, true, false, ◌&&◌, ◌||◌, nat_le, List, [], ◌∷◌, ◌++◌, length, map, Option, Some, None, refl, arith}
 use Rattle.std.specs.Option.{option_map_or}
 use Rattle.std.specs.List.{flat_map, enumerate_from, list_all, AllByRecursion}
 use Rattle.std.proofs.lemmas.Bool.{and_parts, leb-true}
@@ -15,7 +15,7 @@ use Rattle.tta_machine.specs.Machine.{Machine}
 use Rattle.tta_machine.specs.Fields.{numbers, all_sources, all_dests, sources_on, dests_on}
 use Rattle.tta_machine.specs.Joins.{is_source_on, is_dest_on}
 use Rattle.tta_machine.specs.Rules.{IsMachine, is_file, is_imm, is_unit, is_unit_op, is_socket, is_port_socket, is_from_to, are_different, same_op}
-use Rattle.tta_image.proofs.Rising.{Rising, rising_lower, rising_raise, rising-append, rising-filter, rising-range, rising-pieces, rising-length}
+use Rattle.tta_image.proofs.Rising.{Rising, rising_lower, rising_raise, rising-append, rising-filter, rising-range, rising-pieces}
 
 -- ---- ranks
 

@@ -1,9 +1,7 @@
 -- Bytes are the image of a code just where they say the code.
-use Rattle.std.proofs.Common.{◌≡◌, ℕ, ◌+◌, ◌-◌, ◌*◌, ◌/◌, ◌^◌, ◌<◌, ◌≤◌, Bool, true, false, List, [], ◌∷◌, ◌++◌, length, replicate, drop, codes, Result, Ok, Err, IsTrue, refl, sym, ap, ◌∙◌, subst, arith}
-use Rattle.std.specs.Int.{w32, to_be_bytes}
+use Rattle.std.proofs.Common.{◌≡◌, ℕ, ◌+◌, ◌-◌, ◌*◌, ◌/◌, ◌<◌, Bool, false, List, [], ◌∷◌, ◌++◌, length, replicate, drop, Result, Ok, Err, refl, sym, ap, ◌∙◌, subst, arith}
 use Rattle.std.specs.List.{flat_map, AllByRecursion}
 use Rattle.std.proofs.lemmas.List.{length-append, length-replicate, length-drop, drop_at}
-use Rattle.std.proofs.lemmas.Nat.{pow_pos}
 use Rattle.tta_reading.specs.Steps.{◌>>=◌}
 use Rattle.tta_machine.specs.Machine.{Machine}
 use Rattle.tta_machine.specs.Fields.{word_width}
@@ -11,14 +9,13 @@ use Rattle.tta_machine.specs.Layout.{layout_of}
 use Rattle.tta_machine.specs.Rules.{IsMachine}
 use Rattle.tta_code.specs.declared.code.Instruction.{Instruction}
 use Rattle.tta_code.specs.declared.code.Code.{Code}
-use Rattle.tta_code.specs.Legal.{is_legal}
 use Rattle.tta_image.specs.declared.refusal.ImageError.{ImageError}
 use Rattle.tta_image.specs.declared.refusal.ImageError.TheVariants.{Refused, NoMemory}
 use Rattle.tta_image.specs.Refusals.{Answers}
-use Rattle.tta_image.specs.Bits.{bits_of, instruction_bits}
+use Rattle.tta_image.specs.Bits.{instruction_bits}
 use Rattle.tta_image.specs.Decoding.{bits_in}
 use Rattle.tta_image.specs.Image.{Image, IsNoImage, header}
-use Rattle.tta_image.specs.Reading.{bytes_for, header_said, words_said, image_said}
+use Rattle.tta_image.specs.Reading.{header_said, words_said, image_said}
 use Rattle.tta_image.proofs.Unique.{length-bytes}
 use Rattle.tta_image.proofs.ImageLemmas.{words_fit}
 use Rattle.tta_image.proofs.InstructionLemmas.{length-instruction_bits}

@@ -1,14 +1,13 @@
 -- The bits of a legal instruction say the instruction.
-use Rattle.std.proofs.Common.{◌≡◌, ℕ, zero, suc, ◌+◌, ◌-◌, ◌^◌, ◌<◌, ◌≤◌, ◌==◌, Bool, true, false, ◌&&◌, nat_lt, is_some, if◌then◌else◌, List, [], ◌∷◌, ◌++◌, length, map, take, drop, slice_get, Option, Some, None, Result, Ok, Err, refl, sym, ap, ◌∙◌, subst, arith}
+use Rattle.std.proofs.Common.{◌≡◌, ℕ, suc, ◌+◌, ◌-◌, ◌^◌, ◌<◌, ◌==◌, Bool, true, false, nat_lt, is_some, if◌then◌else◌, List, [], ◌∷◌, ◌++◌, length, take, drop, slice_get, Option, Some, None, Result, Ok, refl, sym, ap, ◌∙◌, arith}
 use Rattle.std.specs.Option.{option_map_or}
-use Rattle.std.specs.List.{range_with_len}
 use Rattle.std.proofs.lemmas.Bool.{and_parts, ltb-true, lt-ltb, eqb-true, false_from_ne_true}
-use Rattle.std.proofs.lemmas.List.{append_assoc, length-append, length-drop, length-take-le, take_at, drop_at, take-append-drop, nil_from_length}
+use Rattle.std.proofs.lemmas.List.{append_assoc, length-drop, length-take-le, take_at, drop_at, take-append-drop, nil_from_length}
 use Rattle.tta_reading.specs.Steps.{◌>>=◌, or_refuse}
 use Rattle.tta_machine.specs.declared.layout.BusFields.{BusFields}
 use Rattle.tta_machine.specs.Machine.{Machine}
 use Rattle.tta_machine.specs.Joins.{has_bit}
-use Rattle.tta_machine.specs.Fields.{width_for, template_width, bus_width, taken_width}
+use Rattle.tta_machine.specs.Fields.{template_width, bus_width, taken_width}
 use Rattle.tta_machine.specs.Layout.{fields_of, layout_of}
 use Rattle.tta_machine.specs.Rules.{IsMachine}
 use Rattle.tta_machine.proofs.Widths.{width_for-enough}
@@ -21,12 +20,12 @@ use Rattle.tta_image.specs.declared.refusal.ImageRefusal.TheVariants.{Field}
 use Rattle.tta_image.specs.Refusals.{of_word}
 use Rattle.tta_image.specs.Bits.{bits_of, slot_bits, slots_bits, template_code, long_bits, instruction_bits}
 use Rattle.tta_image.specs.Fields.{buses_of}
-use Rattle.tta_image.specs.Decoding.{number_of, field, slot_numbers, slot_said, is_signed, template_said, taken_by, least_bus, taken_bits, word_only, long_said, bus_said, slots_said, instruction_said}
+use Rattle.tta_image.specs.Decoding.{number_of, field, template_said, taken_by, least_bus, taken_bits, word_only, long_said, bus_said, slots_said, instruction_said}
 use Rattle.tta_image.proofs.Unique.{length-bits_of}
 use Rattle.tta_image.proofs.Numbers.{number_of-bits_of_small}
 use Rattle.tta_image.proofs.SlotLemmas.{length-slot_bits, is_joined_slot}
 use Rattle.tta_image.proofs.SlotsAgain.{slot_again}
-use Rattle.tta_image.proofs.InstructionLemmas.{left_from, left_taken, left_kept, IsWhole, whole_of, AreLegal, is_kept_slot, empty_where_taken, template_inside, value_fits, length-long_bits}
+use Rattle.tta_image.proofs.InstructionLemmas.{left_from, left_taken, left_kept, whole_of, AreLegal, is_kept_slot, empty_where_taken, template_inside, value_fits, length-long_bits}
 use Rattle.tta_image.proofs.InstructionSaid.{fields_from}
 
 -- ---- the buses

@@ -1,6 +1,5 @@
 -- What the bits of a word say is the instruction that has these bits.
-use Rattle.std.proofs.Common.{◌≡◌, ℕ, zero, suc, ◌+◌, ◌-◌, ◌^◌, ◌<◌, ◌≤◌, ◌==◌, Bool, true, false, nat_lt, if◌then◌else◌, List, [], ◌∷◌, ◌++◌, length, map, take, drop, slice_get, Option, Some, None, Result, Ok, Err, refl, sym, ap, ◌∙◌, subst, arith}
-use Rattle.std.specs.Option.{option_map_or}
+use Rattle.std.proofs.Common.{◌≡◌, ℕ, zero, suc, ◌+◌, ◌-◌, ◌^◌, ◌<◌, ◌≤◌, ◌==◌, Bool, true, false, nat_lt, if◌then◌else◌, List, [], ◌∷◌, ◌++◌, length, map, take, drop, Option, Some, None, Result, Ok, Err, refl, sym, ap, ◌∙◌, subst, arith}
 use Rattle.std.specs.List.{sum_by, range_with_len}
 use Rattle.std.proofs.Math.Seq.{take-add}
 use Rattle.std.proofs.lemmas.Bool.{eqb-true, both_ways, eq-eqb}
@@ -9,17 +8,15 @@ use Rattle.std.proofs.lemmas.List.{length-append, length-drop, length-take-le, t
 use Rattle.std.proofs.lemmas.List.Sums.{sum_by-cons}
 use Rattle.tta_reading.specs.Steps.{◌>>=◌, or_refuse}
 use Rattle.tta_machine.specs.declared.layout.BusFields.{BusFields}
-use Rattle.tta_machine.specs.declared.layout.Layout.{Layout}
 use Rattle.tta_machine.specs.Machine.{Machine}
 use Rattle.tta_machine.specs.Joins.{has_bit}
 use Rattle.tta_machine.specs.Fields.{numbers, template_width, bus_width, taken_width, word_width}
 use Rattle.tta_machine.specs.Layout.{fields_of, layout_of}
 use Rattle.tta_machine.specs.Rules.{IsMachine}
-use Rattle.tta_machine.proofs.Layouts.{set_width_at, no_bus_in_none}
+use Rattle.tta_machine.proofs.Layouts.{no_bus_in_none}
 use Rattle.tta_code.specs.declared.code.Move.{Move}
 use Rattle.tta_code.specs.declared.code.Long.{Long}
 use Rattle.tta_code.specs.declared.code.Instruction.{Instruction}
-use Rattle.tta_image.specs.declared.refusal.ImageError.{ImageError}
 use Rattle.tta_image.specs.declared.refusal.ImageRefusal.TheVariants.{Field}
 use Rattle.tta_image.specs.Refusals.{of_word}
 use Rattle.tta_image.specs.Bits.{bits_of, slot_bits, slots_bits, template_code, long_bits, instruction_bits}
@@ -60,18 +57,18 @@ length-taken_bits m taken bus (suc count) bits h =
     let s = sum_by-cons (bus_width m) bus (range_with_len (bus + 1) count) in
     let d = length-drop (bus_width m bus) bits in
     by (has_bit taken bus) refl (length-taken_bits m taken (bus + 1) count (drop (bus_width m bus) bits) (omega arith)) where
-  by : (b : Bool) → has_bit taken bus ≡ b
-      → length (taken_bits taken (bus + 1) (fields_from m (bus + 1) count) (drop (bus_width m bus) bits)) ≡ left_from m taken (bus + 1) count
-      → length (taken_bits taken bus (fields_from m bus (suc count)) bits) ≡ left_from m taken bus (suc count)
-  by true is rest =
-      let s = sum_by-cons (bus_width m) bus (range_with_len (bus + 1) count) in
-      let front : length (take (bus_width m bus) bits) ≡ bus_width m bus = length-take-le (bus_width m bus) bits (omega arith) in
-      let both = length-append (take (bus_width m bus) bits) (taken_bits taken (bus + 1) (fields_from m (bus + 1) count) (drop (bus_width m bus) bits)) in
-      let left = left_taken m taken bus count is in
-      rw is (omega arith)
-  by false is rest =
-      let left = left_kept m taken bus count is in
-      rw is (omega arith)
+      by : (b : Bool) → has_bit taken bus ≡ b
+          → length (taken_bits taken (bus + 1) (fields_from m (bus + 1) count) (drop (bus_width m bus) bits)) ≡ left_from m taken (bus + 1) count
+          → length (taken_bits taken bus (fields_from m bus (suc count)) bits) ≡ left_from m taken bus (suc count)
+      by true is rest =
+          let s = sum_by-cons (bus_width m) bus (range_with_len (bus + 1) count) in
+          let front : length (take (bus_width m bus) bits) ≡ bus_width m bus = length-take-le (bus_width m bus) bits (omega arith) in
+          let both = length-append (take (bus_width m bus) bits) (taken_bits taken (bus + 1) (fields_from m (bus + 1) count) (drop (bus_width m bus) bits)) in
+          let left = left_taken m taken bus count is in
+          rw is (omega arith)
+      by false is rest =
+          let left = left_kept m taken bus count is in
+          rw is (omega arith)
 
 -- what is said of the buses has their bits
 abbrev SlotsHave : Machine → (taken bus count : ℕ) → List Bool → List (Option Move) → Type 0
@@ -89,8 +86,8 @@ slots_have_by m word taken bus count bits slot slots true rules h enough is said
     let many = rest.0 in (
       omega arith,
       rw is (ap (λ (l : List Bool). l ++ slots_bits m taken (drop w (take w bits ++ more)) (bus + 1) slots) (take_at (take w bits) more w front)
-      ∙ ap (λ (l : List Bool). take w bits ++ slots_bits m taken l (bus + 1) slots) (drop_at (take w bits) more w front)
-      ∙ ap (λ (l : List Bool). take w bits ++ l) rest.1 ∙ sym (take-add w (width_of m (bus + 1) count) bits) ∙ ap (λ (n : ℕ). take n bits) (sym s)),
+          ∙ ap (λ (l : List Bool). take w bits ++ slots_bits m taken l (bus + 1) slots) (drop_at (take w bits) more w front)
+          ∙ ap (λ (l : List Bool). take w bits ++ l) rest.1 ∙ sym (take-add w (width_of m (bus + 1) count) bits) ∙ ap (λ (n : ℕ). take n bits) (sym s)),
     )
 slots_have_by m word taken bus count bits slot slots false rules h enough is said rest =
     let w : ℕ = bus_width m bus in
@@ -102,7 +99,7 @@ slots_have_by m word taken bus count bits slot slots false rules h enough is sai
     let many = rest.0 in (
       omega arith,
       rw is (ap (λ (l : List Bool). l ++ slots_bits m taken more (bus + 1) slots) bits_own
-      ∙ ap (λ (l : List Bool). take w bits ++ l) rest.1 ∙ sym (take-add w (width_of m (bus + 1) count) bits) ∙ ap (λ (n : ℕ). take n bits) (sym s)),
+          ∙ ap (λ (l : List Bool). take w bits ++ l) rest.1 ∙ sym (take-add w (width_of m (bus + 1) count) bits) ∙ ap (λ (n : ℕ). take n bits) (sym s)),
     )
 
 pub slots_have : (m : Machine) (word taken bus count : ℕ) (bits : List Bool) (slots : List (Option Move)) → IsMachine m → bus + count ≤ length m.buses

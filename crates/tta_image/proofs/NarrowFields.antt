@@ -1,17 +1,15 @@
 -- The fields of every machine are narrow.
-use Rattle.std.proofs.Common.{◌≡◌, ℕ, zero, suc, ◌+◌, ◌^◌, ◌<◌, ◌≤◌, ◌==◌, max, List, [], ◌∷◌, length, map, filter, slice_get, Option, Some, None, nat_le, true, lit≤, refl, sym, ap, ◌∙◌, subst, inl, inr, arith}
+use Rattle.std.proofs.Common.{◌≡◌, ℕ, zero, suc, ◌+◌, ◌^◌, ◌<◌, ◌≤◌, ◌==◌, List, [], ◌∷◌, length, map, slice_get, Option, Some, None, nat_le, refl, sym, ap, subst, inl, inr, arith}
 use Rattle.std.specs.Option.{option_map_or}
-use Rattle.std.specs.List.{range_with_len, sum_by, list_all, AllByRecursion}
+use Rattle.std.specs.List.{range_with_len}
 use Rattle.std.proofs.lemmas.Bool.{le-leb, lt-leb, cases_lt, and_parts, leb-true}
-use Rattle.std.proofs.lemmas.Option.{slice_get-get_or}
 use Rattle.std.proofs.lemmas.List.Sums.{length-filter, count_by-le-length}
 use Rattle.tta_machine.specs.declared.parts.Bus.{Bus}
 use Rattle.tta_machine.specs.declared.parts.Guard.{Guard}
-use Rattle.tta_machine.specs.declared.layout.BusFields.{BusFields}
 use Rattle.tta_machine.specs.declared.layout.Layout.{Layout}
 use Rattle.tta_machine.specs.Machine.{Machine}
 use Rattle.tta_machine.specs.Rules.{IsMachine, is_bus}
-use Rattle.tta_machine.specs.Fields.{width_from, width_for, numbers, short_width, guards_on, sources_on, dests_on, guard_width, payload_width, dest_width, template_width, bus_width}
+use Rattle.tta_machine.specs.Fields.{width_from, width_for, short_width, guards_on, sources_on, dests_on, template_width}
 use Rattle.tta_machine.specs.Layout.{fields_of, layout_of}
 use Rattle.tta_image.specs.Narrow.{IsNarrow, AreNarrow}
 use Rattle.tta_image.proofs.Rising.{rising-length}
@@ -22,9 +20,9 @@ width_from-most : (tries v codes width : ℕ) → v ≤ width → width ≤ v + 
 width_from-most zero v codes width low high fits = omega arith
 width_from-most (suc tries) v codes width low high fits = elim (cases_lt (2 ^ v) codes) [
   | inl more ↦ elim (cases_lt v width) [
-      | inl lt ↦ rw (lt-leb codes (2 ^ v) more) (width_from-most tries (v + 1) codes width (omega arith) (omega arith) fits)
-      | inr ge ↦ let e : v ≡ width = omega arith in let p : 2 ^ v ≡ 2 ^ width = ap (λ (n : ℕ). 2 ^ n) e in absurd (omega arith)
-    ]
+    | inl lt ↦ rw (lt-leb codes (2 ^ v) more) (width_from-most tries (v + 1) codes width (omega arith) (omega arith) fits)
+    | inr ge ↦ let e : v ≡ width = omega arith in let p : 2 ^ v ≡ 2 ^ width = ap (λ (n : ℕ). 2 ^ n) e in absurd (omega arith)
+  ]
   | inr enough ↦ rw (le-leb codes (2 ^ v) enough) low
 ]
 

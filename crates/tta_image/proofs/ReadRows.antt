@@ -9,7 +9,7 @@ use Rattle.tta_machine.specs.Legal.{can_move}
 use Rattle.tta_code.specs.declared.code.Instruction.{Instruction}
 use Rattle.tta_code.specs.Legal.{is_legal}
 use Rattle.tta_code.proofs.Rows.{wide}
-use Rattle.tta_image.specs.declared.refusal.ImageRefusal.TheVariants.{Magic, Version, WrongMachine, Width, Length, Field, Illegal, Padding}
+use Rattle.tta_image.specs.declared.refusal.ImageRefusal.TheVariants.{Magic, Version, WrongMachine, Length, Field, Illegal, Padding}
 use Rattle.tta_image.specs.Bits.{instruction_bits}
 use Rattle.tta_image.specs.Image.{header}
 use Rattle.tta_image.specs.Refusals.{of_all, of_word}

@@ -1,5 +1,5 @@
 -- Lists whose items have rising ranks: no item stands twice, so an item's place tells it.
-use Rattle.std.proofs.Common.{◌≡◌, ℕ, zero, suc, ◌+◌, ◌*◌, ◌<◌, ◌≤◌, Bool, true, false, List, [], ◌∷◌, ◌++◌, length, map, filter, slice_get, Some, refl, sym, ap, ◌∙◌, subst, arith}
+use Rattle.std.proofs.Common.{◌≡◌, ℕ, zero, suc, ◌+◌, ◌*◌, ◌<◌, ◌≤◌, Bool, true, false, List, [], ◌∷◌, ◌++◌, length, map, filter, slice_get, Some, refl, ap, ◌∙◌, subst, arith}
 use Rattle.std.specs.List.{flat_map, enumerate_from, range_with_len, position_or_len, AllByRecursion}
 use Rattle.std.proofs.lemmas.Bool.{false_from_ne_true}
 use Rattle.std.proofs.lemmas.Option.{none-some, same_Some}
@@ -32,9 +32,11 @@ rising-range rank f base a zero ranks = omega arith
 rising-range rank f base a (suc n) ranks =
     let first = ranks a in
     let e : base + (a + 1 + n) ≡ base + (a + suc n) = omega arith in
-    let rest = rising-range rank f base (a + 1) n ranks in
-    (omega arith, subst (λ (high : ℕ). Rising rank (rank (f a) + 1) (map f (range_with_len (a + 1) n)) high) e
-    (rising_lower rank (base + (a + 1)) (rank (f a) + 1) (map f (range_with_len (a + 1) n)) (base + (a + 1 + n)) (omega arith) rest))
+    let rest = rising-range rank f base (a + 1) n ranks in (
+      omega arith,
+      subst (λ (high : ℕ). Rising rank (rank (f a) + 1) (map f (range_with_len (a + 1) n)) high) e
+          (rising_lower rank (base + (a + 1)) (rank (f a) + 1) (map f (range_with_len (a + 1) n)) (base + (a + 1 + n)) (omega arith) rest),
+    )
 
 pub rising_raise : {X : Type 0} (rank : X → ℕ) (low high high' : ℕ) (xs : List X) → high ≤ high' → Rising rank low xs high → Rising rank low xs high'
 rising_raise rank low high high' [] h r = omega arith

@@ -1,5 +1,5 @@
 -- The bits of a slot say the slot.
-use Rattle.std.proofs.Common.{◌≡◌, ℕ, zero, suc, ◌+◌, ◌-◌, ◌%◌, ◌^◌, ◌<◌, ◌≤◌, ◌==◌, Bool, true, false, not, ◌&&◌, nat_lt, if◌then◌else◌, List, [], ◌∷◌, ◌++◌, length, slice_get, Option, Some, None, option_map, max, refl, sym, ap, ◌∙◌, arith}
+use Rattle.std.proofs.Common.{◌≡◌, ℕ, ◌+◌, ◌%◌, ◌^◌, ◌<◌, ◌≤◌, ◌==◌, Bool, true, false, List, ◌∷◌, ◌++◌, length, Option, Some, None, option_map, refl, ap, ◌∙◌, arith}
 use Rattle.std.proofs.lemmas.Bool.{false_from_ne_true, eqb-true, lt-ltb}
 use Rattle.std.proofs.lemmas.Nat.{mod_below, pow_pos}
 use Rattle.tta_reading.specs.Steps.{◌>>?◌}
@@ -7,7 +7,6 @@ use Rattle.tta_machine.specs.declared.ends.GuardRef.{GuardRef}
 use Rattle.tta_machine.specs.declared.ends.Source.{Source}
 use Rattle.tta_machine.specs.declared.ends.Source.TheVariants as source
 use Rattle.tta_machine.specs.declared.ends.Dest.{Dest}
-use Rattle.tta_machine.specs.declared.layout.BusFields.{BusFields}
 use Rattle.tta_machine.specs.Machine.{Machine}
 use Rattle.tta_machine.specs.Joins.{is_source_on}
 use Rattle.tta_machine.specs.Fields.{width_for, guards_on, sources_on, dests_on, short_width, guard_width, payload_width, dest_width, guard_code, source_code, dest_code}
@@ -17,7 +16,7 @@ use Rattle.tta_machine.proofs.Widths.{width_for-enough, pow_le}
 use Rattle.tta_code.specs.declared.code.Move.{Move}
 use Rattle.tta_image.specs.declared.slots.SlotNumbers.{SlotNumbers}
 use Rattle.tta_image.specs.Bits.{bits_of, source_bits, slot_bits}
-use Rattle.tta_image.specs.Decoding.{slot_numbers, guard_said, short_word, source_said, dest_said, move_said, slot_said, is_signed}
+use Rattle.tta_image.specs.Decoding.{slot_numbers, source_said, dest_said, move_said, slot_said, is_signed}
 use Rattle.tta_image.proofs.EndsLemmas.{guard_code_inside, source_code_inside, dest_code_inside}
 use Rattle.tta_image.proofs.SlotLemmas.{is_joined_slot, Joined, joined_parts}
 use Rattle.tta_image.proofs.CodesSaid.{guard_said_of, source_said_of, dest_said_of}

@@ -1,34 +1,26 @@
 -- What the bits of a slot say is the slot that has these bits.
-use Rattle.std.proofs.Common.{◌≡◌, ℕ, zero, suc, ◌+◌, ◌-◌, ◌%◌, ◌^◌, ◌<◌, ◌≤◌, ◌==◌, ◌⊎◌, Bool, true, false, not, ◌&&◌, nat_lt, if◌then◌else◌, List, [], ◌∷◌, ◌++◌, length, replicate, take, drop, slice_get, Option, Some, None, option_map, max, refl, sym, ap, ◌∙◌, inl, inr, arith}
+use Rattle.std.proofs.Common.{◌≡◌, ℕ, suc, ◌+◌, ◌^◌, ◌<◌, ◌≤◌, ◌==◌, Bool, true, false, not, ◌&&◌, nat_lt, if◌then◌else◌, List, [], ◌∷◌, ◌++◌, length, replicate, take, drop, Option, Some, None, option_map, refl, sym, ap, ◌∙◌, arith}
 use Rattle.std.proofs.Math.Seq.{take-add}
-use Rattle.std.proofs.lemmas.Bool.{false≢true, true≢false, and_parts, eqb-true, ne_eqb, not-true, ltb-true, lt-ltb}
+use Rattle.std.proofs.lemmas.Bool.{and_parts, eqb-true, not-true, ltb-true}
 use Rattle.std.proofs.lemmas.Option.{none-some, same_Some}
 use Rattle.std.proofs.lemmas.List.{append_assoc, length-append, length-drop, length-take-le, drop-drop, take_at, drop_at, replicate-append-replicate}
-use Rattle.std.proofs.lemmas.Nat.{mod_below, pow_pos}
 use Rattle.tta_reading.specs.Steps.{◌>>?◌}
-use Rattle.tta_machine.specs.declared.ends.GuardRef.{GuardRef}
 use Rattle.tta_machine.specs.declared.ends.Source.{Source}
 use Rattle.tta_machine.specs.declared.ends.Source.TheVariants as source
-use Rattle.tta_machine.specs.declared.ends.Dest.{Dest}
 use Rattle.tta_machine.specs.declared.layout.BusFields.{BusFields}
 use Rattle.tta_machine.specs.Machine.{Machine}
-use Rattle.tta_machine.specs.Joins.{is_source_on}
-use Rattle.tta_machine.specs.Fields.{width_for, guards_on, sources_on, dests_on, short_width, guard_width, payload_width, dest_width, bus_width, guard_code, source_code, dest_code}
-use Rattle.tta_machine.specs.Layout.{fields_of, has_source_socket}
+use Rattle.tta_machine.specs.Fields.{short_width, guard_width, payload_width, dest_width, source_code, dest_code}
+use Rattle.tta_machine.specs.Layout.{fields_of}
 use Rattle.tta_machine.specs.Rules.{IsMachine}
-use Rattle.tta_machine.proofs.Widths.{width_for-enough, pow_le}
 use Rattle.tta_code.specs.declared.code.Move.{Move}
 use Rattle.tta_image.specs.declared.slots.SlotNumbers.{SlotNumbers}
 use Rattle.tta_image.specs.Bits.{bits_of, source_bits, slot_bits}
-use Rattle.tta_image.specs.Sink.{bit_value}
-use Rattle.tta_image.specs.Narrow.{IsNarrow}
 use Rattle.tta_image.specs.Decoding.{number_of, field, slot_numbers, guard_said, short_word, source_said, dest_said, move_said, slot_said, is_signed}
 use Rattle.tta_image.proofs.Unique.{length-bits_of}
 use Rattle.tta_image.proofs.Numbers.{bits_of-number_of, number_of-bits_of_small}
-use Rattle.tta_image.proofs.EndsLemmas.{guard_code_inside, source_code_inside, dest_code_inside}
-use Rattle.tta_image.proofs.SlotLemmas.{zero_bits, is_joined_slot, Joined, joined_parts}
-use Rattle.tta_image.proofs.CodesSaid.{guard_code_said, source_code_at, no_value_at, dest_code_said, guard_said_of, source_said_of, dest_said_of}
-use Rattle.tta_image.proofs.ShortSaid.{short_word-low, value_said}
+use Rattle.tta_image.proofs.SlotLemmas.{zero_bits}
+use Rattle.tta_image.proofs.CodesSaid.{guard_code_said, source_code_at, no_value_at, dest_code_said}
+use Rattle.tta_image.proofs.ShortSaid.{short_word-low}
 use Rattle.tta_image.proofs.NarrowFields.{narrow}
 
 -- ---- numbers and bits

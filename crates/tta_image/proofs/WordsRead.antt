@@ -1,8 +1,8 @@
 -- The words of an image, read one after another.
-use Rattle.std.proofs.Common.{◌≡◌, ℕ, zero, suc, ◌+◌, ◌-◌, ◌*◌, ◌/◌, ◌^◌, ◌<◌, ◌≤◌, ◌==◌, Bool, true, false, not, ◌&&◌, nat_le, List, [], ◌∷◌, ◌++◌, length, get_or, take, drop, codes, Result, Ok, Err, refl, sym, ap, ◌∙◌, subst, arith}
+use Rattle.std.proofs.Common.{◌≡◌, ℕ, suc, ◌+◌, ◌*◌, ◌/◌, ◌^◌, ◌<◌, ◌≤◌, ◌==◌, Bool, true, false, not, nat_le, List, [], ◌∷◌, ◌++◌, length, drop, codes, Result, Ok, Err, refl, sym, ap, ◌∙◌, arith}
 use Rattle.std.specs.Int.{w32, to_be_bytes}
-use Rattle.std.specs.List.{list_any, AllByRecursion}
-use Rattle.std.proofs.lemmas.Bool.{and_parts, leb-true, eqb-true, not-false, cases_Bool}
+use Rattle.std.specs.List.{list_any}
+use Rattle.std.proofs.lemmas.Bool.{and_parts, leb-true, eqb-true, not-false}
 use Rattle.std.proofs.lemmas.List.{append-nil, length-drop, take_all}
 use Rattle.std.proofs.lemmas.Nat.{mul-le}
 use Rattle.tta_reading.specs.Steps.{◌>>=◌, refuse_if}
@@ -64,9 +64,9 @@ set_bit bits at width n is all =
     let d = length-drop at bits in
     let own : n ≡ number_of (drop at bits) = is ∙ ap number_of (take_all width (drop at bits) (omega arith)) in
     by (n == 0) refl own where
-  by : (b : Bool) → (n == 0) ≡ b → n ≡ number_of (drop at bits) → not b ≡ list_any (λ b. b) (drop at bits)
-  by true zero_is same = sym (none_from_number (drop at bits) (sym same ∙ eqb-true n 0 zero_is))
-  by false some same = sym (some_from_number (drop at bits) (ap (λ (k : ℕ). k == 0) (sym same) ∙ some))
+      by : (b : Bool) → (n == 0) ≡ b → n ≡ number_of (drop at bits) → not b ≡ list_any (λ b. b) (drop at bits)
+      by true zero_is same = sym (none_from_number (drop at bits) (sym same ∙ eqb-true n 0 zero_is))
+      by false some same = sym (some_from_number (drop at bits) (ap (λ (k : ℕ). k == 0) (sym same) ∙ some))
 
 -- ---- how many words and bytes there are
 
@@ -111,12 +111,12 @@ image_answer m digest bytes body l count r layout tail head said =
     ∙ ap (λ (x : Layout). words_said m x count 0 (bits_in (drop 48 bytes)) >>= λ words. Ok (code_of_words words)) (sym layout)
     ∙ ap (λ (b : List ℕ). words_said m l count 0 (bits_in b) >>= λ words. Ok (code_of_words words)) (sym tail) in
     by r said whole where
-  by : (x : Result (List Instruction) ImageError) → Answers x (words_said m l count 0 (bits_in body))
-      → image_said m digest bytes ≡ (words_said m l count 0 (bits_in body) >>= λ words. Ok (code_of_words words))
-      → Answers (x >>= λ words. Ok (code_of_words words)) (image_said m digest bytes)
-  by (Ok words) h whole = whole ∙ ap (λ (y : Result (List Instruction) ImageError). y >>= λ words. Ok (code_of_words words)) h
-  by (Err NoMemory) h whole = tt
-  by (Err (Refused code word bus)) h whole = whole ∙ ap (λ (y : Result (List Instruction) ImageError). y >>= λ words. Ok (code_of_words words)) h
+      by : (x : Result (List Instruction) ImageError) → Answers x (words_said m l count 0 (bits_in body))
+          → image_said m digest bytes ≡ (words_said m l count 0 (bits_in body) >>= λ words. Ok (code_of_words words))
+          → Answers (x >>= λ words. Ok (code_of_words words)) (image_said m digest bytes)
+      by (Ok words) h whole = whole ∙ ap (λ (y : Result (List Instruction) ImageError). y >>= λ words. Ok (code_of_words words)) h
+      by (Err NoMemory) h whole = tt
+      by (Err (Refused code word bus)) h whole = whole ∙ ap (λ (y : Result (List Instruction) ImageError). y >>= λ words. Ok (code_of_words words)) h
 
 -- the words have their bits in the bytes after the header
 pub words_room : (m : Machine) (bytes body : List ℕ) (count width : ℕ) → Room m bytes count → body ≡ drop 48 bytes → width ≡ word_width m

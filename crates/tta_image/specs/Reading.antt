@@ -1,5 +1,5 @@
 -- What the bytes of an image say.
-use Rattle.std.specs.Prelude.{ℕ, zero, suc, ◌+◌, ◌*◌, ◌/◌, ◌^◌, ◌==◌, Bool, not, ◌&&◌, nat_le, nat_eq, if◌then◌else◌, List, [], ◌∷◌, length, take, drop, Result, Ok, Err, codes}
+use Rattle.std.specs.Prelude.{ℕ, zero, suc, ◌+◌, ◌*◌, ◌/◌, ◌^◌, ◌==◌, Bool, not, ◌&&◌, nat_le, nat_eq, List, [], ◌∷◌, length, take, drop, Result, Ok, codes}
 use Rattle.std.specs.Int.{w32, to_be_bytes, from_be_bytes}
 use Rattle.std.specs.List.{list_any, starts_with}
 use Rattle.tta_reading.specs.Steps.{◌>>=◌, refuse_if}

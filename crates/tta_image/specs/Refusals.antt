@@ -1,5 +1,5 @@
 -- Why bytes are refused as an image.
-use Rattle.std.specs.Prelude.{◌≡◌, ℕ, Result, Ok, Err}
+use Rattle.std.specs.Prelude.{◌≡◌, ℕ, Result, Err}
 use Rattle.tta_image.specs.declared.refusal.ImageRefusal.{ImageRefusal}
 use Rattle.tta_image.specs.declared.refusal.ImageRefusal.TheVariants.{Magic, Version, WrongMachine, Width, Length, Field, Illegal, Padding}
 use Rattle.tta_image.specs.declared.refusal.ImageError.{ImageError}

@@ -10,8 +10,7 @@ use tta_machine::Machine;
 /// Whether the bytes hold a piece after so many bytes. Bytes that are missing are wrong ones.
 fn stands_at(bytes: &[u8], at: usize, piece: &[u8]) -> bool
     ensures value { result ≡ stands_at at piece.now bytes.now }
-    ensures inside {
-        IsTrue result → 0 < length piece.now → at + length piece.now ≤ length bytes.now }
+    ensures inside { IsTrue result → 0 < length piece.now → at + length piece.now ≤ length bytes.now }
 {
     match bytes.get(at..) {
         Some(rest) => rest.starts_with(piece),

@@ -9,6 +9,8 @@ mod read;
 mod refusal;
 mod sink;
 mod slots;
+#[cfg(test)]
+mod tests;
 mod words;
 mod write;
 

@@ -123,12 +123,7 @@ fn slot_of(fields: &BusFields, signed: bool, n: SlotNumbers) -> Option<Option<Mo
 }
 
 /// The slot of a bus that begins after so many bits, where each of its fields has a meaning.
-pub fn slot_at(
-    fields: &BusFields,
-    signed: bool,
-    bytes: &[u8],
-    at: usize,
-) -> Option<Option<Move>>
+pub fn slot_at(fields: &BusFields, signed: bool, bytes: &[u8], at: usize) -> Option<Option<Move>>
     requires narrow { IsNarrow fields.now }
     requires few { 8 * length bytes.now < 2 ^ 64 }
     requires room { at + fields.now.width ≤ 8 * length bytes.now }

@@ -1,4 +1,4 @@
-use Rattle.std.proofs.Common.{◌≡◌, ◌≤◌, ◌<◌, ◌^◌, ℕ, length, subst, ap, sym, ◌∙◌, Ok, Err, arith}
+use Rattle.std.proofs.Common.{◌<◌, ◌^◌, subst, ap, sym, Ok, Err, arith}
 use Rattle.std.proofs.lemmas.Result.{err_from_is_err_and}
 use Rattle.tta_machine.specs.Machine.{Machine}
 use Rattle.tta_machine.specs.declared.layout.Layout.{Layout}
@@ -37,7 +37,7 @@ pub returns-in_err-words-clause-said : goal.returns-in_err-words-clause-said
 returns-in_err-words-clause-said c =
     let p = err_from_is_err_and c.from_residual-in_err-words.result c.from_residual-in_err-words.ensures.1 in
     rw (p.1, p.2) (image_answer c.args.m.now c.args.digest.now c.args.bytes.now c.body_of.result.now c.in_ok-layout.layout c.in_ok-count.count
-      (Err c.in_err-words.field-0.0) c.in_ok-layout.ensures c.body_of.ensures (sym c.in_ok-count.ensures) c.in_err-words.ensures)
+    (Err c.in_err-words.field-0.0) c.in_ok-layout.ensures c.body_of.ensures (sym c.in_ok-count.ensures) c.in_err-words.ensures)
 
 pub returns-clause-said : goal.returns-clause-said
 returns-clause-said c =
@@ -56,12 +56,12 @@ returns-in_err-count-clause-refused c =
     let rules = subst (λ (m : Machine). IsMachine m) c.m.view_is c.m.invariant in
     let p = err_from_is_err_and c.from_residual-in_err-count.result c.from_residual-in_err-count.ensures.1 in
     rw (p.1, p.2) (no_image c.args.m.now c.args.digest.now c.args.bytes.now c.in_err-count.field-0.0 rules c.told-digest
-      (header_answer c.args.m.now c.args.digest.now c.args.bytes.now c.in_err-count.field-0.0 (sym c.in_err-count.ensures)))
+    (header_answer c.args.m.now c.args.digest.now c.args.bytes.now c.in_err-count.field-0.0 (sym c.in_err-count.ensures)))
 
 pub returns-in_err-words-clause-refused : goal.returns-in_err-words-clause-refused
 returns-in_err-words-clause-refused c =
     let rules = subst (λ (m : Machine). IsMachine m) c.m.view_is c.m.invariant in
     let p = err_from_is_err_and c.from_residual-in_err-words.result c.from_residual-in_err-words.ensures.1 in
     rw (p.1, p.2) (no_image c.args.m.now c.args.digest.now c.args.bytes.now c.in_err-words.field-0.0 rules c.told-digest
-      (image_answer c.args.m.now c.args.digest.now c.args.bytes.now c.body_of.result.now c.in_ok-layout.layout c.in_ok-count.count
-      (Err c.in_err-words.field-0.0) c.in_ok-layout.ensures c.body_of.ensures (sym c.in_ok-count.ensures) c.in_err-words.ensures))
+    (image_answer c.args.m.now c.args.digest.now c.args.bytes.now c.body_of.result.now c.in_ok-layout.layout c.in_ok-count.count
+    (Err c.in_err-words.field-0.0) c.in_ok-layout.ensures c.body_of.ensures (sym c.in_ok-count.ensures) c.in_err-words.ensures))

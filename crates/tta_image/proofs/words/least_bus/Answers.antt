@@ -1,4 +1,4 @@
-use Rattle.std.proofs.Common.{ℕ, ◌<◌, ◌≤◌, length, sym, ap, ◌∙◌, arith}
+use Rattle.std.proofs.Common.{◌≤◌, length, sym, ap, ◌∙◌, arith}
 use Rattle.tta_machine.specs.Machine.{Machine}
 use Rattle.tta_image.proofs.BitsAt.{least_is}
 use Rattle.tta_image.proofs.words.least_bus.Goals as goal

@@ -1,4 +1,4 @@
-use Rattle.std.proofs.Common.{◌≡◌, ◌≤◌, length, subst, ap, ◌∙◌, arith}
+use Rattle.std.proofs.Common.{subst, ap, arith}
 use Rattle.tta_machine.specs.Machine.{Machine}
 use Rattle.tta_machine.specs.declared.layout.Layout.{Layout}
 use Rattle.tta_machine.specs.Rules.{IsMachine}
