@@ -15,7 +15,7 @@ use Rattle.tta_code.specs.declared.code.Long.{Long}
 use Rattle.tta_image.specs.declared.refusal.ImageError.{ImageError}
 use Rattle.tta_image.specs.declared.refusal.ImageError.TheVariants.{Refused, NoMemory}
 use Rattle.tta_image.specs.Narrow.{IsNarrow, AreNarrow}
-use Rattle.tta_image.specs.Decoding.{number_of, taken_by, taken_bits, least_bus, word_only, long_said, bus_said, slots_said}
+use Rattle.tta_image.specs.Decoding.{number_of, taken_by, taken_bits, least_bus, word_only, decoded_long, decoded_bus, decoded_slots}
 use Rattle.tta_image.specs.declared.refusal.ImageRefusal.TheVariants.{Field}
 use Rattle.tta_image.specs.Refusals.{of_word, Answers}
 use Rattle.tta_image.proofs.Numbers.{number_of-append}
@@ -71,25 +71,25 @@ front_more front x (Err e) = refl
 
 -- one bus more
 pub slots_more : (m : Machine) (word taken bus : ℕ) (f : BusFields) (fs : List BusFields) (bits : List Bool) (slot : Option Move) (moves moves' : List (Option Move))
-    (all : Result (List (Option Move)) ImageError) → bus_said m word taken bus f bits ≡ Ok slot → moves' ≡ moves ++ slot ∷ []
-    → with_front moves (slots_said m word taken bus (f ∷ fs) bits) ≡ all → with_front moves' (slots_said m word taken (bus + 1) fs (drop f.width bits)) ≡ all
+    (all : Result (List (Option Move)) ImageError) → decoded_bus m word taken bus f bits ≡ Ok slot → moves' ≡ moves ++ slot ∷ []
+    → with_front moves (decoded_slots m word taken bus (f ∷ fs) bits) ≡ all → with_front moves' (decoded_slots m word taken (bus + 1) fs (drop f.width bits)) ≡ all
 slots_more m word taken bus f fs bits slot moves moves' all said pushed was =
-    let rest : Result (List (Option Move)) ImageError = slots_said m word taken (bus + 1) fs (drop f.width bits) in
+    let rest : Result (List (Option Move)) ImageError = decoded_slots m word taken (bus + 1) fs (drop f.width bits) in
     ap (λ (l : List (Option Move)). with_front l rest) pushed ∙ sym (front_more moves slot rest)
     ∙ ap (λ (r : Result (Option Move) ImageError). with_front moves (r >>= λ slot. rest >>= λ slots. Ok (slot ∷ slots))) (sym said) ∙ was
 
 -- a bus whose slot is refused
 pub slots_stop : (m : Machine) (word taken bus : ℕ) (f : BusFields) (fs : List BusFields) (bits : List Bool) (e : ImageError) (moves : List (Option Move))
-    (all : Result (List (Option Move)) ImageError) → bus_said m word taken bus f bits ≡ Err e
-    → with_front moves (slots_said m word taken bus (f ∷ fs) bits) ≡ all → Err e ≡ all
+    (all : Result (List (Option Move)) ImageError) → decoded_bus m word taken bus f bits ≡ Err e
+    → with_front moves (decoded_slots m word taken bus (f ∷ fs) bits) ≡ all → Err e ≡ all
 slots_stop m word taken bus f fs bits e moves all said was =
-    ap (λ (r : Result (Option Move) ImageError). with_front moves (r >>= λ slot. slots_said m word taken (bus + 1) fs (drop f.width bits) >>= λ slots. Ok (slot ∷ slots))) (sym said) ∙ was
+    ap (λ (r : Result (Option Move) ImageError). with_front moves (r >>= λ slot. decoded_slots m word taken (bus + 1) fs (drop f.width bits) >>= λ slots. Ok (slot ∷ slots))) (sym said) ∙ was
 
 -- no bus is left
 pub slots_end : (m : Machine) (word taken bus : ℕ) (fs : List BusFields) (bits : List Bool) (moves : List (Option Move)) (all : Result (List (Option Move)) ImageError)
-    → fs ≡ [] → with_front moves (slots_said m word taken bus fs bits) ≡ all → Ok moves ≡ all
+    → fs ≡ [] → with_front moves (decoded_slots m word taken bus fs bits) ≡ all → Ok moves ≡ all
 slots_end m word taken bus fs bits moves all none was =
-    ap (λ (l : List (Option Move)). Ok l) (sym (append-nil moves)) ∙ ap (λ (l : List BusFields). with_front moves (slots_said m word taken bus l bits)) (sym none) ∙ was
+    ap (λ (l : List (Option Move)). Ok l) (sym (append-nil moves)) ∙ ap (λ (l : List BusFields). with_front moves (decoded_slots m word taken bus l bits)) (sym none) ∙ was
 
 -- ---- the long immediate
 
@@ -105,8 +105,8 @@ joined value own rest =
     grind arith
 
 -- the number of what is read after a bus
-abbrev pub value_said : (is_taken : Bool) → (width value share : ℕ) → Option ℕ
-value_said is_taken width value share = if is_taken then word_only (value * 2 ^ width + share) else Some value
+abbrev pub value_after_bus : (is_taken : Bool) → (width value share : ℕ) → Option ℕ
+value_after_bus is_taken width value share = if is_taken then word_only (value * 2 ^ width + share) else Some value
 
 word_some : (n v : ℕ) → Some v ≡ word_only n → (v ≡ n) × (n < 2 ^ 32)
 word_some n v h = by (nat_lt n (2 ^ 32)) refl h where
@@ -122,13 +122,13 @@ word_none n h = by (nat_lt n (2 ^ 32)) refl h where
 
 -- one bus more
 pub value_more : (taken bus : ℕ) (f : BusFields) (fs : List BusFields) (bits : List Bool) (value value' total : ℕ) → f.width ≤ length bits
-    → Some value' ≡ value_said (has_bit taken bus) f.width value (number_of (take f.width bits))
+    → Some value' ≡ value_after_bus (has_bit taken bus) f.width value (number_of (take f.width bits))
     → number_with value (taken_bits taken bus (f ∷ fs) bits) ≡ total → number_with value' (taken_bits taken (bus + 1) fs (drop f.width bits)) ≡ total
 value_more taken bus f fs bits value value' total enough said was = by (has_bit taken bus) refl said where
   rest : List Bool
   rest = taken_bits taken (bus + 1) fs (drop f.width bits)
 
-  by : (b : Bool) → has_bit taken bus ≡ b → Some value' ≡ value_said b f.width value (number_of (take f.width bits)) → number_with value' rest ≡ total
+  by : (b : Bool) → has_bit taken bus ≡ b → Some value' ≡ value_after_bus b f.width value (number_of (take f.width bits)) → number_with value' rest ≡ total
   by true is e =
       let w = word_some (value * 2 ^ f.width + number_of (take f.width bits)) value' e in
       let many : length (take f.width bits) ≡ f.width = length-take-le f.width bits enough in
@@ -138,13 +138,13 @@ value_more taken bus f fs bits value value' total enough said was = by (has_bit 
 
 -- a number that is no word any more
 pub value_stop : (taken bus : ℕ) (f : BusFields) (fs : List BusFields) (bits : List Bool) (value total : ℕ) → f.width ≤ length bits
-    → None ≡ value_said (has_bit taken bus) f.width value (number_of (take f.width bits))
+    → None ≡ value_after_bus (has_bit taken bus) f.width value (number_of (take f.width bits))
     → number_with value (taken_bits taken bus (f ∷ fs) bits) ≡ total → None ≡ word_only total
 value_stop taken bus f fs bits value total enough said was = by (has_bit taken bus) refl said where
   rest : List Bool
   rest = taken_bits taken (bus + 1) fs (drop f.width bits)
 
-  by : (b : Bool) → has_bit taken bus ≡ b → None ≡ value_said b f.width value (number_of (take f.width bits)) → None ≡ word_only total
+  by : (b : Bool) → has_bit taken bus ≡ b → None ≡ value_after_bus b f.width value (number_of (take f.width bits)) → None ≡ word_only total
   by true is e =
       let much = word_none (value * 2 ^ f.width + number_of (take f.width bits)) e in
       let many : length (take f.width bits) ≡ f.width = length-take-le f.width bits enough in
@@ -175,14 +175,14 @@ item_read items xs i x same is = is ∙ ap (λ l. get_or l i x) same
 -- a long immediate whose upper bits are set
 pub long_refused : (m : Machine) (word : ℕ) (fs : List BusFields) (template : Option ℕ) (bits : List Bool) (t taken bus : ℕ) (value : Option ℕ) (e : ImageError)
     → template ≡ Some t → taken ≡ taken_by m (Some t) → value ≡ word_only (number_of (taken_bits taken 0 fs bits)) → value ≡ None → bus ≡ least_bus m taken
-    → e ≡ of_word word Field bus → Err e ≡ long_said m word fs template bits
+    → e ≡ of_word word Field bus → Err e ≡ decoded_long m word fs template bits
 long_refused m word fs template bits t taken bus value e is takes said none least told =
     let after : (ℕ → ImageError) → ℕ → Option ℕ → Result (Option Long) ImageError =
     λ refusal set o. or_refuse (refusal (least_bus m set)) o >>= λ value. Ok (Some (record { template = t; value = value })) in
     ap (λ (x : ImageError). Err x) (told ∙ ap (λ (b : ℕ). of_word word Field b) least)
     ∙ ap (λ (o : Option ℕ). after (of_word word Field) taken o) (sym none ∙ said)
     ∙ ap (λ (k : ℕ). after (of_word word Field) k (word_only (number_of (taken_bits k 0 fs bits)))) takes
-    ∙ ap (λ (o : Option ℕ). long_said m word fs o bits) (sym is)
+    ∙ ap (λ (o : Option ℕ). decoded_long m word fs o bits) (sym is)
 
 -- the bits after some of the bits that are left
 pub rest_after : (bits : List Bool) (at width : ℕ) → drop width (drop at bits) ≡ drop (at + width) bits
@@ -194,7 +194,7 @@ pub width_here : (fs : List BusFields) (i : ℕ) (f : BusFields) (at most : ℕ)
 width_here fs i f at most h is room = let more = width_step fs i f at most h is room in omega arith
 
 -- the number of what is read stays a word
-pub value_small : (is_taken : Bool) (width value share value' : ℕ) → value < 2 ^ 32 → Some value' ≡ value_said is_taken width value share → value' < 2 ^ 32
+pub value_small : (is_taken : Bool) (width value share value' : ℕ) → value < 2 ^ 32 → Some value' ≡ value_after_bus is_taken width value share → value' < 2 ^ 32
 value_small true width value share value' small said =
     let w = word_some (value * 2 ^ width + share) value' said in let is = w.0 in let fits = w.1 in omega arith
 value_small false width value share value' small said = let same = same_Some value' value said in omega arith

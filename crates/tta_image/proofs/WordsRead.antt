@@ -1,8 +1,7 @@
 -- The words of an image, read one after another.
-use Rattle.std.proofs.Common.{◌≡◌, ℕ, suc, ◌+◌, ◌*◌, ◌/◌, ◌^◌, ◌<◌, ◌≤◌, ◌==◌, Bool, true, false, not, nat_le, List, [], ◌∷◌, ◌++◌, length, drop, codes, Result, Ok, Err, refl, sym, ap, ◌∙◌, arith}
-use Rattle.std.specs.Int.{w32, to_be_bytes}
+use Rattle.std.proofs.Common.{◌≡◌, ℕ, suc, ◌+◌, ◌*◌, ◌/◌, ◌^◌, ◌<◌, ◌≤◌, ◌==◌, Bool, true, false, not, List, [], ◌∷◌, ◌++◌, length, drop, Result, Ok, Err, refl, sym, ap, ◌∙◌, arith}
 use Rattle.std.specs.List.{list_any}
-use Rattle.std.proofs.lemmas.Bool.{and_parts, leb-true, eqb-true, not-false}
+use Rattle.std.proofs.lemmas.Bool.{eqb-true}
 use Rattle.std.proofs.lemmas.List.{append-nil, length-drop, take_all}
 use Rattle.std.proofs.lemmas.Nat.{mul-le}
 use Rattle.tta_reading.specs.Steps.{◌>>=◌, refuse_if}
@@ -15,47 +14,47 @@ use Rattle.tta_code.specs.declared.code.Instruction.{Instruction}
 use Rattle.tta_code.specs.declared.code.Code.{Code}
 use Rattle.tta_image.specs.declared.refusal.ImageError.{ImageError}
 use Rattle.tta_image.specs.declared.refusal.ImageError.TheVariants.{Refused, NoMemory}
-use Rattle.tta_image.specs.declared.refusal.ImageRefusal.TheVariants.{Magic, Version, WrongMachine, Width, Length, Padding}
+use Rattle.tta_image.specs.declared.refusal.ImageRefusal.TheVariants.{Padding}
 use Rattle.tta_image.specs.Refusals.{of_all, Answers}
 use Rattle.tta_image.specs.Decoding.{bits_in, number_of, field}
-use Rattle.tta_image.specs.Reading.{stands_at, bytes_for, word_count, has_length, header_said, word_said, words_said, image_said}
+use Rattle.tta_image.specs.Reading.{decoded_header, decoded_word, decoded_words, decoded_image}
 use Rattle.tta_image.proofs.ImageLemmas.{short_address, pow_most}
 use Rattle.tta_image.proofs.Numbers.{some_from_number, none_from_number}
 use Rattle.tta_image.proofs.Walks.{answers_same, with_front, front_more}
-use Rattle.tta_image.proofs.WordsSaid.{passes}
+use Rattle.tta_image.proofs.HeaderDecoded.{Checked}
 
 -- ---- word by word
 
 -- one word more
 pub words_more : (m : Machine) (l : Layout) (left left' word : ℕ) (bits : List Bool) (i : Instruction) (words words' : List Instruction)
-    (all : Result (List Instruction) ImageError) → left ≡ suc left' → word_said m l word bits ≡ Ok i → words' ≡ words ++ i ∷ []
-    → with_front words (words_said m l left word bits) ≡ all → with_front words' (words_said m l left' (word + 1) (drop l.width bits)) ≡ all
+    (all : Result (List Instruction) ImageError) → left ≡ suc left' → decoded_word m l word bits ≡ Ok i → words' ≡ words ++ i ∷ []
+    → with_front words (decoded_words m l left word bits) ≡ all → with_front words' (decoded_words m l left' (word + 1) (drop l.width bits)) ≡ all
 words_more m l left left' word bits i words words' all more said pushed was =
-    let rest : Result (List Instruction) ImageError = words_said m l left' (word + 1) (drop l.width bits) in
+    let rest : Result (List Instruction) ImageError = decoded_words m l left' (word + 1) (drop l.width bits) in
     ap (λ (is : List Instruction). with_front is rest) pushed ∙ sym (front_more words i rest)
     ∙ ap (λ (r : Result Instruction ImageError). with_front words (r >>= λ i. rest >>= λ is. Ok (i ∷ is))) (sym said)
-    ∙ ap (λ (n : ℕ). with_front words (words_said m l n word bits)) (sym more) ∙ was
+    ∙ ap (λ (n : ℕ). with_front words (decoded_words m l n word bits)) (sym more) ∙ was
 
 -- a word that is refused
 pub words_stop : (m : Machine) (l : Layout) (left left' word : ℕ) (bits : List Bool) (e : ImageError) (words : List Instruction)
-    (all : Result (List Instruction) ImageError) → left ≡ suc left' → word_said m l word bits ≡ Err e
-    → with_front words (words_said m l left word bits) ≡ all → all ≡ Err e
+    (all : Result (List Instruction) ImageError) → left ≡ suc left' → decoded_word m l word bits ≡ Err e
+    → with_front words (decoded_words m l left word bits) ≡ all → all ≡ Err e
 words_stop m l left left' word bits e words all more said was =
-    sym was ∙ ap (λ (n : ℕ). with_front words (words_said m l n word bits)) more
-    ∙ ap (λ (r : Result Instruction ImageError). with_front words (r >>= λ i. words_said m l left' (word + 1) (drop l.width bits) >>= λ is. Ok (i ∷ is))) said
+    sym was ∙ ap (λ (n : ℕ). with_front words (decoded_words m l n word bits)) more
+    ∙ ap (λ (r : Result Instruction ImageError). with_front words (r >>= λ i. decoded_words m l left' (word + 1) (drop l.width bits) >>= λ is. Ok (i ∷ is))) said
 
 -- no word is left
 pub words_end : (m : Machine) (l : Layout) (left word : ℕ) (bits : List Bool) (words : List Instruction) (all : Result (List Instruction) ImageError) → left ≡ 0
-    → list_any (λ b. b) bits ≡ false → with_front words (words_said m l left word bits) ≡ all → all ≡ Ok words
+    → list_any (λ b. b) bits ≡ false → with_front words (decoded_words m l left word bits) ≡ all → all ≡ Ok words
 words_end m l left word bits words all none zeros was =
-    sym was ∙ ap (λ (n : ℕ). with_front words (words_said m l n word bits)) none
+    sym was ∙ ap (λ (n : ℕ). with_front words (decoded_words m l n word bits)) none
     ∙ ap (λ (b : Bool). with_front words (refuse_if b (of_all Padding) (Ok []))) zeros ∙ ap (λ (is : List Instruction). Ok is) (append-nil words)
 
 -- no word is left, and a bit is set after the last one
 pub words_filled : (m : Machine) (l : Layout) (left word : ℕ) (bits : List Bool) (words : List Instruction) (all : Result (List Instruction) ImageError) → left ≡ 0
-    → list_any (λ b. b) bits ≡ true → with_front words (words_said m l left word bits) ≡ all → all ≡ Err (of_all Padding)
+    → list_any (λ b. b) bits ≡ true → with_front words (decoded_words m l left word bits) ≡ all → all ≡ Err (of_all Padding)
 words_filled m l left word bits words all none some was =
-    sym was ∙ ap (λ (n : ℕ). with_front words (words_said m l n word bits)) none
+    sym was ∙ ap (λ (n : ℕ). with_front words (decoded_words m l n word bits)) none
     ∙ ap (λ (b : Bool). with_front words (refuse_if b (of_all Padding) (Ok []))) some
 
 -- a bit is set just where the number of the bits is not 0
@@ -68,33 +67,6 @@ set_bit bits at width n is all =
       by true zero_is same = sym (none_from_number (drop at bits) (sym same ∙ eqb-true n 0 zero_is))
       by false some same = sym (some_from_number (drop at bits) (ap (λ (k : ℕ). k == 0) (sym same) ∙ some))
 
--- ---- how many words and bytes there are
-
--- what the length says of the words
-pub record Room (m : Machine) (bytes : List ℕ) (count : ℕ) : Type 0 where
-  pub addresses : count ≤ 2 ^ m.control.address
-  pub long : length bytes ≡ 48 + bytes_for (count * word_width m)
-
-pub room_of : (m : Machine) (digest bytes : List ℕ) (count : ℕ) → header_said m digest bytes ≡ Ok count → Room m bytes count
-unfolding header_said
-room_of m digest bytes count said =
-    let long_ok : Bool = has_length m bytes (word_count bytes) in
-    let four : Result ℕ ImageError = refuse_if (not long_ok) (of_all Length) (Ok (word_count bytes)) in
-    let three : Result ℕ ImageError = refuse_if (not (stands_at 8 (to_be_bytes w32 (word_width m)) bytes)) (of_all Width) four in
-    let two : Result ℕ ImageError = refuse_if (not (stands_at 16 digest bytes)) (of_all WrongMachine) three in
-    let one : Result ℕ ImageError = refuse_if (not (stands_at 4 (to_be_bytes w32 1) bytes)) (of_all Version) two in
-    let magic = passes (not (stands_at 0 (codes "TTAI") bytes)) (of_all Magic) one count said in
-    let version = passes (not (stands_at 4 (to_be_bytes w32 1) bytes)) (of_all Version) two count magic.1 in
-    let machine = passes (not (stands_at 16 digest bytes)) (of_all WrongMachine) three count version.1 in
-    let wide = passes (not (stands_at 8 (to_be_bytes w32 (word_width m)) bytes)) (of_all Width) four count machine.1 in
-    let long = passes (not long_ok) (of_all Length) (Ok (word_count bytes)) count wide.1 in
-    let is : word_count bytes ≡ count = let e = long.1 in cc in
-    let both = and_parts (nat_le (word_count bytes) (2 ^ m.control.address)) (length bytes == 48 + bytes_for (word_count bytes * word_width m)) (not-false long_ok long.0) in
-    record {
-      addresses = let le = leb-true (word_count bytes) (2 ^ m.control.address) both.0 in omega arith;
-      long = eqb-true (length bytes) (48 + bytes_for (word_count bytes * word_width m)) both.1 ∙ ap (λ (n : ℕ). 48 + bytes_for (n * word_width m)) is;
-    }
-
 -- ---- the whole image
 
 abbrev pub code_of_words : List Instruction → Code
@@ -102,26 +74,26 @@ code_of_words words = record { words = words }
 
 -- what is said of the words is the answer
 pub image_answer : (m : Machine) (digest bytes body : List ℕ) (l : Layout) (count : ℕ) (r : Result (List Instruction) ImageError) → l ≡ layout_of m → body ≡ drop 48 bytes
-    → header_said m digest bytes ≡ Ok count → Answers r (words_said m l count 0 (bits_in body))
-    → Answers (r >>= λ words. Ok (code_of_words words)) (image_said m digest bytes)
-unfolding image_said
+    → decoded_header m digest bytes ≡ Ok count → Answers r (decoded_words m l count 0 (bits_in body))
+    → Answers (r >>= λ words. Ok (code_of_words words)) (decoded_image m digest bytes)
+unfolding decoded_image
 image_answer m digest bytes body l count r layout tail head said =
-    let whole : image_said m digest bytes ≡ (words_said m l count 0 (bits_in body) >>= λ words. Ok (code_of_words words)) =
-    ap (λ (h : Result ℕ ImageError). h >>= λ count. words_said m (layout_of m) count 0 (bits_in (drop 48 bytes)) >>= λ words. Ok (code_of_words words)) head
-    ∙ ap (λ (x : Layout). words_said m x count 0 (bits_in (drop 48 bytes)) >>= λ words. Ok (code_of_words words)) (sym layout)
-    ∙ ap (λ (b : List ℕ). words_said m l count 0 (bits_in b) >>= λ words. Ok (code_of_words words)) (sym tail) in
+    let whole : decoded_image m digest bytes ≡ (decoded_words m l count 0 (bits_in body) >>= λ words. Ok (code_of_words words)) =
+    ap (λ (h : Result ℕ ImageError). h >>= λ count. decoded_words m (layout_of m) count 0 (bits_in (drop 48 bytes)) >>= λ words. Ok (code_of_words words)) head
+    ∙ ap (λ (x : Layout). decoded_words m x count 0 (bits_in (drop 48 bytes)) >>= λ words. Ok (code_of_words words)) (sym layout)
+    ∙ ap (λ (b : List ℕ). decoded_words m l count 0 (bits_in b) >>= λ words. Ok (code_of_words words)) (sym tail) in
     by r said whole where
-      by : (x : Result (List Instruction) ImageError) → Answers x (words_said m l count 0 (bits_in body))
-          → image_said m digest bytes ≡ (words_said m l count 0 (bits_in body) >>= λ words. Ok (code_of_words words))
-          → Answers (x >>= λ words. Ok (code_of_words words)) (image_said m digest bytes)
+      by : (x : Result (List Instruction) ImageError) → Answers x (decoded_words m l count 0 (bits_in body))
+          → decoded_image m digest bytes ≡ (decoded_words m l count 0 (bits_in body) >>= λ words. Ok (code_of_words words))
+          → Answers (x >>= λ words. Ok (code_of_words words)) (decoded_image m digest bytes)
       by (Ok words) h whole = whole ∙ ap (λ (y : Result (List Instruction) ImageError). y >>= λ words. Ok (code_of_words words)) h
       by (Err NoMemory) h whole = tt
       by (Err (Refused code word bus)) h whole = whole ∙ ap (λ (y : Result (List Instruction) ImageError). y >>= λ words. Ok (code_of_words words)) h
 
 -- the words have their bits in the bytes after the header
-pub words_room : (m : Machine) (bytes body : List ℕ) (count width : ℕ) → Room m bytes count → body ≡ drop 48 bytes → width ≡ word_width m
+pub words_room : (m : Machine) (digest bytes body : List ℕ) (count width : ℕ) → Checked m digest bytes count → body ≡ drop 48 bytes → width ≡ word_width m
     → (count * width ≤ 8 * length body) × (8 * length body < count * width + 8)
-words_room m bytes body count width room tail wide =
+words_room m digest bytes body count width room tail wide =
     let d = ap length tail ∙ length-drop 48 bytes in
     let long = room.long in
     let product : count * width ≡ count * word_width m = ap (λ (w : ℕ). count * w) wide in
@@ -129,19 +101,19 @@ words_room m bytes body count width room tail wide =
     (omega arith, omega arith)
 
 -- these bits are few enough to be counted
-pub words_few : (m : Machine) (bytes body : List ℕ) (count width : ℕ) → IsMachine m → Room m bytes count → body ≡ drop 48 bytes → width ≡ word_width m → width < 2 ^ 32
+pub words_few : (m : Machine) (digest bytes body : List ℕ) (count width : ℕ) → IsMachine m → Checked m digest bytes count → body ≡ drop 48 bytes → width ≡ word_width m → width < 2 ^ 32
     → 8 * length body < 2 ^ 64
-words_few m bytes body count width rules room tail wide small =
-    let fits = words_room m bytes body count width room tail wide in
+words_few m digest bytes body count width rules room tail wide small =
+    let fits = words_room m digest bytes body count width room tail wide in
     let most = fits.1 in
     let address = pow_most m.control.address (short_address m.sockets m.control rules.control) in
-    let few = room.addresses in
+    let few = room.room in
     let product : count * width ≤ 2 ^ 17 * 2 ^ 32 = mul-le count width (2 ^ 17) (2 ^ 32) (omega arith) (omega arith) in
     omega arith
 
 -- a header that is refused
-pub header_answer : (m : Machine) (digest bytes : List ℕ) (e : ImageError) → header_said m digest bytes ≡ Err e → Answers {A = Code} (Err e) (image_said m digest bytes)
-unfolding image_said
+pub header_answer : (m : Machine) (digest bytes : List ℕ) (e : ImageError) → decoded_header m digest bytes ≡ Err e → Answers {A = Code} (Err e) (decoded_image m digest bytes)
+unfolding decoded_image
 header_answer m digest bytes e head =
-    answers_same (Err e) (image_said m digest bytes)
-    (sym (ap (λ (h : Result ℕ ImageError). h >>= λ count. words_said m (layout_of m) count 0 (bits_in (drop 48 bytes)) >>= λ words. Ok (code_of_words words)) head))
+    answers_same (Err e) (decoded_image m digest bytes)
+    (sym (ap (λ (h : Result ℕ ImageError). h >>= λ count. decoded_words m (layout_of m) count 0 (bits_in (drop 48 bytes)) >>= λ words. Ok (code_of_words words)) head))

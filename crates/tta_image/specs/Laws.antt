@@ -6,7 +6,7 @@ use Rattle.tta_machine.specs.Rules.{IsMachine}
 use Rattle.tta_code.specs.declared.code.Code.{Code}
 use Rattle.tta_code.specs.Legal.{IsLegalCode}
 use Rattle.tta_image.specs.Image.{Image}
-use Rattle.tta_image.specs.Reading.{image_said}
+use Rattle.tta_image.specs.Reading.{decoded_image}
 
 -- legal code has an image for every digest
 abbrev pub HasImage : Type 0
@@ -24,10 +24,10 @@ HasOneCode =
     (m : Machine) (digest : List ℕ) (code code' : Code) (bytes : List ℕ)
     → IsMachine m → Image m digest code bytes → Image m digest code' bytes → code ≡ code'
 
--- Bytes are the image of a code just where they say the code. So bytes that are refused are no image. A digest has 32
+-- Bytes are the image of a code just where they decode to it. So bytes that are refused are no image. A digest has 32
 -- bytes.
-abbrev pub SaysImage : Type 0
-SaysImage =
+abbrev pub DecodesImages : Type 0
+DecodesImages =
     (m : Machine) (digest : List ℕ) (code : Code) (bytes : List ℕ)
     → IsMachine m → length digest ≡ 32 → AllByRecursion (λ b. b < 256) bytes
-    → (image_said m digest bytes ≡ Ok code) ↔ Image m digest code bytes
+    → (decoded_image m digest bytes ≡ Ok code) ↔ Image m digest code bytes

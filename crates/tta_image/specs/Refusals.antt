@@ -24,7 +24,7 @@ of_all refusal = Refused (code_of refusal) 0 0
 abbrev pub of_word : (word : ℕ) → ImageRefusal → (bus : ℕ) → ImageError
 of_word word refusal bus = Refused (code_of refusal) word bus
 
--- the answer is the one that is said, or there was no memory
+-- the answer is what the bytes decode to, or there was no memory
 abbrev pub Answers : {A : Type 0} → Result A ImageError → Result A ImageError → Type 0
-Answers (Err NoMemory) said = Unit {0}
-Answers answer said = said ≡ answer
+Answers (Err NoMemory) decoded = Unit {0}
+Answers answer decoded = decoded ≡ answer

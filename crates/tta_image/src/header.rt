@@ -2,7 +2,7 @@
 
 ghost use Rattle.std.specs.Prelude.{◌≡◌, ◌+◌, ◌*◌, ◌<◌, ◌≤◌, ◌^◌, length, IsTrue, IfOk};
 ghost use Rattle.tta_machine.specs.Fields.{word_width};
-ghost use Rattle.tta_image.specs.Reading.{stands_at, bytes_for, word_count, has_length, header_said};
+ghost use Rattle.tta_image.specs.Reading.{stands_at, bytes_for, word_count, has_length, decoded_header};
 
 use crate::refusal::{ImageError, ImageRefusal};
 use tta_machine::Machine;
@@ -45,7 +45,6 @@ fn has_length(m: &Machine, width: u32, bytes: &[u8], words: u32) -> bool
 
 /// How many words the image has, whose instructions have so many bits; or the first refusal of its
 /// header.
-#[tactic(auto, unfolding(crate::specs::Reading::header_said))]
 pub fn read_header(
     m: &Machine,
     width: u32,
@@ -53,7 +52,7 @@ pub fn read_header(
     bytes: &[u8],
 ) -> Result<u32, ImageError>
     requires { width ≡ word_width m.now }
-    ensures { result ≡ header_said m.now digest.now bytes.now }
+    ensures { result ≡ decoded_header m.now digest.now bytes.now }
 {
     if !stands_at(bytes, 0, b"TTAI") {
         return Err(ImageRefusal::Magic.of_all());

@@ -14,7 +14,7 @@ mod tests;
 mod words;
 mod write;
 
-pub use laws::{one_code, one_image, said_code};
+pub use laws::{decodes_images, one_code, one_image};
 pub use read::read_image;
 pub use refusal::{ImageError, ImageRefusal};
 pub use tta_machine::{BusFields, Layout};

@@ -6,7 +6,7 @@ ghost use Rattle.tta_machine.specs.Layout.{layout_of};
 ghost use Rattle.tta_connect.specs.Net.{IsNetOf};
 ghost use Rattle.tta_image.specs.Decoding.{bits_in};
 ghost use Rattle.tta_image.specs.Image.{Image, IsNoImage};
-ghost use Rattle.tta_image.specs.Reading.{word_said, words_said, image_said};
+ghost use Rattle.tta_image.specs.Reading.{decoded_word, decoded_words, decoded_image};
 ghost use Rattle.tta_image.specs.Refusals.{Answers};
 ghost use Rattle.tta_image.specs.declared.refusal.ImageError.TheVariants.{NoMemory};
 
@@ -21,7 +21,7 @@ use tta_list::Items;
 use tta_machine::{Layout, Machine};
 
 /// The instruction of a word that begins after so many bits.
-#[tactic(auto, using(crate::proofs::Decoded::is_decoded))]
+#[tactic(auto, using(crate::proofs::DecodedRules::is_decoded))]
 fn read_word(
     alloc: Global,
     m: &Machine,
@@ -35,7 +35,7 @@ fn read_word(
     requires net { IsNetOf net.now m.now }
     requires few { 8 * length bytes.now < 2 ^ 64 }
     requires room { at + layout.now.width ≤ 8 * length bytes.now }
-    ensures { Answers result (word_said m.now layout.now word (drop at (bits_in bytes.now))) }
+    ensures { Answers result (decoded_word m.now layout.now word (drop at (bits_in bytes.now))) }
 {
     let i = read_instruction(alloc, m, layout, bytes, at, word)?;
     match legal(m, net, &i) {
@@ -68,7 +68,7 @@ fn read_words(
     requires few { 8 * length bytes.now < 2 ^ 64 }
     requires room { count * layout.now.width ≤ 8 * length bytes.now }
     requires short { 8 * length bytes.now < count * layout.now.width + 8 }
-    ensures { Answers result (words_said m.now layout.now count 0 (bits_in bytes.now)) }
+    ensures { Answers result (decoded_words m.now layout.now count 0 (bits_in bytes.now)) }
 {
     let mut words = Items::new(alloc);
     let mut at: usize = 0;
@@ -94,14 +94,14 @@ fn body_of(bytes: &[u8]) -> &[u8]
 /// The code of an image, or why the bytes are none: the first refusal of the header, else of the
 /// words one by one, else of the bits that fill up the last byte. The digest is that of the
 /// machine's text.
-#[tactic(auto, unfolding(crate::specs::Reading::image_said))]
+#[tactic(auto, unfolding(crate::specs::Reading::decoded_image))]
 pub fn read_image(
     alloc: Global,
     bytes: &[u8],
     m: &Machine,
     digest: &[u8; 32],
 ) -> Result<Code, ImageError>
-    ensures said { Answers result (image_said m.now digest.now bytes.now) }
+    ensures decoded { Answers result (decoded_image m.now digest.now bytes.now) }
     ensures image { IfOk result (λ code. Image m.now digest.now code bytes.now) }
     ensures refused { IfErr result
         (λ e. e ≢ NoMemory → IsNoImage m.now digest.now bytes.now) }

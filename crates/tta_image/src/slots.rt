@@ -1,7 +1,7 @@
 //! The fields of a slot, read bus by bus.
 
 ghost use Rattle.std.specs.Prelude.{◌≡◌, ◌+◌, ◌*◌, ◌<◌, ◌≤◌, ◌^◌, length, drop, slice_get};
-ghost use Rattle.tta_image.specs.Decoding.{bits_in, slot_numbers, guard_said, short_word, source_said, dest_said, move_said, slot_said};
+ghost use Rattle.tta_image.specs.Decoding.{bits_in, slot_numbers, decoded_guard, short_word, decoded_source, decoded_dest, decoded_move, decoded_slot};
 ghost use Rattle.tta_image.specs.Narrow.{IsNarrow};
 
 use crate::bits::number_at;
@@ -37,7 +37,7 @@ fn numbers_at(fields: &BusFields, bytes: &[u8], at: usize) -> SlotNumbers
 
 /// The guard of a code: 0 is no guard.
 fn guard_of(fields: &BusFields, code: u64) -> Option<Option<GuardRef>>
-    ensures { result ≡ guard_said fields.now code }
+    ensures { result ≡ decoded_guard fields.now code }
 {
     if code == 0 {
         return Some(None);
@@ -73,7 +73,7 @@ fn short_word(signed: bool, width: u32, number: u64) -> u32
 /// The source of a code, or the short word.
 fn source_of(fields: &BusFields, signed: bool, is_short: bool, payload: u64) -> Option<Source>
     requires { IsNarrow fields.now }
-    ensures { result ≡ source_said fields.now signed is_short payload }
+    ensures { result ≡ decoded_source fields.now signed is_short payload }
 {
     if !is_short {
         return fields.sources.as_slice().get(payload as usize).copied();
@@ -87,7 +87,7 @@ fn source_of(fields: &BusFields, signed: bool, is_short: bool, payload: u64) -> 
 /// The destination of a code.
 fn dest_of(fields: &BusFields, code: u64) -> Option<Dest>
     requires { 0 < code }
-    ensures { result ≡ dest_said fields.now code }
+    ensures { result ≡ decoded_dest fields.now code }
 {
     fields.dests.as_slice().get(code as usize - 1).copied()
 }
@@ -96,7 +96,7 @@ fn dest_of(fields: &BusFields, code: u64) -> Option<Dest>
 fn move_of(fields: &BusFields, signed: bool, n: SlotNumbers) -> Option<Move>
     requires narrow { IsNarrow fields.now }
     requires some { 0 < n.dest }
-    ensures { result ≡ move_said fields.now signed n }
+    ensures { result ≡ decoded_move fields.now signed n }
 {
     let guard = guard_of(fields, n.guard)?;
     let src = source_of(fields, signed, n.is_short, n.payload)?;
@@ -107,7 +107,7 @@ fn move_of(fields: &BusFields, signed: bool, n: SlotNumbers) -> Option<Move>
 /// The slot of these numbers, where each field has a meaning.
 fn slot_of(fields: &BusFields, signed: bool, n: SlotNumbers) -> Option<Option<Move>>
     requires { IsNarrow fields.now }
-    ensures { result ≡ slot_said fields.now signed n }
+    ensures { result ≡ decoded_slot fields.now signed n }
 {
     if n.dest > 0 {
         return match move_of(fields, signed, n) {
@@ -127,7 +127,7 @@ pub fn slot_at(fields: &BusFields, signed: bool, bytes: &[u8], at: usize) -> Opt
     requires narrow { IsNarrow fields.now }
     requires few { 8 * length bytes.now < 2 ^ 64 }
     requires room { at + fields.now.width ≤ 8 * length bytes.now }
-    ensures { result ≡ slot_said fields.now signed
+    ensures { result ≡ decoded_slot fields.now signed
         (slot_numbers fields.now (drop at (bits_in bytes.now))) }
 {
     slot_of(fields, signed, numbers_at(fields, bytes, at))

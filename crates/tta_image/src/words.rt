@@ -3,7 +3,7 @@
 ghost use Rattle.std.specs.Prelude.{◌≡◌, ◌+◌, ◌*◌, ◌<◌, ◌≤◌, ◌^◌, if◌then◌else◌, Some, length, drop};
 ghost use Rattle.std.specs.List.{sum_by};
 ghost use Rattle.tta_machine.specs.Layout.{layout_of};
-ghost use Rattle.tta_image.specs.Decoding.{number_of, bits_in, is_signed, template_said, taken_by, least_bus, taken_bits, long_said, bus_said, slots_said, instruction_said, word_only, field};
+ghost use Rattle.tta_image.specs.Decoding.{number_of, bits_in, is_signed, decoded_template, taken_by, least_bus, taken_bits, decoded_long, decoded_bus, decoded_slots, decoded_instruction, word_only, field};
 ghost use Rattle.tta_image.specs.Narrow.{IsNarrow, AreNarrow};
 ghost use Rattle.tta_image.specs.Refusals.{Answers};
 
@@ -27,7 +27,7 @@ fn is_signed(m: &Machine, bus: usize) -> bool
 
 /// The template of a code: 0 is no template.
 fn template_of(m: &Machine, code: u64) -> Option<Option<u8>>
-    ensures { result ≡ template_said m.now code }
+    ensures { result ≡ decoded_template m.now code }
 {
     if code == 0 {
         return Some(None);
@@ -131,7 +131,7 @@ fn read_long(
     requires narrow { AreNarrow layout.now.buses }
     requires few { 8 * length bytes.now < 2 ^ 64 }
     requires room { at + sum_by (λ f. f.width) layout.now.buses ≤ 8 * length bytes.now }
-    ensures { result ≡ long_said m.now word layout.now.buses template (drop at (bits_in bytes.now)) }
+    ensures { result ≡ decoded_long m.now word layout.now.buses template (drop at (bits_in bytes.now)) }
 {
     let Some(template) = template else {
         return Ok(None);
@@ -156,7 +156,7 @@ fn read_bus(
     requires narrow { IsNarrow fields.now }
     requires few { 8 * length bytes.now < 2 ^ 64 }
     requires room { at + fields.now.width ≤ 8 * length bytes.now }
-    ensures { result ≡ bus_said m.now word taken bus fields.now (drop at (bits_in bytes.now)) }
+    ensures { result ≡ decoded_bus m.now word taken bus fields.now (drop at (bits_in bytes.now)) }
 {
     if has_bus(taken, usize::from(bus)) {
         return Ok(None);
@@ -182,7 +182,7 @@ fn read_slots(
     requires room { at + sum_by (λ f. f.width) layout.now.buses ≤ 8 * length bytes.now }
     requires buses { length layout.now.buses ≤ 16 }
     ensures { Answers result
-        (slots_said m.now word taken 0 layout.now.buses (drop at (bits_in bytes.now))) }
+        (decoded_slots m.now word taken 0 layout.now.buses (drop at (bits_in bytes.now))) }
 {
     let mut moves = Items::new(alloc);
     let mut at = at;
@@ -195,7 +195,7 @@ fn read_slots(
 }
 
 /// The instruction of a word that begins after so many bits.
-#[tactic(auto, unfolding(crate::specs::Decoding::instruction_said), using(crate::proofs::Walks::rest_after))]
+#[tactic(auto, unfolding(crate::specs::Decoding::decoded_instruction), using(crate::proofs::Walks::rest_after))]
 pub fn read_instruction(
     alloc: Global,
     m: &Machine,
@@ -208,7 +208,7 @@ pub fn read_instruction(
     requires few { 8 * length bytes.now < 2 ^ 64 }
     requires room { at + layout.now.width ≤ 8 * length bytes.now }
     ensures { Answers result
-        (instruction_said m.now layout.now word (drop at (bits_in bytes.now))) }
+        (decoded_instruction m.now layout.now word (drop at (bits_in bytes.now))) }
 {
     let buses = m.buses.len() as u8;
     let code = number_at(bytes, at, layout.template_width);

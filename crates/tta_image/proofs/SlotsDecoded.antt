@@ -1,4 +1,4 @@
--- What the bits of a slot say is the slot that has these bits.
+-- What the bits of a slot decode to is the slot that has these bits.
 use Rattle.std.proofs.Common.{◌≡◌, ℕ, suc, ◌+◌, ◌^◌, ◌<◌, ◌≤◌, ◌==◌, Bool, true, false, not, ◌&&◌, nat_lt, if◌then◌else◌, List, [], ◌∷◌, ◌++◌, length, replicate, take, drop, Option, Some, None, option_map, refl, sym, ap, ◌∙◌, arith}
 use Rattle.std.proofs.Math.Seq.{take-add}
 use Rattle.std.proofs.lemmas.Bool.{and_parts, eqb-true, not-true, ltb-true}
@@ -15,12 +15,12 @@ use Rattle.tta_machine.specs.Rules.{IsMachine}
 use Rattle.tta_code.specs.declared.code.Move.{Move}
 use Rattle.tta_image.specs.declared.slots.SlotNumbers.{SlotNumbers}
 use Rattle.tta_image.specs.Bits.{bits_of, source_bits, slot_bits}
-use Rattle.tta_image.specs.Decoding.{number_of, field, slot_numbers, guard_said, short_word, source_said, dest_said, move_said, slot_said, is_signed}
+use Rattle.tta_image.specs.Decoding.{number_of, field, slot_numbers, decoded_guard, short_word, decoded_source, decoded_dest, decoded_move, decoded_slot, is_signed}
 use Rattle.tta_image.proofs.Unique.{length-bits_of}
 use Rattle.tta_image.proofs.Numbers.{bits_of-number_of, number_of-bits_of_small}
 use Rattle.tta_image.proofs.SlotLemmas.{zero_bits}
-use Rattle.tta_image.proofs.CodesSaid.{guard_code_said, source_code_at, no_value_at, dest_code_said}
-use Rattle.tta_image.proofs.ShortSaid.{short_word-low}
+use Rattle.tta_image.proofs.CodesDecoded.{guard_code-decoded, source_code_at, no_value_at, dest_code-decoded}
+use Rattle.tta_image.proofs.ShortDecoded.{short_word-low}
 use Rattle.tta_image.proofs.NarrowFields.{narrow}
 
 -- ---- numbers and bits
@@ -117,9 +117,9 @@ code_bits_by m bus (source.Shown u) other = refl
 code_bits_by m bus source.Ra other = refl
 code_bits_by m bus (source.Value w) other = absurd (other w refl)
 
-source_said_bits : (m : Machine) (bus : ℕ) (is_short : Bool) (payload : ℕ) (src : Source) → IsMachine m → bus < length m.buses
-    → source_said (fields_of m bus) (is_signed m bus) is_short payload ≡ Some src → source_bits m bus src ≡ is_short ∷ bits_of (payload_width m bus) payload
-source_said_bits m bus true payload src rules h said = by (nat_lt payload (2 ^ short_width m bus)) refl said where
+decoded_source-bits : (m : Machine) (bus : ℕ) (is_short : Bool) (payload : ℕ) (src : Source) → IsMachine m → bus < length m.buses
+    → decoded_source (fields_of m bus) (is_signed m bus) is_short payload ≡ Some src → source_bits m bus src ≡ is_short ∷ bits_of (payload_width m bus) payload
+decoded_source-bits m bus true payload src rules h said = by (nat_lt payload (2 ^ short_width m bus)) refl said where
   by : (b : Bool) → nat_lt payload (2 ^ short_width m bus) ≡ b
       → (if b then Some (source.Value (short_word (is_signed m bus) (short_width m bus) payload)) else None) ≡ Some src
       → source_bits m bus src ≡ true ∷ bits_of (payload_width m bus) payload
@@ -128,22 +128,22 @@ source_said_bits m bus true payload src rules h said = by (nat_lt payload (2 ^ s
       ap (source_bits m bus) (sym (same_Some (source.Value (short_word (is_signed m bus) (short_width m bus) payload)) src e))
       ∙ ap (λ (n : ℕ). true ∷ bits_of (payload_width m bus) n) (short_word-low (is_signed m bus) (short_width m bus) payload most (ltb-true payload (2 ^ short_width m bus) is))
   by false is e = absurd (none-some src e)
-source_said_bits m bus false payload src rules h said =
+decoded_source-bits m bus false payload src rules h said =
     code_bits_by m bus src (λ w e. no_value_at m bus payload w rules (said ∙ ap (λ (s : Source). Some s) e))
     ∙ ap (λ (n : ℕ). false ∷ bits_of (payload_width m bus) n) (source_code_at m bus payload src rules said)
 
-move_said_bits : (m : Machine) (bus : ℕ) (n : SlotNumbers) (v : Move) → IsMachine m → bus < length m.buses → (n.dest == 0) ≡ false
-    → move_said (fields_of m bus) (is_signed m bus) n ≡ Some v → slot_bits m bus (Some v) ≡ bits_of_numbers (fields_of m bus) n
-move_said_bits m bus n v rules h some said =
+decoded_move-bits : (m : Machine) (bus : ℕ) (n : SlotNumbers) (v : Move) → IsMachine m → bus < length m.buses → (n.dest == 0) ≡ false
+    → decoded_move (fields_of m bus) (is_signed m bus) n ≡ Some v → slot_bits m bus (Some v) ≡ bits_of_numbers (fields_of m bus) n
+decoded_move-bits m bus n v rules h some said =
     let f : BusFields = fields_of m bus in
-    let guard = going_on (guard_said f n.guard) (λ guard. source_said f (is_signed m bus) n.is_short n.payload >>? λ src. dest_said f n.dest >>? λ dst. Some (record { guard = guard; src = src; dst = dst })) v said in
-    let src = going_on (source_said f (is_signed m bus) n.is_short n.payload) (λ src. dest_said f n.dest >>? λ dst. Some (record { guard = guard.0; src = src; dst = dst })) v guard.2 in
-    let dst = going_on (dest_said f n.dest) (λ dst. Some (record { guard = guard.0; src = src.0; dst = dst })) v src.2 in
+    let guard = going_on (decoded_guard f n.guard) (λ guard. decoded_source f (is_signed m bus) n.is_short n.payload >>? λ src. decoded_dest f n.dest >>? λ dst. Some (record { guard = guard; src = src; dst = dst })) v said in
+    let src = going_on (decoded_source f (is_signed m bus) n.is_short n.payload) (λ src. decoded_dest f n.dest >>? λ dst. Some (record { guard = guard.0; src = src; dst = dst })) v guard.2 in
+    let dst = going_on (decoded_dest f n.dest) (λ dst. Some (record { guard = guard.0; src = src.0; dst = dst })) v src.2 in
     let w : Move = record { guard = guard.0; src = src.0; dst = dst.0 } in
     ap (λ (x : Move). slot_bits m bus (Some x)) (sym (same_Some w v dst.2))
-    ∙ ap (λ (k : ℕ). bits_of (guard_width m bus) k ++ (source_bits m bus src.0 ++ bits_of (dest_width m bus) (dest_code m bus dst.0))) (guard_code_said m bus n.guard guard.0 rules guard.1)
-    ∙ ap (λ (l : List Bool). bits_of (guard_width m bus) n.guard ++ (l ++ bits_of (dest_width m bus) (dest_code m bus dst.0))) (source_said_bits m bus n.is_short n.payload src.0 rules h src.1)
-    ∙ ap (λ (k : ℕ). bits_of (guard_width m bus) n.guard ++ ((n.is_short ∷ bits_of (payload_width m bus) n.payload) ++ bits_of (dest_width m bus) k)) (dest_code_said m bus n.dest dst.0 rules some dst.1)
+    ∙ ap (λ (k : ℕ). bits_of (guard_width m bus) k ++ (source_bits m bus src.0 ++ bits_of (dest_width m bus) (dest_code m bus dst.0))) (guard_code-decoded m bus n.guard guard.0 rules guard.1)
+    ∙ ap (λ (l : List Bool). bits_of (guard_width m bus) n.guard ++ (l ++ bits_of (dest_width m bus) (dest_code m bus dst.0))) (decoded_source-bits m bus n.is_short n.payload src.0 rules h src.1)
+    ∙ ap (λ (k : ℕ). bits_of (guard_width m bus) n.guard ++ ((n.is_short ∷ bits_of (payload_width m bus) n.payload) ++ bits_of (dest_width m bus) k)) (dest_code-decoded m bus n.dest dst.0 rules some dst.1)
 
 -- an empty slot has the bits of zeros
 pub empty_bits : (m : Machine) (bus : ℕ) (n : SlotNumbers) → n.guard ≡ 0 → n.is_short ≡ false → n.payload ≡ 0 → n.dest ≡ 0
@@ -158,14 +158,14 @@ empty_bits m bus n guard short payload dst =
     ∙ ap (λ (l : List Bool). bits_of gw n.guard ++ ((n.is_short ∷ l) ++ replicate dw false)) (sym (zero_bits pw) ∙ ap (λ (k : ℕ). bits_of pw k) (sym payload))
     ∙ ap (λ (l : List Bool). bits_of gw n.guard ++ ((n.is_short ∷ bits_of pw n.payload) ++ l)) (sym (zero_bits dw) ∙ ap (λ (k : ℕ). bits_of dw k) (sym dst))
 
--- the slot that numbers say has their bits
-pub slot_said_bits : (m : Machine) (bus : ℕ) (n : SlotNumbers) (slot : Option Move) → IsMachine m → bus < length m.buses
-    → slot_said (fields_of m bus) (is_signed m bus) n ≡ Some slot → slot_bits m bus slot ≡ bits_of_numbers (fields_of m bus) n
-slot_said_bits m bus n slot rules h said = by (n.dest == 0) refl said where
-  moved : (n.dest == 0) ≡ false → (o : Option Move) → move_said (fields_of m bus) (is_signed m bus) n ≡ o → option_map (λ v. Some v) o ≡ Some slot
+-- the slot that numbers decode to has their bits
+pub decoded_slot-bits : (m : Machine) (bus : ℕ) (n : SlotNumbers) (slot : Option Move) → IsMachine m → bus < length m.buses
+    → decoded_slot (fields_of m bus) (is_signed m bus) n ≡ Some slot → slot_bits m bus slot ≡ bits_of_numbers (fields_of m bus) n
+decoded_slot-bits m bus n slot rules h said = by (n.dest == 0) refl said where
+  moved : (n.dest == 0) ≡ false → (o : Option Move) → decoded_move (fields_of m bus) (is_signed m bus) n ≡ o → option_map (λ v. Some v) o ≡ Some slot
       → slot_bits m bus slot ≡ bits_of_numbers (fields_of m bus) n
   moved some None is e = absurd (none-some slot e)
-  moved some (Some v) is e = ap (slot_bits m bus) (sym (same_Some (Some v) slot e)) ∙ move_said_bits m bus n v rules h some is
+  moved some (Some v) is e = ap (slot_bits m bus) (sym (same_Some (Some v) slot e)) ∙ decoded_move-bits m bus n v rules h some is
 
   empty : n.dest ≡ 0 → (b : Bool) → (n.guard == 0 && (not n.is_short && n.payload == 0)) ≡ b → (if b then Some None else None) ≡ Some slot
       → slot_bits m bus slot ≡ bits_of_numbers (fields_of m bus) n
@@ -177,7 +177,7 @@ slot_said_bits m bus n slot rules h said = by (n.dest == 0) refl said where
   empty none false zeros e = absurd (none-some slot e)
 
   by : (b : Bool) → (n.dest == 0) ≡ b
-      → (if b then (if n.guard == 0 && (not n.is_short && n.payload == 0) then Some None else None) else option_map (λ v. Some v) (move_said (fields_of m bus) (is_signed m bus) n)) ≡ Some slot
+      → (if b then (if n.guard == 0 && (not n.is_short && n.payload == 0) then Some None else None) else option_map (λ v. Some v) (decoded_move (fields_of m bus) (is_signed m bus) n)) ≡ Some slot
       → slot_bits m bus slot ≡ bits_of_numbers (fields_of m bus) n
   by true is e = empty (eqb-true n.dest 0 is) (n.guard == 0 && (not n.is_short && n.payload == 0)) refl e
-  by false is e = moved is (move_said (fields_of m bus) (is_signed m bus) n) refl e
+  by false is e = moved is (decoded_move (fields_of m bus) (is_signed m bus) n) refl e

@@ -1,4 +1,4 @@
--- The bits of a slot say the slot.
+-- The bits of a slot decode to the slot.
 use Rattle.std.proofs.Common.{◌≡◌, ℕ, ◌+◌, ◌%◌, ◌^◌, ◌<◌, ◌≤◌, ◌==◌, Bool, true, false, List, ◌∷◌, ◌++◌, length, Option, Some, None, option_map, refl, ap, ◌∙◌, arith}
 use Rattle.std.proofs.lemmas.Bool.{false_from_ne_true, eqb-true, lt-ltb}
 use Rattle.std.proofs.lemmas.Nat.{mod_below, pow_pos}
@@ -16,12 +16,12 @@ use Rattle.tta_machine.proofs.Widths.{width_for-enough, pow_le}
 use Rattle.tta_code.specs.declared.code.Move.{Move}
 use Rattle.tta_image.specs.declared.slots.SlotNumbers.{SlotNumbers}
 use Rattle.tta_image.specs.Bits.{bits_of, source_bits, slot_bits}
-use Rattle.tta_image.specs.Decoding.{slot_numbers, source_said, dest_said, move_said, slot_said, is_signed}
+use Rattle.tta_image.specs.Decoding.{slot_numbers, decoded_source, decoded_dest, decoded_move, decoded_slot, is_signed}
 use Rattle.tta_image.proofs.EndsLemmas.{guard_code_inside, source_code_inside, dest_code_inside}
 use Rattle.tta_image.proofs.SlotLemmas.{is_joined_slot, Joined, joined_parts}
-use Rattle.tta_image.proofs.CodesSaid.{guard_said_of, source_said_of, dest_said_of}
-use Rattle.tta_image.proofs.ShortSaid.{value_said}
-use Rattle.tta_image.proofs.SlotsSaid.{bits_of_numbers, empty_bits, Fit, numbers_of_bits}
+use Rattle.tta_image.proofs.CodesDecoded.{decoded_guard-code, decoded_source-code, decoded_dest-code}
+use Rattle.tta_image.proofs.ShortDecoded.{value_decoded}
+use Rattle.tta_image.proofs.SlotsDecoded.{bits_of_numbers, empty_bits, Fit, numbers_of_bits}
 
 -- ---- the numbers of a slot
 
@@ -81,37 +81,37 @@ numbers_fit m bus (Some v) h =
       dest = code_fits (1 + length (dests_on m bus)) (dest_width m bus) (dest_code m bus v.dst) (dest_code_inside m bus v.dst j.1) (omega arith);
     }
 
--- ---- they say the slot
+-- ---- they decode to the slot
 
-source_said_again : (m : Machine) (bus : ℕ) (src : Source) → IsMachine m → is_source_on m bus src ≡ true
-    → source_said (fields_of m bus) (is_signed m bus) (is_short_source src) (payload_of m bus src) ≡ Some src
-source_said_again m bus (source.Reg f i) rules h = source_said_of m bus (source.Reg f i) h
-source_said_again m bus (source.Imm u i) rules h = source_said_of m bus (source.Imm u i) h
-source_said_again m bus (source.Shown u) rules h = source_said_of m bus (source.Shown u) h
-source_said_again m bus source.Ra rules h = source_said_of m bus source.Ra h
-source_said_again m bus (source.Value w) rules h =
+decoded_source_of_numbers : (m : Machine) (bus : ℕ) (src : Source) → IsMachine m → is_source_on m bus src ≡ true
+    → decoded_source (fields_of m bus) (is_signed m bus) (is_short_source src) (payload_of m bus src) ≡ Some src
+decoded_source_of_numbers m bus (source.Reg f i) rules h = decoded_source-code m bus (source.Reg f i) h
+decoded_source_of_numbers m bus (source.Imm u i) rules h = decoded_source-code m bus (source.Imm u i) h
+decoded_source_of_numbers m bus (source.Shown u) rules h = decoded_source-code m bus (source.Shown u) h
+decoded_source_of_numbers m bus source.Ra rules h = decoded_source-code m bus source.Ra h
+decoded_source_of_numbers m bus (source.Value w) rules h =
     let below = mod_below w (2 ^ short_width m bus) (pow_pos (short_width m bus)) in
-    rw (lt-ltb (w % 2 ^ short_width m bus) (2 ^ short_width m bus) below) (ap (λ (x : ℕ). Some (source.Value x)) (value_said m bus w rules.buses h))
+    rw (lt-ltb (w % 2 ^ short_width m bus) (2 ^ short_width m bus) below) (ap (λ (x : ℕ). Some (source.Value x)) (value_decoded m bus w rules.buses h))
 
-move_said_again : (m : Machine) (bus : ℕ) (v : Move) → IsMachine m → Joined m bus v
-    → move_said (fields_of m bus) (is_signed m bus) (numbers_of_slot m bus (Some v)) ≡ Some v
-move_said_again m bus v rules j =
-    ap (λ (g : Option (Option GuardRef)). g >>? λ guard. source_said (fields_of m bus) (is_signed m bus) (is_short_source v.src) (payload_of m bus v.src) >>? λ src.
-    dest_said (fields_of m bus) (dest_code m bus v.dst) >>? λ dst. Some (record { guard = guard; src = src; dst = dst })) (guard_said_of m bus v.guard j.2)
-    ∙ ap (λ (s : Option Source). s >>? λ src. dest_said (fields_of m bus) (dest_code m bus v.dst) >>? λ dst. Some (record { guard = v.guard; src = src; dst = dst })) (source_said_again m bus v.src rules j.0)
-    ∙ ap (λ (d : Option Dest). d >>? λ dst. Some (record { guard = v.guard; src = v.src; dst = dst })) (dest_said_of m bus v.dst j.1)
+decoded_move_of_numbers : (m : Machine) (bus : ℕ) (v : Move) → IsMachine m → Joined m bus v
+    → decoded_move (fields_of m bus) (is_signed m bus) (numbers_of_slot m bus (Some v)) ≡ Some v
+decoded_move_of_numbers m bus v rules j =
+    ap (λ (g : Option (Option GuardRef)). g >>? λ guard. decoded_source (fields_of m bus) (is_signed m bus) (is_short_source v.src) (payload_of m bus v.src) >>? λ src.
+    decoded_dest (fields_of m bus) (dest_code m bus v.dst) >>? λ dst. Some (record { guard = guard; src = src; dst = dst })) (decoded_guard-code m bus v.guard j.2)
+    ∙ ap (λ (s : Option Source). s >>? λ src. decoded_dest (fields_of m bus) (dest_code m bus v.dst) >>? λ dst. Some (record { guard = v.guard; src = src; dst = dst })) (decoded_source_of_numbers m bus v.src rules j.0)
+    ∙ ap (λ (d : Option Dest). d >>? λ dst. Some (record { guard = v.guard; src = v.src; dst = dst })) (decoded_dest-code m bus v.dst j.1)
 
-slot_said_again : (m : Machine) (bus : ℕ) (slot : Option Move) → IsMachine m → is_joined_slot m bus slot ≡ true
-    → slot_said (fields_of m bus) (is_signed m bus) (numbers_of_slot m bus slot) ≡ Some slot
-slot_said_again m bus None rules h = refl
-slot_said_again m bus (Some v) rules h =
+decoded_slot_of_numbers : (m : Machine) (bus : ℕ) (slot : Option Move) → IsMachine m → is_joined_slot m bus slot ≡ true
+    → decoded_slot (fields_of m bus) (is_signed m bus) (numbers_of_slot m bus slot) ≡ Some slot
+decoded_slot_of_numbers m bus None rules h = refl
+decoded_slot_of_numbers m bus (Some v) rules h =
     let some : (dest_code m bus v.dst == 0) ≡ false = false_from_ne_true (dest_code m bus v.dst == 0) (λ e. let z = eqb-true (dest_code m bus v.dst) 0 e in absurd (omega arith)) in
-    rw some (ap (λ (o : Option Move). option_map (λ w. Some w) o) (move_said_again m bus v rules (joined_parts m bus v h)))
+    rw some (ap (λ (o : Option Move). option_map (λ w. Some w) o) (decoded_move_of_numbers m bus v rules (joined_parts m bus v h)))
 
--- bits that begin with those of a slot say it
-pub slot_again : (m : Machine) (bus : ℕ) (slot : Option Move) (rest : List Bool) → IsMachine m → is_joined_slot m bus slot ≡ true
-    → slot_said (fields_of m bus) (is_signed m bus) (slot_numbers (fields_of m bus) (slot_bits m bus slot ++ rest)) ≡ Some slot
-slot_again m bus slot rest rules h =
-    ap (λ (l : List Bool). slot_said (fields_of m bus) (is_signed m bus) (slot_numbers (fields_of m bus) (l ++ rest))) (slot_bits_of m bus slot)
-    ∙ ap (λ (n : SlotNumbers). slot_said (fields_of m bus) (is_signed m bus) n) (numbers_of_bits (fields_of m bus) (numbers_of_slot m bus slot) rest (numbers_fit m bus slot h))
-    ∙ slot_said_again m bus slot rules h
+-- bits that begin with those of a slot decode to it
+pub decoded_slot-bits_of : (m : Machine) (bus : ℕ) (slot : Option Move) (rest : List Bool) → IsMachine m → is_joined_slot m bus slot ≡ true
+    → decoded_slot (fields_of m bus) (is_signed m bus) (slot_numbers (fields_of m bus) (slot_bits m bus slot ++ rest)) ≡ Some slot
+decoded_slot-bits_of m bus slot rest rules h =
+    ap (λ (l : List Bool). decoded_slot (fields_of m bus) (is_signed m bus) (slot_numbers (fields_of m bus) (l ++ rest))) (slot_bits_of m bus slot)
+    ∙ ap (λ (n : SlotNumbers). decoded_slot (fields_of m bus) (is_signed m bus) n) (numbers_of_bits (fields_of m bus) (numbers_of_slot m bus slot) rest (numbers_fit m bus slot h))
+    ∙ decoded_slot_of_numbers m bus slot rules h

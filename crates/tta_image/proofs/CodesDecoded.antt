@@ -1,4 +1,4 @@
--- What a code says is what has the code.
+-- What a code decodes to is what has the code.
 use Rattle.std.proofs.Common.{◌≡◌, ℕ, zero, suc, ◌+◌, ◌-◌, ◌==◌, Bool, true, false, not, ◌&&◌, if◌then◌else◌, List, [], ◌∷◌, filter, get_or, slice_get, Option, Some, None, option_map, refl, sym, ap, ◌∙◌, arith}
 use Rattle.std.specs.List.{list_any, position_or_len}
 use Rattle.std.proofs.lemmas.Bool.{and_parts, and_from, or_left, or_right, eqb-true, eq-eqb, not-true, both_ways, false_from_ne_true}
@@ -14,7 +14,7 @@ use Rattle.tta_machine.specs.Joins.{is_same, is_same_guard, is_dest_on, has_guar
 use Rattle.tta_machine.specs.Fields.{guards_on, sources_on, dests_on, same_source, same_dest, source_code, dest_code, guard_code}
 use Rattle.tta_machine.specs.Layout.{fields_of, has_source_socket}
 use Rattle.tta_machine.specs.Rules.{IsMachine, same_guard, are_different}
-use Rattle.tta_image.specs.Decoding.{guard_said, dest_said}
+use Rattle.tta_image.specs.Decoding.{decoded_guard, decoded_dest}
 use Rattle.tta_image.proofs.Places.{place_inside}
 use Rattle.tta_image.proofs.Rising.{rising-position, rising-rank}
 use Rattle.tta_image.proofs.EndRanks.{source_rank, dest_rank, sources_on-rise, dests_on-rise}
@@ -39,8 +39,8 @@ dest_code_at m bus k dst rules at =
     rising-position dest_rank (same_dest dst) 0 16387 k dst (dests_on m bus) (dests_on-rise m bus rules) at (same_dest_itself dst)
     (λ y h. ap dest_rank (sym (same_dest_true dst y h)))
 
-pub dest_code_said : (m : Machine) (bus code : ℕ) (dst : Dest) → IsMachine m → (code == 0) ≡ false → dest_said (fields_of m bus) code ≡ Some dst → dest_code m bus dst ≡ code
-dest_code_said m bus code dst rules some at =
+pub dest_code-decoded : (m : Machine) (bus code : ℕ) (dst : Dest) → IsMachine m → (code == 0) ≡ false → decoded_dest (fields_of m bus) code ≡ Some dst → dest_code m bus dst ≡ code
+dest_code-decoded m bus code dst rules some at =
     let place = dest_code_at m bus (code - 1) dst rules at in
     let apart : code ≡ 0 → ⊥ = λ e. both_ways (code == 0) some (eq-eqb code 0 e) in
     omega arith
@@ -52,14 +52,14 @@ first_item q xs d some =
     let inside = place_inside q xs some in
     (get_or xs (position_or_len q xs) d, slice_get-get_or xs (position_or_len q xs) d inside, passes_at_first q xs d inside)
 
--- the code of a source says it
-pub source_said_of : (m : Machine) (bus : ℕ) (src : Source) → has_source_socket m bus src ≡ true → slice_get (sources_on m bus) (source_code m bus src) ≡ Some src
-source_said_of m bus src h =
+-- the code of a source decodes to it
+pub decoded_source-code : (m : Machine) (bus : ℕ) (src : Source) → has_source_socket m bus src ≡ true → slice_get (sources_on m bus) (source_code m bus src) ≡ Some src
+decoded_source-code m bus src h =
     let x = first_item (same_source src) (sources_on m bus) src (source_kept m bus src h) in
     x.1 ∙ ap (λ (s : Source). Some s) (sym (same_source_true src x.0 x.2))
 
-pub dest_said_of : (m : Machine) (bus : ℕ) (dst : Dest) → is_dest_on m bus dst ≡ true → dest_said (fields_of m bus) (dest_code m bus dst) ≡ Some dst
-dest_said_of m bus dst h =
+pub decoded_dest-code : (m : Machine) (bus : ℕ) (dst : Dest) → is_dest_on m bus dst ≡ true → decoded_dest (fields_of m bus) (dest_code m bus dst) ≡ Some dst
+decoded_dest-code m bus dst h =
     let x = first_item (same_dest dst) (dests_on m bus) dst (dest_kept m bus dst h) in
     let e : dest_code m bus dst - 1 ≡ position_or_len (same_dest dst) (dests_on m bus) = omega arith in
     ap (λ (k : ℕ). slice_get (dests_on m bus) k) e ∙ x.1 ∙ ap (λ (d : Dest). Some d) (sym (same_dest_true dst x.0 x.2))
@@ -118,8 +118,8 @@ guard_place bus k x (g ∷ gs) apart at =
       by false is j e alone more = let rest = more j (rw is at e) in rw is rest
 
 -- the guard of a code has this code
-pub guard_code_said : (m : Machine) (bus code : ℕ) (guard : Option GuardRef) → IsMachine m → guard_said (fields_of m bus) code ≡ Some guard → guard_code m bus guard ≡ code
-guard_code_said m bus code guard rules said = by (code == 0) refl said where
+pub guard_code-decoded : (m : Machine) (bus code : ℕ) (guard : Option GuardRef) → IsMachine m → decoded_guard (fields_of m bus) code ≡ Some guard → guard_code m bus guard ≡ code
+guard_code-decoded m bus code guard rules said = by (code == 0) refl said where
   found : (code == 0) ≡ false → (o : Option Guard) → slice_get (guards_on m bus) (code - 1) ≡ o → option_map (λ g. Some g.on) o ≡ Some guard → guard_code m bus guard ≡ code
   found some None at h = absurd (none-some guard h)
   found some (Some x) at h =
@@ -131,10 +131,10 @@ guard_code_said m bus code guard rules said = by (code == 0) refl said where
   by true is h = ap (guard_code m bus) (sym (same_Some None guard h)) ∙ sym (eqb-true code 0 is)
   by false is h = found is (slice_get (guards_on m bus) (code - 1)) refl h
 
--- the code of a guard says it
-pub guard_said_of : (m : Machine) (bus : ℕ) (guard : Option GuardRef) → has_guard m bus guard ≡ true → guard_said (fields_of m bus) (guard_code m bus guard) ≡ Some guard
-guard_said_of m bus None h = refl
-guard_said_of m bus (Some on) h =
+-- the code of a guard decodes to it
+pub decoded_guard-code : (m : Machine) (bus : ℕ) (guard : Option GuardRef) → has_guard m bus guard ≡ true → decoded_guard (fields_of m bus) (guard_code m bus guard) ≡ Some guard
+decoded_guard-code m bus None h = refl
+decoded_guard-code m bus (Some on) h =
     let q : Guard → Bool = λ g. is_same_guard g.on on in
     let d : Guard = record { bus = bus; on = on } in
     let x = first_item (λ (g : Guard). is_same_guard g.on on) (guards_on m bus) d (guard_kept m bus on h) in

@@ -1,4 +1,4 @@
--- The low bits of a word that a short field holds say the word.
+-- The low bits of a word that a short field holds decode to the word.
 use Rattle.std.proofs.Common.{◌≡◌, ℕ, zero, suc, ◌+◌, ◌-◌, ◌*◌, ◌/◌, ◌%◌, ◌^◌, ◌<◌, ◌≤◌, ◌==◌, Bool, true, false, ◌&&◌, ◌||◌, nat_lt, nat_le, if◌then◌else◌, slice_get, Option, Some, None, refl, sym, ap, ◌∙◌, inl, inr, arith}
 use Rattle.std.specs.Option.{option_map_or}
 use Rattle.std.specs.List.{list_all}
@@ -62,8 +62,8 @@ signed_word w k x high e most is (inr full) =
     let set : 2 ^ k ≤ x % 2 ^ w = omega arith in
     rw (f, le-leb (2 ^ k) (x % 2 ^ w) set) (omega arith)
 
-word_again : (b : Bus) (x : ℕ) → 1 ≤ b.short → b.short ≤ 32 → holds_word b x ≡ true → short_word b.signed b.short (x % 2 ^ b.short) ≡ x
-word_again b x least most h = by b.signed h where
+short_word-low_bits : (b : Bus) (x : ℕ) → 1 ≤ b.short → b.short ≤ 32 → holds_word b x ≡ true → short_word b.signed b.short (x % 2 ^ b.short) ≡ x
+short_word-low_bits b x least most h = by b.signed h where
   by : (s : Bool) → (if s then (x / 2 ^ (b.short - 1) == 0 || x / 2 ^ (b.short - 1) == 2 ^ (33 - b.short) - 1) else nat_lt x (2 ^ b.short)) ≡ true
       → short_word s b.short (x % 2 ^ b.short) ≡ x
   by true held =
@@ -71,13 +71,13 @@ word_again b x least most h = by b.signed h where
       signed_word b.short (b.short - 1) x (x / 2 ^ (b.short - 1)) e most refl (is_high (2 ^ (33 - b.short) - 1) (x / 2 ^ (b.short - 1)) held)
   by false held = low_whole x b.short b.short (ltb-true x (2 ^ b.short) held) (omega arith)
 
--- the bits of a word that a bus holds say the word
-pub value_said : (m : Machine) (bus x : ℕ) → list_all is_bus m.buses ≡ true → is_source_on m bus (source.Value x) ≡ true
+-- the bits of a word that a bus holds decode to the word
+pub value_decoded : (m : Machine) (bus x : ℕ) → list_all is_bus m.buses ≡ true → is_source_on m bus (source.Value x) ≡ true
     → short_word (is_signed m bus) (short_width m bus) (x % 2 ^ short_width m bus) ≡ x
-value_said m bus x all h = by (slice_get m.buses bus) refl h where
+value_decoded m bus x all h = by (slice_get m.buses bus) refl h where
   by : (o : Option Bus) → slice_get m.buses bus ≡ o → option_map_or (λ b. holds_word b x) o false ≡ true
       → short_word (option_map_or (λ b. b.signed) o false) (option_map_or (λ b. b.short) o 0) (x % 2 ^ option_map_or (λ b. b.short) o 0) ≡ x
   by None at held = absurd (false≢true held)
   by (Some b) at held =
       let range = and_parts (nat_le 1 b.short) (nat_le b.short 32) (item_passes is_bus m.buses bus b all at) in
-      word_again b x (leb-true 1 b.short range.0) (leb-true b.short 32 range.1) held
+      short_word-low_bits b x (leb-true 1 b.short range.0) (leb-true b.short 32 range.1) held

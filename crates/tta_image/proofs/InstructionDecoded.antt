@@ -1,4 +1,4 @@
--- What the bits of a word say is the instruction that has these bits.
+-- What the bits of a word decode to is the instruction that has these bits.
 use Rattle.std.proofs.Common.{◌≡◌, ℕ, zero, suc, ◌+◌, ◌-◌, ◌^◌, ◌<◌, ◌≤◌, ◌==◌, Bool, true, false, nat_lt, if◌then◌else◌, List, [], ◌∷◌, ◌++◌, length, map, take, drop, Option, Some, None, Result, Ok, Err, refl, sym, ap, ◌∙◌, subst, arith}
 use Rattle.std.specs.List.{sum_by, range_with_len}
 use Rattle.std.proofs.Math.Seq.{take-add}
@@ -21,10 +21,10 @@ use Rattle.tta_image.specs.declared.refusal.ImageRefusal.TheVariants.{Field}
 use Rattle.tta_image.specs.Refusals.{of_word}
 use Rattle.tta_image.specs.Bits.{bits_of, slot_bits, slots_bits, template_code, long_bits, instruction_bits}
 use Rattle.tta_image.specs.Fields.{buses_of}
-use Rattle.tta_image.specs.Decoding.{number_of, field, slot_numbers, slot_said, is_signed, template_said, taken_by, least_bus, taken_bits, word_only, long_said, bus_said, slots_said, instruction_said}
+use Rattle.tta_image.specs.Decoding.{number_of, field, slot_numbers, decoded_slot, is_signed, decoded_template, taken_by, least_bus, taken_bits, word_only, decoded_long, decoded_bus, decoded_slots, decoded_instruction}
 use Rattle.tta_image.proofs.Numbers.{bits_of-number_of}
 use Rattle.tta_image.proofs.InstructionLemmas.{left_from, left_taken, left_kept}
-use Rattle.tta_image.proofs.SlotsSaid.{pieces_of_slot, slot_said_bits}
+use Rattle.tta_image.proofs.SlotsDecoded.{pieces_of_slot, decoded_slot-bits}
 
 -- ---- results that go on
 
@@ -76,7 +76,7 @@ SlotsHave m taken bus count bits slots =
     (length slots ≡ count) × (slots_bits m taken (taken_bits taken bus (fields_from m bus count) bits) bus slots ≡ take (width_of m bus count) bits)
 
 slots_have_by : (m : Machine) (word taken bus count : ℕ) (bits : List Bool) (slot : Option Move) (slots : List (Option Move)) (b : Bool) → IsMachine m
-    → bus < length m.buses → width_of m bus (suc count) ≤ length bits → has_bit taken bus ≡ b → bus_said m word taken bus (fields_of m bus) bits ≡ Ok slot
+    → bus < length m.buses → width_of m bus (suc count) ≤ length bits → has_bit taken bus ≡ b → decoded_bus m word taken bus (fields_of m bus) bits ≡ Ok slot
     → SlotsHave m taken (bus + 1) count (drop (bus_width m bus) bits) slots → SlotsHave m taken bus (suc count) bits (slot ∷ slots)
 slots_have_by m word taken bus count bits slot slots true rules h enough is said rest =
     let w : ℕ = bus_width m bus in
@@ -94,8 +94,8 @@ slots_have_by m word taken bus count bits slot slots false rules h enough is sai
     let f : BusFields = fields_of m bus in
     let s = sum_by-cons (bus_width m) bus (range_with_len (bus + 1) count) in
     let more : List Bool = taken_bits taken (bus + 1) (fields_from m (bus + 1) count) (drop w bits) in
-    let own : slot_said f (is_signed m bus) (slot_numbers f bits) ≡ Some slot = not_refused (of_word word Field bus) (slot_said f (is_signed m bus) (slot_numbers f bits)) slot (rw is at said) in
-    let bits_own : slot_bits m bus slot ≡ take w bits = slot_said_bits m bus (slot_numbers f bits) slot rules h own ∙ sym (pieces_of_slot f bits refl (omega arith)) in
+    let own : decoded_slot f (is_signed m bus) (slot_numbers f bits) ≡ Some slot = not_refused (of_word word Field bus) (decoded_slot f (is_signed m bus) (slot_numbers f bits)) slot (rw is at said) in
+    let bits_own : slot_bits m bus slot ≡ take w bits = decoded_slot-bits m bus (slot_numbers f bits) slot rules h own ∙ sym (pieces_of_slot f bits refl (omega arith)) in
     let many = rest.0 in (
       omega arith,
       rw is (ap (λ (l : List Bool). l ++ slots_bits m taken more (bus + 1) slots) bits_own
@@ -103,15 +103,15 @@ slots_have_by m word taken bus count bits slot slots false rules h enough is sai
     )
 
 pub slots_have : (m : Machine) (word taken bus count : ℕ) (bits : List Bool) (slots : List (Option Move)) → IsMachine m → bus + count ≤ length m.buses
-    → width_of m bus count ≤ length bits → slots_said m word taken bus (fields_from m bus count) bits ≡ Ok slots → SlotsHave m taken bus count bits slots
+    → width_of m bus count ≤ length bits → decoded_slots m word taken bus (fields_from m bus count) bits ≡ Ok slots → SlotsHave m taken bus count bits slots
 slots_have m word taken bus zero bits slots rules h enough said = let e : [] ≡ slots = same_Ok [] slots said in rw (← e) (refl, refl)
 slots_have m word taken bus (suc count) bits slots rules h enough said =
     let w : ℕ = bus_width m bus in
     let s = sum_by-cons (bus_width m) bus (range_with_len (bus + 1) count) in
     let d = length-drop w bits in
-    let slot = goes_on (bus_said m word taken bus (fields_of m bus) bits)
-    (λ slot. slots_said m word taken (bus + 1) (fields_from m (bus + 1) count) (drop w bits) >>= λ slots. Ok (slot ∷ slots)) slots said in
-    let rest = goes_on (slots_said m word taken (bus + 1) (fields_from m (bus + 1) count) (drop w bits)) (λ slots. Ok (slot.0 ∷ slots)) slots slot.2 in
+    let slot = goes_on (decoded_bus m word taken bus (fields_of m bus) bits)
+    (λ slot. decoded_slots m word taken (bus + 1) (fields_from m (bus + 1) count) (drop w bits) >>= λ slots. Ok (slot ∷ slots)) slots said in
+    let rest = goes_on (decoded_slots m word taken (bus + 1) (fields_from m (bus + 1) count) (drop w bits)) (λ slots. Ok (slot.0 ∷ slots)) slots slot.2 in
     let e : slot.0 ∷ rest.0 ≡ slots = same_Ok (slot.0 ∷ rest.0) slots rest.2 in
     let more = slots_have m word taken (bus + 1) count (drop w bits) rest.0 rules (omega arith) (omega arith) rest.1 in
     subst (λ (l : List (Option Move)). SlotsHave m taken bus (suc count) bits l) e
@@ -124,7 +124,7 @@ abbrev pub template_number : Option ℕ → ℕ
 template_number None = 0
 template_number (Some t) = 1 + t
 
-template_number_of : (m : Machine) (code : ℕ) (template : Option ℕ) → template_said m code ≡ Some template → template_number template ≡ code
+template_number_of : (m : Machine) (code : ℕ) (template : Option ℕ) → decoded_template m code ≡ Some template → template_number template ≡ code
 template_number_of m code template said = by (code == 0) refl said where
   some : (code == 0) ≡ false → (b : Bool) → (if b then Some (Some (code - 1)) else None) ≡ Some template → template_number template ≡ code
   some is true h =
@@ -150,7 +150,7 @@ record LongHas (m : Machine) (template : Option ℕ) (bits : List Bool) (long : 
   value : long_bits m (taken_by m template) long ≡ bits
 
 long_has : (m : Machine) (word : ℕ) (template : Option ℕ) (bits : List Bool) (long : Option Long) → width_of m 0 (length m.buses) ≤ length bits
-    → long_said m word (fields_from m 0 (length m.buses)) template bits ≡ Ok long
+    → decoded_long m word (fields_from m 0 (length m.buses)) template bits ≡ Ok long
     → LongHas m template (taken_bits (taken_by m template) 0 (fields_from m 0 (length m.buses)) bits) long
 long_has m word None bits long enough said =
     let e : None ≡ long = same_Ok None long said in
@@ -173,22 +173,22 @@ long_has m word (Some t) bits long enough said =
 
 -- the instruction that bits begin with has these bits
 pub instruction_has : (m : Machine) (word : ℕ) (bits : List Bool) (i : Instruction) → IsMachine m → word_width m ≤ length bits
-    → instruction_said m (layout_of m) word bits ≡ Ok i → instruction_bits m i ≡ take (word_width m) bits
-unfolding instruction_said instruction_bits
+    → decoded_instruction m (layout_of m) word bits ≡ Ok i → instruction_bits m i ≡ take (word_width m) bits
+unfolding decoded_instruction instruction_bits
 instruction_has m word bits i rules enough said =
     let tw : ℕ = template_width m in
     let code : ℕ = field 0 tw bits in
     let rest : List Bool = drop tw bits in
     let fs : List BusFields = fields_from m 0 (length m.buses) in
     let d = length-drop tw bits in
-    let template = goes_on (or_refuse (of_word word Field (length m.buses)) (template_said m code))
-    (λ template. long_said m word fs template rest >>= λ long. slots_said m word (taken_by m template) 0 fs rest >>= λ moves. Ok (record { moves = moves; long = long })) i said in
-    let long = goes_on (long_said m word fs template.0 rest)
-    (λ long. slots_said m word (taken_by m template.0) 0 fs rest >>= λ moves. Ok (record { moves = moves; long = long })) i template.2 in
-    let moves = goes_on (slots_said m word (taken_by m template.0) 0 fs rest) (λ moves. Ok (record { moves = moves; long = long.0 })) i long.2 in
+    let template = goes_on (or_refuse (of_word word Field (length m.buses)) (decoded_template m code))
+    (λ template. decoded_long m word fs template rest >>= λ long. decoded_slots m word (taken_by m template) 0 fs rest >>= λ moves. Ok (record { moves = moves; long = long })) i said in
+    let long = goes_on (decoded_long m word fs template.0 rest)
+    (λ long. decoded_slots m word (taken_by m template.0) 0 fs rest >>= λ moves. Ok (record { moves = moves; long = long })) i template.2 in
+    let moves = goes_on (decoded_slots m word (taken_by m template.0) 0 fs rest) (λ moves. Ok (record { moves = moves; long = long.0 })) i long.2 in
     let j : Instruction = record { moves = moves.0; long = long.0 } in
     let e : j ≡ i = same_Ok j i moves.2 in
-    let t = template_number_of m code template.0 (not_refused (of_word word Field (length m.buses)) (template_said m code) template.0 template.1) in
+    let t = template_number_of m code template.0 (not_refused (of_word word Field (length m.buses)) (decoded_template m code) template.0 template.1) in
     let l = long_has m word template.0 rest long.0 (omega arith) long.1 in
     let s = slots_have m word (taken_by m template.0) 0 (length m.buses) rest moves.0 rules (omega arith) (omega arith) moves.1 in
     let first : bits_of tw (template_code long.0) ≡ take tw bits =

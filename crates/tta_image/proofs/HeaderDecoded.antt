@@ -1,4 +1,4 @@
--- The header of an image, and what the first bytes say.
+-- The header of an image, and what the first bytes decode to.
 use Rattle.std.proofs.Common.{◌≡◌, ℕ, zero, suc, ◌+◌, ◌*◌, ◌^◌, ◌<◌, ◌≤◌, ◌==◌, Bool, true, not, nat_le, List, [], ◌∷◌, ◌++◌, length, get_or, take, drop, codes, Result, Ok, refl, sym, ap, ◌∙◌, arith}
 use Rattle.std.specs.Int.{w32, to_be_bytes}
 use Rattle.std.specs.List.{AllByRecursion}
@@ -13,8 +13,8 @@ use Rattle.tta_image.specs.declared.refusal.ImageError.{ImageError}
 use Rattle.tta_image.specs.declared.refusal.ImageRefusal.TheVariants.{Magic, Version, WrongMachine, Width, Length}
 use Rattle.tta_image.specs.Refusals.{of_all}
 use Rattle.tta_image.specs.Image.{header}
-use Rattle.tta_image.specs.Reading.{stands_at, bytes_for, word_count, has_length, header_said}
-use Rattle.tta_image.proofs.WordsSaid.{passes}
+use Rattle.tta_image.specs.Reading.{stands_at, bytes_for, word_count, has_length, decoded_header}
+use Rattle.tta_image.proofs.WordsDecoded.{passes}
 
 -- ---- pieces
 
@@ -48,55 +48,67 @@ small_drop (suc n) (b ∷ bs) all = small_drop n bs all.1
 
 -- ---- both ways
 
--- what a header says: it is the header of so many words, which have their addresses and their bytes
-pub record HeaderHas (m : Machine) (digest bytes : List ℕ) (words : ℕ) : Type 0 where
-  pub parts : bytes ≡ header m digest words ++ drop 48 bytes
+-- every check of a header that is taken
+pub record Checked (m : Machine) (digest bytes : List ℕ) (words : ℕ) : Type 0 where
+  pub magic : stands_at 0 (codes "TTAI") bytes ≡ true
+  pub version : stands_at 4 (to_be_bytes w32 1) bytes ≡ true
+  pub machine : stands_at 16 digest bytes ≡ true
+  pub width : stands_at 8 (to_be_bytes w32 (word_width m)) bytes ≡ true
+  pub count : word_count bytes ≡ words
   pub room : words ≤ 2 ^ m.control.address
   pub long : length bytes ≡ 48 + bytes_for (words * word_width m)
 
-pub header_has : (m : Machine) (digest bytes : List ℕ) (words : ℕ) → length digest ≡ 32 → AllByRecursion (λ b. b < 256) bytes
-    → header_said m digest bytes ≡ Ok words → HeaderHas m digest bytes words
-unfolding header_said
-header_has m digest bytes words many small said =
+pub all_checked : (m : Machine) (digest bytes : List ℕ) (words : ℕ) → decoded_header m digest bytes ≡ Ok words → Checked m digest bytes words
+unfolding decoded_header
+all_checked m digest bytes words decoded =
     let length_ok : Bool = has_length m bytes (word_count bytes) in
     let four : Result ℕ ImageError = refuse_if (not length_ok) (of_all Length) (Ok (word_count bytes)) in
     let three : Result ℕ ImageError = refuse_if (not (stands_at 8 (to_be_bytes w32 (word_width m)) bytes)) (of_all Width) four in
     let two : Result ℕ ImageError = refuse_if (not (stands_at 16 digest bytes)) (of_all WrongMachine) three in
     let one : Result ℕ ImageError = refuse_if (not (stands_at 4 (to_be_bytes w32 1) bytes)) (of_all Version) two in
-    let magic = passes (not (stands_at 0 (codes "TTAI") bytes)) (of_all Magic) one words said in
+    let magic = passes (not (stands_at 0 (codes "TTAI") bytes)) (of_all Magic) one words decoded in
     let version = passes (not (stands_at 4 (to_be_bytes w32 1) bytes)) (of_all Version) two words magic.1 in
     let machine = passes (not (stands_at 16 digest bytes)) (of_all WrongMachine) three words version.1 in
     let wide = passes (not (stands_at 8 (to_be_bytes w32 (word_width m)) bytes)) (of_all Width) four words machine.1 in
     let long = passes (not length_ok) (of_all Length) (Ok (word_count bytes)) words wide.1 in
-    let both = and_parts (nat_le (word_count bytes) (2 ^ m.control.address)) (length bytes == 48 + bytes_for (word_count bytes * word_width m)) (not-false length_ok long.0) in
     let is : word_count bytes ≡ words = let e = long.1 in cc in
-    let size = eqb-true (length bytes) (48 + bytes_for (word_count bytes * word_width m)) both.1 in
-    let p0 = piece_there 0 (codes "TTAI") bytes (not-false (stands_at 0 (codes "TTAI") bytes) magic.0) in
-    let p4 = piece_there 4 (to_be_bytes w32 1) bytes (not-false (stands_at 4 (to_be_bytes w32 1) bytes) version.0) in
-    let p8 = piece_there 8 (to_be_bytes w32 (word_width m)) bytes (not-false (stands_at 8 (to_be_bytes w32 (word_width m)) bytes) wide.0) in
-    let p16 = piece_there 16 digest bytes (not-false (stands_at 16 digest bytes) machine.0) in
+    let both = and_parts (nat_le (word_count bytes) (2 ^ m.control.address)) (length bytes == 48 + bytes_for (word_count bytes * word_width m)) (not-false length_ok long.0) in
+    record {
+      magic = not-false (stands_at 0 (codes "TTAI") bytes) magic.0;
+      version = not-false (stands_at 4 (to_be_bytes w32 1) bytes) version.0;
+      machine = not-false (stands_at 16 digest bytes) machine.0;
+      width = not-false (stands_at 8 (to_be_bytes w32 (word_width m)) bytes) wide.0;
+      count = is;
+      room = let le = leb-true (word_count bytes) (2 ^ m.control.address) both.0 in omega arith;
+      long = eqb-true (length bytes) (48 + bytes_for (word_count bytes * word_width m)) both.1 ∙ ap (λ (n : ℕ). 48 + bytes_for (n * word_width m)) is;
+    }
+
+-- what is taken as a header is the header of so many words
+pub header_has : (m : Machine) (digest bytes : List ℕ) (words : ℕ) → length digest ≡ 32 → AllByRecursion (λ b. b < 256) bytes
+    → Checked m digest bytes words → bytes ≡ header m digest words ++ drop 48 bytes
+header_has m digest bytes words many small h =
+    let long = h.long in
+    let p0 = piece_there 0 (codes "TTAI") bytes h.magic in
+    let p4 = piece_there 4 (to_be_bytes w32 1) bytes h.version in
+    let p8 = piece_there 8 (to_be_bytes w32 (word_width m)) bytes h.width in
+    let p16 = piece_there 16 digest bytes h.machine in
     let d12 = length-drop 12 bytes in
     let four_bytes : length (take 4 (drop 12 bytes)) ≡ 4 = length-take-le 4 (drop 12 bytes) (omega arith) in
     let p12 : take 4 (drop 12 bytes) ≡ to_be_bytes w32 words =
-    sym (be_bytes_4 (take 4 (drop 12 bytes)) words four_bytes (small_at (take 4 (drop 12 bytes)) (small_take 4 (drop 12 bytes) (small_drop 12 bytes small))) (sym is)) in
+    sym (be_bytes_4 (take 4 (drop 12 bytes)) words four_bytes (small_at (take 4 (drop 12 bytes)) (small_take 4 (drop 12 bytes) (small_drop 12 bytes small))) (sym h.count)) in
     let c0 : bytes ≡ codes "TTAI" ++ drop 4 bytes = cut_at 0 4 4 (codes "TTAI") bytes p0 refl in
     let c4 : drop 4 bytes ≡ to_be_bytes w32 1 ++ drop 8 bytes = cut_at 4 4 8 (to_be_bytes w32 1) bytes p4 refl in
     let c8 : drop 8 bytes ≡ to_be_bytes w32 (word_width m) ++ drop 12 bytes = cut_at 8 4 12 (to_be_bytes w32 (word_width m)) bytes p8 refl in
     let c12 : drop 12 bytes ≡ to_be_bytes w32 words ++ drop 16 bytes = cut_at 12 4 16 (to_be_bytes w32 words) bytes p12 refl in
     let c16 : drop 16 bytes ≡ digest ++ drop 48 bytes = cut_at 16 (length digest) 48 digest bytes p16 (omega arith) in
-    record {
-      parts =
-          c0 ∙ ap (λ (l : List ℕ). codes "TTAI" ++ l) (c4 ∙ ap (λ (l : List ℕ). to_be_bytes w32 1 ++ l)
-          (c8 ∙ ap (λ (l : List ℕ). to_be_bytes w32 (word_width m) ++ l) (c12 ∙ ap (λ (l : List ℕ). to_be_bytes w32 words ++ l) c16)));
-      room = let le = leb-true (word_count bytes) (2 ^ m.control.address) both.0 in omega arith;
-      long = size ∙ ap (λ (n : ℕ). 48 + bytes_for (n * word_width m)) is;
-    }
+    c0 ∙ ap (λ (l : List ℕ). codes "TTAI" ++ l) (c4 ∙ ap (λ (l : List ℕ). to_be_bytes w32 1 ++ l)
+    (c8 ∙ ap (λ (l : List ℕ). to_be_bytes w32 (word_width m) ++ l) (c12 ∙ ap (λ (l : List ℕ). to_be_bytes w32 words ++ l) c16)))
 
 -- a header with so many bytes after it as its words take says their number
-pub header_again : (m : Machine) (digest body : List ℕ) (words : ℕ) → length digest ≡ 32 → words < 2 ^ 32 → words ≤ 2 ^ m.control.address
-    → length body ≡ bytes_for (words * word_width m) → header_said m digest (header m digest words ++ body) ≡ Ok words
-unfolding header_said
-header_again m digest body words many fits room size =
+pub decoded_header-header : (m : Machine) (digest body : List ℕ) (words : ℕ) → length digest ≡ 32 → words < 2 ^ 32 → words ≤ 2 ^ m.control.address
+    → length body ≡ bytes_for (words * word_width m) → decoded_header m digest (header m digest words ++ body) ≡ Ok words
+unfolding decoded_header
+decoded_header-header m digest body words many fits room size =
     let bytes : List ℕ = header m digest words ++ body in
     let wide : List ℕ = to_be_bytes w32 (word_width m) in
     let count : word_count bytes ≡ words = from_be_bytes-to_be_bytes_4 words fits in
@@ -116,3 +128,24 @@ header_again m digest body words many fits room size =
 pub small_bytes : (bytes : List ℕ) → ((i : ℕ) → get_or bytes i 0 < 256) → AllByRecursion (λ b. b < 256) bytes
 small_bytes [] small = tt
 small_bytes (b ∷ bs) small = (small 0, small_bytes bs (λ i. small (suc i)))
+
+-- ---- check by check
+
+-- the answer of all checks, the first that fails before the others
+abbrev pub checked : (magic version machine width length : Bool) → ℕ → Result ℕ ImageError
+checked magic version machine width long words =
+    refuse_if (not magic) (of_all Magic) (refuse_if (not version) (of_all Version) (refuse_if (not machine) (of_all WrongMachine) (
+    refuse_if (not width) (of_all Width) (refuse_if (not long) (of_all Length) (Ok words)))))
+
+-- a header decodes to what the checks say
+pub header_checked : (m : Machine) (digest bytes : List ℕ) (magic version machine width long : Bool) → magic ≡ stands_at 0 (codes "TTAI") bytes
+    → version ≡ stands_at 4 (to_be_bytes w32 1) bytes → machine ≡ stands_at 16 digest bytes → width ≡ stands_at 8 (to_be_bytes w32 (word_width m)) bytes
+    → long ≡ has_length m bytes (word_count bytes) → checked magic version machine width long (word_count bytes) ≡ decoded_header m digest bytes
+unfolding decoded_header
+header_checked m digest bytes magic version machine width long a b c d e =
+    ap (λ (x : Bool). checked x version machine width long (word_count bytes)) a
+    ∙ ap (λ (x : Bool). checked (stands_at 0 (codes "TTAI") bytes) x machine width long (word_count bytes)) b
+    ∙ ap (λ (x : Bool). checked (stands_at 0 (codes "TTAI") bytes) (stands_at 4 (to_be_bytes w32 1) bytes) x width long (word_count bytes)) c
+    ∙ ap (λ (x : Bool). checked (stands_at 0 (codes "TTAI") bytes) (stands_at 4 (to_be_bytes w32 1) bytes) (stands_at 16 digest bytes) x long (word_count bytes)) d
+    ∙ ap (λ (x : Bool). checked (stands_at 0 (codes "TTAI") bytes) (stands_at 4 (to_be_bytes w32 1) bytes) (stands_at 16 digest bytes)
+    (stands_at 8 (to_be_bytes w32 (word_width m)) bytes) x (word_count bytes)) e
