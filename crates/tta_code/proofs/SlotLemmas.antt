@@ -1,12 +1,15 @@
 -- The rules of a cycle's moves when one bus more is walked.
 use Rattle.std.proofs.Common.{◌≡◌, ◌≢◌, ◌<◌, ◌≤◌, ◌+◌, ℕ, zero, suc, Bool, true, false, not, cond, List, [], ◌∷◌, ◌++◌, length, Option, Some, None, append-nil, refl, sym, ap, ◌∙◌, inl, inr, arith}
-use Rattle.std.specs.Prelude.{◌&&◌, ◌||◌, nat_le, nat_lt, count_by}
+use Rattle.std.specs.Prelude.{◌&&◌, ◌||◌, nat_le, nat_lt, count_by, is_none}
+use Rattle.std.specs.Option.{option_map_or}
 use Rattle.std.specs.List.{list_any}
 use Rattle.std.proofs.lemmas.Bool.{and_parts, and_from, leb-true, le-leb, lt-leb, lt-ltb, le-ltb, cases_lt, cases_eq}
 use Rattle.std.proofs.lemmas.List.Elements.{filter_map-append}
 use Rattle.std.proofs.lemmas.List.Folds.{list_any-append}
 use Rattle.std.proofs.lemmas.List.Sums.{sum_by-append, sum_by-cons}
-use Rattle.tta_machine.specs.Legal.{Ends, Slots, ends_of, all_slots, all_below, are_apart, same_place}
+use Rattle.tta_machine.specs.Machine.{Machine}
+use Rattle.tta_machine.specs.Joins.{has_bit, joins}
+use Rattle.tta_machine.specs.Legal.{Ends, Slots, ends_of, all_slots, all_below, keeps_taken, is_joined, are_apart, same_place}
 
 -- ---- Booleans
 
@@ -108,3 +111,17 @@ apart-more (w ∷ ws) v =
     ap (λ b. not b && are_apart (ws ++ v ∷ [])) (list_any-append (λ z. same_place w.dst z.dst) ws (v ∷ []))
     ∙ ap (λ b. not (list_any (λ z. same_place w.dst z.dst) ws || (same_place w.dst v.dst || false)) && b) (apart-more ws v)
     ∙ apart_cons (list_any (λ z. same_place w.dst z.dst) ws) (same_place w.dst v.dst) (are_apart ws) (list_any (λ z. same_place z.dst v.dst) ws)
+
+-- ---- buses with one slot more
+
+pub untaken-more : (set : ℕ) (slots : Slots) (o : Option Ends) → keeps_taken set (slots ++ o ∷ []) ≡ (keeps_taken set slots && (is_none o || not (has_bit set (length slots))))
+untaken-more set slots o =
+    let e : 0 + length slots ≡ length slots = omega arith in
+    all_slots-more (λ bus u. is_none u || not (has_bit set bus)) 0 slots o ∙ ap (λ (n : ℕ). keeps_taken set slots && (is_none o || not (has_bit set n))) e
+
+pub joined-more : (m : Machine) (slots : Slots) (o : Option Ends)
+    → is_joined m (slots ++ o ∷ []) ≡ (is_joined m slots && option_map_or (λ u. joins m (length slots) u.src u.dst u.guard) o true)
+joined-more m slots o =
+    let e : 0 + length slots ≡ length slots = omega arith in
+    all_slots-more (λ bus u. option_map_or (λ w. joins m bus w.src w.dst w.guard) u true) 0 slots o
+    ∙ ap (λ (n : ℕ). is_joined m slots && option_map_or (λ w. joins m n w.src w.dst w.guard) o true) e

@@ -5,6 +5,8 @@ mod code;
 mod laws;
 mod legality;
 mod room;
+#[cfg(test)]
+mod tests;
 
 pub use code::{Code, Instruction, Long, Move};
 pub use laws::tells_legal;

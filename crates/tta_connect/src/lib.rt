@@ -6,5 +6,7 @@ mod guards;
 mod net;
 mod ports;
 mod sets;
+#[cfg(test)]
+mod tests;
 
 pub use net::Net;
