@@ -1,3 +1,4 @@
 pub mod Legal
+pub mod Illegal
 pub mod Cycle
 pub mod Agrees

@@ -2,5 +2,12 @@
 #![tactic(auto)]
 
 mod code;
+mod laws;
+mod legality;
+mod room;
+#[cfg(test)]
+mod tests;
 
 pub use code::{Code, Instruction, Long, Move};
+pub use laws::tells_legal;
+pub use legality::{Illegal, legal};

@@ -178,7 +178,7 @@ on_bus m bus (source.Shown u) h = h
 on_bus m bus source.Ra h = h
 on_bus m bus (source.Value w) h = absurd (false≢true h)
 
-source_kept : (m : Machine) (bus : ℕ) (src : Source) → has_source_socket m bus src ≡ true → list_any (same_source src) (sources_on m bus) ≡ true
+pub source_kept : (m : Machine) (bus : ℕ) (src : Source) → has_source_socket m bus src ≡ true → list_any (same_source src) (sources_on m bus) ≡ true
 source_kept m bus src h =
     any_kept (is_source_on m bus) (same_source src) (all_sources m)
     (λ x same. ap (λ (s : Source). is_source_on m bus s) (sym (same_source_true src x same)) ∙ on_bus m bus src h) (source_listed m bus src h)
@@ -192,7 +192,7 @@ source_code_tells m bus a b h k same =
     let one = one_item (same_source a) (same_source b) (sources_on m bus) a (source_kept m bus a h) (source_kept m bus b k) same in
     same_source_true a one.0 one.1 ∙ sym (same_source_true b one.0 one.2)
 
-dest_kept : (m : Machine) (bus : ℕ) (dst : Dest) → is_dest_on m bus dst ≡ true → list_any (same_dest dst) (dests_on m bus) ≡ true
+pub dest_kept : (m : Machine) (bus : ℕ) (dst : Dest) → is_dest_on m bus dst ≡ true → list_any (same_dest dst) (dests_on m bus) ≡ true
 dest_kept m bus dst h =
     any_kept (is_dest_on m bus) (same_dest dst) (all_dests m)
     (λ x same. ap (λ (d : Dest). is_dest_on m bus d) (sym (same_dest_true dst x same)) ∙ h) (dest_listed m bus dst h)
@@ -206,7 +206,7 @@ dest_code_tells m bus a b h k same =
     let one = one_item (same_dest a) (same_dest b) (dests_on m bus) a (dest_kept m bus a h) (dest_kept m bus b k) place in
     same_dest_true a one.0 one.1 ∙ sym (same_dest_true b one.0 one.2)
 
-guard_kept : (m : Machine) (bus : ℕ) (on : GuardRef) → has_guard m bus (Some on) ≡ true → list_any (λ g. is_same_guard g.on on) (guards_on m bus) ≡ true
+pub guard_kept : (m : Machine) (bus : ℕ) (on : GuardRef) → has_guard m bus (Some on) ≡ true → list_any (λ g. is_same_guard g.on on) (guards_on m bus) ≡ true
 guard_kept m bus on h = any_both (λ g. g.bus == bus) (λ g. is_same_guard g.on on) m.guards h
 
 pub guard_code_inside : (m : Machine) (bus : ℕ) (guard : Option GuardRef) → has_guard m bus guard ≡ true → guard_code m bus guard < 1 + length (guards_on m bus)

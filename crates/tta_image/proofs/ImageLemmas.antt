@@ -47,7 +47,7 @@ pub legal_slots : (m : Machine) (words : List Instruction) → AllByRecursion (�
 legal_slots m [] h = All-nil (λ i. length i.moves ≡ length m.buses)
 legal_slots m (i ∷ is) h = All-cons (λ i. length i.moves ≡ length m.buses) i is (legal_slots_of m i h.0) (legal_slots m is h.1)
 
-short_address : (sockets : List Socket) (c : Control) → is_control sockets c ≡ true → c.address ≤ 16
+pub short_address : (sockets : List Socket) (c : Control) → is_control sockets c ≡ true → c.address ≤ 16
 short_address sockets c h =
     let three = and_parts (nat_le c.delay 4 && is_from_to 1 16 c.address && is_socket sockets true c.trigger) (is_port_socket sockets false c.ra) h in
     let two = and_parts (nat_le c.delay 4 && is_from_to 1 16 c.address) (is_socket sockets true c.trigger) three.0 in
@@ -55,7 +55,7 @@ short_address sockets c h =
     let range = and_parts (nat_le 1 c.address) (nat_le c.address 16) one.1 in
     leb-true c.address 16 range.1
 
-pow_most : (k : ℕ) → k ≤ 16 → 2 ^ k < 2 ^ 17
+pub pow_most : (k : ℕ) → k ≤ 16 → 2 ^ k < 2 ^ 17
 pow_most k h = pow_below k 17 (omega arith)
 
 -- no code of a machine has more than 65,536 instructions

@@ -26,13 +26,13 @@ use Rattle.tta_image.proofs.SlotLemmas.{length-slot_bits, is_joined_slot, slot_b
 abbrev pub left_from : Machine → (taken bus count : ℕ) → ℕ
 left_from m taken bus count = sum_by (set_width_at m taken) (range_with_len bus count)
 
-left_taken : (m : Machine) (taken bus count : ℕ) → has_bit taken bus ≡ true → left_from m taken bus (suc count) ≡ bus_width m bus + left_from m taken (bus + 1) count
+pub left_taken : (m : Machine) (taken bus count : ℕ) → has_bit taken bus ≡ true → left_from m taken bus (suc count) ≡ bus_width m bus + left_from m taken (bus + 1) count
 left_taken m taken bus count is =
     let w : set_width_at m taken bus ≡ bus_width m bus = rw is refl in
     let s = sum_by-cons (set_width_at m taken) bus (range_with_len (bus + 1) count) in
     omega arith
 
-left_kept : (m : Machine) (taken bus count : ℕ) → has_bit taken bus ≡ false → left_from m taken bus (suc count) ≡ left_from m taken (bus + 1) count
+pub left_kept : (m : Machine) (taken bus count : ℕ) → has_bit taken bus ≡ false → left_from m taken bus (suc count) ≡ left_from m taken (bus + 1) count
 left_kept m taken bus count is =
     let w : set_width_at m taken bus ≡ 0 = rw is refl in
     let s = sum_by-cons (set_width_at m taken) bus (range_with_len (bus + 1) count) in
@@ -61,7 +61,7 @@ slots_length_by m taken bus long slot slots false is many rest =
     let s = sum_by-cons (bus_width m) bus (range_with_len (bus + 1) (length slots)) in
     rw is (omega arith)
 
-slots_length : (m : Machine) (taken bus : ℕ) (long : List Bool) (slots : List (Option Move)) → length long ≡ left_from m taken bus (length slots)
+pub slots_length : (m : Machine) (taken bus : ℕ) (long : List Bool) (slots : List (Option Move)) → length long ≡ left_from m taken bus (length slots)
     → length (slots_bits m taken long bus slots) ≡ sum_by (bus_width m) (range_with_len bus (length slots))
 slots_length m taken bus long [] many = refl
 slots_length m taken bus long (slot ∷ slots) many =
@@ -70,11 +70,11 @@ slots_length m taken bus long (slot ∷ slots) many =
 -- ---- slots
 
 -- whether a bus that is taken has no move
-abbrev is_kept_slot : (taken bus : ℕ) → Option Move → Bool
+abbrev pub is_kept_slot : (taken bus : ℕ) → Option Move → Bool
 is_kept_slot taken bus slot = is_none slot || not (has_bit taken bus)
 
 -- what is legal of the slots from a bus on
-abbrev AreLegal : Machine → (taken bus : ℕ) → List (Option Move) → Type 0
+abbrev pub AreLegal : Machine → (taken bus : ℕ) → List (Option Move) → Type 0
 AreLegal m taken bus [] = Unit {0}
 AreLegal m taken bus (s ∷ ss) = (is_kept_slot taken bus s ≡ true) × (is_joined_slot m bus s ≡ true) × AreLegal m taken (bus + 1) ss
 
@@ -100,7 +100,7 @@ are_legal m taken bus (s ∷ ss) k j =
     let jj = and_parts (join_test m bus (option_map ends_of s)) (all_slots (join_test m) (bus + 1) (map (option_map ends_of) ss)) j in
     (kept_at taken bus s kk.0, joined_at m bus s jj.0, are_legal m taken (bus + 1) ss kk.1 jj.1)
 
-empty_where_taken : (taken bus : ℕ) (s : Option Move) → has_bit taken bus ≡ true → is_kept_slot taken bus s ≡ true → s ≡ None
+pub empty_where_taken : (taken bus : ℕ) (s : Option Move) → has_bit taken bus ≡ true → is_kept_slot taken bus s ≡ true → s ≡ None
 empty_where_taken taken bus None is kept = refl
 empty_where_taken taken bus (Some v) is kept = absurd (false≢true (rw is at kept))
 
@@ -162,7 +162,7 @@ item_holds P [] k x all at = absurd (none-some x at)
 item_holds P (y ∷ ys) zero x all at = subst P (same_Some y x at) all.0
 item_holds P (y ∷ ys) (suc k) x all at = item_holds P ys k x all.1 at
 
-template_inside : (m : Machine) (long : Option Long) → option_map_or (is_long m) long true ≡ true → template_code long < 1 + length m.templates
+pub template_inside : (m : Machine) (long : Option Long) → option_map_or (is_long m) long true ≡ true → template_code long < 1 + length m.templates
 template_inside m None h = omega arith
 template_inside m (Some l) h =
     let both = and_parts (is_some (slice_get m.templates l.template)) (nat_lt l.value (2 ^ 32)) h in
@@ -171,7 +171,7 @@ template_inside m (Some l) h =
     omega arith
 
 -- the word of a long immediate fits the buses that are taken
-value_fits : (m : Machine) (l : Long) → IsMachine m → is_long m l ≡ true → l.value < 2 ^ taken_width m (takes m (Some l))
+pub value_fits : (m : Machine) (l : Long) → IsMachine m → is_long m l ≡ true → l.value < 2 ^ taken_width m (takes m (Some l))
 value_fits m l rules h =
     let both = and_parts (is_some (slice_get m.templates l.template)) (nat_lt l.value (2 ^ 32)) h in
     let t = some_of (slice_get m.templates l.template) both.0 in
@@ -182,7 +182,7 @@ value_fits m l rules h =
     let fits : l.value < 2 ^ taken_width m t.0.buses = omega arith in
     rw same fits
 
-length-long_bits : (m : Machine) (long : Option Long) (count : ℕ) → count ≡ length m.buses → length (long_bits m (takes m long) long) ≡ left_from m (takes m long) 0 count
+pub length-long_bits : (m : Machine) (long : Option Long) (count : ℕ) → count ≡ length m.buses → length (long_bits m (takes m long) long) ≡ left_from m (takes m long) 0 count
 length-long_bits m None count e = sym (no_bus_in_none m (range_with_len 0 count))
 length-long_bits m (Some l) count e =
     length-bits_of (taken_width m (takes m (Some l))) l.value ∙ ap (λ (n : ℕ). left_from m (takes m (Some l)) 0 n) (sym e)
@@ -190,10 +190,10 @@ length-long_bits m (Some l) count e =
 -- ---- whole instructions
 
 -- what is legal of an instruction's parts
-record IsWhole (m : Machine) (moves : List (Option Move)) (long : Option Long) : Type 0 where
-  count : length moves ≡ length m.buses
-  template : option_map_or (is_long m) long true ≡ true
-  slots : AreLegal m (takes m long) 0 moves
+pub record IsWhole (m : Machine) (moves : List (Option Move)) (long : Option Long) : Type 0 where
+  pub count : length moves ≡ length m.buses
+  pub template : option_map_or (is_long m) long true ≡ true
+  pub slots : AreLegal m (takes m long) 0 moves
 
 abbrev whole_bits : Machine → List (Option Move) → Option Long → List Bool
 whole_bits m moves long = bits_of (template_width m) (template_code long) ++ slots_bits m (takes m long) (long_bits m (takes m long) long) 0 moves
@@ -244,7 +244,7 @@ whole_tells m moves moves' (Some l) (Some l') rules h h' same =
     let value = same_number (taken_width m mask) l.value l'.value fits fits' told.0 in
     (told.1, ap (λ (x : Long). Some x) (long_from l l' template value))
 
-whole_of : (m : Machine) (i : Instruction) → is_legal m i ≡ true → IsWhole m i.moves i.long
+pub whole_of : (m : Machine) (i : Instruction) → is_legal m i ≡ true → IsWhole m i.moves i.long
 unfolding is_legal can_move
 whole_of m i h =
     let t : ℕ = taken m i in let s : Slots = slots_of i in

@@ -21,7 +21,7 @@ unfolding width_for instruction_bits
 wide-bits = refl
 
 -- one word put out, and the end
-abbrev seven : Code
+abbrev pub seven : Code
 seven = record {
   words = record { moves = Some (record { guard = None; src = source.Value 7; dst = dest.Trigger 0 0 }) ∷ []; long = None }
       ∷ record { moves = Some (record { guard = None; src = source.Value 0; dst = dest.Halt }) ∷ []; long = None }

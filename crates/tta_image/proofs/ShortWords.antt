@@ -14,7 +14,7 @@ use Rattle.tta_machine.specs.Rules.{is_bus}
 use Rattle.tta_image.proofs.BitLemmas.{low_whole}
 
 -- the bits above k are all 0 or all 1, where full is odd
-abbrev IsHigh : (full high : ℕ) → Type 0
+abbrev pub IsHigh : (full high : ℕ) → Type 0
 IsHigh full high = (high ≡ 0) ⊎ (high ≡ full)
 
 same_high : (full a b : ℕ) → full % 2 ≡ 1 → IsHigh full a → IsHigh full b → a % 2 ≡ b % 2 → a ≡ b
@@ -30,10 +30,10 @@ signed_tells k full x y odd hx hy same =
     let high : x / 2 ^ k ≡ y / 2 ^ k = same_high full (x / 2 ^ k) (y / 2 ^ k) odd hx hy parts.0 in
     sym (shr_split x k) ∙ ap (λ (h : ℕ). h * 2 ^ k + x % 2 ^ k) high ∙ ap (λ (l : ℕ). y / 2 ^ k * 2 ^ k + l) parts.1 ∙ shr_split y k
 
-is_high : (full high : ℕ) → (high == 0 || high == full) ≡ true → IsHigh full high
+pub is_high : (full high : ℕ) → (high == 0 || high == full) ≡ true → IsHigh full high
 is_high full high h = elim (or_cases (high == 0) (high == full) h) [ inl p ↦ inl (eqb-true high 0 p) | inr q ↦ inr (eqb-true high full q) ]
 
-odd_full : (n : ℕ) → 0 < n → (2 ^ n - 1) % 2 ≡ 1
+pub odd_full : (n : ℕ) → 0 < n → (2 ^ n - 1) % 2 ≡ 1
 odd_full zero h = absurd (omega arith)
 odd_full (suc n) h = let p : 2 ^ suc n ≡ 2 * 2 ^ n = omega arith in let some = pow_pos n in omega arith
 

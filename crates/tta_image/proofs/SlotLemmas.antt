@@ -27,7 +27,7 @@ code_tells codes width a b ha hb wide same =
     let more = pow_le (width_for codes) width wide in
     same_number width a b (omega arith) (omega arith) same
 
-zero_bits : (w : ℕ) → bits_of w 0 ≡ replicate w false
+pub zero_bits : (w : ℕ) → bits_of w 0 ≡ replicate w false
 zero_bits zero = refl
 zero_bits (suc w) = let none : 0 / 2 ^ w ≡ 0 = no_high 0 0 w (lit< tt) (omega arith) in rw none (ap (λ l. false ∷ l) (zero_bits w))
 
@@ -113,10 +113,10 @@ abbrev pub is_joined_slot : Machine → ℕ → Option Move → Bool
 is_joined_slot m bus None = true
 is_joined_slot m bus (Some v) = joins m bus v.src v.dst v.guard
 
-abbrev Joined : Machine → ℕ → Move → Type 0
+abbrev pub Joined : Machine → ℕ → Move → Type 0
 Joined m bus v = (is_source_on m bus v.src ≡ true) × (is_dest_on m bus v.dst ≡ true) × (has_guard m bus v.guard ≡ true)
 
-joined_parts : (m : Machine) (bus : ℕ) (v : Move) → joins m bus v.src v.dst v.guard ≡ true → Joined m bus v
+pub joined_parts : (m : Machine) (bus : ℕ) (v : Move) → joins m bus v.src v.dst v.guard ≡ true → Joined m bus v
 joined_parts m bus v h =
     let outer = and_parts (is_source_on m bus v.src && is_dest_on m bus v.dst) (has_guard m bus v.guard) h in
     let inner = and_parts (is_source_on m bus v.src) (is_dest_on m bus v.dst) outer.0 in

@@ -40,7 +40,7 @@ same_number (suc w) n n' small small' same =
     let high : n / 2 ≡ n' / 2 = same_number w (n / 2) (n' / 2) (omega arith) (omega arith) parts.0 in
     halved n ∙ ap (λ (k : ℕ). 2 * k + bit_value (n % 2 == 1)) high ∙ ap (λ (b : Bool). 2 * (n' / 2) + bit_value b) parts.1 ∙ sym (halved n')
 
-length-bytes : (bytes : List ℕ) → length (flat_map (bits_of 8) bytes) ≡ 8 * length bytes
+pub length-bytes : (bytes : List ℕ) → length (flat_map (bits_of 8) bytes) ≡ 8 * length bytes
 length-bytes [] = refl
 length-bytes (b ∷ bs) =
     let step = length-append (bits_of 8 b) (flat_map (bits_of 8) bs) in

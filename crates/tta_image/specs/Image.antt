@@ -27,3 +27,7 @@ pub record Image (m : Machine) (digest : List ℕ) (code : Code) (bytes : List �
   pub parts : bytes ≡ header m digest (length code.words) ++ body
   pub words : AreBytesOf (code_bits m code) body
   pub legal : IsLegalCode m code
+
+-- the bytes are the image of no code
+abbrev pub IsNoImage : Machine → (digest bytes : List ℕ) → Type 0
+IsNoImage m digest bytes = (code : Code) → Image m digest code bytes → ⊥

@@ -3,3 +3,7 @@ pub mod Image
 pub mod Sink
 pub mod Fields
 pub mod Laws
+pub mod Refusals
+pub mod Decoding
+pub mod Narrow
+pub mod Reading

@@ -1,11 +1,21 @@
 //! Instructions as bits, and code as the bytes of an image.
 #![tactic(auto)]
 
+mod bits;
 mod fields;
+mod header;
 mod laws;
+mod read;
+mod refusal;
 mod sink;
+mod slots;
+#[cfg(test)]
+mod tests;
+mod words;
 mod write;
 
-pub use laws::{one_code, one_image};
+pub use laws::{decodes_images, one_code, one_image};
+pub use read::read_image;
+pub use refusal::{ImageError, ImageRefusal};
 pub use tta_machine::{BusFields, Layout};
 pub use write::write_image;

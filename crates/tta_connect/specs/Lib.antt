@@ -1,0 +1,4 @@
+pub mod Fields
+pub mod Guards
+pub mod Net
+pub mod Ports

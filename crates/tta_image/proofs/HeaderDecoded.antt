@@ -1,0 +1,151 @@
+-- The header of an image, and what the first bytes decode to.
+use Rattle.std.proofs.Common.{◌≡◌, ℕ, zero, suc, ◌+◌, ◌*◌, ◌^◌, ◌<◌, ◌≤◌, ◌==◌, Bool, true, not, nat_le, List, [], ◌∷◌, ◌++◌, length, get_or, take, drop, codes, Result, Ok, refl, sym, ap, ◌∙◌, arith}
+use Rattle.std.specs.Int.{w32, to_be_bytes}
+use Rattle.std.specs.List.{AllByRecursion}
+use Rattle.std.specs.Cmp.Lexicographic.{bytes_decides}
+use Rattle.std.proofs.lemmas.Bool.{and_parts, and_from, leb-true, le-leb, eqb-true, eq-eqb, not-false}
+use Rattle.std.proofs.lemmas.List.{length-append, length-drop, length-take-le, drop-drop, take-append-drop, take_at}
+use Rattle.std.proofs.lemmas.Nat.{from_be_bytes-to_be_bytes_4, be_bytes_4}
+use Rattle.tta_reading.specs.Steps.{refuse_if}
+use Rattle.tta_machine.specs.Machine.{Machine}
+use Rattle.tta_machine.specs.Fields.{word_width}
+use Rattle.tta_image.specs.declared.refusal.ImageError.{ImageError}
+use Rattle.tta_image.specs.declared.refusal.ImageRefusal.TheVariants.{Magic, Version, WrongMachine, Width, Length}
+use Rattle.tta_image.specs.Refusals.{of_all}
+use Rattle.tta_image.specs.Image.{header}
+use Rattle.tta_image.specs.Reading.{stands_at, bytes_for, word_count, has_length, decoded_header}
+use Rattle.tta_image.proofs.WordsDecoded.{passes}
+
+-- ---- pieces
+
+-- a piece that stands somewhere
+pub piece_there : (at : ℕ) (piece bytes : List ℕ) → stands_at at piece bytes ≡ true → take (length piece) (drop at bytes) ≡ piece
+piece_there at piece bytes h = sym ((bytes_decides piece (take (length piece) (drop at bytes))).0 h)
+
+pub piece_stands : (at : ℕ) (piece bytes : List ℕ) → take (length piece) (drop at bytes) ≡ piece → stands_at at piece bytes ≡ true
+piece_stands at piece bytes h = (bytes_decides piece (take (length piece) (drop at bytes))).1 (sym h)
+
+-- a piece, and what comes after it
+cut_at : (at n next : ℕ) (piece bytes : List ℕ) → take n (drop at bytes) ≡ piece → at + n ≡ next → drop at bytes ≡ piece ++ drop next bytes
+cut_at at n next piece bytes h e =
+    sym (take-append-drop n (drop at bytes)) ∙ ap (λ (l : List ℕ). l ++ drop n (drop at bytes)) h
+    ∙ ap (λ (l : List ℕ). piece ++ l) (drop-drop n at bytes ∙ ap (λ (k : ℕ). drop k bytes) e)
+
+small_at : (bytes : List ℕ) → AllByRecursion (λ b. b < 256) bytes → (i : ℕ) → get_or bytes i 0 < 256
+small_at [] all i = omega arith
+small_at (b ∷ bs) all zero = all.0
+small_at (b ∷ bs) all (suc i) = small_at bs all.1 i
+
+small_take : (n : ℕ) (bytes : List ℕ) → AllByRecursion (λ b. b < 256) bytes → AllByRecursion (λ b. b < 256) (take n bytes)
+small_take zero bytes all = tt
+small_take (suc n) [] all = tt
+small_take (suc n) (b ∷ bs) all = (all.0, small_take n bs all.1)
+
+pub small_drop : (n : ℕ) (bytes : List ℕ) → AllByRecursion (λ b. b < 256) bytes → AllByRecursion (λ b. b < 256) (drop n bytes)
+small_drop zero bytes all = all
+small_drop (suc n) [] all = tt
+small_drop (suc n) (b ∷ bs) all = small_drop n bs all.1
+
+-- ---- both ways
+
+-- every check of a header that is taken
+pub record Checked (m : Machine) (digest bytes : List ℕ) (words : ℕ) : Type 0 where
+  pub magic : stands_at 0 (codes "TTAI") bytes ≡ true
+  pub version : stands_at 4 (to_be_bytes w32 1) bytes ≡ true
+  pub machine : stands_at 16 digest bytes ≡ true
+  pub width : stands_at 8 (to_be_bytes w32 (word_width m)) bytes ≡ true
+  pub count : word_count bytes ≡ words
+  pub room : words ≤ 2 ^ m.control.address
+  pub long : length bytes ≡ 48 + bytes_for (words * word_width m)
+
+pub all_checked : (m : Machine) (digest bytes : List ℕ) (words : ℕ) → decoded_header m digest bytes ≡ Ok words → Checked m digest bytes words
+unfolding decoded_header
+all_checked m digest bytes words decoded =
+    let length_ok : Bool = has_length m bytes (word_count bytes) in
+    let four : Result ℕ ImageError = refuse_if (not length_ok) (of_all Length) (Ok (word_count bytes)) in
+    let three : Result ℕ ImageError = refuse_if (not (stands_at 8 (to_be_bytes w32 (word_width m)) bytes)) (of_all Width) four in
+    let two : Result ℕ ImageError = refuse_if (not (stands_at 16 digest bytes)) (of_all WrongMachine) three in
+    let one : Result ℕ ImageError = refuse_if (not (stands_at 4 (to_be_bytes w32 1) bytes)) (of_all Version) two in
+    let magic = passes (not (stands_at 0 (codes "TTAI") bytes)) (of_all Magic) one words decoded in
+    let version = passes (not (stands_at 4 (to_be_bytes w32 1) bytes)) (of_all Version) two words magic.1 in
+    let machine = passes (not (stands_at 16 digest bytes)) (of_all WrongMachine) three words version.1 in
+    let wide = passes (not (stands_at 8 (to_be_bytes w32 (word_width m)) bytes)) (of_all Width) four words machine.1 in
+    let long = passes (not length_ok) (of_all Length) (Ok (word_count bytes)) words wide.1 in
+    let is : word_count bytes ≡ words = let e = long.1 in cc in
+    let both = and_parts (nat_le (word_count bytes) (2 ^ m.control.address)) (length bytes == 48 + bytes_for (word_count bytes * word_width m)) (not-false length_ok long.0) in
+    record {
+      magic = not-false (stands_at 0 (codes "TTAI") bytes) magic.0;
+      version = not-false (stands_at 4 (to_be_bytes w32 1) bytes) version.0;
+      machine = not-false (stands_at 16 digest bytes) machine.0;
+      width = not-false (stands_at 8 (to_be_bytes w32 (word_width m)) bytes) wide.0;
+      count = is;
+      room = let le = leb-true (word_count bytes) (2 ^ m.control.address) both.0 in omega arith;
+      long = eqb-true (length bytes) (48 + bytes_for (word_count bytes * word_width m)) both.1 ∙ ap (λ (n : ℕ). 48 + bytes_for (n * word_width m)) is;
+    }
+
+-- what is taken as a header is the header of so many words
+pub header_has : (m : Machine) (digest bytes : List ℕ) (words : ℕ) → length digest ≡ 32 → AllByRecursion (λ b. b < 256) bytes
+    → Checked m digest bytes words → bytes ≡ header m digest words ++ drop 48 bytes
+header_has m digest bytes words many small h =
+    let long = h.long in
+    let p0 = piece_there 0 (codes "TTAI") bytes h.magic in
+    let p4 = piece_there 4 (to_be_bytes w32 1) bytes h.version in
+    let p8 = piece_there 8 (to_be_bytes w32 (word_width m)) bytes h.width in
+    let p16 = piece_there 16 digest bytes h.machine in
+    let d12 = length-drop 12 bytes in
+    let four_bytes : length (take 4 (drop 12 bytes)) ≡ 4 = length-take-le 4 (drop 12 bytes) (omega arith) in
+    let p12 : take 4 (drop 12 bytes) ≡ to_be_bytes w32 words =
+    sym (be_bytes_4 (take 4 (drop 12 bytes)) words four_bytes (small_at (take 4 (drop 12 bytes)) (small_take 4 (drop 12 bytes) (small_drop 12 bytes small))) (sym h.count)) in
+    let c0 : bytes ≡ codes "TTAI" ++ drop 4 bytes = cut_at 0 4 4 (codes "TTAI") bytes p0 refl in
+    let c4 : drop 4 bytes ≡ to_be_bytes w32 1 ++ drop 8 bytes = cut_at 4 4 8 (to_be_bytes w32 1) bytes p4 refl in
+    let c8 : drop 8 bytes ≡ to_be_bytes w32 (word_width m) ++ drop 12 bytes = cut_at 8 4 12 (to_be_bytes w32 (word_width m)) bytes p8 refl in
+    let c12 : drop 12 bytes ≡ to_be_bytes w32 words ++ drop 16 bytes = cut_at 12 4 16 (to_be_bytes w32 words) bytes p12 refl in
+    let c16 : drop 16 bytes ≡ digest ++ drop 48 bytes = cut_at 16 (length digest) 48 digest bytes p16 (omega arith) in
+    c0 ∙ ap (λ (l : List ℕ). codes "TTAI" ++ l) (c4 ∙ ap (λ (l : List ℕ). to_be_bytes w32 1 ++ l)
+    (c8 ∙ ap (λ (l : List ℕ). to_be_bytes w32 (word_width m) ++ l) (c12 ∙ ap (λ (l : List ℕ). to_be_bytes w32 words ++ l) c16)))
+
+-- a header with so many bytes after it as its words take says their number
+pub decoded_header-header : (m : Machine) (digest body : List ℕ) (words : ℕ) → length digest ≡ 32 → words < 2 ^ 32 → words ≤ 2 ^ m.control.address
+    → length body ≡ bytes_for (words * word_width m) → decoded_header m digest (header m digest words ++ body) ≡ Ok words
+unfolding decoded_header
+decoded_header-header m digest body words many fits room size =
+    let bytes : List ℕ = header m digest words ++ body in
+    let wide : List ℕ = to_be_bytes w32 (word_width m) in
+    let count : word_count bytes ≡ words = from_be_bytes-to_be_bytes_4 words fits in
+    let s8 : stands_at 8 wide bytes ≡ true = piece_stands 8 wide bytes refl in
+    let s16 : stands_at 16 digest bytes ≡ true = piece_stands 16 digest bytes (take_at digest body (length digest) refl) in
+    let l : length (digest ++ body) ≡ length digest + length body = length-append digest body in
+    let all : length bytes ≡ 48 + bytes_for (words * word_width m) = omega arith in
+    let long : has_length m bytes words ≡ true =
+    and_from (nat_le words (2 ^ m.control.address)) (length bytes == 48 + bytes_for (words * word_width m)) (le-leb words (2 ^ m.control.address) room)
+    (eq-eqb (length bytes) (48 + bytes_for (words * word_width m)) all) in
+    ap (λ (b : Bool). refuse_if (not b) (of_all WrongMachine) (refuse_if (not (stands_at 8 wide bytes)) (of_all Width) (refuse_if (not (has_length m bytes (word_count bytes))) (of_all Length) (Ok (word_count bytes))))) s16
+    ∙ ap (λ (b : Bool). refuse_if (not b) (of_all Width) (refuse_if (not (has_length m bytes (word_count bytes))) (of_all Length) (Ok (word_count bytes)))) s8
+    ∙ ap (λ (n : ℕ). refuse_if (not (has_length m bytes n)) (of_all Length) (Ok n)) count
+    ∙ ap (λ (b : Bool). refuse_if (not b) (of_all Length) (Ok words)) long
+
+-- numbers that are all bytes, place by place
+pub small_bytes : (bytes : List ℕ) → ((i : ℕ) → get_or bytes i 0 < 256) → AllByRecursion (λ b. b < 256) bytes
+small_bytes [] small = tt
+small_bytes (b ∷ bs) small = (small 0, small_bytes bs (λ i. small (suc i)))
+
+-- ---- check by check
+
+-- the answer of all checks, the first that fails before the others
+abbrev pub checked : (magic version machine width length : Bool) → ℕ → Result ℕ ImageError
+checked magic version machine width long words =
+    refuse_if (not magic) (of_all Magic) (refuse_if (not version) (of_all Version) (refuse_if (not machine) (of_all WrongMachine) (
+    refuse_if (not width) (of_all Width) (refuse_if (not long) (of_all Length) (Ok words)))))
+
+-- a header decodes to what the checks say
+pub header_checked : (m : Machine) (digest bytes : List ℕ) (magic version machine width long : Bool) → magic ≡ stands_at 0 (codes "TTAI") bytes
+    → version ≡ stands_at 4 (to_be_bytes w32 1) bytes → machine ≡ stands_at 16 digest bytes → width ≡ stands_at 8 (to_be_bytes w32 (word_width m)) bytes
+    → long ≡ has_length m bytes (word_count bytes) → checked magic version machine width long (word_count bytes) ≡ decoded_header m digest bytes
+unfolding decoded_header
+header_checked m digest bytes magic version machine width long a b c d e =
+    ap (λ (x : Bool). checked x version machine width long (word_count bytes)) a
+    ∙ ap (λ (x : Bool). checked (stands_at 0 (codes "TTAI") bytes) x machine width long (word_count bytes)) b
+    ∙ ap (λ (x : Bool). checked (stands_at 0 (codes "TTAI") bytes) (stands_at 4 (to_be_bytes w32 1) bytes) x width long (word_count bytes)) c
+    ∙ ap (λ (x : Bool). checked (stands_at 0 (codes "TTAI") bytes) (stands_at 4 (to_be_bytes w32 1) bytes) (stands_at 16 digest bytes) x long (word_count bytes)) d
+    ∙ ap (λ (x : Bool). checked (stands_at 0 (codes "TTAI") bytes) (stands_at 4 (to_be_bytes w32 1) bytes) (stands_at 16 digest bytes)
+    (stands_at 8 (to_be_bytes w32 (word_width m)) bytes) x (word_count bytes)) e

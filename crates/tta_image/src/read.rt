@@ -1,0 +1,116 @@
+//! The reader of images.
+
+ghost use Rattle.std.specs.Prelude.{◌≡◌, ◌≢◌, ◌+◌, ◌*◌, ◌<◌, ◌≤◌, ◌^◌, length, drop, IfOk, IfErr};
+ghost use Rattle.std.specs.List.{list_any};
+ghost use Rattle.tta_machine.specs.Layout.{layout_of};
+ghost use Rattle.tta_connect.specs.Net.{IsNetOf};
+ghost use Rattle.tta_image.specs.Decoding.{bits_in};
+ghost use Rattle.tta_image.specs.Image.{Image, IsNoImage};
+ghost use Rattle.tta_image.specs.Reading.{decoded_word, decoded_words, decoded_image};
+ghost use Rattle.tta_image.specs.Refusals.{Answers};
+ghost use Rattle.tta_image.specs.declared.refusal.ImageError.TheVariants.{NoMemory};
+
+use crate::bits::number_at;
+use crate::header::read_header;
+use crate::refusal::{ImageError, ImageRefusal};
+use crate::words::read_instruction;
+use std::alloc::Global;
+use tta_code::{Code, Instruction, legal};
+use tta_connect::Net;
+use tta_list::Items;
+use tta_machine::{Layout, Machine};
+
+/// The instruction of a word that begins after so many bits.
+#[tactic(auto, using(crate::proofs::DecodedRules::is_decoded))]
+fn read_word(
+    alloc: Global,
+    m: &Machine,
+    layout: &Layout,
+    net: &Net,
+    bytes: &[u8],
+    at: usize,
+    word: u32,
+) -> Result<Instruction, ImageError>
+    requires layout { layout.now ≡ layout_of m.now }
+    requires net { IsNetOf net.now m.now }
+    requires few { 8 * length bytes.now < 2 ^ 64 }
+    requires room { at + layout.now.width ≤ 8 * length bytes.now }
+    ensures { Answers result (decoded_word m.now layout.now word (drop at (bits_in bytes.now))) }
+{
+    let i = read_instruction(alloc, m, layout, bytes, at, word)?;
+    match legal(m, net, &i) {
+        Ok(()) => Ok(i),
+        Err(_) => Err(ImageRefusal::Illegal.of_word(word, 0)),
+    }
+}
+
+/// Whether a bit is set after so many others, of which fewer than a byte are left.
+fn has_set_bit(bytes: &[u8], at: usize) -> bool
+    requires few { 8 * length bytes.now < 2 ^ 64 }
+    requires room { at ≤ 8 * length bytes.now }
+    requires short { 8 * length bytes.now < at + 8 }
+    ensures { result ≡ list_any (λ b. b) (drop at (bits_in bytes.now)) }
+{
+    number_at(bytes, at, (8 * bytes.len() - at) as u32) != 0
+}
+
+/// The instructions of so many words.
+fn read_words(
+    alloc: Global,
+    m: &Machine,
+    layout: &Layout,
+    net: &Net,
+    bytes: &[u8],
+    count: u32,
+) -> Result<Items<Instruction>, ImageError>
+    requires layout { layout.now ≡ layout_of m.now }
+    requires net { IsNetOf net.now m.now }
+    requires few { 8 * length bytes.now < 2 ^ 64 }
+    requires room { count * layout.now.width ≤ 8 * length bytes.now }
+    requires short { 8 * length bytes.now < count * layout.now.width + 8 }
+    ensures { Answers result (decoded_words m.now layout.now count 0 (bits_in bytes.now)) }
+{
+    let mut words = Items::new(alloc);
+    let mut at: usize = 0;
+    for word in 0..count {
+        let i = read_word(alloc, m, layout, net, bytes, at, word)?;
+        words.push(i)?;
+        at += layout.width as usize;
+    }
+    if has_set_bit(bytes, at) {
+        return Err(ImageRefusal::Padding.of_all());
+    }
+    Ok(words)
+}
+
+/// The bytes after the header.
+fn body_of(bytes: &[u8]) -> &[u8]
+    requires { 48 ≤ length bytes.now }
+    ensures { result.now ≡ drop 48 bytes.now }
+{
+    &bytes[48..]
+}
+
+/// The code of an image, or why the bytes are none: the first refusal of the header, else of the
+/// words one by one, else of the bits that fill up the last byte. The digest is that of the
+/// machine's text.
+#[tactic(auto, unfolding(crate::specs::Reading::decoded_image))]
+pub fn read_image(
+    alloc: Global,
+    bytes: &[u8],
+    m: &Machine,
+    digest: &[u8; 32],
+) -> Result<Code, ImageError>
+    ensures decoded { Answers result (decoded_image m.now digest.now bytes.now) }
+    ensures image { IfOk result (λ code. Image m.now digest.now code bytes.now) }
+    ensures refused { IfErr result
+        (λ e. e ≢ NoMemory → IsNoImage m.now digest.now bytes.now) }
+{
+    // An address has at most 16 bits by the rules of a machine, so the words are few.
+    let _control = &m.control;
+    let layout = Layout::of(alloc, m)?;
+    let net = Net::of(alloc, m)?;
+    let count = read_header(m, layout.width(), digest, bytes)?;
+    let words = read_words(alloc, m, &layout, &net, body_of(bytes), count)?;
+    Ok(Code { words })
+}
