@@ -1,4 +1,6 @@
-//! The command over files in memory: a program is compiled, and each fault is told.
+//! The commands over files in memory: a program is compiled or run, and each fault is told.
+
+mod exec;
 
 use crate::run;
 use crate::status::Status;
