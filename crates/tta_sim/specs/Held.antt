@@ -25,7 +25,7 @@ pub record Held : Type 0 where
   pub outcome : Outcome
 
 abbrev pub results_held : Held → Results
-results_held h = record { now = h.cycle; shown = h.shown; coming = h.coming }
+results_held h = record { cycle = h.cycle; shown = h.shown; coming = h.coming }
 
 -- A simulator stands for each state that agrees with all that it holds.
 pub record Stands (h : Held) (s : State) : Type 0 where

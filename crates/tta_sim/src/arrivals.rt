@@ -1,5 +1,12 @@
 //! The words that the moves of a cycle bring.
 
+ghost use Rattle.std.specs.Prelude.{◌≡◌, ◌<◌, ◌≤◌, [], ◌∷◌, ◌++◌, length, option_map, IsTrue};
+ghost use Rattle.std.specs.List.{AllByRecursion};
+ghost use Rattle.tta_machine.specs.Effects.{control_of};
+ghost use Rattle.tta_sim.specs.Moves.{is_possible_slot, reads_of, effects_in, fault_reading};
+ghost use Rattle.tta_sim.specs.Moves.{earlier_fault, arrivals_of, brought_of};
+ghost use Rattle.tta_sim.specs.Starts.{told_of, told_in};
+
 use crate::control::{Kind, Told};
 use crate::places::Places;
 use crate::reading::{Taken, take};
@@ -21,7 +28,14 @@ fn bring(
     places: &Places,
     results: &Results,
     slot: Option<Move>,
-) -> Option<u8> {
+) -> Option<u8>
+    requires room { length arrivals.old < 16 }
+    requires possible { IsTrue (is_possible_slot (length results.now.shown) slot) }
+    ensures arrivals { let reads = reads_of places.now results.now.shown in
+        arrivals.new ≡ arrivals.old ++ arrivals_of reads (slot ∷ []) }
+    ensures fault { let reads = reads_of places.now results.now.shown in
+        result ≡ fault_reading reads (effects_in (slot ∷ [])) }
+{
     let v = slot?;
     match take(places, results, v) {
         Taken::Nothing => None,
@@ -35,7 +49,9 @@ fn bring(
 }
 
 /// The fault that comes first in the order of their numbers.
-fn first(one: Option<u8>, other: Option<u8>) -> Option<u8> {
+fn first(one: Option<u8>, other: Option<u8>) -> Option<u8>
+    ensures { result ≡ earlier_fault one other }
+{
     match (one, other) {
         (Some(a), Some(b)) => Some(if b < a { b } else { a }),
         (Some(a), None) => Some(a),
@@ -50,7 +66,15 @@ pub fn gather(
     places: &Places,
     results: &Results,
     moves: &[Option<Move>],
-) -> Option<u8> {
+) -> Option<u8>
+    requires few { length moves.now ≤ 16 }
+    requires possible { AllByRecursion
+        (λ slot. IsTrue (is_possible_slot (length results.now.shown) slot)) moves.now }
+    ensures arrivals { let reads = reads_of places.now results.now.shown in
+        arrivals.new ≡ arrivals_of reads moves.now }
+    ensures fault { let reads = reads_of places.now results.now.shown in
+        result ≡ fault_reading reads (effects_in moves.now) }
+{
     arrivals.clear();
     let mut fault = None;
     for slot in moves {
@@ -61,7 +85,9 @@ pub fn gather(
 }
 
 /// What an arrival tells control.
-fn told_by(a: Arrival) -> Option<Told> {
+fn told_by(a: Arrival) -> Option<Told>
+    ensures { option_map told_of result ≡ control_of (brought_of a) }
+{
     let kind = match a.dst {
         Dest::Jump => Kind::Jump,
         Dest::Call => Kind::Call,
@@ -72,7 +98,9 @@ fn told_by(a: Arrival) -> Option<Told> {
 }
 
 /// What control is told.
-pub fn told(arrivals: &[Arrival]) -> Option<Told> {
+pub fn told(arrivals: &[Arrival]) -> Option<Told>
+    ensures { option_map told_of result ≡ told_in arrivals.now }
+{
     for a in arrivals {
         if let Some(told) = told_by(*a) {
             return Some(told);

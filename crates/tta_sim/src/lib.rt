@@ -4,6 +4,7 @@
 mod answer;
 mod arrivals;
 mod begin;
+mod carry;
 mod control;
 mod due;
 mod landing;
@@ -14,6 +15,7 @@ mod short;
 mod sim;
 mod spaces;
 mod starts;
+mod store;
 #[cfg(test)]
 mod tests;
 mod writing;

@@ -1,12 +1,23 @@
 //! What a move reads at the start of a cycle.
 
+ghost use Rattle.std.specs.Prelude.{◌≡◌, ◌<◌, [], ◌∷◌, None, false, true, is_none, if◌then◌else◌, length, IsTrue};
+ghost use Rattle.std.specs.Option.{option_map_or};
+ghost use Rattle.tta_machine.specs.Effects.{KeptReg, moved, passes, is_port};
+ghost use Rattle.tta_code.specs.Cycle.{effect_of};
+ghost use Rattle.tta_sim.specs.Places.{word_at};
+ghost use Rattle.tta_sim.specs.Moves.{is_readable, is_askable, is_possible, is_acting, is_unset};
+ghost use Rattle.tta_sim.specs.Moves.{reads_of, word_taken, fault_taken, fault_missing, fault_reading};
+
 use crate::places::Places;
 use crate::results::Results;
 use tta_code::Move;
 use tta_machine::{GuardRef, Source};
 
 /// The word of a source.
-pub fn read(places: &Places, results: &Results, src: Source) -> Option<u32> {
+pub fn read(places: &Places, results: &Results, src: Source) -> Option<u32>
+    requires { IsTrue (is_readable (length results.now.shown) src) }
+    ensures { result ≡ reads_of places.now results.now.shown src }
+{
     match src {
         Source::Reg { file, index } => places.register(file, index),
         Source::Imm { unit, index } => places.immediate(unit, index),
@@ -26,7 +37,14 @@ pub enum Verdict {
 }
 
 /// What a move's guard says. A move without one acts.
-fn ask(places: &Places, guard: Option<GuardRef>) -> Verdict {
+fn ask(places: &Places, guard: Option<GuardRef>) -> Verdict
+    requires { IsTrue (is_askable guard) }
+    ensures acts { is_acting result ≡ option_map_or
+        (λ g. option_map_or (passes g) (word_at places.now (KeptReg g.file g.index)) false)
+        guard true }
+    ensures unset { is_unset result ≡ option_map_or
+        (λ g. is_none (word_at places.now (KeptReg g.file g.index))) guard false }
+{
     let Some(g) = guard else {
         return Verdict::Acts;
     };
@@ -55,7 +73,10 @@ pub enum Taken {
 }
 
 /// What is told of a source that has no word.
-fn unset(src: Source) -> Taken {
+fn unset(src: Source) -> Taken
+    ensures word { word_taken result ≡ None }
+    ensures fault { fault_taken result ≡ fault_missing src }
+{
     match src {
         Source::Shown { .. } => Taken::UnsetPort,
         _ => Taken::UnsetRegister,
@@ -63,7 +84,12 @@ fn unset(src: Source) -> Taken {
 }
 
 /// What an active move takes.
-fn take_word(places: &Places, results: &Results, src: Source) -> Taken {
+fn take_word(places: &Places, results: &Results, src: Source) -> Taken
+    requires { IsTrue (is_readable (length results.now.shown) src) }
+    ensures word { word_taken result ≡ reads_of places.now results.now.shown src }
+    ensures fault { let word = reads_of places.now results.now.shown src in
+        fault_taken result ≡ (if is_none word then fault_missing src else None) }
+{
     match read(places, results, src) {
         Some(word) => Taken::Word(word),
         None => unset(src),
@@ -71,7 +97,13 @@ fn take_word(places: &Places, results: &Results, src: Source) -> Taken {
 }
 
 /// What a move takes at the start of a cycle.
-pub fn take(places: &Places, results: &Results, v: Move) -> Taken {
+pub fn take(places: &Places, results: &Results, v: Move) -> Taken
+    requires { IsTrue (is_possible (length results.now.shown) v) }
+    ensures word { let reads = reads_of places.now results.now.shown in
+        word_taken result ≡ moved reads (effect_of v) }
+    ensures fault { let reads = reads_of places.now results.now.shown in
+        fault_taken result ≡ fault_reading reads (effect_of v ∷ []) }
+{
     match ask(places, v.guard) {
         Verdict::Acts => take_word(places, results, v.src),
         Verdict::Rests => Taken::Nothing,
