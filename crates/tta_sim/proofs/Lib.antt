@@ -7,4 +7,9 @@ pub mod Possible
 pub mod Room
 pub mod Rows
 pub mod Showing
+pub mod Starting
 pub mod Writes
+pub mod Wrote
+pub mod Faulting
+pub mod Acting
+pub mod Going

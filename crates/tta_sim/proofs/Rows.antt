@@ -80,7 +80,8 @@ has_written_more words now written p w had size there new = λ q place.
           get_or-set_other words (number_of p) (number_of q) (Some w) None other ∙ had q place
     ] refl
 
-nothing_at : (n i : ℕ) → get_or (replicate n (None {T = ℕ})) i None ≡ None
+-- nothing stands anywhere in a row of nothing
+pub nothing_at : {A : Type 0} (n i : ℕ) → ◌≡◌ {A = Option A} (get_or (replicate n None) i None) None
 nothing_at zero i = refl
 nothing_at (suc n) zero = refl
 nothing_at (suc n) (suc i) = nothing_at n i

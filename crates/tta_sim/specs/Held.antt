@@ -1,5 +1,5 @@
 -- What a simulator holds, and which state it stands for.
-use Rattle.std.specs.Prelude.{◌≡◌, ℕ, ◌+◌, Bool, true, false, List, ◌++◌, length, Option, None, Some, option_to_list}
+use Rattle.std.specs.Prelude.{◌≡◌, ℕ, ◌+◌, ◌≤◌, Bool, true, false, List, ◌++◌, length, Option, None, Some, option_to_list}
 use Rattle.tta_ops.specs.Units.{Units}
 use Rattle.tta_machine.specs.Machine.{Machine}
 use Rattle.tta_code.specs.declared.code.Code.{Code}
@@ -70,9 +70,11 @@ fault_number Running = None
 fault_number Halted = None
 fault_number (Fault number at) = Some number
 
--- The run of a machine on code that it can carry out: it has each unit's port and each word of the spaces.
+-- The run of a machine on code that it can carry out, which addresses of 16 bits reach: it has each unit's port and each
+-- word of the spaces.
 pub record IsRunOf (m : Machine) (code : Code) (h : Held) : Type 0 where
   pub legal : IsLegalCode m code
+  pub reached : length code.words ≤ 65536
   pub units : length h.shown ≡ length m.units
   pub memory : length h.memory ≡ m.data_words
   pub frame : length h.frame ≡ m.frame_words

@@ -1,6 +1,6 @@
 //! Control: which instruction comes next.
 
-ghost use Rattle.std.specs.Prelude.{◌≡◌, ◌+◌, ◌<◌, ◌^◌, option_map};
+ghost use Rattle.std.specs.Prelude.{◌≡◌, ◌+◌, ◌<◌, ◌^◌, None, option_map};
 ghost use Rattle.tta_code.specs.Cycle.{State, takes_effect, lands};
 ghost use Rattle.tta_sim.specs.Starts.{told_of};
 ghost use Rattle.tta_sim.specs.Controls.{underway, controlled, pending_with, outcome_of};
@@ -44,7 +44,10 @@ pub struct Control {
 }
 
 impl Control {
-    pub fn first() -> Self {
+    /// Control at the start of a run.
+    pub fn first() -> Self
+        ensures { result ≡ record { pc = 0; pending = None; phase = Phase.Running } }
+    {
         Control {
             pc: 0,
             pending: None,

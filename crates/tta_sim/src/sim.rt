@@ -1,6 +1,7 @@
 //! A run.
 
-ghost use Rattle.std.specs.Prelude.{◌≡◌, ◌+◌, ◌<◌, ◌^◌, option_map, length, slice_index, IfOk, IsTrue};
+ghost use Rattle.std.specs.Prelude.{◌≡◌, ◌+◌, ◌<◌, ◌^◌, length, option_copied, option_map};
+ghost use Rattle.std.specs.Prelude.{slice_get, slice_index, IfOk, IsTrue};
 ghost use Rattle.tta_ops.specs.Set.{stated};
 ghost use Rattle.tta_machine.specs.Effects.{KeptReg, kept};
 ghost use Rattle.tta_code.specs.Cycle.{State, next, start};
@@ -16,11 +17,11 @@ use crate::control::{Control, Phase};
 use crate::places::Places;
 use crate::results::Results;
 use crate::short::Short;
-use crate::spaces::load;
+use crate::spaces::{load, zeros};
 use crate::store::{Doings, Store};
 use std::alloc::{AllocError, Global};
 use std::marker::Model;
-use tta_code::Code;
+use tta_code::{Code, Instruction};
 use tta_machine::Machine;
 use tta_ops::UnitSet;
 
@@ -40,6 +41,13 @@ impl Model for Sim {
     ghost Value = { Held };
 
     ghost view = { λ s. held_of s.store s.control };
+}
+
+/// The instruction at an address, if there is one.
+fn instruction_at(code: &Code, address: u32) -> Option<&Instruction>
+    ensures { option_copied result ≡ slice_get code.now.words address }
+{
+    code.words.as_slice().get(address as usize)
 }
 
 impl Sim {
@@ -64,7 +72,7 @@ impl Sim {
             places: Places::unset(alloc)?,
             results: Results::none(alloc, m.units.len())?,
             memory,
-            frame: vec![in alloc; 0; m.frame_words as usize]?,
+            frame: zeros(alloc, m.frame_words as usize)?,
         };
         let doings = Doings {
             arrivals: Short::new(alloc)?,
@@ -96,7 +104,7 @@ impl Sim {
             Phase::Halted => return CycleStep::Halted,
             Phase::Fault(number) => return CycleStep::Fault(number),
         }
-        let Some(i) = code.words.as_slice().get(self.control.pc as usize) else {
+        let Some(i) = instruction_at(code, self.control.pc) else {
             self.control.phase = Phase::Fault(65);
             return CycleStep::Fault(65);
         };

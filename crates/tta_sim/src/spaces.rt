@@ -1,12 +1,21 @@
 //! The data space, the frame space and the output.
 
-ghost use Rattle.std.specs.Prelude.{◌≡◌, fold, length, option_map, slice_index, slice_set};
+ghost use Rattle.std.specs.Prelude.{◌≡◌, fold, length, option_map, replicate, slice_index, slice_set, IfOk};
 ghost use Rattle.std.specs.List.{find};
 ghost use Rattle.tta_machine.specs.Effects.{store_data, store_frame};
 ghost use Rattle.tta_sim.specs.Starts.{puts};
 
 use crate::starts::Start;
+use std::alloc::{AllocError, Global};
 use tta_machine::Op;
+
+/// A space of so many words, each 0.
+pub fn zeros(alloc: Global, count: usize) -> Result<Vec<u32>, AllocError>
+    ensures { IfOk result (λ v. v.items ≡ replicate count 0) }
+{
+    let words = vec![in alloc; 0; count]?;
+    Ok(words)
+}
 
 /// The word at an address, 0 outside the space.
 pub fn load(space: &[u32], address: u32) -> u32
