@@ -1,0 +1,235 @@
+-- A cycle of what is held is a cycle of the state that it stands for.
+use Rattle.std.proofs.Common.{◌≡◌, ℕ, ◌<◌, ◌≤◌, ◌+◌, ◌==◌, Bool, true, false, ◌&&◌, IsTrue, List, [], ◌∷◌, ◌++◌, length, map, Option, Some, None, refl, sym, ap, ◌∙◌, subst, arith}
+use Rattle.std.specs.Prelude.{is_some, option_map, option_to_list, fold, if◌then◌else◌, nat_lt}
+use Rattle.std.specs.List.{filter_map, find, list_any, AllByRecursion}
+use Rattle.tta_ops.specs.Units.{Units}
+use Rattle.tta_machine.specs.Machine.{Machine}
+use Rattle.tta_machine.specs.Rules.{IsMachine}
+use Rattle.tta_machine.specs.Effects.{Kind, Jumps, Calls, Halts, KeptOperand, Written, Brought, Start, Reads, bring, write_of, start_of, first_some, control_of, store_data, store_frame, put_out}
+use Rattle.tta_code.specs.declared.code.Instruction.{Instruction}
+use Rattle.tta_code.specs.Legal.{is_legal}
+use Rattle.tta_code.specs.Cycle.{Result', Pending as Underway, State, Running, Halted, Fault, Outcome, read_source, effects_of, fault_of, result_of, pending_after, takes_effect, lands, acts, or_fault, carry_out}
+use Rattle.tta_sim.specs.declared.answer.CycleStep.TheVariants.{Ran, Fault as Faults}
+use Rattle.tta_sim.specs.declared.arrivals.Arrival.{Arrival}
+use Rattle.tta_sim.specs.declared.control.Control.{Control}
+use Rattle.tta_sim.specs.declared.control.Pending.{Pending}
+use Rattle.tta_sim.specs.declared.control.Phase.{Phase}
+use Rattle.tta_sim.specs.declared.control.Phase.TheVariants as phase
+use Rattle.tta_sim.specs.declared.store.Store.{Store}
+use Rattle.tta_sim.specs.Places.{HasWritten, is_place}
+use Rattle.tta_sim.specs.Results.{Results, AreResultsOf}
+use Rattle.tta_sim.specs.Moves.{is_possible_slot, reads_of, arrivals_of, brought_of}
+use Rattle.tta_sim.specs.Starts.{starts_of, is_fitting, operand_with, fault_in, begun, puts, told_in, CanStart}
+use Rattle.tta_sim.specs.Writing.{long_writes}
+use Rattle.tta_sim.specs.Controls.{underway, outcome_of, controlled, pending_with}
+use Rattle.tta_sim.specs.Held.{Stands, is_fault}
+use Rattle.tta_sim.specs.Kept.{held_of, IsCarried}
+use Rattle.tta_sim.proofs.Possible.{possible}
+use Rattle.tta_sim.proofs.Agreeing.{long_brought, brings_all}
+use Rattle.tta_sim.proofs.Starting.{can_start, reachable, outputs_apart, put_once, all_fitting}
+use Rattle.tta_sim.proofs.Wrote.{writes_all, starts_all}
+use Rattle.tta_sim.proofs.Faulting.{fault_same, told_all}
+
+-- ---- control
+
+is_some_underway : (o : Option Pending) → is_some o ≡ is_some (option_map underway o)
+is_some_underway None = refl
+is_some_underway (Some p) = refl
+
+-- the control move that is under way after the cycle
+pending_same : (m : Machine) (s : State) (now : ℕ) (before : Option Underway) (told told' : Option (Kind × ℕ)) → now ≡ s.cycle + 1 → before ≡ s.pending
+    → told ≡ told' → pending_with now m.control.delay before told ≡ pending_after m s told'
+pending_same m s now before told told' cycle same tells = ap (pending_with now m.control.delay before) tells ∙ by told' where
+  by : (o : Option (Kind × ℕ)) → pending_with now m.control.delay before o ≡ pending_after m s o
+  by None = same
+  by (Some c) =
+      let p : ℕ → Option Underway = λ time. Some (record { time = time; kind = c.0; word = c.1 }) in
+      ap p (ap (λ n. n + m.control.delay) cycle)
+
+lands_output : (s : State) (p : Option Underway) → (lands s p).output ≡ s.output
+lands_output s None = refl
+lands_output s (Some p) = elim (p.time == s.cycle) as (λ b. (if b then takes_effect s p else s).output ≡ s.output) [ true ↦ takes p.kind | false ↦ refl ] where
+  takes : (k : Kind) → (takes_effect s (record p { kind = k })).output ≡ s.output
+  takes Jumps = refl
+  takes Calls = refl
+  takes Halts = refl
+
+lands_runs : (s : State) (p : Option Underway) → s.outcome ≡ Running → is_fault (lands s p).outcome ≡ false
+lands_runs s None running = ap is_fault running
+lands_runs s (Some p) running = elim (p.time == s.cycle) as (λ b. is_fault (if b then takes_effect s p else s).outcome ≡ false) [ true ↦ takes p.kind | false ↦ ap is_fault running ] where
+  takes : (k : Kind) → is_fault (takes_effect s (record p { kind = k })).outcome ≡ false
+  takes Jumps = ap is_fault running
+  takes Calls = ap is_fault running
+  takes Halts = refl
+
+-- ---- a cycle
+
+module _ (u : Units) (m : Machine) (rules : IsMachine m) (i : Instruction) (legal : is_legal m i ≡ true) (store : Store) (control : Control) (s : State)
+    (size : length store.results.shown ≡ length m.units) (same : Stands (held_of store control) s) where
+  abbrev reads : Reads
+  reads = reads_of store.places store.results.shown
+
+  abbrev arrivals : List Arrival
+  arrivals = arrivals_of reads i.moves
+
+  abbrev bs : List Brought
+  bs = filter_map (bring (read_source s)) (effects_of m i)
+
+  abbrev back : ℕ
+  back = s.pc + 1 + m.control.delay
+
+  abbrev written : Written
+  written = filter_map (write_of m back) bs ++ s.written
+
+  abbrev ts : List Start
+  ts = filter_map (start_of m written) bs
+
+  slots : AllByRecursion (λ slot. IsTrue (is_possible_slot (length m.units) slot)) i.moves
+  slots = (possible m rules i legal).slots
+
+  brought : bs ≡ map brought_of arrivals ++ long_brought m i.long
+  brought = brings_all store.places store.results s (length m.units) same.places same.results same.cycle size m i slots
+
+  starting : ts ≡ starts_of m store.places arrivals
+  starting =
+      let few = rules.limits.units in
+      ap (λ b. filter_map (start_of m (filter_map (write_of m back) b ++ s.written)) b) brought
+      ∙ starts_all m back store.places arrivals i.long s.written (length m.units)
+      (λ unit within. same.places (KeptOperand unit) (place unit (omega (arith, within, few)))) (reachable (length m.units) reads i.moves slots)
+    where
+      place : (unit : ℕ) → unit < 32 → is_place (KeptOperand unit) ≡ true
+      place unit less = grind (arith, less)
+
+  fault_is : fault_in m store.places store.results (is_some control.pending) i.moves ≡ fault_of s (effects_of m i) bs ts
+  fault_is =
+      fault_same store.places store.results s m i same.places same.results same.cycle size slots (is_some control.pending)
+      (is_some_underway control.pending ∙ ap is_some same.pending) bs ts brought starting
+      (subst (λ list. AllByRecursion (λ t. IsTrue (is_fitting (length m.units) t)) list) (sym starting) (all_fitting m rules (operand_with store.places arrivals) arrivals))
+
+  -- a cycle that faults
+  pub carried_fault : (number : ℕ) → fault_in m store.places store.results (is_some control.pending) i.moves ≡ Some number
+      → IsCarried (held_of store (record control { phase = phase.Fault number })) s (carry_out u m s (Some i)) (Faults number)
+  carried_fault number faults =
+      let next : carry_out u m s (Some i) ≡ record s { outcome = Fault number s.cycle } =
+      ap (λ o. or_fault s o (acts u m s bs ts written)) (sym fault_is ∙ faults) in
+      subst (λ after. IsCarried (held_of store (record control { phase = phase.Fault number })) s after (Faults number)) (sym next) (record {
+        stands = record {
+          places = same.places;
+          results = same.results;
+          memory = same.memory;
+          frame = same.frame;
+          pc = same.pc;
+          cycle = same.cycle;
+          pending = same.pending;
+          outcome = ap (Fault number) same.cycle;
+        };
+        answers = refl;
+      })
+
+  -- a cycle without a fault
+  module _ (none : fault_in m store.places store.results (is_some control.pending) i.moves ≡ None) (running : control.phase ≡ phase.Running)
+      (after : Store) (control' : Control) (arrivals' : List Arrival) (starts' : List Start) (word : Option ℕ) (told : Option (Kind × ℕ))
+      (arrivals_are : arrivals' ≡ arrivals) (starts_are : starts' ≡ starts_of m store.places arrivals') where
+    starts_ts : starts' ≡ ts
+    starts_ts = starts_are ∙ ap (starts_of m store.places) arrivals_are ∙ sym starting
+
+    abbrev pending : Option Underway
+    pending = pending_after m s (first_some control_of bs)
+
+    abbrev next : State
+    next = record {
+      written = written;
+      started = filter_map (result_of u s) ts ++ s.started;
+      memory = fold store_data s.memory ts;
+      frame = fold store_frame s.frame ts;
+      output = fold put_out s.output ts;
+      pc = s.pc + 1;
+      cycle = s.cycle + 1;
+      pending = pending;
+      outcome = Running;
+    }
+
+    acted : carry_out u m s (Some i) ≡ lands next pending
+    acted = ap (λ o. or_fault s o (acts u m s bs ts written)) (sym fault_is ∙ none)
+
+    pub carried : ((ws : Written) → HasWritten store.places ws
+        → HasWritten after.places (filter_map (write_of m (control.pc + 1 + m.control.delay)) (map brought_of arrivals') ++ (long_writes m i.long ++ ws)))
+        → ((started : List Result') → AreResultsOf started store.results
+        → AreResultsOf (filter_map (begun u store.results.cycle store.memory.items store.frame.items) starts' ++ started) after.results)
+        → after.results.cycle ≡ store.results.cycle + 1
+        → after.memory.items ≡ fold store_data store.memory.items starts'
+        → after.frame.items ≡ fold store_frame store.frame.items starts'
+        → word ≡ option_map (λ t. t.word) (find puts starts')
+        → told ≡ told_in arrivals'
+        → ((t : State) → t.cycle ≡ after.results.cycle
+        → let p = pending_with after.results.cycle m.control.delay (option_map underway control.pending) told in
+        controlled t control' ≡ lands (record t { pc = control.pc + 1; pending = p; outcome = outcome_of after.results.cycle control.phase }) p)
+        → IsCarried (held_of after control') s (carry_out u m s (Some i)) (Ran word)
+    carried has_written have_results cycle memory frame puts_it tells advances =
+        let now : after.results.cycle ≡ s.cycle + 1 = cycle ∙ ap (λ n. n + 1) same.cycle in
+        let p = pending_with after.results.cycle m.control.delay (option_map underway control.pending) told in
+        let tells_all : told ≡ first_some control_of bs =
+        tells ∙ ap told_in arrivals_are ∙ sym (told_all m (map brought_of arrivals) i.long) ∙ ap (first_some control_of) (sym brought) in
+        let p_is : p ≡ pending = pending_same m s after.results.cycle (option_map underway control.pending) told (first_some control_of bs) now same.pending tells_all in
+        let pc : control.pc ≡ s.pc = same.pc in
+        let goes : State = record next { pc = control.pc + 1; pending = p; outcome = outcome_of after.results.cycle control.phase } in
+        let goes_is : goes ≡ next =
+        ap {A = ℕ} (λ n. record next { pc = n + 1; pending = p; outcome = outcome_of after.results.cycle control.phase }) pc
+        ∙ ap {A = Option Underway} (λ o. record next { pending = o; outcome = outcome_of after.results.cycle control.phase }) p_is
+        ∙ ap {A = Phase} (λ f. record next { outcome = outcome_of after.results.cycle f }) running in
+        let lands_is : lands next pending ≡ controlled next control' =
+        sym (ap (λ o. lands next o) p_is) ∙ sym (ap (λ t. lands t p) goes_is) ∙ sym (advances next (sym now)) in
+        let total : carry_out u m s (Some i) ≡ controlled next control' = acted ∙ lands_is in
+        let writes : filter_map (write_of m (control.pc + 1 + m.control.delay)) (map brought_of arrivals') ++ (long_writes m i.long ++ s.written) ≡ written =
+        ap (λ n. filter_map (write_of m (n + 1 + m.control.delay)) (map brought_of arrivals') ++ (long_writes m i.long ++ s.written)) pc
+        ∙ ap (λ list. filter_map (write_of m back) (map brought_of list) ++ (long_writes m i.long ++ s.written)) arrivals_are
+        ∙ sym (writes_all m back (map brought_of arrivals) i.long s.written) ∙ ap (λ b. filter_map (write_of m back) b ++ s.written) (sym brought) in
+        let begins : filter_map (begun u store.results.cycle store.memory.items store.frame.items) starts' ≡ filter_map (result_of u s) ts =
+        ap (λ n. filter_map (begun u n store.memory.items store.frame.items) starts') same.cycle
+        ∙ ap (λ w. filter_map (begun u s.cycle w store.frame.items) starts') same.memory
+        ∙ ap (λ w. filter_map (begun u s.cycle s.memory w) starts') same.frame
+        ∙ ap (filter_map (result_of u s)) starts_ts in
+        let output : fold put_out s.output ts ≡ s.output ++ option_to_list word =
+        ap (fold put_out s.output) starting
+        ∙ put_once s.output (starts_of m store.places arrivals) (outputs_apart m rules i legal reads (operand_with store.places arrivals))
+        ∙ ap (λ list. s.output ++ option_to_list (option_map (λ t. t.word) (find puts list))) (sym starting ∙ sym starts_ts)
+        ∙ ap (λ o. s.output ++ option_to_list o) (sym puts_it) in
+        let runs : is_fault (controlled next control').outcome ≡ false = ap (λ t. is_fault t.outcome) (sym lands_is) ∙ lands_runs next pending refl in
+        subst (λ t. IsCarried (held_of after control') s t (Ran word)) (sym total) (record {
+          stands = record {
+            places = subst (HasWritten after.places) writes (has_written s.written same.places);
+            results = subst (λ list. AreResultsOf (list ++ s.started) after.results) begins (have_results s.started same.results);
+            memory = memory ∙ ap (λ w. fold store_data w starts') same.memory ∙ ap (fold store_data s.memory) starts_ts;
+            frame = frame ∙ ap (λ w. fold store_frame w starts') same.frame ∙ ap (fold store_frame s.frame) starts_ts;
+            pc = refl;
+            cycle = now;
+            pending = refl;
+            outcome = ap (λ n. outcome_of n control'.phase) now;
+          };
+          answers = (runs, output);
+        })
+
+    -- the same, where the numbers come by other names
+    pub carried_at : (back' delay now : ℕ) → back' ≡ control.pc + 1 + delay → delay ≡ m.control.delay → now ≡ after.results.cycle
+        → ((ws : Written) → HasWritten store.places ws
+        → HasWritten after.places (filter_map (write_of m back') (map brought_of arrivals') ++ (long_writes m i.long ++ ws)))
+        → ((started : List Result') → AreResultsOf started store.results
+        → AreResultsOf (filter_map (begun u store.results.cycle store.memory.items store.frame.items) starts' ++ started) after.results)
+        → after.results.cycle ≡ store.results.cycle + 1
+        → after.memory.items ≡ fold store_data store.memory.items starts'
+        → after.frame.items ≡ fold store_frame store.frame.items starts'
+        → word ≡ option_map (λ t. t.word) (find puts starts')
+        → told ≡ told_in arrivals'
+        → ((t : State) → t.cycle ≡ now
+        → let p = pending_with now delay (option_map underway control.pending) told in
+        controlled t control' ≡ lands (record t { pc = control.pc + 1; pending = p; outcome = outcome_of now control.phase }) p)
+        → IsCarried (held_of after control') s (carry_out u m s (Some i)) (Ran word)
+    carried_at back' delay now back_is delay_is now_is has_written have_results cycle memory frame puts_it tells advances =
+        let address : back' ≡ control.pc + 1 + m.control.delay = back_is ∙ ap (λ n. control.pc + 1 + n) delay_is in
+        carried
+        (subst (λ n. (ws : Written) → HasWritten store.places ws → HasWritten after.places (filter_map (write_of m n) (map brought_of arrivals') ++ (long_writes m i.long ++ ws))) address has_written)
+        have_results cycle memory frame puts_it tells
+        (subst (λ d. (t : State) → t.cycle ≡ after.results.cycle → let p = pending_with after.results.cycle d (option_map underway control.pending) told in
+        controlled t control' ≡ lands (record t { pc = control.pc + 1; pending = p; outcome = outcome_of after.results.cycle control.phase }) p) delay_is
+        (subst (λ n. (t : State) → t.cycle ≡ n → let p = pending_with n delay (option_map underway control.pending) told in
+        controlled t control' ≡ lands (record t { pc = control.pc + 1; pending = p; outcome = outcome_of n control.phase }) p) now_is advances))

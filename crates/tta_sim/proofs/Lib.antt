@@ -1,0 +1,15 @@
+pub mod Agreeing
+pub mod Beginning
+pub mod Gathering
+pub mod Landed
+pub mod Lists
+pub mod Possible
+pub mod Room
+pub mod Rows
+pub mod Showing
+pub mod Starting
+pub mod Writes
+pub mod Wrote
+pub mod Faulting
+pub mod Acting
+pub mod Going

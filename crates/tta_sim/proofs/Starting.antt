@@ -1,0 +1,287 @@
+-- Which operations a legal instruction starts.
+use Rattle.std.proofs.Common.{◌≡◌, ℕ, zero, suc, ◌<◌, ◌≤◌, ◌+◌, ◌==◌, Bool, true, false, not, ◌&&◌, ◌||◌, IsTrue, List, [], ◌∷◌, ◌++◌, length, map, Option, Some, None, refl, sym, ap, ◌∙◌, subst, arith}
+use Rattle.std.specs.Prelude.{is_some, slice_get, option_map, option_and_then, option_to_list, fold, filter, if◌then◌else◌, nat_lt, nat_le}
+use Rattle.std.specs.Option.{option_map_or}
+use Rattle.std.specs.List.{list_any, list_all, filter_map, cons_option, find, AllByRecursion}
+use Rattle.std.proofs.lemmas.Bool.{and_parts}
+use Rattle.std.proofs.lemmas.Option.{slice_get_within}
+use Rattle.std.proofs.lemmas.List.{append-nil}
+use Rattle.tta_machine.specs.declared.parts.Unit.{Unit as OpUnit}
+use Rattle.tta_machine.specs.declared.parts.UnitOp.{UnitOp}
+use Rattle.tta_machine.specs.declared.parts.Op.{Op}
+use Rattle.tta_machine.specs.declared.parts.Op.TheVariants.{Ldw, Stw, Ldf, Stf, Out, Set}
+use Rattle.tta_machine.specs.declared.ends.Dest.{Dest}
+use Rattle.tta_machine.specs.declared.ends.Dest.TheVariants as dest
+use Rattle.tta_machine.specs.Machine.{Machine}
+use Rattle.tta_machine.specs.Legal.{are_apart, same_place, ends_of as ends_in}
+use Rattle.tta_machine.specs.Rules.{IsMachine, is_unit, is_unit_op, fits_kind, same_op, are_different, has_one_owner}
+use Rattle.tta_machine.specs.Effects.{Start, Reads, op_at, has_result, put_out, moved}
+use Rattle.tta_machine.proofs.Lists.{list_all_one}
+use Rattle.tta_code.specs.declared.code.Move.{Move}
+use Rattle.tta_code.specs.declared.code.Instruction.{Instruction}
+use Rattle.tta_code.specs.Cycle.{effect_of}
+use Rattle.tta_code.specs.Legal.{ends_of, slots_of, is_legal}
+use Rattle.tta_sim.specs.declared.arrivals.Arrival.{Arrival}
+use Rattle.tta_sim.specs.Results.{Results}
+use Rattle.tta_sim.specs.Moves.{is_possible_slot, is_possible, is_askable, is_readable, is_reachable, arrival_of, arrivals_of}
+use Rattle.tta_sim.specs.Starts.{triggered, start_by, starts_of, operand_with, is_fitting, puts, clashes_with, CanStart, AreReachable}
+use Rattle.tta_sim.proofs.Possible.{legal_parts}
+
+-- ---- lists whose elements differ
+
+-- no element that differs from the one that gives p gives one like p
+any_filter_map : {A B : Type 0} (same : A → A → Bool) (same' : B → B → Bool) (f : A → Option B) (x : A) (p : B)
+    → ((y : A) (q : B) → f y ≡ Some q → same x y ≡ false → same' p q ≡ false)
+    → (xs : List A) → list_any (same x) xs ≡ false → list_any (same' p) (filter_map f xs) ≡ false
+any_filter_map same same' f x p tells [] none = refl
+any_filter_map same same' f x p tells (y ∷ xs) none =
+    let rest = any_filter_map same same' f x p tells xs (grind arith) in
+    let other : same x y ≡ false = grind arith in
+    elim (f y) as (λ o. f y ≡ o → list_any (same' p) (cons_option o (filter_map f xs)) ≡ false) [
+      | None ↦ λ is. rest
+      | Some q ↦ λ is. let apart = tells y q is other in grind (arith, apart, rest)
+    ] refl
+
+-- where elements differ, what they give differs
+pub apart_filter_map : {A B : Type 0} (same : A → A → Bool) (same' : B → B → Bool) (f : A → Option B)
+    → ((x y : A) (p q : B) → f x ≡ Some p → f y ≡ Some q → same x y ≡ false → same' p q ≡ false)
+    → (xs : List A) → are_different same xs ≡ true → are_different same' (filter_map f xs) ≡ true
+apart_filter_map same same' f tells [] apart = refl
+apart_filter_map same same' f tells (x ∷ xs) apart =
+    let rest = apart_filter_map same same' f tells xs (grind arith) in
+    let alone : list_any (same x) xs ≡ false = grind arith in
+    elim (f x) as (λ o. f x ≡ o → are_different same' (cons_option o (filter_map f xs)) ≡ true) [
+      | None ↦ λ is. rest
+      | Some p ↦ λ is.
+          let other = any_filter_map same same' f x p (λ y q gives differ. tells x y p q is gives differ) xs alone in
+          grind (arith, other, rest)
+    ] refl
+
+-- two moves into one place
+abbrev meet_moves : Move → Move → Bool
+meet_moves v w = same_place v.dst w.dst
+
+abbrev meet_arrivals : Arrival → Arrival → Bool
+meet_arrivals a b = same_place a.dst b.dst
+
+any_ends : (v : Move) (slots : List (Option Move)) → list_any (λ w. same_place v.dst w.dst) (ends_in (map (option_map ends_of) slots)) ≡ list_any (meet_moves v) (filter_map (λ o. o) slots)
+any_ends v [] = refl
+any_ends v (None ∷ slots) = any_ends v slots
+any_ends v (Some w ∷ slots) = ap (λ b. same_place v.dst w.dst || b) (any_ends v slots)
+
+moves_apart : (slots : List (Option Move)) → are_apart (ends_in (map (option_map ends_of) slots)) ≡ are_different meet_moves (filter_map (λ o. o) slots)
+moves_apart [] = refl
+moves_apart (None ∷ slots) = moves_apart slots
+moves_apart (Some v ∷ slots) = ap (λ b. not b && are_apart (ends_in (map (option_map ends_of) slots))) (any_ends v slots) ∙ ap (λ b. not (list_any (meet_moves v) (filter_map (λ o. o) slots)) && b) (moves_apart slots)
+
+arrival_dst : (reads : Reads) (v : Move) (a : Arrival) → arrival_of reads v ≡ Some a → a.dst ≡ v.dst
+arrival_dst reads v a brings = by (moved reads (effect_of v)) brings where
+  by : (o : Option ℕ) → option_map (λ word. record { dst = v.dst; word = word }) o ≡ Some a → a.dst ≡ v.dst
+  by None is = cc
+  by (Some word) is = cc
+
+arrivals_apart : (reads : Reads) (slots : List (Option Move)) → are_apart (ends_in (map (option_map ends_of) slots)) ≡ true → are_different meet_arrivals (arrivals_of reads slots) ≡ true
+arrivals_apart reads slots apart =
+    apart_filter_map meet_moves meet_arrivals (arrival_of reads)
+    (λ v w a b is it differ. ap (λ d. same_place d b.dst) (arrival_dst reads v a is) ∙ ap (same_place v.dst) (arrival_dst reads w b it) ∙ differ)
+    (filter_map (λ o. o) slots) (sym (moves_apart slots) ∙ apart)
+
+-- ---- operations
+
+-- what is known of an operation that starts
+record IsStarted (m : Machine) (a : Arrival) (t : Start) : Type 0 where
+  op : ℕ
+  dst : a.dst ≡ dest.Trigger t.unit op
+  unit : OpUnit
+  at : slice_get m.units t.unit ≡ Some unit
+  does : slice_get unit.ops op ≡ Some t.does
+
+is_started : (m : Machine) (operand : ℕ → Option ℕ) (a : Arrival) (t : Start) → start_by m operand a ≡ Some t → IsStarted m a t
+is_started m operand a t starts = by a.dst refl starts where
+  triggers : (unit op : ℕ) → a.dst ≡ dest.Trigger unit op → triggered m operand unit op a.word ≡ Some t → IsStarted m a t
+  triggers unit op is found = of (slice_get m.units unit) refl found where
+    of : (o : Option OpUnit) → slice_get m.units unit ≡ o
+        → option_map (λ o. record { unit = unit; does = o; operand = if o.arity == 2 then operand unit else Some 0; word = a.word }) (option_and_then (λ u. slice_get u.ops op) o) ≡ Some t → IsStarted m a t
+    of None at found = cc
+    of (Some u) at found = op_of (slice_get u.ops op) refl found where
+      op_of : (o : Option UnitOp) → slice_get u.ops op ≡ o
+          → option_map (λ o. record { unit = unit; does = o; operand = if o.arity == 2 then operand unit else Some 0; word = a.word }) o ≡ Some t → IsStarted m a t
+      op_of None there found = cc
+      op_of (Some d) there found =
+          let same_unit : unit ≡ t.unit = cc in
+          let same_op : d ≡ t.does = cc in
+          record {
+            op = op;
+            dst = is ∙ ap (λ n. dest.Trigger n op) same_unit;
+            unit = u;
+            at = ap (slice_get m.units) (sym same_unit) ∙ at;
+            does = there ∙ ap (λ x. Some x) same_op;
+          }
+  by : (d : Dest) → a.dst ≡ d → start_by m operand (record { dst = d; word = a.word }) ≡ Some t → IsStarted m a t
+  by (dest.Reg file index) is found = cc
+  by (dest.Operand unit) is found = cc
+  by (dest.Trigger unit op) is found = triggers unit op is found
+  by dest.Jump is found = cc
+  by dest.Call is found = cc
+  by dest.Halt is found = cc
+
+starts_apart : (m : Machine) (operand : ℕ → Option ℕ) (arrivals : List Arrival) → are_different meet_arrivals arrivals ≡ true
+    → are_different (λ p q. p.unit == q.unit) (filter_map (start_by m operand) arrivals) ≡ true
+starts_apart m operand arrivals apart =
+    apart_filter_map meet_arrivals (λ p q. p.unit == q.unit) (start_by m operand)
+    (λ a b p q is it differ.
+      let one = is_started m operand a p is in let two = is_started m operand b q it in
+      sym (ap (λ d. same_place d (dest.Trigger q.unit two.op)) one.dst) ∙ sym (ap (same_place a.dst) two.dst) ∙ differ)
+    arrivals apart
+
+module _ (m : Machine) (rules : IsMachine m) where
+  fitting : (operand : ℕ → Option ℕ) (a : Arrival) (t : Start) → start_by m operand a ≡ Some t → is_fitting (length m.units) t ≡ true
+  fitting operand a t starts =
+      let is = is_started m operand a t starts in
+      let within = slice_get_within m.units t.unit is.unit is.at in
+      let good : is_unit m.sockets is.unit ≡ true = list_all_one (is_unit m.sockets) m.units t.unit is.unit rules.units is.at in
+      let ops : list_all (is_unit_op is.unit) is.unit.ops ≡ true = grind (arith, good) in
+      let one : is_unit_op is.unit t.does ≡ true = list_all_one (is_unit_op is.unit) is.unit.ops is.op t.does ops is.does in
+      let kind : fits_kind t.does ≡ true = grind (arith, one) in
+      let latency = by_kind t.does.op kind in
+      let there : nat_lt t.unit (length m.units) ≡ true = grind (arith, within) in
+      rw (there, latency) refl
+    where
+      by_kind : (o : Op) → fits_kind (record t.does { op = o }) ≡ true → (not (has_result o) || (nat_lt 0 t.does.latency && nat_le t.does.latency 16)) ≡ true
+      by_kind Ldw kind = grind arith
+      by_kind Stw kind = refl
+      by_kind Ldf kind = grind arith
+      by_kind Stf kind = refl
+      by_kind Out kind = refl
+      by_kind (Set id) kind = grind arith
+
+  pub all_fitting : (operand : ℕ → Option ℕ) (arrivals : List Arrival) → AllByRecursion (λ t. IsTrue (is_fitting (length m.units) t)) (filter_map (start_by m operand) arrivals)
+  all_fitting operand [] = tt
+  all_fitting operand (a ∷ arrivals) =
+      elim (start_by m operand a) as (λ o. start_by m operand a ≡ o → AllByRecursion (λ t. IsTrue (is_fitting (length m.units) t)) (cons_option o (filter_map (start_by m operand) arrivals))) [
+        | None ↦ λ is. all_fitting operand arrivals
+        | Some t ↦ λ is. (fitting operand a t is, all_fitting operand arrivals)
+      ] refl
+
+  -- the operations of a legal instruction can start at once
+  pub can_start : (i : Instruction) → is_legal m i ≡ true → (reads : Reads) (operand : ℕ → Option ℕ) (r : Results)
+      → list_any (clashes_with r) (filter_map (start_by m operand) (arrivals_of reads i.moves)) ≡ false
+      → CanStart r (length m.units) (filter_map (start_by m operand) (arrivals_of reads i.moves))
+  can_start i legal reads operand r free = record {
+    fitting = all_fitting operand (arrivals_of reads i.moves);
+    apart = starts_apart m operand (arrivals_of reads i.moves) (arrivals_apart reads i.moves (legal_parts m rules i legal).apart);
+    free = free;
+  }
+
+-- arrivals of moves whose ends are there
+pub reachable : (units : ℕ) (reads : Reads) (slots : List (Option Move)) → AllByRecursion (λ slot. IsTrue (is_possible_slot units slot)) slots → AreReachable units (arrivals_of reads slots)
+reachable units reads [] all = tt
+reachable units reads (None ∷ slots) all = reachable units reads slots all.1
+reachable units reads (Some v ∷ slots) all =
+    let one = and_parts (is_askable v.guard) (is_readable units v.src && is_reachable units v.dst) all.0 in
+    let two = and_parts (is_readable units v.src) (is_reachable units v.dst) one.1 in
+    let rest = reachable units reads slots all.1 in
+    elim (moved reads (effect_of v)) as (λ o. AreReachable units (cons_option (option_map (λ word. record { dst = v.dst; word = word }) o) (arrivals_of reads slots))) [
+      | None ↦ rest
+      | Some word ↦ (two.1, rest)
+    ]
+
+-- ---- the output
+
+some_kind : (kind : OpUnit → Bool) (units : List OpUnit) (k : ℕ) (y : OpUnit) → slice_get units k ≡ Some y → kind y ≡ true → 0 < length (filter kind units)
+some_kind kind [] k y at is = cc
+some_kind kind (u ∷ units) zero y at is = let here : kind u ≡ true = ap (λ o. option_map_or kind o false) at ∙ is in rw here (omega arith)
+some_kind kind (u ∷ units) (suc k) y at is =
+    let rest = some_kind kind units k y at is in
+    elim (kind u) as (λ b. 0 < length (if b then u ∷ filter kind units else filter kind units)) [ true ↦ omega arith | false ↦ rest ]
+
+-- at most one unit offers what has one owner
+one_owner : (kind : OpUnit → Bool) (units : List OpUnit) (j k : ℕ) (x y : OpUnit) → length (filter kind units) ≤ 1
+    → slice_get units j ≡ Some x → kind x ≡ true → slice_get units k ≡ Some y → kind y ≡ true → j ≡ k
+one_owner kind [] j k x y few at is at' is' = cc
+one_owner kind (u ∷ units) zero zero x y few at is at' is' = refl
+one_owner kind (u ∷ units) zero (suc k) x y few at is at' is' =
+    let some : 0 < length (filter kind units) = some_kind kind units k y at' is' in
+    let here : kind u ≡ true = ap (λ o. option_map_or kind o false) at ∙ is in
+    let two = rw here at few in
+    omega (arith, some, two)
+one_owner kind (u ∷ units) (suc j) zero x y few at is at' is' =
+    let some : 0 < length (filter kind units) = some_kind kind units j x at is in
+    let here : kind u ≡ true = ap (λ o. option_map_or kind o false) at' ∙ is' in
+    let two = rw here at few in
+    omega (arith, some, two)
+one_owner kind (u ∷ units) (suc j) (suc k) x y few at is at' is' =
+    let fewer : length (filter kind units) ≤ 1 = elim (kind u) as (λ b. length (if b then u ∷ filter kind units else filter kind units) ≤ 1 → length (filter kind units) ≤ 1) [
+      | true ↦ λ few. omega (arith, few)
+      | false ↦ λ few. few
+    ] few in
+    ap suc (one_owner kind units j k x y fewer at is at' is')
+
+any_there : {A : Type 0} (p : A → Bool) (xs : List A) (k : ℕ) (x : A) → slice_get xs k ≡ Some x → p x ≡ true → list_any p xs ≡ true
+any_there p [] k x at is = cc
+any_there p (y ∷ ys) zero x at is = let here : p y ≡ true = ap (λ o. option_map_or p o false) at ∙ is in rw here refl
+any_there p (y ∷ ys) (suc k) x at is = let rest = any_there p ys k x at is in grind (arith, rest)
+
+-- two operations that put out are of one unit
+put_by_one : (m : Machine) → IsMachine m → (operand : ℕ → Option ℕ) (a b : Arrival) (p q : Start) → start_by m operand a ≡ Some p → start_by m operand b ≡ Some q
+    → meet_arrivals a b ≡ false → (puts p && puts q) ≡ false
+put_by_one m rules operand a b p q is it differ =
+    elim (puts p && puts q) as (λ both. (puts p && puts q) ≡ both → both ≡ false) [
+      | true ↦ λ both.
+          let each = and_parts (puts p) (puts q) both in
+          let one = is_started m operand a p is in
+          let two = is_started m operand b q it in
+          let first = any_there (λ o. same_op o.op Out) one.unit.ops one.op p.does one.does each.0 in
+          let second = any_there (λ o. same_op o.op Out) two.unit.ops two.op q.does two.does each.1 in
+          let few : length (filter (λ u. list_any (λ o. same_op o.op Out) u.ops) m.units) ≤ 1 = grind (arith, rules.one_output) in
+          let same : p.unit ≡ q.unit = one_owner (λ u. list_any (λ o. same_op o.op Out) u.ops) m.units p.unit q.unit one.unit two.unit few one.at first two.at second in
+          let apart : (p.unit == q.unit) ≡ false = sym (ap (λ d. same_place d (dest.Trigger q.unit two.op)) one.dst) ∙ sym (ap (same_place a.dst) two.dst) ∙ differ in
+          grind (arith, same, apart)
+      | false ↦ λ both. refl
+    ] refl
+
+-- at most one of the operations puts out
+pub outputs_apart : (m : Machine) → IsMachine m → (i : Instruction) → is_legal m i ≡ true → (reads : Reads) (operand : ℕ → Option ℕ)
+    → are_different (λ p q. puts p && puts q) (filter_map (start_by m operand) (arrivals_of reads i.moves)) ≡ true
+outputs_apart m rules i legal reads operand =
+    apart_filter_map meet_arrivals (λ p q. puts p && puts q) (start_by m operand) (put_by_one m rules operand)
+    (arrivals_of reads i.moves) (arrivals_apart reads i.moves (legal_parts m rules i legal).apart)
+
+puts_word : (output : List ℕ) (t : Start) → puts t ≡ true → put_out output t ≡ output ++ t.word ∷ []
+puts_word output t = by t.does.op where
+  by : (o : Op) → same_op o Out ≡ true → put_out output (record t { does = record t.does { op = o } }) ≡ output ++ t.word ∷ []
+  by Ldw is = cc
+  by Stw is = cc
+  by Ldf is = cc
+  by Stf is = cc
+  by Out is = refl
+  by (Set id) is = cc
+
+puts_nothing : (output : List ℕ) (t : Start) → puts t ≡ false → put_out output t ≡ output
+puts_nothing output t = by t.does.op where
+  by : (o : Op) → same_op o Out ≡ false → put_out output (record t { does = record t.does { op = o } }) ≡ output
+  by Ldw is = refl
+  by Stw is = refl
+  by Ldf is = refl
+  by Stf is = refl
+  by Out is = cc
+  by (Set id) is = refl
+
+put_no_more : (t : Start) (output : List ℕ) (starts : List Start) → puts t ≡ true → list_any (λ q. puts t && puts q) starts ≡ false → fold put_out output starts ≡ output
+put_no_more t output [] is none = refl
+put_no_more t output (q ∷ starts) is none =
+    let other : puts q ≡ false = grind (arith, is) in
+    let rest : list_any (λ q. puts t && puts q) starts ≡ false = grind arith in
+    ap (λ o. fold put_out o starts) (puts_nothing output q other) ∙ put_no_more t output starts is rest
+
+-- what is put out then is the word of the first that does
+pub put_once : (output : List ℕ) (starts : List Start) → are_different (λ p q. puts p && puts q) starts ≡ true
+    → fold put_out output starts ≡ output ++ option_to_list (option_map (λ t. t.word) (find puts starts))
+put_once output [] apart = sym (append-nil output)
+put_once output (t ∷ starts) apart =
+    elim (puts t) as (λ b. puts t ≡ b → fold put_out (put_out output t) starts ≡ output ++ option_to_list (option_map (λ t. t.word) (if b then Some t else find puts starts))) [
+      | true ↦ λ is.
+          let alone : list_any (λ q. puts t && puts q) starts ≡ false = grind arith in
+          ap (λ o. fold put_out o starts) (puts_word output t is) ∙ put_no_more t (output ++ t.word ∷ []) starts is alone
+      | false ↦ λ is. ap (λ o. fold put_out o starts) (puts_nothing output t is) ∙ put_once output starts (grind arith)
+    ] refl

@@ -1,0 +1,29 @@
+-- Control, as it is kept.
+use Rattle.std.specs.Prelude.{ℕ, ◌+◌, Option, None, Some, option_map}
+use Rattle.tta_machine.specs.Effects.{Kind}
+use Rattle.tta_code.specs.Cycle.{Pending as Underway, Outcome, Running, Halted, Fault, State, lands}
+use Rattle.tta_sim.specs.declared.control.Told.{Told}
+use Rattle.tta_sim.specs.declared.control.Pending.{Pending}
+use Rattle.tta_sim.specs.declared.control.Phase.{Phase}
+use Rattle.tta_sim.specs.declared.control.Phase.TheVariants as phase
+use Rattle.tta_sim.specs.declared.control.Control.{Control}
+use Rattle.tta_sim.specs.Starts.{kind_of, told_of}
+
+-- a control move that is under way
+abbrev pub underway : Pending → Underway
+underway p = record { time = p.time; kind = kind_of p.told.kind; word = p.told.word }
+
+-- how a run stands in a cycle
+abbrev pub outcome_of : (cycle : ℕ) → Phase → Outcome
+outcome_of cycle phase.Running = Running
+outcome_of cycle phase.Halted = Halted
+outcome_of cycle (phase.Fault number) = Fault number cycle
+
+-- a state with the address, the control move under way and the outcome that control has
+abbrev pub controlled : State → Control → State
+controlled s c = record s { pc = c.pc; pending = option_map underway c.pending; outcome = outcome_of s.cycle c.phase }
+
+-- the control move that is under way after a cycle that told control this, where the cycle after it is `now`
+abbrev pub pending_with : (now delay : ℕ) → Option Underway → Option (Kind × ℕ) → Option Underway
+pending_with now delay before None = before
+pending_with now delay before (Some told) = Some (record { time = now + delay; kind = told.0; word = told.1 })

@@ -1,0 +1,80 @@
+-- What a simulator holds, and which state it stands for.
+use Rattle.std.specs.Prelude.{◌≡◌, ℕ, ◌+◌, ◌≤◌, Bool, true, false, List, ◌++◌, length, Option, None, Some, option_to_list}
+use Rattle.tta_ops.specs.Units.{Units}
+use Rattle.tta_machine.specs.Machine.{Machine}
+use Rattle.tta_code.specs.declared.code.Code.{Code}
+use Rattle.tta_code.specs.Legal.{IsLegalCode}
+use Rattle.tta_code.specs.Cycle.{Result', Pending, Outcome, Running, Halted, Fault, State, next}
+use Rattle.tta_sim.specs.declared.answer.CycleStep.{CycleStep}
+use Rattle.tta_sim.specs.declared.answer.CycleStep.TheVariants.{Ran, Halted as HadHalted, Fault as Faults}
+use Rattle.tta_sim.specs.Places.{HasWritten}
+use Rattle.tta_sim.specs.Results.{Results, AreResultsOf}
+
+-- The words of registers and operand ports in a row; what each unit's result port shows, and the results due later; the
+-- spaces; the address of the next instruction, how many cycles were made, the control move under way, and how the run
+-- stands. What was put out, and every result that no port can show any more, is not held.
+pub record Held : Type 0 where
+  pub places : List (Option ℕ)
+  pub shown : List (Option Result')
+  pub coming : List Result'
+  pub memory : List ℕ
+  pub frame : List ℕ
+  pub pc : ℕ
+  pub cycle : ℕ
+  pub pending : Option Pending
+  pub outcome : Outcome
+
+abbrev pub results_held : Held → Results
+results_held h = record { cycle = h.cycle; shown = h.shown; coming = h.coming }
+
+-- A simulator stands for each state that agrees with all that it holds.
+pub record Stands (h : Held) (s : State) : Type 0 where
+  pub places : HasWritten h.places s.written
+  pub results : AreResultsOf s.started (results_held h)
+  pub memory : h.memory ≡ s.memory
+  pub frame : h.frame ≡ s.frame
+  pub pc : h.pc ≡ s.pc
+  pub cycle : h.cycle ≡ s.cycle
+  pub pending : h.pending ≡ s.pending
+  pub outcome : h.outcome ≡ s.outcome
+
+-- whether a run is at a fault
+abbrev pub is_fault : Outcome → Bool
+is_fault Running = false
+is_fault Halted = false
+is_fault (Fault number at) = true
+
+-- The answer of a cycle from a state: Halted where the state has halted; the fault that the next state is at, now or since
+-- earlier; and else the word that the cycle puts out, if any.
+abbrev pub IsAnswer : Units → Machine → Code → State → CycleStep → Type 0
+IsAnswer u m code s (Ran word) =
+    (s.outcome ≡ Running) × ((is_fault (next u m code s).outcome ≡ false) × ((next u m code s).output ≡ s.output ++ option_to_list word))
+IsAnswer u m code s HadHalted = s.outcome ≡ Halted
+IsAnswer u m code s (Faults number) = (next u m code s).outcome ≡ Fault number s.cycle
+
+-- the cycles that an answer stands for: one where it was carried out
+abbrev pub cycles_of : CycleStep → ℕ
+cycles_of (Ran word) = 1
+cycles_of HadHalted = 0
+cycles_of (Faults number) = 0
+
+-- whether a run has halted
+abbrev pub is_halted : Outcome → Bool
+is_halted Running = false
+is_halted Halted = true
+is_halted (Fault number at) = false
+
+-- the number of the fault that a run is at, if it is
+abbrev pub fault_number : Outcome → Option ℕ
+fault_number Running = None
+fault_number Halted = None
+fault_number (Fault number at) = Some number
+
+-- The run of a machine on code that it can carry out, which addresses of 16 bits reach: it has each unit's port and each
+-- word of the spaces.
+pub record IsRunOf (m : Machine) (code : Code) (h : Held) : Type 0 where
+  pub legal : IsLegalCode m code
+  pub reached : length code.words ≤ 65536
+  pub units : length h.shown ≡ length m.units
+  pub memory : length h.memory ≡ m.data_words
+  pub frame : length h.frame ≡ m.frame_words

@@ -1,0 +1,34 @@
+-- How a run is kept, and what a cycle of it comes to.
+use Rattle.std.specs.Prelude.{◌≡◌, ℕ, ◌++◌, false, Option, option_map, option_to_list}
+use Rattle.tta_code.specs.Cycle.{State, Outcome, Fault}
+use Rattle.tta_sim.specs.declared.answer.CycleStep.{CycleStep}
+use Rattle.tta_sim.specs.declared.answer.CycleStep.TheVariants.{Ran, Halted as HadHalted, Fault as Faults}
+use Rattle.tta_sim.specs.declared.store.Store.{Store}
+use Rattle.tta_sim.specs.declared.control.Control.{Control}
+use Rattle.tta_sim.specs.Held.{Held, Stands, is_fault}
+use Rattle.tta_sim.specs.Controls.{underway, outcome_of}
+
+-- what is held where these are kept
+abbrev pub held_of : Store → Control → Held
+held_of store control = record {
+  places = store.places;
+  shown = store.results.shown;
+  coming = store.results.coming;
+  memory = store.memory.items;
+  frame = store.frame.items;
+  pc = control.pc;
+  cycle = store.results.cycle;
+  pending = option_map underway control.pending;
+  outcome = outcome_of store.results.cycle control.phase;
+}
+
+-- the answer of a cycle that took a state to the next
+abbrev pub Answers : (s next : State) → CycleStep → Type 0
+Answers s next (Ran word) = (is_fault next.outcome ≡ false) × (next.output ≡ s.output ++ option_to_list word)
+Answers s next HadHalted = ⊥
+Answers s next (Faults number) = next.outcome ≡ Fault number s.cycle
+
+-- what is held stands for the next state, and this was answered
+pub record IsCarried (h : Held) (s next : State) (answer : CycleStep) : Type 0 where
+  pub stands : Stands h next
+  pub answers : Answers s next answer

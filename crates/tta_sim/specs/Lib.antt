@@ -1,0 +1,9 @@
+pub mod Controls
+pub mod Held
+pub mod Kept
+pub mod Landing
+pub mod Moves
+pub mod Places
+pub mod Results
+pub mod Starts
+pub mod Writing

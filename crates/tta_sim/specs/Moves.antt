@@ -1,0 +1,128 @@
+-- What the moves of a cycle read and bring, as it is carried out on what is held.
+use Rattle.std.specs.Prelude.{◌≡◌, ℕ, ◌≤◌, ◌==◌, Bool, true, false, not, ◌&&◌, ◌||◌, nat_lt, if◌then◌else◌, List, [], ◌∷◌, map, Option, None, Some, is_none, option_map, length, slice_index_or, IsTrue}
+use Rattle.std.specs.Option.{option_map_or}
+use Rattle.std.specs.List.{list_any, filter_map, AllByRecursion}
+use Rattle.tta_machine.specs.declared.ends.GuardRef.{GuardRef}
+use Rattle.tta_machine.specs.declared.ends.Source.{Source}
+use Rattle.tta_machine.specs.declared.ends.Source.TheVariants as source
+use Rattle.tta_machine.specs.declared.ends.Dest.{Dest}
+use Rattle.tta_machine.specs.declared.ends.Dest.TheVariants as dest
+use Rattle.tta_machine.specs.Effects.{KeptReg, KeptImm, KeptOperand, KeptRa, Effect, Brought, Reads, target_of, moved, passes, is_active, is_register, is_port, has_unset_guard, has_unset}
+use Rattle.tta_machine.specs.Machine.{Machine}
+use Rattle.tta_code.specs.declared.code.Move.{Move}
+use Rattle.tta_code.specs.declared.code.Instruction.{Instruction}
+use Rattle.tta_code.specs.Cycle.{Result', effect_of, first_fault}
+use Rattle.tta_sim.specs.declared.arrivals.Arrival.{Arrival}
+use Rattle.tta_sim.specs.declared.reading.Taken.{Taken}
+use Rattle.tta_sim.specs.declared.reading.Taken.TheVariants.{Nothing, Word, UnsetRegister, UnsetPort}
+use Rattle.tta_sim.specs.declared.reading.Verdict.{Verdict}
+use Rattle.tta_sim.specs.declared.reading.Verdict.TheVariants.{Acts, Rests, Unset}
+use Rattle.tta_sim.specs.Places.{is_place, word_at}
+
+-- ---- which moves a run can make
+
+-- a source that is there where there are so many units
+abbrev pub is_readable : (units : ℕ) → Source → Bool
+is_readable units (source.Reg file index) = is_place (KeptReg file index)
+is_readable units (source.Imm unit index) = is_place (KeptImm unit index)
+is_readable units (source.Shown unit) = nat_lt unit units
+is_readable units source.Ra = true
+is_readable units (source.Value word) = true
+
+-- a destination that is there
+abbrev pub is_reachable : (units : ℕ) → Dest → Bool
+is_reachable units (dest.Reg file index) = is_place (KeptReg file index)
+is_reachable units (dest.Operand unit) = is_place (KeptOperand unit)
+is_reachable units (dest.Trigger unit op) = nat_lt unit units
+is_reachable units dest.Jump = true
+is_reachable units dest.Call = true
+is_reachable units dest.Halt = true
+
+-- a guard whose register is there
+abbrev pub is_askable : Option GuardRef → Bool
+is_askable guard = option_map_or (λ g. is_place (KeptReg g.file g.index)) guard true
+
+-- a move whose ends are there
+abbrev pub is_possible : (units : ℕ) → Move → Bool
+is_possible units v = is_askable v.guard && (is_readable units v.src && is_reachable units v.dst)
+
+-- a slot that is empty or has such a move
+abbrev pub is_possible_slot : (units : ℕ) → Option Move → Bool
+is_possible_slot units slot = option_map_or (is_possible units) slot true
+
+-- ---- what they read
+
+-- the word of each source
+abbrev pub reads_of : (places : List (Option ℕ)) → (shown : List (Option Result')) → Reads
+reads_of places shown (source.Reg file index) = word_at places (KeptReg file index)
+reads_of places shown (source.Imm unit index) = word_at places (KeptImm unit index)
+reads_of places shown (source.Shown unit) = option_map (λ r. r.value) (slice_index_or shown unit None)
+reads_of places shown source.Ra = word_at places KeptRa
+reads_of places shown (source.Value word) = Some word
+
+abbrev pub is_acting : Verdict → Bool
+is_acting Acts = true
+is_acting Rests = false
+is_acting Unset = false
+
+abbrev pub is_unset : Verdict → Bool
+is_unset Acts = false
+is_unset Rests = false
+is_unset Unset = true
+
+-- the word that was taken, if one was
+abbrev pub word_taken : Taken → Option ℕ
+word_taken Nothing = None
+word_taken (Word word) = Some word
+word_taken UnsetRegister = None
+word_taken UnsetPort = None
+
+-- the fault of a move that took this
+abbrev pub fault_taken : Taken → Option ℕ
+fault_taken Nothing = None
+fault_taken (Word word) = None
+fault_taken UnsetRegister = Some 60
+fault_taken UnsetPort = Some 61
+
+-- the fault of an active move whose source has no word
+abbrev pub fault_missing : Source → Option ℕ
+fault_missing src = Some (if is_port src then 61 else 60)
+
+-- whether a move lacks a word that was never written
+abbrev pub lacks_register : Reads → Effect → Bool
+lacks_register reads e = has_unset_guard reads e || has_unset reads is_register e
+
+-- the first fault of what some moves read
+abbrev pub fault_reading : Reads → List Effect → Option ℕ
+fault_reading reads effects =
+    first_fault ((list_any (lacks_register reads) effects, 60) ∷ (list_any (has_unset reads is_port) effects, 61) ∷ [])
+
+-- the moves that there are in some slots, as effects
+abbrev pub effects_in : List (Option Move) → List Effect
+effects_in slots = map effect_of (filter_map (λ o. o) slots)
+
+-- the earlier of two faults in their order
+abbrev pub earlier_fault : Option ℕ → Option ℕ → Option ℕ
+earlier_fault None other = other
+earlier_fault (Some a) None = Some a
+earlier_fault (Some a) (Some b) = if nat_lt b a then Some b else Some a
+
+-- ---- what they bring
+
+-- the word that a move brings
+abbrev pub arrival_of : Reads → Move → Option Arrival
+arrival_of reads v = option_map (λ word. record { dst = v.dst; word = word }) (moved reads (effect_of v))
+
+-- what the moves of some slots bring
+abbrev pub arrivals_of : Reads → List (Option Move) → List Arrival
+arrivals_of reads slots = filter_map (arrival_of reads) (filter_map (λ o. o) slots)
+
+-- an arrival as a target and a word
+abbrev pub brought_of : Arrival → Brought
+brought_of a = (target_of a.dst, a.word)
+
+-- An instruction whose moves have ends that are there, no more of them than a machine can have buses.
+pub record IsPossible (m : Machine) (i : Instruction) : Type 0 where
+  pub few : length i.moves ≤ 16
+  pub slots : AllByRecursion (λ slot. IsTrue (is_possible_slot (length m.units) slot)) i.moves
+  pub units : length m.units ≤ 32

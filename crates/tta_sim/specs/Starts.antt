@@ -1,0 +1,123 @@
+-- Which operations the moves of a cycle start, and what these do.
+use Rattle.std.specs.Prelude.{◌≡◌, ℕ, ◌+◌, ◌<◌, ◌≤◌, ◌==◌, Bool, true, false, not, ◌&&◌, ◌||◌, nat_lt, nat_le, if◌then◌else◌, List, [], ◌∷◌, map, Option, None, Some, is_some, option_map, IsTrue}
+use Rattle.std.specs.Option.{option_or}
+use Rattle.std.specs.List.{list_any, filter_map, find, AllByRecursion}
+use Rattle.tta_ops.specs.Units.{Units}
+use Rattle.tta_machine.specs.declared.parts.Op.{Op}
+use Rattle.tta_machine.specs.declared.parts.Op.TheVariants.{Out}
+use Rattle.tta_machine.specs.declared.ends.Dest.{Dest}
+use Rattle.tta_machine.specs.declared.ends.Dest.TheVariants as dest
+use Rattle.tta_machine.specs.Machine.{Machine}
+use Rattle.tta_machine.specs.Rules.{are_different, same_op}
+use Rattle.tta_machine.specs.Effects.{KeptOperand, Start, Written, Kind, Jumps, Calls, Halts, kept, op_at, has_result, result_word, lacks_operand, first_some, control_of, is_port, has_unset}
+use Rattle.tta_code.specs.Cycle.{Result', Pending, first_fault}
+use Rattle.tta_sim.specs.declared.arrivals.Arrival.{Arrival}
+use Rattle.tta_sim.specs.declared.control.Told.{Told}
+use Rattle.tta_sim.specs.declared.control.Kind.{Kind as ToldKind}
+use Rattle.tta_sim.specs.declared.control.Kind.TheVariants as told
+use Rattle.tta_sim.specs.Places.{word_at}
+use Rattle.tta_sim.specs.Results.{Results, due_at, due_after}
+use Rattle.tta_sim.specs.Moves.{is_reachable, reads_of, lacks_register, effects_in, arrivals_of, brought_of}
+use Rattle.tta_code.specs.declared.code.Move.{Move}
+
+-- ---- operations
+
+-- whether a destination is the operand port of a unit
+abbrev pub is_operand_of : ℕ → Dest → Bool
+is_operand_of unit (dest.Reg file index) = false
+is_operand_of unit (dest.Operand u) = u == unit
+is_operand_of unit (dest.Trigger u op) = false
+is_operand_of unit dest.Jump = false
+is_operand_of unit dest.Call = false
+is_operand_of unit dest.Halt = false
+
+-- the word in the operand port of a unit once the arrivals are there
+abbrev pub operand_with : (places : List (Option ℕ)) → List Arrival → ℕ → Option ℕ
+operand_with places arrivals unit =
+    option_or (option_map (λ a. a.word) (find (λ a. is_operand_of unit a.dst) arrivals)) (word_at places (KeptOperand unit))
+
+-- the operation that a word starts in a trigger port
+abbrev pub triggered : Machine → (operand : ℕ → Option ℕ) → (unit op word : ℕ) → Option Start
+triggered m operand unit op word =
+    option_map (λ o. record { unit = unit; does = o; operand = if o.arity == 2 then operand unit else Some 0; word = word }) (op_at m unit op)
+
+-- the operation that an arrival starts, if it does
+abbrev pub start_by : Machine → (operand : ℕ → Option ℕ) → Arrival → Option Start
+start_by m operand a = on a.dst where
+  on : Dest → Option Start
+  on (dest.Reg file index) = None
+  on (dest.Operand unit) = None
+  on (dest.Trigger unit op) = triggered m operand unit op a.word
+  on dest.Jump = None
+  on dest.Call = None
+  on dest.Halt = None
+
+-- the operations that the arrivals start
+abbrev pub starts_of : Machine → (places : List (Option ℕ)) → List Arrival → List Start
+starts_of m places arrivals = filter_map (start_by m (operand_with places arrivals)) arrivals
+
+-- ---- faults
+
+-- whether a result would be due at the time of another one of its unit
+abbrev pub clashes_with : Results → Start → Bool
+clashes_with r t = has_result t.does.op && is_some (due_at t.unit (r.cycle + t.does.latency) r.coming)
+
+-- the fault of a cycle, if any
+abbrev pub fault_in : Machine → (places : List (Option ℕ)) → Results → (is_pending : Bool) → List (Option Move) → Option ℕ
+fault_in m places r is_pending slots =
+    let reads = reads_of places r.shown in
+    let arrivals = arrivals_of reads slots in
+    let starts = starts_of m places arrivals in
+    first_fault (
+    (list_any (lacks_register reads) (effects_in slots), 60)
+    ∷ (list_any (has_unset reads is_port) (effects_in slots), 61)
+    ∷ (list_any lacks_operand starts, 62)
+    ∷ (list_any (clashes_with r) starts, 63)
+    ∷ (is_some (first_some control_of (map brought_of arrivals)) && is_pending, 64)
+    ∷ [])
+
+-- ---- effects
+
+-- the result that an operation shows after its latency
+abbrev pub due_of : (now : ℕ) → Start → (value : ℕ) → Result'
+due_of now t value = due_after now t.unit t.does.latency value
+
+-- the result that an operation begins, if it has one
+abbrev pub begun : Units → (now : ℕ) → (memory frame : List ℕ) → Start → Option Result'
+begun u now memory frame t =
+    if has_result t.does.op
+    then Some (due_of now t (result_word u memory frame t t.does.op))
+    else None
+
+-- whether an operation puts its word out
+abbrev pub puts : Start → Bool
+puts t = same_op t.does.op Out
+
+-- an operation of one of so many units, whose result, if it has one, shows after 1 to 16 cycles
+abbrev pub is_fitting : (units : ℕ) → Start → Bool
+is_fitting units t = nat_lt t.unit units && (not (has_result t.does.op) || (nat_lt 0 t.does.latency && nat_le t.does.latency 16))
+
+-- Operations that can start at once: each fits, no unit starts two, and no result is due at the time of another.
+pub record CanStart (r : Results) (units : ℕ) (starts : List Start) : Type 0 where
+  pub fitting : AllByRecursion (λ t. IsTrue (is_fitting units t)) starts
+  pub apart : are_different (λ a b. a.unit == b.unit) starts ≡ true
+  pub free : list_any (clashes_with r) starts ≡ false
+
+-- arrivals at destinations that are there
+abbrev pub AreReachable : (units : ℕ) → List Arrival → Type 0
+AreReachable units arrivals = AllByRecursion (λ a. IsTrue (is_reachable units a.dst)) arrivals
+
+-- ---- control
+
+-- what control is told
+abbrev pub kind_of : ToldKind → Kind
+kind_of told.Jump = Jumps
+kind_of told.Call = Calls
+kind_of told.Halt = Halts
+
+abbrev pub told_of : Told → Kind × ℕ
+told_of t = (kind_of t.kind, t.word)
+
+-- what the arrivals tell control
+abbrev pub told_in : List Arrival → Option (Kind × ℕ)
+told_in arrivals = first_some control_of (map brought_of arrivals)

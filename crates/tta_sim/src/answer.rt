@@ -1,0 +1,15 @@
+//! What a cycle answers.
+
+/// What became of a cycle.
+#[derive(Clone, Copy, Debug, PartialEq, Eq)]
+pub enum CycleStep {
+    /// The cycle was carried out, and put out this word, if any.
+    Ran(Option<u32>),
+    /// The run has halted before, and nothing was changed.
+    Halted,
+    /// This cycle faults, or an earlier one did: 60 for a register that was never written, 61 for a
+    /// result port that shows nothing yet, 62 for an operand port that never got a word, 63 for two
+    /// results of a unit that would be due at one time, 64 for a control move in the delay of
+    /// another, 65 for an address at which there is no instruction. The run stays as it was before.
+    Fault(u8),
+}

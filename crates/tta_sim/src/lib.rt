@@ -1,0 +1,24 @@
+//! The cycle-by-cycle run of a machine's code.
+#![tactic(auto)]
+
+mod answer;
+mod arrivals;
+mod begin;
+mod carry;
+mod control;
+mod due;
+mod landing;
+mod places;
+mod reading;
+mod results;
+mod short;
+mod sim;
+mod spaces;
+mod starts;
+mod store;
+#[cfg(test)]
+mod tests;
+mod writing;
+
+pub use answer::CycleStep;
+pub use sim::Sim;

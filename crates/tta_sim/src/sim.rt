@@ -1,0 +1,188 @@
+//! A run.
+
+ghost use Rattle.std.specs.Prelude.{◌≡◌, ◌+◌, ◌<◌, ◌^◌, length, option_copied, option_map};
+ghost use Rattle.std.specs.Prelude.{slice_get, slice_index, IfOk, IsTrue};
+ghost use Rattle.tta_ops.specs.Set.{stated};
+ghost use Rattle.tta_machine.specs.Effects.{KeptReg, kept};
+ghost use Rattle.tta_code.specs.Cycle.{State, next, start};
+ghost use Rattle.tta_code.specs.Cycle.{port as port_of};
+ghost use Rattle.tta_code.specs.Legal.{IsLegalCode};
+ghost use Rattle.tta_sim.specs.Places.{is_place};
+ghost use Rattle.tta_sim.specs.Results.{due_at};
+ghost use Rattle.tta_sim.specs.Held.{Stands, IsAnswer, IsRunOf, cycles_of, is_halted, fault_number};
+
+use crate::answer::CycleStep;
+use crate::carry::carry;
+use crate::control::{Control, Phase};
+use crate::places::Places;
+use crate::results::Results;
+use crate::short::Short;
+use crate::spaces::{load, zeros};
+use crate::store::{Doings, Store};
+use std::alloc::{AllocError, Global};
+use std::marker::Model;
+use tta_code::{Code, Instruction};
+use tta_machine::Machine;
+use tta_ops::UnitSet;
+
+/// The run of a machine's code, cycle by cycle: the words of registers, ports and spaces, the results
+/// that are still to come, and control. What was put out is not kept.
+#[derive(Drop)]
+pub struct Sim {
+    store: Store,
+    control: Control,
+    doings: Doings,
+}
+
+impl Model for Sim {
+    ghost use Rattle.tta_sim.specs.Held.{Held};
+    ghost use Rattle.tta_sim.specs.Kept.{held_of};
+
+    ghost Value = { Held };
+
+    ghost view = { λ s. held_of s.store s.control };
+}
+
+/// The instruction at an address, if there is one.
+fn instruction_at(code: &Code, address: u32) -> Option<&Instruction>
+    ensures { option_copied result ≡ slice_get code.now.words address }
+{
+    code.words.as_slice().get(address as usize)
+}
+
+impl Sim {
+    /// The start of a run: the first instruction comes, nothing was ever written, every frame word is
+    /// 0, and the data words are these.
+    ///
+    /// It takes all memory that the run needs: room for each register and port, and for 16 results
+    /// of each unit that are to come.
+    pub fn load(
+        alloc: Global,
+        m: &Machine,
+        code: &Code,
+        memory: Vec<u32>,
+    ) -> Result<Self, AllocError>
+        requires size { length memory.items ≡ m.now.data_words }
+        requires legal { IsLegalCode m.now code.now }
+        ensures start { IfOk result (λ r. Stands r (start m.now memory.items)) }
+        ensures loaded { IfOk result (λ r. IsRunOf m.now code.now r) }
+    {
+        let _ = code;
+        let store = Store {
+            places: Places::unset(alloc)?,
+            results: Results::none(alloc, m.units.len())?,
+            memory,
+            frame: zeros(alloc, m.frame_words as usize)?,
+        };
+        let doings = Doings {
+            arrivals: Short::new(alloc)?,
+            starts: Short::new(alloc)?,
+        };
+        Ok(Sim {
+            store,
+            control: Control::first(),
+            doings,
+        })
+    }
+
+    /// Carries out one cycle of the code that was loaded, and answers `Ran` with the word that it put
+    /// out, if any. It answers `Halted` exactly where the run has halted before, and `Fault` exactly
+    /// where this cycle faults or an earlier one did; the run then stays as it is. It takes no
+    /// memory.
+    pub fn cycle(&mut self, m: &Machine, code: &Code, units: &UnitSet) -> CycleStep
+        requires loaded { IsRunOf m.now code.now self.old }
+        requires few { self.old.cycle < 2 ^ 62 }
+        ensures loaded { IsRunOf m.now code.now self.new }
+        ensures counted { self.new.cycle ≡ self.old.cycle + cycles_of result }
+        ensures next { let U = stated unit_meaning units.now in (s : State)
+            → Stands self.old s → Stands self.new (next U m.now code.now s) }
+        ensures answer { let U = stated unit_meaning units.now in (s : State)
+            → Stands self.old s → IsAnswer U m.now code.now s result }
+    {
+        match self.control.phase {
+            Phase::Running => {}
+            Phase::Halted => return CycleStep::Halted,
+            Phase::Fault(number) => return CycleStep::Fault(number),
+        }
+        let Some(i) = instruction_at(code, self.control.pc) else {
+            self.control.phase = Phase::Fault(65);
+            return CycleStep::Fault(65);
+        };
+        carry(
+            &mut self.store,
+            &mut self.control,
+            &mut self.doings,
+            m,
+            i,
+            units,
+        )
+    }
+
+    /// The word in a register of a file, `None` where none was ever written.
+    pub fn reg(&self, file: u8, index: u8) -> Option<u32>
+        requires { IsTrue (is_place (KeptReg file index)) }
+        ensures { (s : State) → Stands self.now s → result ≡ kept s.written (KeptReg file index) }
+    {
+        self.store.places.register(file, index)
+    }
+
+    /// The word on a unit's result port, `None` where no result was due yet.
+    pub fn port(&self, unit: u8) -> Option<u32>
+        requires { unit < length self.now.shown }
+        ensures { (s : State) → Stands self.now s → result ≡ port_of s unit }
+    {
+        self.store.results.port(unit)
+    }
+
+    /// The result of a unit that is due so many cycles from now, `None` where none is.
+    pub fn due(&self, unit: u8, delay: u8) -> Option<u32>
+        requires unit { unit < length self.now.shown }
+        requires few { self.now.cycle < 2 ^ 63 }
+        ensures { (s : State) → Stands self.now s
+            → result ≡ option_map (λ r. r.value) (due_at unit (s.cycle + delay) s.started) }
+    {
+        self.store.results.due(unit, delay)
+    }
+
+    /// A data word.
+    pub fn mem(&self, i: u32) -> u32
+        requires { i < length self.now.memory }
+        ensures { result ≡ slice_index self.now.memory i }
+    {
+        load(self.store.memory.as_slice(), i)
+    }
+
+    /// The address of the next instruction.
+    pub fn pc(&self) -> u32
+        ensures { result ≡ self.now.pc }
+    {
+        self.control.pc
+    }
+
+    /// How many cycles were made.
+    pub fn cycles(&self) -> u64
+        ensures { result ≡ self.now.cycle }
+    {
+        self.store.results.cycle()
+    }
+
+    /// Whether the run has halted.
+    pub fn halted(&self) -> bool
+        ensures { result ≡ is_halted self.now.outcome }
+    {
+        match self.control.phase {
+            Phase::Halted => true,
+            Phase::Running | Phase::Fault(_) => false,
+        }
+    }
+
+    /// The number of the fault that the run is at, `None` where it is at none.
+    pub fn fault(&self) -> Option<u8>
+        ensures { result ≡ fault_number self.now.outcome }
+    {
+        match self.control.phase {
+            Phase::Fault(number) => Some(number),
+            Phase::Running | Phase::Halted => None,
+        }
+    }
+}
