@@ -7,6 +7,8 @@ use Rattle.tta_code.specs.Legal.{IsLegalCode}
 use Rattle.tta_code.specs.Cycle.{Result', Pending, Outcome, Running, Halted, Fault, State, next}
 use Rattle.tta_sim.specs.declared.answer.CycleStep.{CycleStep}
 use Rattle.tta_sim.specs.declared.answer.CycleStep.TheVariants.{Ran, Halted as HadHalted, Fault as Faults}
+use Rattle.tta_sim.specs.declared.told.Ending.{Ending}
+use Rattle.tta_sim.specs.declared.told.Ending.TheVariants as ending
 use Rattle.tta_sim.specs.Places.{HasWritten}
 use Rattle.tta_sim.specs.Results.{Results, AreResultsOf}
 
@@ -69,6 +71,12 @@ abbrev pub fault_number : Outcome → Option ℕ
 fault_number Running = None
 fault_number Halted = None
 fault_number (Fault number at) = Some number
+
+-- the outcome that is told
+abbrev pub ending_told : Ending → Outcome
+ending_told ending.Running = Running
+ending_told ending.Halted = Halted
+ending_told (ending.Fault number cycle) = Fault number cycle
 
 -- The run of a machine on code that it can carry out, which addresses of 16 bits reach: it has each unit's port and each
 -- word of the spaces.

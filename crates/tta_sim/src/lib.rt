@@ -18,7 +18,9 @@ mod starts;
 mod store;
 #[cfg(test)]
 mod tests;
+mod told;
 mod writing;
 
 pub use answer::CycleStep;
 pub use sim::Sim;
+pub use told::Ending;

@@ -29,8 +29,8 @@ use tta_ops::UnitSet;
 /// that are still to come, and control. What was put out is not kept.
 #[derive(Drop)]
 pub struct Sim {
-    store: Store,
-    control: Control,
+    pub(crate) store: Store,
+    pub(crate) control: Control,
     doings: Doings,
 }
 
