@@ -1,5 +1,5 @@
 -- What the lines of a run say.
-use Rattle.std.specs.Prelude.{ℕ, ◌+◌, ◌==◌, if◌then◌else◌, List, [], ◌∷◌, ◌++◌, codes, decimal}
+use Rattle.std.specs.Prelude.{ℕ, ◌+◌, ◌==◌, if◌then◌else◌, List, [], ◌∷◌, ◌++◌, map, codes, decimal}
 use Rattle.std.specs.List.{flat_map}
 use Rattle.tta_print.specs.declared.line.Line.{Line}
 use Rattle.tta_print.specs.declared.line.Line.TheVariants as line
@@ -23,3 +23,11 @@ abbrev pub memory_lines : (address : ℕ) → List ℕ → List Line
 memory_lines address [] = []
 memory_lines address (word ∷ words) =
     if word == 0 then memory_lines (address + 1) words else line.Memory address word ∷ memory_lines (address + 1) words
+
+-- a line for each word that was put out
+abbrev pub word_lines : List ℕ → List Line
+word_lines words = map line.Word words
+
+-- what follows the words of a run: how it ended, the data words that are not 0, and how long it was
+abbrev pub report_lines : (outcome : Line) → (memory : List ℕ) → (count : Line) → List Line
+report_lines outcome memory count = outcome ∷ (memory_lines 0 memory ++ count ∷ [])

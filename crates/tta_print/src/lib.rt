@@ -4,8 +4,9 @@
 mod line;
 mod memory;
 mod put;
+mod report;
 mod text;
 
 pub use line::Line;
-pub use memory::put_memory;
 pub use put::put_line;
+pub use report::put_report;

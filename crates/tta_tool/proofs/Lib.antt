@@ -1,4 +1,5 @@
 pub mod Endings
 pub mod Runs
+pub mod ProgramSteps
+pub mod CodeCycles
 pub mod Beginnings
-pub mod Reports

@@ -9,7 +9,7 @@ use Rattle.tta_ports.specs.Faults.{Rose}
 use Rattle.tta_input.specs.Input.{input_of}
 use Rattle.tta_print.specs.declared.line.Line.{Line}
 use Rattle.tta_print.specs.declared.line.Line.TheVariants as line
-use Rattle.tta_print.specs.Lines.{lines_text, memory_lines}
+use Rattle.tta_print.specs.Lines.{lines_text, word_lines, report_lines}
 use Rattle.tta_tool.specs.declared.status.Status.{Status}
 use Rattle.tta_tool.specs.declared.status.Status.TheVariants as status
 use Rattle.tta_tool.specs.World.{World, IsUntouched, ReadFailed, IsTooLong}
@@ -19,22 +19,14 @@ use Rattle.tta_tool.specs.Contents.{HasMachine, HasProgram, HasInput, HasText}
 
 -- ---- what is printed
 
--- a line for each word that was put out
-abbrev pub word_lines : List ℕ → List Line
-word_lines words = map line.Word words
-
 -- whether the run has halted
 abbrev pub outcome_line : Outcome → Line
 outcome_line Running = line.Running
 outcome_line Halted = line.Halted
 
--- what follows the words: the outcome, the data words that are not 0, and the number of steps
-abbrev pub ending_lines : Outcome → (memory : List ℕ) → (steps : ℕ) → List Line
-ending_lines outcome memory steps = outcome_line outcome ∷ (memory_lines 0 memory ++ line.Steps steps ∷ [])
-
 -- all that is printed of a run that has come to a state
 abbrev pub run_text : State → List ℕ
-run_text s = lines_text (word_lines s.output) ++ lines_text (ending_lines s.outcome s.memory s.steps)
+run_text s = lines_text (word_lines s.output) ++ lines_text (report_lines (outcome_line s.outcome) s.memory (line.Steps s.steps))
 
 -- ---- what was read
 

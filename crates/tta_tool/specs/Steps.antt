@@ -1,9 +1,6 @@
--- What a step puts out.
+-- What a step of a run puts out.
 use Rattle.std.specs.Prelude.{ℕ, List, length, drop}
-use Rattle.tta_ops.specs.Units.{Units}
-use Rattle.tta_tac.specs.Program.{Program}
-use Rattle.tta_tac.specs.Sequential.{State, next}
 
--- the words that a state's next step puts out: what its output gains
-abbrev pub words_put : Units → Program → State → List ℕ
-words_put u p s = drop (length s.output) (next u p s).output
+-- the words that the step from a state puts out: what the output gains
+abbrev pub words_put : {S : Type 0} → (output : S → List ℕ) → (next : S → S) → S → List ℕ
+words_put output next s = drop (length (output s)) (output (next s))

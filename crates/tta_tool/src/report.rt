@@ -5,17 +5,16 @@ ghost use Rattle.tta_list.specs.Iterate.{iterate};
 ghost use Rattle.tta_ops.specs.Set.{stated};
 ghost use Rattle.tta_ports.specs.Faults.{CountsFault};
 ghost use Rattle.tta_ports.specs.Sink.{PutsBytes};
-ghost use Rattle.tta_print.specs.Lines.{lines_text};
 ghost use Rattle.tta_tac.specs.Sequential.{State, next};
 ghost use Rattle.tta_tacrun.specs.Run.{Stands, IsRunOf, is_over};
 ghost use Rattle.tta_tool.specs.Output.{output};
-ghost use Rattle.tta_tool.specs.Exec.{outcome_line, ending_lines, run_text, RunEnds};
+ghost use Rattle.tta_tool.specs.Exec.{outcome_line, run_text, RunEnds};
 
 use crate::status::Status;
 use crate::steps::run_steps;
 use tta_ops::UnitSet;
 use tta_ports::{Failed, Sink};
-use tta_print::{Line, put_line, put_memory};
+use tta_print::{Line, put_report};
 use tta_tac::Program;
 use tta_tacrun::Seq;
 
@@ -28,19 +27,6 @@ fn outcome_of(seq: &Seq) -> Line
     } else {
         Line::Running
     }
-}
-
-// Puts whether a run has halted, its data words and the number of its steps.
-fn put_ending<S: Sink>(sink: &mut S, seq: &Seq) -> Result<(), Failed>
-    requires { length seq.now.memory < 2 ^ 32 }
-    ensures grows { PutsBytes
-        (lines_text (ending_lines seq.now.outcome seq.now.memory seq.now.steps))
-        (S.taken sink.old) (S.taken sink.new) result }
-    ensures cause { CountsFault (is_err result) (S.faults sink.old) (S.faults sink.new) }
-{
-    put_line(sink, &outcome_of(seq))?;
-    put_memory(sink, seq.memory())?;
-    put_line(sink, &Line::Steps(seq.steps()))
 }
 
 // Runs a program for at most so many steps and puts out its text: each word as it comes, and then
@@ -68,7 +54,8 @@ fn run<S: Sink>(
     ensures cause { CountsFault (is_err result) (S.faults sink.old) (S.faults sink.new) }
 {
     run_steps(sink, program, units, seq, bound)?;
-    put_ending(sink, seq)?;
+    let count = Line::Steps(seq.steps());
+    put_report(sink, &outcome_of(seq), seq.memory(), &count)?;
     Ok(seq.halted())
 }
 

@@ -5,10 +5,9 @@ ghost use Rattle.tta_list.specs.Iterate.{iterate};
 ghost use Rattle.tta_ops.specs.Set.{stated};
 ghost use Rattle.tta_ports.specs.Faults.{CountsFault};
 ghost use Rattle.tta_ports.specs.Sink.{PutsBytes};
-ghost use Rattle.tta_print.specs.Lines.{lines_text};
+ghost use Rattle.tta_print.specs.Lines.{lines_text, word_lines};
 ghost use Rattle.tta_tac.specs.Sequential.{State, Halted, next};
 ghost use Rattle.tta_tacrun.specs.Run.{Stands, IsRunOf};
-ghost use Rattle.tta_tool.specs.Exec.{word_lines};
 ghost use Rattle.tta_tool.specs.Steps.{words_put};
 
 use tta_ops::UnitSet;
@@ -34,7 +33,7 @@ fn step<S: Sink>(
     ensures halted { (s : State) → Stands seq.old s → IfOk result (λ ran.
         ran ≡ false → s.outcome ≡ Halted) }
     ensures puts { let U = stated unit_meaning units.now in
-        (s : State) → Stands seq.old s → PutsBytes (lines_text (word_lines (words_put U program.now s)))
+        (s : State) → Stands seq.old s → PutsBytes (lines_text (word_lines (words_put (λ t. t.output) (next U program.now) s)))
         (S.taken sink.old) (S.taken sink.new) result }
     ensures cause { CountsFault (is_err result) (S.faults sink.old) (S.faults sink.new) }
 {

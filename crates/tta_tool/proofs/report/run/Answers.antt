@@ -1,37 +1,39 @@
-use Rattle.std.proofs.Common.{ap, ◌∙◌, subst}
+use Rattle.std.proofs.Common.{◌≡◌, ℕ, List, Option, ◌++◌, sym, ap, ◌∙◌, subst}
 use Rattle.std.specs.Io.KnownBytes.{append_known}
 use Rattle.tta_list.specs.Iterate.{iterate}
 use Rattle.tta_ops.specs.Set.{stated}
 use Rattle.tta_ports.specs.Sink.{PutsBytes}
-use Rattle.tta_print.specs.Lines.{lines_text}
+use Rattle.tta_print.specs.declared.line.Line.TheVariants as line
+use Rattle.tta_print.specs.Lines.{lines_text, word_lines, report_lines}
 use Rattle.tta_print.proofs.Puts.{puts_first, puts_both, puts_again, is_err_of, append_known-twice}
 use Rattle.tta_tac.specs.Sequential.{next}
 use Rattle.tta_tacrun.specs.Run.{is_over}
-use Rattle.tta_tool.specs.Exec.{word_lines, ending_lines}
-use Rattle.tta_tool.proofs.Reports.{ending_of}
+use Rattle.tta_tool.specs.Exec.{outcome_line}
+use Rattle.tta_tool.proofs.ProgramSteps.{report_of}
 use Rattle.tta_tool.proofs.report.run.Goals as goal
 
 pub returns-in_err-run_steps-clause-puts : goal.returns-in_err-run_steps-clause-puts
 returns-in_err-run_steps-clause-puts g c = λ s stands none.
     let U = stated (λ v. (goal.OpUnit-dyn g v).unit_meaning v.1) c.args.units.now in
     let t = iterate c.args.bound (next U c.args.program.now) s in
-    puts_first (lines_text (word_lines t.output)) (lines_text (ending_lines t.outcome t.memory t.steps)) _ _
+    puts_first (lines_text (word_lines t.output)) (lines_text (report_lines (outcome_line t.outcome) t.memory (line.Steps t.steps))) _ _
     c.run_steps.result c.from_residual.result (is_err_of c.in_err-run_steps.was) c.from_residual.ensures.0
     (c.run_steps.ensures.puts s stands none)
 
-pub returns-in_err-put_ending-clause-puts : goal.returns-in_err-put_ending-clause-puts
-returns-in_err-put_ending-clause-puts g c = λ s stands none.
+pub returns-in_err-put_report-clause-puts : goal.returns-in_err-put_report-clause-puts
+returns-in_err-put_report-clause-puts g c = λ s stands none.
     let U = stated (λ v. (goal.OpUnit-dyn g v).unit_meaning v.1) c.args.units.now in
     let t = iterate c.args.bound (next U c.args.program.now) s in
     let mid = g.S.Sink.taken c.run_steps.new.sink in
-    let new = g.S.Sink.taken c.put_ending.new.sink in
-    let second = lines_text (ending_lines t.outcome t.memory t.steps) in
-    let told = subst (λ w. PutsBytes w mid new c.put_ending.result)
-    (ending_of c.run_steps.new.seq t (c.in_ok-run_steps.ensures.run s stands)) c.put_ending.ensures.grows in
-    puts_both (lines_text (word_lines t.output)) second (g.S.Sink.taken c.args.sink.now) mid new c.from_residual-in_err-put_ending.result
+    let new = g.S.Sink.taken c.put_report.new.sink in
+    let second = lines_text (report_lines (outcome_line t.outcome) t.memory (line.Steps t.steps)) in
+    let told = subst (λ w. PutsBytes w mid new c.put_report.result)
+    (report_of c.run_steps.new.seq t (c.in_ok-run_steps.ensures.run s stands) c.outcome_of.result c.memory.result.now c.steps.result
+    c.outcome_of.ensures c.memory.ensures c.steps.ensures) c.put_report.ensures.grows in
+    puts_both (lines_text (word_lines t.output)) second (g.S.Sink.taken c.args.sink.now) mid new c.from_residual-in_err-put_report.result
     (c.in_ok-run_steps.ensures.puts s stands none)
-    (puts_again second mid new c.put_ending.result c.from_residual-in_err-put_ending.result
-    (is_err_of c.in_err-put_ending.was) c.from_residual-in_err-put_ending.ensures.0 told)
+    (puts_again second mid new c.put_report.result c.from_residual-in_err-put_report.result
+    (is_err_of c.in_err-put_report.was) c.from_residual-in_err-put_report.ensures.0 told)
 
 pub returns-clause-halted : goal.returns-clause-halted
 returns-clause-halted g c = λ s stands.
@@ -45,8 +47,9 @@ returns-clause-puts g c = λ s stands none.
     let old = g.S.Sink.taken c.args.sink.now in
     let mid = g.S.Sink.taken c.run_steps.new.sink in
     let first = lines_text (word_lines t.output) in
-    let second = lines_text (ending_lines t.outcome t.memory t.steps) in
-    c.in_ok-put_ending.ensures.grows
-    ∙ ap (append_known mid) (ending_of c.run_steps.new.seq t (c.in_ok-run_steps.ensures.run s stands))
+    let second = lines_text (report_lines (outcome_line t.outcome) t.memory (line.Steps t.steps)) in
+    c.in_ok-put_report.ensures.grows
+    ∙ ap (append_known mid) (report_of c.run_steps.new.seq t (c.in_ok-run_steps.ensures.run s stands) c.outcome_of.result c.memory.result.now c.steps.result
+    c.outcome_of.ensures c.memory.ensures c.steps.ensures)
     ∙ ap (λ l. append_known l second) (c.in_ok-run_steps.ensures.puts s stands none)
     ∙ append_known-twice old first second

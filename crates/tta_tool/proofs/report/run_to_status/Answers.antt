@@ -1,5 +1,5 @@
 use Rattle.std.proofs.Common.{sym, ◌∙◌}
-use Rattle.tta_tool.proofs.Reports.{is_halted, is_running}
+use Rattle.tta_tool.proofs.ProgramSteps.{is_halted, is_running}
 use Rattle.tta_tool.proofs.report.run_to_status.Goals as goal
 
 pub returns-in-Ok-true : goal.returns-in-Ok-true

@@ -2,13 +2,14 @@ use Rattle.std.proofs.Common.{◌≡◌, ◌+◌, ◌-◌, suc, ◌++◌, false,
 use Rattle.std.specs.Io.KnownBytes.{append_known}
 use Rattle.tta_list.specs.Iterate.{iterate}
 use Rattle.tta_ops.specs.Set.{stated}
-use Rattle.tta_print.specs.Lines.{lines_text}
+use Rattle.tta_print.specs.Lines.{lines_text, word_lines}
 use Rattle.tta_print.proofs.Puts.{HasPut, put_part, part_is_put, append_known-nil, append_known-twice}
 use Rattle.tta_tac.specs.Sequential.{Halted, next}
 use Rattle.tta_tacrun.specs.Run.{Stands}
-use Rattle.tta_tool.specs.Exec.{word_lines}
 use Rattle.tta_tool.specs.Steps.{words_put}
-use Rattle.tta_tool.proofs.Runs.{next_lines, run_ended, halted_stays, no_word, output_after, lines_of_both}
+use Rattle.tta_print.proofs.Reports.{lines_of_both}
+use Rattle.tta_tool.proofs.Runs.{next_lines, run_ended, no_word, output_after}
+use Rattle.tta_tool.proofs.ProgramSteps.{program_grows, halted_stays}
 use Rattle.tta_tool.proofs.steps.run_steps.Goals as goal
 
 pub returns-in_err-step-clause-puts : goal.returns-in_err-step-clause-puts
@@ -16,11 +17,11 @@ returns-in_err-step-clause-puts g c = λ s stands none.
     let U = stated (λ v. (goal.OpUnit-dyn g v).unit_meaning v.1) c.args.units.now in
     let p = c.args.program.now in
     let k = c.args.bound - c.steps.left in
-    let lines = next_lines U p s k (c.steps.left - 1) in
+    let lines = next_lines (λ t. t.output) (next U p) (program_grows U p) s k (c.steps.left - 1) in
     let is : c.args.bound ≡ (c.steps.left - 1) + suc k = omega arith in
     let has : HasPut (g.S.Sink.taken c.args.sink.now) (g.S.Sink.taken c.steps.sink)
     (lines_text (word_lines (iterate c.args.bound (next U p) s).output))
-    (lines_text (word_lines (words_put U p (iterate k (next U p) s))) ++ lines.0) = record {
+    (lines_text (word_lines (words_put (λ x. x.output) (next U p) (iterate k (next U p) s))) ++ lines.0) = record {
       done = lines_text (word_lines (iterate k (next U p) s).output);
       taken = c.steps.invariant.put s stands none;
       parts = ap (λ n. lines_text (word_lines (iterate n (next U p) s).output)) is ∙ lines.1;
@@ -38,7 +39,7 @@ returns-then-not-branch-clause-run g c = λ s stands.
     let ran : c.in_ok-step.field-0 ≡ false = grind arith in
     let halted : t.outcome ≡ Halted = c.in_ok-step.ensures.halted t now ran in
     let is : c.args.bound ≡ c.steps.left + k = omega arith in
-    subst (Stands c.step.new.seq) (halted_stays U p t halted ∙ sym (run_ended U p s k c.steps.left c.args.bound is halted))
+    subst (Stands c.step.new.seq) (halted_stays U p t halted ∙ sym (run_ended (next U p) s k c.steps.left c.args.bound is (halted_stays U p t halted)))
     (c.step.ensures.next t now)
 
 pub returns-then-not-branch-clause-puts : goal.returns-then-not-branch-clause-puts
@@ -53,9 +54,9 @@ returns-then-not-branch-clause-puts g c = λ s stands none.
     let is : c.args.bound ≡ c.steps.left + k = omega arith in
     let old = g.S.Sink.taken c.args.sink.now in
     let mid = g.S.Sink.taken c.steps.sink in
-    c.in_ok-step.ensures.puts t now ∙ ap (append_known mid) (no_word U p t halted) ∙ append_known-nil mid
+    c.in_ok-step.ensures.puts t now ∙ ap (append_known mid) (no_word (λ x. x.output) (next U p) t (halted_stays U p t halted)) ∙ append_known-nil mid
     ∙ c.steps.invariant.put s stands none
-    ∙ ap (λ x. append_known old (lines_text (word_lines x.output))) (sym (run_ended U p s k c.steps.left c.args.bound is halted))
+    ∙ ap (λ x. append_known old (lines_text (word_lines x.output))) (sym (run_ended (next U p) s k c.steps.left c.args.bound is (halted_stays U p t halted)))
 
 pub steps-preserved : goal.steps-preserved
 steps-preserved g c =
@@ -76,9 +77,9 @@ steps-preserved g c =
       put = λ s stands none.
           let t = iterate k (next U p) s in
           c.in_ok-step.ensures.puts t (c.steps.invariant.stands s stands)
-          ∙ ap (λ l. append_known l (lines_text (word_lines (words_put U p t)))) (c.steps.invariant.put s stands none)
-          ∙ append_known-twice old (lines_text (word_lines t.output)) (lines_text (word_lines (words_put U p t)))
-          ∙ ap (append_known old) (sym (ap (λ l. lines_text (word_lines l)) (output_after U p t) ∙ lines_of_both t.output (words_put U p t)))
+          ∙ ap (λ l. append_known l (lines_text (word_lines (words_put (λ x. x.output) (next U p) t)))) (c.steps.invariant.put s stands none)
+          ∙ append_known-twice old (lines_text (word_lines t.output)) (lines_text (word_lines (words_put (λ x. x.output) (next U p) t)))
+          ∙ ap (append_known old) (sym (ap (λ l. lines_text (word_lines l)) (output_after (λ x. x.output) (next U p) (program_grows U p) t) ∙ lines_of_both t.output (words_put (λ x. x.output) (next U p) t)))
           ∙ ap (λ n. append_known old (lines_text (word_lines (iterate n (next U p) s).output))) is;
       faults = c.in_ok-step.ensures.cause ∙ c.steps.invariant.faults;
     }

@@ -2,10 +2,9 @@ use Rattle.std.proofs.Common.{◌≡◌, ◌+◌, ◌-◌, ◌<◌, ◌≤◌, �
 use Rattle.std.specs.Io.KnownBytes.{append_known}
 use Rattle.tta_list.specs.Iterate.{iterate}
 use Rattle.tta_ops.specs.Set.{stated}
-use Rattle.tta_print.specs.Lines.{lines_text}
+use Rattle.tta_print.specs.Lines.{lines_text, word_lines}
 use Rattle.tta_tac.specs.Sequential.{State, next}
 use Rattle.tta_tacrun.specs.Run.{Stands, IsRunOf}
-use Rattle.tta_tool.specs.Exec.{word_lines}
 use Rattle.tta_tool.proofs.steps.run_steps.Given as goal
 
 abbrev pub decreases-steps : goal.decreases-steps

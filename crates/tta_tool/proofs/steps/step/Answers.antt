@@ -4,6 +4,7 @@ use Rattle.tta_ops.specs.Set.{stated}
 use Rattle.tta_tac.specs.Sequential.{next}
 use Rattle.tta_print.proofs.Puts.{append_known-nil}
 use Rattle.tta_tool.proofs.Runs.{no_word, one_word}
+use Rattle.tta_tool.proofs.ProgramSteps.{halted_stays}
 use Rattle.tta_tool.proofs.steps.step.Goals as goal
 
 pub returns-in-Halted-clause-halted : goal.returns-in-Halted-clause-halted
@@ -13,7 +14,7 @@ pub returns-in-Halted-clause-puts : goal.returns-in-Halted-clause-puts
 returns-in-Halted-clause-puts g c = λ s stands.
     let U = stated (λ v. (goal.OpUnit-dyn g v).unit_meaning v.1) c.args.units.now in
     let taken = g.S.Sink.taken c.args.sink.now in
-    sym (ap (append_known taken) (no_word U c.args.program.now s (c.in-Halted.ensures.answer s stands)) ∙ append_known-nil taken)
+    sym (ap (append_known taken) (no_word (λ t. t.output) (next U c.args.program.now) s (halted_stays U c.args.program.now s (c.in-Halted.ensures.answer s stands))) ∙ append_known-nil taken)
 
 pub returns-in-Err-clause-puts : goal.returns-in-Err-clause-puts
 returns-in-Err-clause-puts g c = λ s stands.
@@ -24,4 +25,4 @@ returns-in-Err-clause-puts g c = λ s stands.
     let is : (next U p s).output ≡ s.output ++ word ∷ [] =
     (c.in-Ran-Some.ensures.answer s stands).1 ∙ ap (λ o. s.output ++ option_to_list o) c.in-Ran-Some.field-0-is in
     let part = c.in-Err.ensures.grows in
-    (part.0, part.1 ∙ ap (λ l. append_known taken (take part.0 l)) (sym (one_word U p s word is)))
+    (part.0, part.1 ∙ ap (λ l. append_known taken (take part.0 l)) (sym (one_word (λ t. t.output) (next U p) s word is)))

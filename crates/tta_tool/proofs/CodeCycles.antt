@@ -1,0 +1,79 @@
+-- The output of code grows with each cycle, and code that has halted or faulted stays.
+use Rattle.std.proofs.Common.{◌≡◌, ℕ, ◌+◌, ◌==◌, Bool, true, false, if◌then◌else◌, List, [], ◌∷◌, ◌++◌, fold, Option, Some, None, refl, sym, ap, ◌∙◌, append_assoc, append-nil, slice_get}
+use Rattle.std.specs.List.{filter_map}
+use Rattle.tta_ops.specs.Units.{Units}
+use Rattle.tta_machine.specs.declared.parts.Op.{Op}
+use Rattle.tta_machine.specs.declared.parts.Op.TheVariants.{Out}
+use Rattle.tta_machine.specs.Machine.{Machine}
+use Rattle.tta_machine.specs.Effects.{Kind, Jumps, Calls, Halts, Brought, Start, Written, put_out, control_of, first_some, bring, write_of, start_of}
+use Rattle.tta_code.specs.declared.code.Code.{Code}
+use Rattle.tta_code.specs.declared.code.Instruction.{Instruction}
+use Rattle.tta_code.specs.Cycle.{State, Outcome, Running, Halted, Fault, Pending, next, next_of, carry_out, or_fault, acts, lands, takes_effect, pending_after, effects_of, read_source, fault_of}
+use Rattle.tta_tool.proofs.Runs.{Grows, same}
+
+-- one list begins another
+abbrev Begins : List ℕ → List ℕ → Type 0
+Begins xs ys = (more : List ℕ) × (ys ≡ xs ++ more)
+
+put : (words : List ℕ) (t : Start) → Begins words (put_out words t)
+put words t = of t.does.op where
+  of : (op : Op) → Begins words (put_out words (record t { does = record t.does { op = op } }))
+  of Out = (t.word ∷ [], refl)
+  of op = same words words refl
+
+all_put : (words : List ℕ) (ts : List Start) → Begins words (fold put_out words ts)
+all_put words [] = same words words refl
+all_put words (t ∷ ts) =
+    let first = put words t in
+    let rest = all_put (put_out words t) ts in
+    (first.0 ++ rest.0, rest.1 ∙ ap (λ l. l ++ rest.0) first.1 ∙ append_assoc words first.0 rest.0)
+
+landed : (s : State) (o : Option Pending) → (lands s o).output ≡ s.output
+landed s None = refl
+landed s (Some p) = chosen (p.time == s.cycle) where
+  took : (k : Kind) → (takes_effect s (record p { kind = k })).output ≡ s.output
+  took Jumps = refl
+  took Calls = refl
+  took Halts = refl
+
+  chosen : (b : Bool) → (if b then takes_effect s p else s).output ≡ s.output
+  chosen true = took p.kind
+  chosen false = refl
+
+acted : (u : Units) (m : Machine) (s : State) (bs : List Brought) (ts : List Start) (written : Written)
+    → Begins s.output (acts u m s bs ts written).output
+acted u m s bs ts written =
+    let words = all_put s.output ts in
+    (words.0, landed _ (pending_after m s (first_some control_of bs)) ∙ words.1)
+
+or_faulted : (s t : State) (o : Option ℕ) → Begins s.output t.output → Begins s.output (or_fault s o t).output
+or_faulted s t None is = is
+or_faulted s t (Some number) is = same s.output s.output refl
+
+carried : (u : Units) (m : Machine) (s : State) (o : Option Instruction) → Begins s.output (carry_out u m s o).output
+carried u m s None = same s.output s.output refl
+carried u m s (Some i) =
+    let effects = effects_of m i in
+    let bs = filter_map (bring (read_source s)) effects in
+    let written = filter_map (write_of m (s.pc + 1 + m.control.delay)) bs ++ s.written in
+    let ts = filter_map (start_of m written) bs in
+    or_faulted s (acts u m s bs ts written) (fault_of s effects bs ts) (acted u m s bs ts written)
+
+-- a cycle puts words behind the output
+pub cycle_grows : (u : Units) (m : Machine) (code : Code) → Grows (λ s. s.output) (next u m code)
+unfolding next
+cycle_grows u m code = λ s. of s s.outcome where
+  of : (s : State) (o : Outcome) → Begins s.output (next_of u m code s o).output
+  of s Running = carried u m s (slice_get code.words s.pc)
+  of s Halted = same s.output s.output refl
+  of s (Fault number at) = same s.output s.output refl
+
+-- a state that has halted stays
+pub halted_stays : (u : Units) (m : Machine) (code : Code) (s : State) → s.outcome ≡ Halted → next u m code s ≡ s
+unfolding next
+halted_stays u m code s is = ap (next_of u m code s) is
+
+-- a state that is at a fault stays
+pub fault_stays : (u : Units) (m : Machine) (code : Code) (s : State) (number at : ℕ) → s.outcome ≡ Fault number at → next u m code s ≡ s
+unfolding next
+fault_stays u m code s number at is = ap (next_of u m code s) is
