@@ -9,17 +9,21 @@ use Rattle.tta_tool.specs.Output.{Output, IsQuiet}
 use Rattle.tta_tool.specs.Bound.{bound_of}
 use Rattle.tta_tool.specs.Build.{Builds}
 use Rattle.tta_tool.specs.Exec.{Execs}
+use Rattle.tta_tool.specs.Run.{Runs}
 
 -- what can be asked for
 pub data Request : Type 0 where
   Build : (machine program out : List ℕ) → Request
   Exec : (machine program input : List ℕ) (bound : ℕ) → Request
+  Run : (machine image input : List ℕ) (bound : ℕ) → Request
 
 -- the request of some words; none where they are no command
 abbrev pub request_of : List (List ℕ) → Option Request
 request_of (word ∷ machine ∷ program ∷ out ∷ []) = if bytes_eq word (codes "build") then Some (Build machine program out) else None
-request_of (word ∷ machine ∷ program ∷ input ∷ bound ∷ []) =
-    if bytes_eq word (codes "exec") then option_map (Exec machine program input) (bound_of bound) else None
+request_of (word ∷ machine ∷ second ∷ input ∷ bound ∷ []) =
+    if bytes_eq word (codes "exec") then option_map (Exec machine second input) (bound_of bound)
+    else if bytes_eq word (codes "run") then option_map (Run machine second input) (bound_of bound)
+    else None
 request_of words = None
 
 -- words that are no command end as such, and nothing was done
@@ -33,3 +37,4 @@ abbrev pub Ends : Units → Option Request → (before after : World) → (old n
 Ends u None before after old new s = IsUsage before after old new s
 Ends u (Some (Build machine program out)) before after old new s = Builds u machine program out before after s × IsQuiet old new
 Ends u (Some (Exec machine program input bound)) before after old new s = Execs u machine program input bound before after old new s
+Ends u (Some (Run machine image input bound)) before after old new s = Runs u machine image input bound before after old new s

@@ -5,6 +5,10 @@ use Rattle.tta_machine.specs.Machine.{Machine}
 use Rattle.tta_machine.specs.Text.{machine_of_text}
 use Rattle.tta_tac.specs.Program.{Program}
 use Rattle.tta_tac.specs.Text.{ProgramText}
+use Rattle.tta_code.specs.declared.code.Code.{Code}
+use Rattle.tta_image.specs.declared.refusal.ImageError.TheVariants.{Refused}
+use Rattle.tta_image.specs.Image.{Image}
+use Rattle.tta_image.specs.Reading.{decoded_image}
 use Rattle.tta_ports.specs.Store.{Store}
 use Rattle.tta_ports.specs.Files.{Holds}
 use Rattle.tta_input.specs.Input.{input_of}
@@ -28,6 +32,13 @@ pub record HasProgram (u : Units) (files : Option Store) (P : List ℕ) : Type 0
   pub program : Program
   pub holds : Holds files P text
   pub read : ProgramText u text program
+
+-- the file of a name holds the image of code for a machine, with this digest of the machine's text
+pub record HasCode (m : Machine) (digest : List ℕ) (files : Option Store) (IMG : List ℕ) : Type 0 where
+  pub bytes : List ℕ
+  pub code : Code
+  pub holds : Holds files IMG bytes
+  pub image : Image m digest code bytes
 
 -- the file of a name holds the words of a data space of this size
 pub record HasInput (space : ℕ) (files : Option Store) (IN : List ℕ) : Type 0 where
@@ -62,6 +73,15 @@ ProgramFails u P before after (status.TooLong word) = (word ≡ 2) × IsTooLong 
 ProgramFails u P before after status.NoMemory = IsUntouched before after
 ProgramFails u P before after s = ⊥
 
+-- the image, which word 2 names
+abbrev pub CodeFails : Machine → (digest : List ℕ) → (IMG : List ℕ) → (before after : World) → Status → Type 0
+CodeFails m digest IMG before after (status.BadImage code word bus) =
+    IsUntouched before after × HasText before.contents IMG (λ bytes. decoded_image m digest bytes ≡ Err (Refused code word bus))
+CodeFails m digest IMG before after (status.ReadFault word) = (word ≡ 2) × ReadFailed IMG before after
+CodeFails m digest IMG before after (status.TooLong word) = (word ≡ 2) × IsTooLong IMG before after
+CodeFails m digest IMG before after status.NoMemory = IsUntouched before after
+CodeFails m digest IMG before after s = ⊥
+
 -- the words of the data space, which word 3 names
 abbrev pub InputFails : (space : ℕ) → (IN : List ℕ) → (before after : World) → Status → Type 0
 InputFails space IN before after (status.BadInput line) =
@@ -91,6 +111,16 @@ pub record ReadsProgram (u : Units) (P : List ℕ) (program : Program) (before a
 abbrev pub ProgramFileEnds : Units → (P : List ℕ) → (before after : World) → Result Program Status → Type 0
 ProgramFileEnds u P before after (Ok program) = ReadsProgram u P program before after
 ProgramFileEnds u P before after (Err s) = ProgramFails u P before after s
+
+pub record ReadsCode (m : Machine) (digest IMG : List ℕ) (code : Code) (before after : World) : Type 0 where
+  pub bytes : List ℕ
+  pub holds : Holds before.contents IMG bytes
+  pub image : Image m digest code bytes
+  pub untouched : IsUntouched before after
+
+abbrev pub CodeFileEnds : Machine → (digest : List ℕ) → (IMG : List ℕ) → (before after : World) → Result Code Status → Type 0
+CodeFileEnds m digest IMG before after (Ok code) = ReadsCode m digest IMG code before after
+CodeFileEnds m digest IMG before after (Err s) = CodeFails m digest IMG before after s
 
 pub record ReadsInput (space : ℕ) (IN memory : List ℕ) (before after : World) : Type 0 where
   pub bytes : List ℕ

@@ -7,4 +7,5 @@ pub mod Build
 pub mod Bound
 pub mod Steps
 pub mod Exec
+pub mod Run
 pub mod Command

@@ -11,7 +11,9 @@ use Rattle.tta_tac.specs.Refusals.{code_of as program_code}
 use Rattle.tta_tac.specs.Text.{ProgramText, IsRefusedAt}
 use Rattle.tta_code.specs.declared.code.Code.{Code}
 use Rattle.tta_code.specs.Agrees.{Agrees}
+use Rattle.tta_image.specs.declared.refusal.ImageError.TheVariants.{Refused}
 use Rattle.tta_image.specs.Image.{Image}
+use Rattle.tta_image.specs.Reading.{decoded_image}
 use Rattle.tta_build.specs.First.{is_direct, code_length}
 use Rattle.tta_input.specs.Input.{input_of}
 use Rattle.tta_ports.specs.Files.{Holds}
@@ -57,6 +59,13 @@ ProgramEnds u text (Ok p) = ProgramText u text p
 ProgramEnds u text (Err (status.BadProgram line code)) = IsBadProgram u text line code
 ProgramEnds u text (Err status.NoMemory) = Unit {0}
 ProgramEnds u text (Err s) = ⊥
+
+-- bytes are the image of code that a machine can carry out, or there is a cause
+abbrev pub CodeEnds : Machine → (digest bytes : List ℕ) → Result Code Status → Type 0
+CodeEnds m digest bytes (Ok code) = Image m digest code bytes
+CodeEnds m digest bytes (Err (status.BadImage code word bus)) = decoded_image m digest bytes ≡ Err (Refused code word bus)
+CodeEnds m digest bytes (Err status.NoMemory) = Unit {0}
+CodeEnds m digest bytes (Err s) = ⊥
 
 -- bytes are the words of a data space, or there is a cause
 abbrev pub InputEnds : {T : Type 0} → (space : ℕ) → (bytes : List ℕ) → (T → List ℕ) → Result T Status → Type 0

@@ -3,11 +3,13 @@
 ghost use Rattle.std.specs.Prelude.{◌≡◌, ◌≤◌, ◌^◌, length, IfOk};
 ghost use Rattle.tta_ops.specs.Set.{stated};
 ghost use Rattle.tta_tool.specs.World.{world};
-ghost use Rattle.tta_tool.specs.Stages.{ReadEnds, MachineEnds, ProgramEnds, InputEnds};
-ghost use Rattle.tta_tool.specs.Contents.{MachineFileEnds, ProgramFileEnds, InputFileEnds};
+ghost use Rattle.tta_tool.specs.Stages.{ReadEnds, MachineEnds, ProgramEnds, CodeEnds, InputEnds};
+ghost use Rattle.tta_tool.specs.Contents.{MachineFileEnds, ProgramFileEnds, CodeFileEnds, InputFileEnds};
 
 use crate::status::Status;
 use std::alloc::Global;
+use tta_code::Code;
+use tta_image::{ImageError, read_image};
 use tta_input::{InputError, read_input};
 use tta_machine::{Machine, MachineError, read_machine};
 use tta_ops::UnitSet;
@@ -52,6 +54,22 @@ fn program_of(alloc: Global, text: &[u8], units: &UnitSet) -> Result<Program, St
         Ok(program) => Ok(program),
         Err(TacError::Refused { line, code }) => Err(Status::BadProgram { line, code }),
         Err(TacError::NoMemory) => Err(Status::NoMemory),
+    }
+}
+
+// The code of an image for a machine, with this digest of the machine's text.
+fn code_of(
+    alloc: Global,
+    bytes: &[u8],
+    machine: &Machine,
+    digest: &[u8; 32],
+) -> Result<Code, Status>
+    ensures { CodeEnds machine.now digest.now bytes.now result }
+{
+    match read_image(alloc, bytes, machine, digest) {
+        Ok(code) => Ok(code),
+        Err(ImageError::Refused { code, word, bus }) => Err(Status::BadImage { code, word, bus }),
+        Err(ImageError::NoMemory) => Err(Status::NoMemory),
     }
 }
 
@@ -108,6 +126,25 @@ pub fn program_file<F: Files>(
     let text = read_file(files, name, 2)?;
     match program_of(alloc, text.as_slice(), units) {
         Ok(program) => Ok(program),
+        Err(status) => Err(status),
+    }
+}
+
+/// The code of the image of the file that word 2 names, for a machine whose text has this digest.
+pub fn code_file<F: Files>(
+    alloc: Global,
+    files: &mut F,
+    name: &str,
+    machine: &Machine,
+    digest: &[u8; 32],
+) -> Result<Code, Status>
+    ensures { CodeFileEnds machine.now digest.now name.now
+        (world (F.contents files.old) (F.faults files.old) (F.latest files.old))
+        (world (F.contents files.new) (F.faults files.new) (F.latest files.new)) result }
+{
+    let bytes = read_file(files, name, 2)?;
+    match code_of(alloc, bytes.as_slice(), machine, digest) {
+        Ok(code) => Ok(code),
         Err(status) => Err(status),
     }
 }

@@ -24,9 +24,15 @@ pub enum Status {
     /// The code needs more words than the machine has addresses.
     #[error("code full: words {words}, have {have}")]
     CodeFull { words: u64, have: u32 },
+    /// The file of an image is refused, for a reason with a number from 40 to 47, at a word and a bus.
+    #[error("image: code {code}, word {word}, bus {bus}")]
+    BadImage { code: u8, word: u32, bus: u8 },
     /// The file of the data words is refused at a line: it is no word, or one more than the data space has.
     #[error("input: line {line}")]
     BadInput { line: u32 },
+    /// The machine is at a fault with a number from 60 to 65, after so many cycles without one.
+    #[error("machine fault: code {code}, cycle {cycle}")]
+    MachineFault { code: u8, cycle: u64 },
     /// The run goes on past its bound.
     #[error("running")]
     Running,
@@ -58,7 +64,9 @@ impl Status {
             Status::BadMachine { .. } => 2,
             Status::BadProgram { .. } => 3,
             Status::CodeFull { .. } => 7,
+            Status::BadImage { .. } => 8,
             Status::BadInput { .. } => 10,
+            Status::MachineFault { .. } => 11,
             Status::Running => 12,
             Status::ReadFault { .. } => 13,
             Status::WriteFault => 14,

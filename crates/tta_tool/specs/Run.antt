@@ -1,0 +1,151 @@
+-- What the command `run` does, and why it does not.
+use Rattle.std.specs.Prelude.{◌≡◌, ◌⊎◌, ℕ, List, ◌++◌, take, Option, Result, Ok, Err}
+use Rattle.std.specs.Io.KnownBytes.{append_known}
+use Rattle.sha2.specs.Sha256.{sha256}
+use Rattle.tta_ops.specs.Units.{Units}
+use Rattle.tta_machine.specs.Machine.{Machine}
+use Rattle.tta_code.specs.declared.code.Code.{Code}
+use Rattle.tta_code.specs.Cycle.{State, Outcome, Running, Halted, Fault, cyc}
+use Rattle.tta_image.specs.declared.refusal.ImageError.TheVariants.{Refused}
+use Rattle.tta_image.specs.Reading.{decoded_image}
+use Rattle.tta_ports.specs.Store.{Store}
+use Rattle.tta_ports.specs.Faults.{Rose}
+use Rattle.tta_input.specs.Input.{input_of}
+use Rattle.tta_print.specs.declared.line.Line.{Line}
+use Rattle.tta_print.specs.declared.line.Line.TheVariants as line
+use Rattle.tta_print.specs.Lines.{lines_text, word_lines, report_lines}
+use Rattle.tta_tool.specs.declared.status.Status.{Status}
+use Rattle.tta_tool.specs.declared.status.Status.TheVariants as status
+use Rattle.tta_tool.specs.World.{World, IsUntouched, ReadFailed, IsTooLong}
+use Rattle.tta_tool.specs.Output.{Output, IsQuiet}
+use Rattle.tta_tool.specs.Stages.{IsBadMachine}
+use Rattle.tta_tool.specs.Contents.{HasMachine, HasCode, HasInput, HasText}
+
+-- ---- what is printed
+
+-- how the run ended
+abbrev pub outcome_line : Outcome → Line
+outcome_line Running = line.Running
+outcome_line Halted = line.Halted
+outcome_line (Fault number cycle) = line.Fault number cycle
+
+-- all that is printed of a run that has come to a state: the words put out, the outcome, the data words that are not 0, and
+-- the number of cycles
+abbrev pub run_text : State → List ℕ
+run_text s = lines_text (word_lines s.output) ++ lines_text (report_lines (outcome_line s.outcome) s.memory (line.Cycles s.cycle))
+
+-- ---- what was read
+
+-- three files hold a machine, the image of code for it with the digest of its text, and the words of its data space
+pub record HasRun (u : Units) (files : Option Store) (M IMG IN : List ℕ) : Type 0 where
+  pub machine : HasMachine u files M
+  pub code : HasCode machine.machine (sha256 machine.text) files IMG
+  pub input : HasInput machine.machine.data_words files IN
+
+-- the state to which a run has come after so many cycles
+abbrev pub state_at : {u : Units} {files : Option Store} {M IMG IN : List ℕ} → HasRun u files M IMG IN → (bound : ℕ) → State
+state_at {u} run bound = cyc u run.machine.machine run.code.code run.input.memory bound
+
+-- ---- how the command ends
+
+-- the run has come to this outcome within the bound, and all of its text was put
+pub record IsExecuted (u : Units) (M IMG IN : List ℕ) (bound : ℕ) (before after : World) (old new : Output) (outcome : Outcome) : Type 0 where
+  pub run : HasRun u before.contents M IMG IN
+  pub ended : (state_at run bound).outcome ≡ outcome
+  pub taken : new.taken ≡ append_known old.taken (run_text (state_at run bound))
+  pub faults : new.faults ≡ old.faults
+  pub untouched : IsUntouched before after
+
+-- a put has failed: the front of the text was put
+pub record IsCutShort (u : Units) (M IMG IN : List ℕ) (bound : ℕ) (before after : World) (old new : Output) : Type 0 where
+  pub run : HasRun u before.contents M IMG IN
+  pub count : ℕ
+  pub taken : new.taken ≡ append_known old.taken (take count (run_text (state_at run bound)))
+  pub rose : Rose old.faults new.faults
+  pub untouched : IsUntouched before after
+
+-- the machine was read, and the image of code for it
+pub record HasPair (u : Units) (files : Option Store) (M IMG : List ℕ) : Type 0 where
+  pub machine : HasMachine u files M
+  pub code : HasCode machine.machine (sha256 machine.text) files IMG
+
+-- a read of word 1 has failed, or of word 2 where word 1 has passed, or of word 3 where both have
+abbrev pub ReadFault : Units → (M IMG IN : List ℕ) → (before after : World) → (word : ℕ) → Type 0
+ReadFault u M IMG IN before after word =
+    ((word ≡ 1) × ReadFailed M before after)
+    ⊎ ((word ≡ 2) × HasMachine u before.contents M × ReadFailed IMG before after)
+    ⊎ ((word ≡ 3) × HasPair u before.contents M IMG × ReadFailed IN before after)
+
+-- the same of a file that is too long
+abbrev pub TooLong : Units → (M IMG IN : List ℕ) → (before after : World) → (word : ℕ) → Type 0
+TooLong u M IMG IN before after word =
+    ((word ≡ 1) × IsTooLong M before after)
+    ⊎ ((word ≡ 2) × HasMachine u before.contents M × IsTooLong IMG before after)
+    ⊎ ((word ≡ 3) × HasPair u before.contents M IMG × IsTooLong IN before after)
+
+-- the bytes of a file are no image for a machine, for the first reason that they have
+pub record HasBadImage (u : Units) (files : Option Store) (M IMG : List ℕ) (code word bus : ℕ) : Type 0 where
+  pub machine : HasMachine u files M
+  pub image : HasText files IMG (λ bytes. decoded_image machine.machine (sha256 machine.text) bytes ≡ Err (Refused code word bus))
+
+-- a file's words are refused at a line: one that is no word, or one more than the data space has
+pub record HasBadInput (u : Units) (files : Option Store) (M IMG IN : List ℕ) (line : ℕ) : Type 0 where
+  pub pair : HasPair u files M IMG
+  pub input : HasText files IN (λ bytes. input_of pair.machine.machine.data_words bytes ≡ Err line)
+
+-- why no run was begun
+abbrev pub BeginFails : Units → (M IMG IN : List ℕ) → (before after : World) → Status → Type 0
+BeginFails u M IMG IN before after (status.BadMachine line code) =
+    IsUntouched before after × HasText before.contents M (λ text. IsBadMachine u text line code)
+BeginFails u M IMG IN before after (status.BadImage code word bus) =
+    IsUntouched before after × HasBadImage u before.contents M IMG code word bus
+BeginFails u M IMG IN before after (status.BadInput line) = IsUntouched before after × HasBadInput u before.contents M IMG IN line
+BeginFails u M IMG IN before after (status.ReadFault word) = ReadFault u M IMG IN before after word
+BeginFails u M IMG IN before after (status.TooLong word) = TooLong u M IMG IN before after word
+BeginFails u M IMG IN before after status.NoMemory = IsUntouched before after
+BeginFails u M IMG IN before after s = ⊥
+
+-- How `run M IMG IN N` ends. Each ending but want of memory has its cause, and the causes exclude each other: so each
+-- comes exactly where its cause holds, as far as memory, files and output do not fail. Nothing is put but at the end of
+-- a run: all of its text, or the front of it where a put has failed.
+abbrev pub Runs : Units → (M IMG IN : List ℕ) → (bound : ℕ) → (before after : World) → (old new : Output) → Status → Type 0
+Runs u M IMG IN bound before after old new status.Ok = IsExecuted u M IMG IN bound before after old new Halted
+Runs u M IMG IN bound before after old new status.Running = IsExecuted u M IMG IN bound before after old new Running
+Runs u M IMG IN bound before after old new (status.MachineFault code cycle) =
+    IsExecuted u M IMG IN bound before after old new (Fault code cycle)
+Runs u M IMG IN bound before after old new status.WriteFault = IsCutShort u M IMG IN bound before after old new
+Runs u M IMG IN bound before after old new s = BeginFails u M IMG IN before after s × IsQuiet old new
+
+-- ---- the command's parts
+
+-- code and data words were read for a machine that was read with its digest, and no file was touched
+pub record BeginsWith (m : Machine) (digest IMG IN : List ℕ) (code : Code) (memory : List ℕ) (before after : World) : Type 0 where
+  pub file : HasCode m digest before.contents IMG
+  pub input : HasInput m.data_words before.contents IN
+  pub same_code : file.code ≡ code
+  pub same_memory : input.memory ≡ memory
+  pub untouched : IsUntouched before after
+
+abbrev pub BeginWithEnds : {T : Type 0} → Units → Machine → (text IMG IN : List ℕ) → (before after : World) → (T → Code) → (T → List ℕ) → Result T Status → Type 0
+BeginWithEnds u m text IMG IN before after code memory (Ok v) = BeginsWith m (sha256 text) IMG IN (code v) (memory v) before after
+BeginWithEnds u m text IMG IN before after code memory (Err s) =
+    (M : List ℕ) (has : HasMachine u before.contents M) → has.machine ≡ m → has.text ≡ text → BeginFails u M IMG IN before after s
+
+-- a run has come to a state, and what was put of its text
+pub record IsRun (outcome : Outcome) (s : State) (old new : Output) : Type 0 where
+  pub ended : s.outcome ≡ outcome
+  pub taken : new.taken ≡ append_known old.taken (run_text s)
+  pub faults : new.faults ≡ old.faults
+
+pub record IsCut (s : State) (old new : Output) : Type 0 where
+  pub count : ℕ
+  pub taken : new.taken ≡ append_known old.taken (take count (run_text s))
+  pub rose : Rose old.faults new.faults
+
+abbrev pub RunEnds : State → (old new : Output) → Status → Type 0
+RunEnds s old new status.Ok = IsRun Halted s old new
+RunEnds s old new status.Running = IsRun Running s old new
+RunEnds s old new (status.MachineFault code cycle) = IsRun (Fault code cycle) s old new
+RunEnds s old new status.WriteFault = IsCut s old new
+RunEnds s old new status.NoMemory = IsQuiet old new
+RunEnds s old new other = ⊥
