@@ -1,5 +1,5 @@
 -- The output of code grows with each cycle, and code that has halted or faulted stays.
-use Rattle.std.proofs.Common.{◌≡◌, ℕ, ◌+◌, ◌==◌, Bool, true, false, if◌then◌else◌, List, [], ◌∷◌, ◌++◌, fold, Option, Some, None, refl, sym, ap, ◌∙◌, append_assoc, append-nil, slice_get}
+use Rattle.std.proofs.Common.{◌≡◌, ℕ, ◌+◌, ◌==◌, Bool, true, false, if◌then◌else◌, List, [], ◌∷◌, ◌++◌, fold, Option, Some, None, refl, sym, ap, ◌∙◌, append_assoc, append-nil, slice_get, true≢false}
 use Rattle.std.specs.List.{filter_map}
 use Rattle.tta_ops.specs.Units.{Units}
 use Rattle.tta_machine.specs.declared.parts.Op.{Op}
@@ -9,6 +9,11 @@ use Rattle.tta_machine.specs.Effects.{Kind, Jumps, Calls, Halts, Brought, Start,
 use Rattle.tta_code.specs.declared.code.Code.{Code}
 use Rattle.tta_code.specs.declared.code.Instruction.{Instruction}
 use Rattle.tta_code.specs.Cycle.{State, Outcome, Running, Halted, Fault, Pending, next, next_of, carry_out, or_fault, acts, lands, takes_effect, pending_after, effects_of, read_source, fault_of}
+use Rattle.tta_sim.specs.Held.{Held, Stands}
+use Rattle.tta_print.specs.declared.line.Line.{Line}
+use Rattle.tta_print.specs.declared.line.Line.TheVariants as line
+use Rattle.tta_print.specs.Lines.{lines_text, report_lines}
+use Rattle.tta_tool.specs.Run.{outcome_line}
 use Rattle.tta_tool.proofs.Runs.{Grows, same}
 
 -- one list begins another
@@ -77,3 +82,57 @@ halted_stays u m code s is = ap (next_of u m code s) is
 pub fault_stays : (u : Units) (m : Machine) (code : Code) (s : State) (number at : ℕ) → s.outcome ≡ Fault number at → next u m code s ≡ s
 unfolding next
 fault_stays u m code s number at is = ap (next_of u m code s) is
+
+-- ---- a cycle that faults
+
+-- whether an outcome is a fault
+abbrev is_fault : Outcome → Bool
+is_fault Running = false
+is_fault Halted = false
+is_fault (Fault number at) = true
+
+landed_well : (s : State) (o : Option Pending) → is_fault s.outcome ≡ false → is_fault (lands s o).outcome ≡ false
+landed_well s None well = well
+landed_well s (Some p) well = chosen (p.time == s.cycle) where
+  took : (k : Kind) → is_fault (takes_effect s (record p { kind = k })).outcome ≡ false
+  took Jumps = well
+  took Calls = well
+  took Halts = refl
+
+  chosen : (b : Bool) → is_fault (if b then takes_effect s p else s).outcome ≡ false
+  chosen true = took p.kind
+  chosen false = well
+
+quiet_fault : (s t : State) (o : Option ℕ) → is_fault t.outcome ≡ false → is_fault (or_fault s o t).outcome ≡ true → (or_fault s o t).output ≡ s.output
+quiet_fault s t None well faulty = absurd (true≢false (sym faulty ∙ well))
+quiet_fault s t (Some number) well faulty = refl
+
+quiet : (u : Units) (m : Machine) (s : State) (o : Option Instruction)
+    → is_fault (carry_out u m s o).outcome ≡ true → (carry_out u m s o).output ≡ s.output
+quiet u m s None faulty = refl
+quiet u m s (Some i) faulty =
+    let effects = effects_of m i in
+    let bs = filter_map (bring (read_source s)) effects in
+    let written = filter_map (write_of m (s.pc + 1 + m.control.delay)) bs ++ s.written in
+    let ts = filter_map (start_of m written) bs in
+    quiet_fault s (acts u m s bs ts written) (fault_of s effects bs ts) (landed_well _ (pending_after m s (first_some control_of bs)) refl) faulty
+
+-- a cycle that comes to a fault puts no word
+pub fault_is_quiet : (u : Units) (m : Machine) (code : Code) (s : State) (number at : ℕ)
+    → (next u m code s).outcome ≡ Fault number at → (next u m code s).output ≡ s.output
+unfolding next
+fault_is_quiet u m code s number at is = of s s.outcome (ap is_fault is) where
+  of : (s : State) (o : Outcome) → is_fault (next_of u m code s o).outcome ≡ true → (next_of u m code s o).output ≡ s.output
+  of s Running faulty = quiet u m s (slice_get code.words s.pc) faulty
+  of s Halted faulty = refl
+  of s (Fault n c) faulty = refl
+
+-- the report of a run is that of the state for which it stands
+pub report_of : (h : Held) (s : State) → Stands h s → (outcome : Line) (memory : List ℕ) (cycles : ℕ)
+    → outcome ≡ outcome_line h.outcome → memory ≡ h.memory → cycles ≡ h.cycle
+    → lines_text (report_lines outcome memory (line.Cycles cycles))
+    ≡ lines_text (report_lines (outcome_line s.outcome) s.memory (line.Cycles s.cycle))
+report_of h s stands outcome memory cycles is_outcome is_memory is_cycles =
+    ap (λ o. lines_text (report_lines o memory (line.Cycles cycles))) (is_outcome ∙ ap outcome_line stands.outcome)
+    ∙ ap (λ m. lines_text (report_lines (outcome_line s.outcome) m (line.Cycles cycles))) (is_memory ∙ stands.memory)
+    ∙ ap (λ n. lines_text (report_lines (outcome_line s.outcome) s.memory (line.Cycles n))) (is_cycles ∙ stands.cycle)

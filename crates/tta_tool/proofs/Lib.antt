@@ -3,3 +3,4 @@ pub mod Runs
 pub mod ProgramSteps
 pub mod CodeCycles
 pub mod Beginnings
+pub mod Runnings

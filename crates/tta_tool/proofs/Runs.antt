@@ -82,3 +82,8 @@ next_lines out next grows s k n =
     (lines_text (word_lines grown.0),
     ap (λ l. lines_text (word_lines l)) whole ∙ lines_of_both (out t) (put ++ grown.0)
     ∙ ap (λ l. lines_text (word_lines (out t)) ++ l) (lines_of_both put grown.0))
+
+-- a step that leaves the output as it is puts no word
+pub quiet_word : {S : Type 0} → (out : S → List ℕ) (next : S → S) (s : S) → out (next s) ≡ out s → lines_text (word_lines (words_put out next s)) ≡ []
+quiet_word out next s is =
+    ap (λ l. lines_text (word_lines l)) (words_put-is out next s [] (is ∙ sym (append-nil (out s))))

@@ -149,3 +149,8 @@ RunEnds s old new (status.MachineFault code cycle) = IsRun (Fault code cycle) s 
 RunEnds s old new status.WriteFault = IsCut s old new
 RunEnds s old new status.NoMemory = IsQuiet old new
 RunEnds s old new other = ⊥
+
+-- how the command ends where a machine was read
+abbrev pub RunFileEnds : Units → Machine → (text IMG IN : List ℕ) → (bound : ℕ) → (before after : World) → (old new : Output) → Status → Type 0
+RunFileEnds u m text IMG IN bound before after old new s =
+    (M : List ℕ) (has : HasMachine u before.contents M) → has.machine ≡ m → has.text ≡ text → Runs u M IMG IN bound before after old new s

@@ -10,6 +10,7 @@ ghost use Rattle.tta_tool.specs.Command.{Ends, request_of};
 use crate::bound::bound_of;
 use crate::build::build_image;
 use crate::exec::exec_program;
+use crate::running::run_image;
 use crate::status::Status;
 use std::alloc::Global;
 use tta_ops::UnitSet;
@@ -25,6 +26,9 @@ use tta_ports::{Files, Sink};
 /// `exec M P IN N` runs the program of the file P for at most N steps, from the words of the file IN in the data space of
 /// the machine of the file M. It puts out each word as it comes, then how the run ended, the data words that are not 0 and
 /// the number of steps. Where it is refused, it puts nothing out. It changes no file.
+///
+/// `run M IMG IN N` runs the code of the image in the file IMG on the machine of the file M for at most N cycles, and is
+/// otherwise as `exec`, with the number of cycles in place of that of steps.
 pub fn tool<F: Files, S: Sink>(
     alloc: Global,
     words: &Vec<String>,
@@ -53,22 +57,15 @@ pub fn tool<F: Files, S: Sink>(
                 Status::Usage
             }
         }
-        [word, machine, program, input, bound] => {
-            if word.as_str() != "exec" {
+        [word, machine, second, input, bound] => {
+            let Some(bound) = bound_of(bound.as_bytes()) else {
                 return Status::Usage;
-            }
-            match bound_of(bound.as_bytes()) {
-                Some(bound) => exec_program(
-                    alloc,
-                    units,
-                    files,
-                    sink,
-                    machine.as_str(),
-                    program.as_str(),
-                    input.as_str(),
-                    bound,
-                ),
-                None => Status::Usage,
+            };
+            let (machine, second, input) = (machine.as_str(), second.as_str(), input.as_str());
+            match word.as_str() {
+                "exec" => exec_program(alloc, units, files, sink, machine, second, input, bound),
+                "run" => run_image(alloc, units, files, sink, machine, second, input, bound),
+                _ => Status::Usage,
             }
         }
         _ => Status::Usage,

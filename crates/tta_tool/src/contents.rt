@@ -149,6 +149,13 @@ pub fn code_file<F: Files>(
     }
 }
 
+/// How many data words a machine has.
+pub fn data_words(machine: &Machine) -> u32
+    ensures { result ≡ machine.now.data_words }
+{
+    machine.data_words
+}
+
 /// The data words of the file that word 3 names, as many as the space has.
 pub fn input_file<F: Files>(
     alloc: Global,

@@ -7,11 +7,10 @@ ghost use Rattle.tta_tool.specs.World.{world};
 ghost use Rattle.tta_tool.specs.Output.{output};
 ghost use Rattle.tta_tool.specs.Exec.{BeginEnds, BeginWithEnds, RunEnds, Execs};
 
-use crate::contents::{input_file, machine_file, program_file};
+use crate::contents::{data_words, input_file, machine_file, program_file};
 use crate::report::run_to_status;
 use crate::status::Status;
 use std::alloc::Global;
-use tta_machine::Machine;
 use tta_ops::UnitSet;
 use tta_ports::{Files, Sink};
 use tta_tac::Program;
@@ -22,13 +21,6 @@ use tta_tacrun::Seq;
 struct Beginning {
     program: Program,
     memory: Vec<u32>,
-}
-
-// How many data words a machine has.
-fn data_words(machine: &Machine) -> u32
-    ensures { result ≡ machine.now.data_words }
-{
-    machine.data_words
 }
 
 // The program that word 2 names, and the data words that word 3 names, as many as the space has.

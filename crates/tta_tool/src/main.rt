@@ -5,8 +5,11 @@ mod bound;
 mod build;
 mod command;
 mod contents;
+mod cycle_report;
+mod cycles;
 mod exec;
 mod report;
+mod running;
 mod status;
 mod steps;
 #[cfg(test)]

@@ -1,0 +1,127 @@
+//! The command `run`: the code of an image is run cycle by cycle.
+
+ghost use Rattle.std.specs.Prelude.{◌≡◌, ◌<◌, ◌^◌, length, IfOk};
+ghost use Rattle.tta_ops.specs.Set.{stated};
+ghost use Rattle.tta_ops.specs.Units.{Units};
+ghost use Rattle.tta_code.specs.Legal.{IsLegalCode};
+ghost use Rattle.tta_code.specs.Cycle.{cyc};
+ghost use Rattle.tta_tool.specs.World.{world};
+ghost use Rattle.tta_tool.specs.Output.{output};
+ghost use Rattle.tta_tool.specs.Run.{BeginWithEnds, RunEnds, RunFileEnds, Runs};
+
+use crate::contents::{MachineFile, code_file, data_words, input_file, machine_file};
+use crate::cycle_report::code_to_status;
+use crate::status::Status;
+use sha2::{Digest, Sha256};
+use std::alloc::Global;
+use tta_code::Code;
+use tta_machine::Machine;
+use tta_ops::UnitSet;
+use tta_ports::{Files, Sink};
+use tta_sim::Sim;
+
+/// What a run begins with: code, and the data words.
+#[derive(Drop)]
+struct Beginning {
+    code: Code,
+    memory: Vec<u32>,
+}
+
+// The code that word 2 names, and the data words that word 3 names, for a machine that was read.
+fn begin_with<F: Files>(
+    alloc: Global,
+    files: &mut F,
+    image: &str,
+    input: &str,
+    file: &MachineFile,
+) -> Result<Beginning, Status>
+    ensures ends { (u : Units) → BeginWithEnds u file.now.machine file.now.text.items image.now input.now
+        (world (F.contents files.old) (F.faults files.old) (F.latest files.old))
+        (world (F.contents files.new) (F.faults files.new) (F.latest files.new))
+        (λ b. b.code) (λ b. b.memory.items) result }
+    ensures size { IfOk result (λ b. length b.memory.items ≡ file.now.machine.data_words) }
+    ensures legal { IfOk result (λ b. IsLegalCode file.now.machine b.code) }
+{
+    let digest = Sha256::digest(file.text.as_slice());
+    match code_file(alloc, files, image, &file.machine, &digest) {
+        Ok(code) => match input_file(alloc, files, input, data_words(&file.machine)) {
+            Ok(memory) => Ok(Beginning { code, memory }),
+            Err(status) => Err(status),
+        },
+        Err(status) => Err(status),
+    }
+}
+
+// Runs code and puts out its text.
+fn carry_out<S: Sink>(
+    alloc: Global,
+    units: &UnitSet,
+    sink: &mut S,
+    machine: &Machine,
+    beginning: Beginning,
+    bound: u64,
+) -> Status
+    requires bound { bound < 2 ^ 48 }
+    requires size { length beginning.memory.items ≡ machine.now.data_words }
+    requires legal { IsLegalCode machine.now beginning.code }
+    ensures { RunEnds
+        (cyc (stated unit_meaning units.now) machine.now beginning.code beginning.memory.items bound)
+        (output (S.taken sink.old) (S.faults sink.old)) (output (S.taken sink.new) (S.faults sink.new))
+        result }
+{
+    let Beginning { code, memory } = beginning;
+    let Ok(mut sim) = Sim::load(alloc, machine, &code, memory) else {
+        return Status::NoMemory;
+    };
+    code_to_status(sink, machine, &code, units, &mut sim, bound)
+}
+
+// Runs the code that word 2 names on a machine that was read.
+fn run_file<F: Files, S: Sink>(
+    alloc: Global,
+    units: &UnitSet,
+    files: &mut F,
+    sink: &mut S,
+    file: &MachineFile,
+    image: &str,
+    input: &str,
+    bound: u64,
+) -> Status
+    requires { bound < 2 ^ 48 }
+    ensures { RunFileEnds (stated unit_meaning units.now) file.now.machine file.now.text.items
+        image.now input.now bound
+        (world (F.contents files.old) (F.faults files.old) (F.latest files.old))
+        (world (F.contents files.new) (F.faults files.new) (F.latest files.new))
+        (output (S.taken sink.old) (S.faults sink.old)) (output (S.taken sink.new) (S.faults sink.new))
+        result }
+{
+    match begin_with(alloc, files, image, input, file) {
+        Ok(beginning) => carry_out(alloc, units, sink, &file.machine, beginning, bound),
+        Err(status) => status,
+    }
+}
+
+/// Runs the image of the file `image` on the machine of the file `machine` for at most so many
+/// cycles, from the data words of the file `input`, and puts out its text.
+pub fn run_image<F: Files, S: Sink>(
+    alloc: Global,
+    units: &UnitSet,
+    files: &mut F,
+    sink: &mut S,
+    machine: &str,
+    image: &str,
+    input: &str,
+    bound: u64,
+) -> Status
+    requires { bound < 2 ^ 48 }
+    ensures { Runs (stated unit_meaning units.now) machine.now image.now input.now bound
+        (world (F.contents files.old) (F.faults files.old) (F.latest files.old))
+        (world (F.contents files.new) (F.faults files.new) (F.latest files.new))
+        (output (S.taken sink.old) (S.faults sink.old)) (output (S.taken sink.new) (S.faults sink.new))
+        result }
+{
+    match machine_file(alloc, units, files, machine) {
+        Ok(file) => run_file(alloc, units, files, sink, &file, image, input, bound),
+        Err(status) => status,
+    }
+}
