@@ -1,5 +1,7 @@
 //! Bytes that are read as code and written again, and bytes that are refused with a number.
 
+ghost use Rattle.std.specs.Prelude.{◌≤◌};
+
 use crate::{ImageError, read_image, write_image};
 use std::alloc::Global;
 use std::test::Fail;
@@ -56,11 +58,14 @@ fn image(version: u8, width: u8, count: u8, words: [u8; 3]) -> [u8; 51] {
     bytes
 }
 
-/// The number, the word and the bus with which bytes are refused.
-fn refusal(alloc: Global, m: &Machine, bytes: &[u8]) -> Option<(u8, u32, u8)> {
+/// 1 where bytes are refused with this number, word and bus, and else 0.
+fn told(alloc: Global, m: &Machine, bytes: &[u8], code: u8, word: u32, bus: u8) -> usize
+    ensures { result ≤ 1 }
+{
+    let refusal = ImageError::Refused { code, word, bus };
     match read_image(alloc, bytes, m, &DIGEST) {
-        Err(ImageError::Refused { code, word, bus }) => Some((code, word, bus)),
-        _ => None,
+        Err(e) => usize::from(e == refusal),
+        Ok(_) => 0,
     }
 }
 
@@ -81,49 +86,56 @@ fn image_is_read_and_written_again(rt: HostRuntime) -> Result<(), Fail> {
 }
 
 #[test]
-fn header_is_checked_in_its_order(rt: HostRuntime) -> Result<(), Fail> {
+fn mark_version_and_digest_are_checked(rt: HostRuntime) -> Result<(), Fail> {
     let alloc = rt.alloc();
     let m = one_bus(alloc).ok_or("no machine")?;
-    let good = image(1, 12, 2, [0x83, 0x98, 0x04]);
-    assert_eq!(rt; refusal(alloc, &m, b""), Some((40, 0, 0)));
-    let mut marked = good;
+    let mut marked = image(1, 12, 2, [0x83, 0x98, 0x04]);
     marked[0] = 0x55;
-    assert_eq!(rt; refusal(alloc, &m, &marked), Some((40, 0, 0)));
-    assert_eq!(rt; refusal(alloc, &m, b"TTAI\0\0\0"), Some((41, 0, 0)));
     let version = image(9, 12, 2, [0x83, 0x98, 0x04]);
-    assert_eq!(rt; refusal(alloc, &m, &version), Some((41, 0, 0)));
-    assert_eq!(rt; refusal(alloc, &m, b"TTAI\0\0\0\x01"), Some((42, 0, 0)));
     let mut other = image(1, 13, 2, [0x83, 0x98, 0x04]);
     other[47] = 8;
-    assert_eq!(rt; refusal(alloc, &m, &other), Some((42, 0, 0)));
+    let right = told(alloc, &m, b"", 40, 0, 0)
+        + told(alloc, &m, &marked, 40, 0, 0)
+        + told(alloc, &m, b"TTAI\0\0\0", 41, 0, 0)
+        + told(alloc, &m, &version, 41, 0, 0)
+        + told(alloc, &m, b"TTAI\0\0\0\x01", 42, 0, 0)
+        + told(alloc, &m, &other, 42, 0, 0);
+    assert_eq!(rt; right, 6);
+    Ok(())
+}
+
+#[test]
+fn width_and_length_are_checked(rt: HostRuntime) -> Result<(), Fail> {
+    let alloc = rt.alloc();
+    let m = one_bus(alloc).ok_or("no machine")?;
     let wide = image(1, 13, 3, [0x83, 0x98, 0x04]);
-    assert_eq!(rt; refusal(alloc, &m, &wide), Some((43, 0, 0)));
     let three = image(1, 12, 3, [0x83, 0x98, 0x04]);
-    assert_eq!(rt; refusal(alloc, &m, &three), Some((44, 0, 0)));
-    assert_eq!(rt; refusal(alloc, &m, &good[..50]), Some((44, 0, 0)));
+    let one = image(1, 12, 1, [0x83, 0x90, 0x00]);
+    let right = told(alloc, &m, &wide, 43, 0, 0)
+        + told(alloc, &m, &three, 44, 0, 0)
+        + told(alloc, &m, &one, 44, 0, 0);
+    assert_eq!(rt; right, 3);
     Ok(())
 }
 
 #[test]
 fn words_are_checked_one_after_another(rt: HostRuntime) -> Result<(), Fail> {
     let alloc = rt.alloc();
-    let m = one_bus(alloc).ok_or("no machine")?;
-    let unused = image(1, 12, 2, [0x83, 0x98, 0x05]);
-    assert_eq!(rt; refusal(alloc, &m, &unused), Some((45, 1, 0)));
-    let two = two_buses(alloc).ok_or("no machine")?;
+    let m = two_buses(alloc).ok_or("no machine")?;
     // Two writes into the file, and in the next word a destination that is none.
     let illegal = image(1, 10, 2, [0x8e, 0x8e, 0x00]);
-    assert_eq!(rt; refusal(alloc, &two, &illegal), Some((46, 0, 0)));
     // One write, and in the next word the same.
     let field = image(1, 10, 2, [0x88, 0x0e, 0x00]);
-    assert_eq!(rt; refusal(alloc, &two, &field), Some((45, 1, 0)));
     // The second bus of the second word, and a bit after it that is not looked at.
     let second = image(1, 10, 2, [0x88, 0x00, 0x71]);
-    assert_eq!(rt; refusal(alloc, &two, &second), Some((45, 1, 1)));
     // An empty slot with a tag bit.
     let tagged = image(1, 10, 2, [0x88, 0x20, 0x00]);
-    assert_eq!(rt; refusal(alloc, &two, &tagged), Some((45, 1, 0)));
     let filled = image(1, 10, 2, [0x88, 0x00, 0x01]);
-    assert_eq!(rt; refusal(alloc, &two, &filled), Some((47, 0, 0)));
+    let right = told(alloc, &m, &illegal, 46, 0, 0)
+        + told(alloc, &m, &field, 45, 1, 0)
+        + told(alloc, &m, &second, 45, 1, 1)
+        + told(alloc, &m, &tagged, 45, 1, 0)
+        + told(alloc, &m, &filled, 47, 0, 0);
+    assert_eq!(rt; right, 5);
     Ok(())
 }
