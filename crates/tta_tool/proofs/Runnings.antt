@@ -6,6 +6,7 @@ use Rattle.tta_machine.specs.Machine.{Machine}
 use Rattle.tta_code.specs.declared.code.Code.{Code}
 use Rattle.tta_code.specs.Cycle.{State, cyc}
 use Rattle.tta_image.specs.declared.refusal.ImageError.TheVariants.{Refused}
+use Rattle.tta_image.specs.Image.{Image}
 use Rattle.tta_image.specs.Reading.{decoded_image}
 use Rattle.tta_input.specs.Input.{input_of}
 use Rattle.tta_ports.specs.Store.{Store}
@@ -48,10 +49,15 @@ code_fails u m text IMG IN before after status.NoMemory fails M has same_machine
 code_fails u m text IMG IN before after s fails M has same_machine same_text = absurd fails
 
 -- code for a machine and a text is code for those that are the same
-code_for : {u : Units} {files : Option Store} {M : List ℕ} (m : Machine) (text IMG : List ℕ) (has : HasMachine u files M) → has.machine ≡ m → has.text ≡ text
+abbrev code_for : {u : Units} {files : Option Store} {M : List ℕ} (m : Machine) (text IMG : List ℕ) (has : HasMachine u files M) → has.machine ≡ m → has.text ≡ text
     → HasCode m (sha256 text) files IMG → HasCode has.machine (sha256 has.text) files IMG
-code_for {files = files} m text IMG has same_machine same_text code =
-    subst (λ x. HasCode x (sha256 has.text) files IMG) (sym same_machine) (subst (λ y. HasCode m (sha256 y) files IMG) (sym same_text) code)
+code_for m text IMG has same_machine same_text code = record {
+  bytes = code.bytes;
+  code = code.code;
+  holds = code.holds;
+  image = subst (λ x. Image x (sha256 has.text) code.code code.bytes) (sym same_machine)
+    (subst (λ y. Image m (sha256 y) code.code code.bytes) (sym same_text) code.image);
+}
 
 -- the input is refused, where the code was read
 input_fails : (u : Units) (m : Machine) (text IMG IN : List ℕ) (before after : World) (s : Status) → HasCode m (sha256 text) before.contents IMG
@@ -117,10 +123,39 @@ not_begun u M IMG IN bound before after old s fails = (fails, record { taken = r
 pub run_ends : (u : Units) (m : Machine) (text IMG IN : List ℕ) (code : Code) (memory : List ℕ) (bound : ℕ) (before after : World) (old new : Output) (s : Status)
     → BeginsWith m (sha256 text) IMG IN code memory before after → RunEnds (cyc u m code memory bound) old new s
     → RunFileEnds u m text IMG IN bound before after old new s
-run_ends u m text IMG IN code memory bound before after old new s begins ends = λ M has same_machine same_text.
-    let run : HasRun u before.contents M IMG IN = record {
-      machine = has;
-      code = code_for m text IMG has same_machine same_text begins.file;
-      input = subst (λ x. HasInput x.data_words before.contents IN) (sym same_machine) begins.input;
-    } in
-    ?
+run_ends u m text IMG IN code memory bound before after old new s begins ends M has same_machine same_text =
+    of s (subst (λ x. RunEnds x old new s) same ends) where
+      held : HasCode has.machine (sha256 has.text) before.contents IMG
+      held = code_for m text IMG has same_machine same_text begins.file
+
+      words : HasInput has.machine.data_words before.contents IN
+      words = record {
+        bytes = begins.input.bytes;
+        memory = begins.input.memory;
+        holds = begins.input.holds;
+        fills = subst (λ x. input_of x.data_words begins.input.bytes ≡ Ok begins.input.memory) (sym same_machine) begins.input.fills;
+      }
+
+      run : HasRun u before.contents M IMG IN
+      run = record { machine = has; code = held; input = words }
+
+      same : cyc u m code memory bound ≡ cyc u has.machine held.code words.memory bound
+      same =
+        ap (λ x. cyc u x code memory bound) (sym same_machine) ∙ ap (λ x. cyc u has.machine x memory bound) (sym begins.same_code)
+        ∙ ap (λ x. cyc u has.machine held.code x bound) (sym begins.same_memory)
+
+      of : (s : Status) → RunEnds (cyc u has.machine held.code words.memory bound) old new s → Runs u M IMG IN bound before after old new s
+      of status.Ok ends = record { run = run; ended = ends.ended; taken = ends.taken; faults = ends.faults; untouched = begins.untouched }
+      of status.Running ends = record { run = run; ended = ends.ended; taken = ends.taken; faults = ends.faults; untouched = begins.untouched }
+      of (status.MachineFault code cycle) ends = record { run = run; ended = ends.ended; taken = ends.taken; faults = ends.faults; untouched = begins.untouched }
+      of status.WriteFault ends = record { run = run; count = ends.count; taken = ends.taken; rose = ends.rose; untouched = begins.untouched }
+      of status.NoMemory ends = (begins.untouched, ends)
+      of s ends = absurd ends
+
+-- a machine that was read, and what became of the run
+pub runs_ends : (u : Units) (M IMG IN text : List ℕ) (m : Machine) (bound : ℕ) (before between after : World) (old new : Output) (s : Status)
+    → ReadsMachine u M text m before between → RunFileEnds u m text IMG IN bound between after old new s
+    → Runs u M IMG IN bound before after old new s
+runs_ends u M IMG IN text m bound before between after old new s reads ends =
+    let same = subst (λ w. RunFileEnds u m text IMG IN bound w after old new s) (same_world before between reads.untouched) ends in
+    same M (record { text = text; machine = m; holds = reads.holds; read = reads.read }) refl refl

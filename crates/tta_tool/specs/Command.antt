@@ -1,5 +1,5 @@
 -- What the words of a command line ask for, and how a command ends.
-use Rattle.std.specs.Prelude.{◌≡◌, ℕ, if◌then◌else◌, List, [], ◌∷◌, Option, Some, None, codes, option_map}
+use Rattle.std.specs.Prelude.{◌≡◌, ℕ, if◌then◌else◌, List, [], ◌∷◌, Option, Some, None, codes, option_and_then}
 use Rattle.std.specs.Str.{bytes_eq}
 use Rattle.tta_ops.specs.Units.{Units}
 use Rattle.tta_tool.specs.declared.status.Status.{Status}
@@ -17,13 +17,17 @@ pub data Request : Type 0 where
   Exec : (machine program input : List ℕ) (bound : ℕ) → Request
   Run : (machine image input : List ℕ) (bound : ℕ) → Request
 
+-- the request of the name of a command whose last word is a bound
+abbrev pub bounded_request : (word machine second input : List ℕ) → (bound : ℕ) → Option Request
+bounded_request word machine second input bound =
+    if bytes_eq word (codes "exec") then Some (Exec machine second input bound)
+    else if bytes_eq word (codes "run") then Some (Run machine second input bound)
+    else None
+
 -- the request of some words; none where they are no command
 abbrev pub request_of : List (List ℕ) → Option Request
 request_of (word ∷ machine ∷ program ∷ out ∷ []) = if bytes_eq word (codes "build") then Some (Build machine program out) else None
-request_of (word ∷ machine ∷ second ∷ input ∷ bound ∷ []) =
-    if bytes_eq word (codes "exec") then option_map (Exec machine second input) (bound_of bound)
-    else if bytes_eq word (codes "run") then option_map (Run machine second input) (bound_of bound)
-    else None
+request_of (word ∷ machine ∷ second ∷ input ∷ bound ∷ []) = option_and_then (bounded_request word machine second input) (bound_of bound)
 request_of words = None
 
 -- words that are no command end as such, and nothing was done

@@ -1,11 +1,11 @@
 //! The commands.
 
-ghost use Rattle.std.specs.Prelude.{◌≡◌, map};
+ghost use Rattle.std.specs.Prelude.{◌≡◌, ◌<◌, ◌^◌, map};
 ghost use Rattle.std.specs.String.{string_bytes};
 ghost use Rattle.tta_ops.specs.Set.{stated};
 ghost use Rattle.tta_tool.specs.World.{world};
 ghost use Rattle.tta_tool.specs.Output.{output};
-ghost use Rattle.tta_tool.specs.Command.{Ends, request_of};
+ghost use Rattle.tta_tool.specs.Command.{Ends, bounded_request, request_of};
 
 use crate::bound::bound_of;
 use crate::build::build_image;
@@ -15,6 +15,35 @@ use crate::status::Status;
 use std::alloc::Global;
 use tta_ops::UnitSet;
 use tta_ports::{Files, Sink};
+
+// Carries out the command of this name whose last word is a bound.
+fn run_bounded<F: Files, S: Sink>(
+    alloc: Global,
+    units: &UnitSet,
+    files: &mut F,
+    sink: &mut S,
+    word: &str,
+    machine: &str,
+    second: &str,
+    input: &str,
+    bound: u64,
+) -> Status
+    requires { bound < 2 ^ 48 }
+    ensures { Ends (stated unit_meaning units.now)
+        (bounded_request word.now machine.now second.now input.now bound)
+        (world (F.contents files.old) (F.faults files.old) (F.latest files.old))
+        (world (F.contents files.new) (F.faults files.new) (F.latest files.new))
+        (output (S.taken sink.old) (S.faults sink.old)) (output (S.taken sink.new) (S.faults sink.new))
+        result }
+{
+    if word == "exec" {
+        return exec_program(alloc, units, files, sink, machine, second, input, bound);
+    }
+    if word == "run" {
+        return run_image(alloc, units, files, sink, machine, second, input, bound);
+    }
+    Status::Usage
+}
 
 /// Carries out the command that the words ask for, the first of them the command's name, over these operation units,
 /// files and output.
@@ -57,17 +86,20 @@ pub fn tool<F: Files, S: Sink>(
                 Status::Usage
             }
         }
-        [word, machine, second, input, bound] => {
-            let Some(bound) = bound_of(bound.as_bytes()) else {
-                return Status::Usage;
-            };
-            let (machine, second, input) = (machine.as_str(), second.as_str(), input.as_str());
-            match word.as_str() {
-                "exec" => exec_program(alloc, units, files, sink, machine, second, input, bound),
-                "run" => run_image(alloc, units, files, sink, machine, second, input, bound),
-                _ => Status::Usage,
-            }
-        }
+        [word, machine, second, input, bound] => match bound_of(bound.as_bytes()) {
+            Some(bound) => run_bounded(
+                alloc,
+                units,
+                files,
+                sink,
+                word.as_str(),
+                machine.as_str(),
+                second.as_str(),
+                input.as_str(),
+                bound,
+            ),
+            None => Status::Usage,
+        },
         _ => Status::Usage,
     }
 }

@@ -40,6 +40,7 @@ fn begin_with<F: Files>(
         (world (F.contents files.new) (F.faults files.new) (F.latest files.new))
         (λ b. b.code) (λ b. b.memory.items) result }
     ensures size { IfOk result (λ b. length b.memory.items ≡ file.now.machine.data_words) }
+    ensures short { IfOk result (λ b. length b.memory.items < 2 ^ 32) }
     ensures legal { IfOk result (λ b. IsLegalCode file.now.machine b.code) }
 {
     let digest = Sha256::digest(file.text.as_slice());
@@ -63,6 +64,7 @@ fn carry_out<S: Sink>(
 ) -> Status
     requires bound { bound < 2 ^ 48 }
     requires size { length beginning.memory.items ≡ machine.now.data_words }
+    requires short { length beginning.memory.items < 2 ^ 32 }
     requires legal { IsLegalCode machine.now beginning.code }
     ensures { RunEnds
         (cyc (stated unit_meaning units.now) machine.now beginning.code beginning.memory.items bound)

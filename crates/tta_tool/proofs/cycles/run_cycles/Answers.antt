@@ -4,8 +4,8 @@ use Rattle.tta_list.specs.Iterate.{iterate}
 use Rattle.tta_ops.specs.Set.{stated}
 use Rattle.tta_print.specs.Lines.{lines_text, word_lines}
 use Rattle.tta_print.proofs.Puts.{HasPut, put_part, part_is_put, append_known-nil, append_known-twice}
-use Rattle.tta_tac.specs.Sequential.{Halted, next}
-use Rattle.tta_tacrun.specs.Run.{Stands}
+use Rattle.tta_code.specs.Cycle.{next}
+use Rattle.tta_sim.specs.Held.{Stands}
 use Rattle.tta_tool.specs.Steps.{words_put}
 use Rattle.tta_print.proofs.Reports.{lines_of_both}
 use Rattle.tta_tool.proofs.Runs.{next_lines, run_ended, output_after}

@@ -1,0 +1,22 @@
+use Rattle.tta_ops.specs.Set.{stated}
+use Rattle.tta_tool.specs.World.{world}
+use Rattle.tta_tool.specs.Output.{output}
+use Rattle.tta_tool.proofs.Runnings.{runs_ends, not_begun, machine_fails}
+use Rattle.tta_tool.proofs.running.run_image.Goals as goal
+
+pub returns-in-Ok : goal.returns-in-Ok
+returns-in-Ok g c =
+    let f = g.F.Files in
+    let sink = g.S.Sink in
+    let U = stated (λ v. (goal.OpUnit-dyn g v).unit_meaning v.1) c.args.units.now in
+    let before = world (f.contents c.args.files.now) (f.faults c.args.files.now) (f.latest c.args.files.now) in
+    let between = world (f.contents c.machine_file.new.files) (f.faults c.machine_file.new.files) (f.latest c.machine_file.new.files) in
+    let after = world (f.contents c.run_file.new.files) (f.faults c.run_file.new.files) (f.latest c.run_file.new.files) in
+    let old = output (sink.taken c.args.sink.now) (sink.faults c.args.sink.now) in
+    let new = output (sink.taken c.run_file.new.sink) (sink.faults c.run_file.new.sink) in
+    let file = c.in-Ok.file in
+    runs_ends U c.args.machine.now c.args.image.now c.args.input.now file.text.items file.machine c.args.bound before between after old new
+    c.run_file.result c.in-Ok.ensures c.run_file.ensures
+
+pub returns-in-Err : goal.returns-in-Err
+returns-in-Err g c = not_begun _ _ _ _ _ _ _ _ _ (machine_fails _ _ _ _ _ _ _ c.in-Err.ensures)
