@@ -83,7 +83,7 @@ module _ (places : List (Option ℕ)) (r : Results) (s : State) (m : Machine) (i
       let registers = lacks_all places r s (length m.units) written results cycle size m i possible in
       let ports = ports_all places r s (length m.units) written results cycle size m i possible in
       let faults : Bool → Bool → List Start → (List Start → Bool) → Option (Kind × ℕ) → Bool → Option ℕ = λ one two list clash control under_way.
-          first_fault ((one, 60) ∷ (two, 61) ∷ (list_any lacks_operand list, 62) ∷ (clash list, 63) ∷ (is_some control && under_way, 64) ∷ []) in
+      first_fault ((one, 60) ∷ (two, 61) ∷ (list_any lacks_operand list, 62) ∷ (clash list, 63) ∷ (is_some control && under_way, 64) ∷ []) in
       let before = list_any (clashes_with r) in
       let after = list_any (clashes s) in
       ap (λ b. faults b (list_any (has_unset (reads_of places r.shown) is_port) (effects_in i.moves)) (starts_of m places arrivals) before (told_in arrivals) is_pending) registers

@@ -43,13 +43,13 @@ module _ (now : ℕ) (first : List (Option Result')) (all : List Result') (i kep
       → filter (λ q. not (q.due == now)) (take (i + 1) all) ≡ take kept coming ++ (if not b then next ∷ [] else [])
       → AreSettled now first all (i + 1) new_kept new_shown new_coming) [
         | true ↦ λ coming_is kept_is passed. record {
-            within = omega (arith, settled.within, kept_is);
-            size = ap length coming_is ∙ settled.size;
-            units = units;
-            shown = showing;
-            kept = rw (coming_is, kept_is) (sym (append-nil (take kept coming)) ∙ sym passed);
-            rest = ap (drop (i + 1)) coming_is ∙ drop_more_same coming all i settled.rest;
-          }
+          within = omega (arith, settled.within, kept_is);
+          size = ap length coming_is ∙ settled.size;
+          units = units;
+          shown = showing;
+          kept = rw (coming_is, kept_is) (sym (append-nil (take kept coming)) ∙ sym passed);
+          rest = ap (drop (i + 1)) coming_is ∙ drop_more_same coming all i settled.rest;
+        }
         | false ↦ λ coming_is kept_is passed.
             let room : kept < length coming = omega (arith, settled.within, settled.size, more) in
             record {

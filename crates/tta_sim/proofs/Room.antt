@@ -64,8 +64,7 @@ numbers_apart : (now : ℕ) (r : Result') (rs : List Result') → now < r.due �
     → AllByRecursion (λ n. eqb (number now r) n ≡ false) (map (number now) rs)
 numbers_apart now r [] after within soon alone = tt
 numbers_apart now r (q ∷ rs) after within soon alone =
-    let other : meet r q ≡ false = grind arith in
-    (
+    let other : meet r q ≡ false = grind arith in (
       differ other soon.0.0 soon.0.1,
       numbers_apart now r rs after within soon.1 (grind arith),
     )

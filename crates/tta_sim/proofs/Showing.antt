@@ -39,9 +39,11 @@ later-next unit now best (r ∷ rs) past =
     comes : is_due unit (now + 1) r ≡ true → (best : Option Result') → option_map_or (λ b. nat_le b.due now) best true ≡ true → later unit (now + 1) best r ≡ Some r
     comes is None past = grind arith
     comes is (Some b) past = grind arith
+
     stays : is_due unit (now + 1) r ≡ false → (best : Option Result') → option_map_or (λ b. nat_le b.due now) best true ≡ true → later unit (now + 1) best r ≡ later unit now best r
     stays is None past = grind arith
     stays is (Some b) past = grind arith
+
     still : (best : Option Result') → option_map_or (λ b. nat_le b.due now) best true ≡ true → option_map_or (λ b. nat_le b.due now) (later unit now best r) true ≡ true
     still None past = grind arith
     still (Some b) past = grind arith
@@ -67,6 +69,7 @@ later-first unit now best (r ∷ rs) past =
     comes : is_due unit now r ≡ true → (best : Option Result') → option_map_or (λ b. nat_lt b.due now) best true ≡ true → later unit now best r ≡ Some r
     comes is None past = grind arith
     comes is (Some b) past = grind arith
+
     still : is_due unit now r ≡ false → (best : Option Result') → option_map_or (λ b. nat_lt b.due now) best true ≡ true → option_map_or (λ b. nat_lt b.due now) (later unit now best r) true ≡ true
     still is None past = grind arith
     still is (Some b) past = grind arith

@@ -117,6 +117,7 @@ is_started m operand a t starts = by a.dst refl starts where
             at = ap (slice_get m.units) (sym same_unit) ∙ at;
             does = there ∙ ap (λ x. Some x) same_op;
           }
+
   by : (d : Dest) → a.dst ≡ d → start_by m operand (record { dst = d; word = a.word }) ≡ Some t → IsStarted m a t
   by (dest.Reg file index) is found = cc
   by (dest.Operand unit) is found = cc
@@ -130,8 +131,8 @@ starts_apart : (m : Machine) (operand : ℕ → Option ℕ) (arrivals : List Arr
 starts_apart m operand arrivals apart =
     apart_filter_map meet_arrivals (λ p q. p.unit == q.unit) (start_by m operand)
     (λ a b p q is it differ.
-      let one = is_started m operand a p is in let two = is_started m operand b q it in
-      sym (ap (λ d. same_place d (dest.Trigger q.unit two.op)) one.dst) ∙ sym (ap (same_place a.dst) two.dst) ∙ differ)
+    let one = is_started m operand a p is in let two = is_started m operand b q it in
+    sym (ap (λ d. same_place d (dest.Trigger q.unit two.op)) one.dst) ∙ sym (ap (same_place a.dst) two.dst) ∙ differ)
     arrivals apart
 
 module _ (m : Machine) (rules : IsMachine m) where

@@ -81,6 +81,7 @@ module _ (m : Machine) (written : Written) (operand : ℕ → Option ℕ) (units
     by (dest.Trigger unit op) there = of (op_at m unit op) where
       made : Option ℕ → UnitOp → Start
       made word o = record { unit = unit; does = o; operand = if o.arity == 2 then word else Some 0; word = a.word }
+
       of : (o : Option UnitOp) → option_map_or (λ o. Some (made (kept written (KeptOperand unit)) o)) o None ≡ option_map (made (operand unit)) o
       of None = refl
       of (Some o) = ap (λ word. Some (made word o)) (same unit (ltb-true unit units there))
@@ -102,7 +103,7 @@ starts_all m back places arrivals long written units same there =
     let bs = map brought_of arrivals in
     let after = filter_map (write_of m back) (bs ++ long_brought m long) ++ written in
     let operands : (unit : ℕ) → unit < units → kept after (KeptOperand unit) ≡ operand_with places arrivals unit = λ unit within.
-        ap (λ ws. kept ws (KeptOperand unit)) (writes_all m back bs long written)
-        ∙ kept_operand m back places arrivals (long_writes m long ++ written) unit (same unit within ∙ sym (long_apart m long written unit)) in
+    ap (λ ws. kept ws (KeptOperand unit)) (writes_all m back bs long written)
+    ∙ kept_operand m back places arrivals (long_writes m long ++ written) unit (same unit within ∙ sym (long_apart m long written unit)) in
     filter_map-append (start_of m after) bs (long_brought m long) ∙ ap (λ ts. filter_map (start_of m after) bs ++ ts) (long_starts m after long)
     ∙ append-nil (filter_map (start_of m after) bs) ∙ starts_same m after (operand_with places arrivals) units operands arrivals there
