@@ -1,7 +1,7 @@
 -- Results that are settled one by one.
-use Rattle.std.proofs.Common.{◌≡◌, ◌<◌, ◌≤◌, ◌+◌, ◌==◌, ℕ, Bool, true, false, not, List, [], ◌∷◌, ◌++◌, length, take, drop, get_or, set, Option, None, Some, refl, ap, sym, ◌∙◌, arith, append-nil}
+use Rattle.std.proofs.Common.{◌≡◌, ◌<◌, ◌≤◌, ◌+◌, ◌==◌, ℕ, true, false, not, List, [], ◌∷◌, ◌++◌, length, take, drop, get_or, set, Option, ap, sym, ◌∙◌, arith, append-nil}
 use Rattle.std.specs.Prelude.{fold, filter, if◌then◌else◌}
-use Rattle.std.proofs.lemmas.List.{take_more, take_more_set, length-set, drop-set-lt, get_or-drop}
+use Rattle.std.proofs.lemmas.List.{take_more_set, length-set, drop-set-lt, get_or-drop}
 use Rattle.std.proofs.lemmas.List.Elements.{filter_more}
 use Rattle.std.proofs.lemmas.List.Sums.{fold_more}
 use Rattle.std.proofs.lemmas.Grind.{drop_more_same}

@@ -1,8 +1,8 @@
 -- What a cycle writes, and what its operations take as operands.
-use Rattle.std.proofs.Common.{◌≡◌, ℕ, ◌<◌, ◌≤◌, ◌+◌, ◌==◌, Bool, true, false, ◌&&◌, IsTrue, List, [], ◌∷◌, ◌++◌, length, map, Option, Some, None, refl, sym, ap, ◌∙◌, subst, arith, append_assoc, append-nil}
+use Rattle.std.proofs.Common.{◌≡◌, ℕ, ◌<◌, ◌==◌, true, false, List, [], ◌∷◌, ◌++◌, map, Option, Some, None, refl, sym, ap, ◌∙◌, append_assoc, append-nil}
 use Rattle.std.specs.Prelude.{slice_get, option_map, if◌then◌else◌}
 use Rattle.std.specs.Option.{option_map_or, option_or}
-use Rattle.std.specs.List.{filter_map, cons_option, find, AllByRecursion}
+use Rattle.std.specs.List.{filter_map, cons_option, find}
 use Rattle.std.proofs.lemmas.Bool.{ltb-true}
 use Rattle.std.proofs.lemmas.List.Elements.{filter_map-append}
 use Rattle.tta_machine.specs.declared.parts.Template.{Template}
@@ -10,12 +10,12 @@ use Rattle.tta_machine.specs.declared.parts.UnitOp.{UnitOp}
 use Rattle.tta_machine.specs.declared.ends.Dest.{Dest}
 use Rattle.tta_machine.specs.declared.ends.Dest.TheVariants as dest
 use Rattle.tta_machine.specs.Machine.{Machine}
-use Rattle.tta_machine.specs.Effects.{Imm, KeptImm, KeptOperand, Written, Brought, Start, kept, write_of, start_of, op_at, operand_of}
+use Rattle.tta_machine.specs.Effects.{Imm, KeptImm, KeptOperand, Written, Brought, Start, kept, write_of, start_of, op_at}
 use Rattle.tta_code.specs.declared.code.Long.{Long}
 use Rattle.tta_sim.specs.declared.arrivals.Arrival.{Arrival}
 use Rattle.tta_sim.specs.Places.{word_at}
 use Rattle.tta_sim.specs.Moves.{is_reachable, brought_of}
-use Rattle.tta_sim.specs.Starts.{is_operand_of, operand_with, triggered, start_by, starts_of, AreReachable}
+use Rattle.tta_sim.specs.Starts.{is_operand_of, operand_with, start_by, starts_of, AreReachable}
 use Rattle.tta_sim.specs.Writing.{long_writes}
 use Rattle.tta_sim.proofs.Agreeing.{long_brought}
 

@@ -1,5 +1,5 @@
 -- The machine on which small programs are tried.
-use Rattle.std.specs.Prelude.{ℕ, List, [], ◌∷◌, true, false, Option, Some, None, codes}
+use Rattle.std.specs.Prelude.{[], ◌∷◌, true, false, Option, Some, None, codes}
 use Rattle.tta_machine.specs.Machine.{Machine}
 use Rattle.tta_machine.specs.declared.parts.Op.TheVariants.{Out}
 use Rattle.tta_machine.specs.declared.ends.Source.{Source}
