@@ -1,14 +1,14 @@
 -- A cycle of what is held is a cycle of the state that it stands for.
-use Rattle.std.proofs.Common.{◌≡◌, ℕ, ◌<◌, ◌≤◌, ◌+◌, ◌==◌, Bool, true, false, ◌&&◌, IsTrue, List, [], ◌∷◌, ◌++◌, length, map, Option, Some, None, refl, sym, ap, ◌∙◌, subst, arith}
-use Rattle.std.specs.Prelude.{is_some, option_map, option_to_list, fold, if◌then◌else◌, nat_lt}
-use Rattle.std.specs.List.{filter_map, find, list_any, AllByRecursion}
+use Rattle.std.proofs.Common.{◌≡◌, ℕ, ◌<◌, ◌+◌, ◌==◌, true, false, IsTrue, List, ◌++◌, length, map, Option, Some, None, refl, sym, ap, ◌∙◌, subst, arith}
+use Rattle.std.specs.Prelude.{is_some, option_map, option_to_list, fold, if◌then◌else◌}
+use Rattle.std.specs.List.{filter_map, find, AllByRecursion}
 use Rattle.tta_ops.specs.Units.{Units}
 use Rattle.tta_machine.specs.Machine.{Machine}
 use Rattle.tta_machine.specs.Rules.{IsMachine}
 use Rattle.tta_machine.specs.Effects.{Kind, Jumps, Calls, Halts, KeptOperand, Written, Brought, Start, Reads, bring, write_of, start_of, first_some, control_of, store_data, store_frame, put_out}
 use Rattle.tta_code.specs.declared.code.Instruction.{Instruction}
 use Rattle.tta_code.specs.Legal.{is_legal}
-use Rattle.tta_code.specs.Cycle.{Result', Pending as Underway, State, Running, Halted, Fault, Outcome, read_source, effects_of, fault_of, result_of, pending_after, takes_effect, lands, acts, or_fault, carry_out}
+use Rattle.tta_code.specs.Cycle.{Result', Pending as Underway, State, Running, Fault, read_source, effects_of, fault_of, result_of, pending_after, takes_effect, lands, acts, or_fault, carry_out}
 use Rattle.tta_sim.specs.declared.answer.CycleStep.TheVariants.{Ran, Fault as Faults}
 use Rattle.tta_sim.specs.declared.arrivals.Arrival.{Arrival}
 use Rattle.tta_sim.specs.declared.control.Control.{Control}
@@ -17,16 +17,16 @@ use Rattle.tta_sim.specs.declared.control.Phase.{Phase}
 use Rattle.tta_sim.specs.declared.control.Phase.TheVariants as phase
 use Rattle.tta_sim.specs.declared.store.Store.{Store}
 use Rattle.tta_sim.specs.Places.{HasWritten, is_place}
-use Rattle.tta_sim.specs.Results.{Results, AreResultsOf}
+use Rattle.tta_sim.specs.Results.{AreResultsOf}
 use Rattle.tta_sim.specs.Moves.{is_possible_slot, reads_of, arrivals_of, brought_of}
-use Rattle.tta_sim.specs.Starts.{starts_of, is_fitting, operand_with, fault_in, begun, puts, told_in, CanStart}
+use Rattle.tta_sim.specs.Starts.{starts_of, is_fitting, operand_with, fault_in, begun, puts, told_in}
 use Rattle.tta_sim.specs.Writing.{long_writes}
 use Rattle.tta_sim.specs.Controls.{underway, outcome_of, controlled, pending_with}
 use Rattle.tta_sim.specs.Held.{Stands, is_fault}
 use Rattle.tta_sim.specs.Kept.{held_of, IsCarried}
 use Rattle.tta_sim.proofs.Possible.{possible}
 use Rattle.tta_sim.proofs.Agreeing.{long_brought, brings_all}
-use Rattle.tta_sim.proofs.Starting.{can_start, reachable, outputs_apart, put_once, all_fitting}
+use Rattle.tta_sim.proofs.Starting.{reachable, outputs_apart, put_once, all_fitting}
 use Rattle.tta_sim.proofs.Wrote.{writes_all, starts_all}
 use Rattle.tta_sim.proofs.Faulting.{fault_same, told_all}
 

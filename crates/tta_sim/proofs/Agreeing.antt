@@ -1,6 +1,6 @@
 -- What the moves of an instruction read and bring is the same for what is held and for the state that it stands for.
-use Rattle.std.proofs.Common.{◌≡◌, ℕ, ◌<◌, ◌==◌, Bool, true, false, ◌&&◌, ◌||◌, IsTrue, List, [], ◌∷◌, ◌++◌, length, map, get_or, Option, Some, None, refl, sym, ap, ◌∙◌, subst, arith, append-nil}
-use Rattle.std.specs.Prelude.{is_some, is_none, slice_get, option_map, if◌then◌else◌}
+use Rattle.std.proofs.Common.{◌≡◌, ℕ, ◌<◌, Bool, true, false, ◌&&◌, ◌||◌, IsTrue, List, [], ◌∷◌, ◌++◌, length, map, get_or, Option, Some, None, refl, sym, ap, ◌∙◌, subst, arith}
+use Rattle.std.specs.Prelude.{is_none, slice_get, option_map, if◌then◌else◌}
 use Rattle.std.specs.Option.{option_map_or}
 use Rattle.std.specs.List.{list_any, filter_map, cons_option, AllByRecursion}
 use Rattle.std.proofs.lemmas.Bool.{and_parts, ltb-true}
@@ -15,11 +15,10 @@ use Rattle.tta_machine.specs.Effects.{Imm, KeptReg, KeptImm, KeptRa, Effect, Rea
 use Rattle.tta_code.specs.declared.code.Move.{Move}
 use Rattle.tta_code.specs.declared.code.Long.{Long}
 use Rattle.tta_code.specs.declared.code.Instruction.{Instruction}
-use Rattle.tta_code.specs.Cycle.{Result', State, port, read_source, effect_of, effects_of, long_effects, reads_unset_register, reads_unset_port}
-use Rattle.tta_sim.specs.declared.arrivals.Arrival.{Arrival}
-use Rattle.tta_sim.specs.Places.{is_place, word_at, HasWritten}
+use Rattle.tta_code.specs.Cycle.{Result', State, read_source, effect_of, effects_of, long_effects, reads_unset_register, reads_unset_port}
+use Rattle.tta_sim.specs.Places.{HasWritten}
 use Rattle.tta_sim.specs.Results.{Results, AreResultsOf, latest}
-use Rattle.tta_sim.specs.Moves.{is_readable, is_askable, is_reachable, is_possible, is_possible_slot, reads_of, lacks_register, effects_in, arrival_of, arrivals_of, brought_of}
+use Rattle.tta_sim.specs.Moves.{is_readable, is_askable, is_reachable, is_possible, is_possible_slot, reads_of, lacks_register, effects_in, arrivals_of, brought_of}
 
 -- ---- two ways to read
 

@@ -1,6 +1,6 @@
 -- The fault of a cycle is the same for what is held and for the state that it stands for.
-use Rattle.std.proofs.Common.{◌≡◌, ℕ, ◌<◌, ◌≤◌, ◌+◌, ◌==◌, Bool, true, false, not, ◌&&◌, ◌||◌, IsTrue, List, [], ◌∷◌, ◌++◌, length, map, Option, Some, None, refl, sym, ap, ◌∙◌, subst, arith, append-nil}
-use Rattle.std.specs.Prelude.{is_some, slice_get, option_map, if◌then◌else◌, nat_lt, nat_le}
+use Rattle.std.proofs.Common.{◌≡◌, ℕ, ◌<◌, ◌+◌, ◌==◌, Bool, true, false, ◌&&◌, ◌||◌, IsTrue, List, [], ◌∷◌, ◌++◌, length, map, Option, Some, None, refl, sym, ap, ◌∙◌, arith}
+use Rattle.std.specs.Prelude.{is_some, slice_get, if◌then◌else◌}
 use Rattle.std.specs.Option.{option_map_or}
 use Rattle.std.specs.List.{list_any, find, AllByRecursion}
 use Rattle.tta_machine.specs.declared.parts.Template.{Template}
@@ -8,8 +8,7 @@ use Rattle.tta_machine.specs.Machine.{Machine}
 use Rattle.tta_machine.specs.Effects.{Imm, Kind, Start, Brought, has_result, lacks_operand, first_some, or_else, control_of, is_port, has_unset}
 use Rattle.tta_code.specs.declared.code.Long.{Long}
 use Rattle.tta_code.specs.declared.code.Instruction.{Instruction}
-use Rattle.tta_code.specs.Cycle.{Result', State, first_fault, fault_of, clashes, jumps_in_delay, reads_unset_register, reads_unset_port, effects_of}
-use Rattle.tta_sim.specs.declared.arrivals.Arrival.{Arrival}
+use Rattle.tta_code.specs.Cycle.{State, first_fault, fault_of, clashes, reads_unset_register, reads_unset_port, effects_of}
 use Rattle.tta_sim.specs.Places.{HasWritten}
 use Rattle.tta_sim.specs.Results.{Results, AreResultsOf, due_at, is_due}
 use Rattle.tta_sim.specs.Moves.{is_possible_slot, reads_of, lacks_register, effects_in, arrivals_of, brought_of}
@@ -83,7 +82,7 @@ module _ (places : List (Option ℕ)) (r : Results) (s : State) (m : Machine) (i
       let registers = lacks_all places r s (length m.units) written results cycle size m i possible in
       let ports = ports_all places r s (length m.units) written results cycle size m i possible in
       let faults : Bool → Bool → List Start → (List Start → Bool) → Option (Kind × ℕ) → Bool → Option ℕ = λ one two list clash control under_way.
-          first_fault ((one, 60) ∷ (two, 61) ∷ (list_any lacks_operand list, 62) ∷ (clash list, 63) ∷ (is_some control && under_way, 64) ∷ []) in
+      first_fault ((one, 60) ∷ (two, 61) ∷ (list_any lacks_operand list, 62) ∷ (clash list, 63) ∷ (is_some control && under_way, 64) ∷ []) in
       let before = list_any (clashes_with r) in
       let after = list_any (clashes s) in
       ap (λ b. faults b (list_any (has_unset (reads_of places r.shown) is_port) (effects_in i.moves)) (starts_of m places arrivals) before (told_in arrivals) is_pending) registers

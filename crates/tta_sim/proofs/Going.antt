@@ -1,5 +1,5 @@
 -- Runs that begin, go on or are over.
-use Rattle.std.proofs.Common.{◌≡◌, ℕ, zero, suc, ◌<◌, ◌≤◌, ◌+◌, ◌^◌, false, IsTrue, List, [], ◌∷◌, ◌++◌, length, get_or, replicate, Option, Some, None, refl, sym, ap, ◌∙◌, subst, arith}
+use Rattle.std.proofs.Common.{◌≡◌, ℕ, zero, suc, ◌≤◌, ◌^◌, IsTrue, List, [], ◌∷◌, length, replicate, Option, Some, None, refl, sym, ap, ◌∙◌, subst, arith}
 use Rattle.std.specs.Prelude.{slice_get}
 use Rattle.std.specs.List.{AllByRecursion}
 use Rattle.tta_ops.specs.Units.{Units}
@@ -18,7 +18,7 @@ use Rattle.tta_sim.specs.declared.control.Control.{Control}
 use Rattle.tta_sim.specs.declared.control.Phase.TheVariants as phase
 use Rattle.tta_sim.specs.declared.store.Store.{Store}
 use Rattle.tta_sim.specs.Places.{HasWritten}
-use Rattle.tta_sim.specs.Results.{Results, AreResultsOf}
+use Rattle.tta_sim.specs.Results.{AreResultsOf}
 use Rattle.tta_sim.specs.Held.{Held, Stands, IsAnswer, IsRunOf, is_fault}
 use Rattle.tta_sim.specs.Controls.{outcome_of}
 use Rattle.tta_sim.specs.Kept.{held_of, IsCarried}

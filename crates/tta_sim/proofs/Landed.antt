@@ -1,7 +1,7 @@
 -- Results that are settled one by one.
-use Rattle.std.proofs.Common.{◌≡◌, ◌<◌, ◌≤◌, ◌+◌, ◌==◌, ℕ, Bool, true, false, not, List, [], ◌∷◌, ◌++◌, length, take, drop, get_or, set, Option, None, Some, refl, ap, sym, ◌∙◌, arith, append-nil}
+use Rattle.std.proofs.Common.{◌≡◌, ◌<◌, ◌≤◌, ◌+◌, ◌==◌, ℕ, true, false, not, List, [], ◌∷◌, ◌++◌, length, take, drop, get_or, set, Option, ap, sym, ◌∙◌, arith, append-nil}
 use Rattle.std.specs.Prelude.{fold, filter, if◌then◌else◌}
-use Rattle.std.proofs.lemmas.List.{take_more, take_more_set, length-set, drop-set-lt, get_or-drop}
+use Rattle.std.proofs.lemmas.List.{take_more_set, length-set, drop-set-lt, get_or-drop}
 use Rattle.std.proofs.lemmas.List.Elements.{filter_more}
 use Rattle.std.proofs.lemmas.List.Sums.{fold_more}
 use Rattle.std.proofs.lemmas.Grind.{drop_more_same}
@@ -43,13 +43,13 @@ module _ (now : ℕ) (first : List (Option Result')) (all : List Result') (i kep
       → filter (λ q. not (q.due == now)) (take (i + 1) all) ≡ take kept coming ++ (if not b then next ∷ [] else [])
       → AreSettled now first all (i + 1) new_kept new_shown new_coming) [
         | true ↦ λ coming_is kept_is passed. record {
-            within = omega (arith, settled.within, kept_is);
-            size = ap length coming_is ∙ settled.size;
-            units = units;
-            shown = showing;
-            kept = rw (coming_is, kept_is) (sym (append-nil (take kept coming)) ∙ sym passed);
-            rest = ap (drop (i + 1)) coming_is ∙ drop_more_same coming all i settled.rest;
-          }
+          within = omega (arith, settled.within, kept_is);
+          size = ap length coming_is ∙ settled.size;
+          units = units;
+          shown = showing;
+          kept = rw (coming_is, kept_is) (sym (append-nil (take kept coming)) ∙ sym passed);
+          rest = ap (drop (i + 1)) coming_is ∙ drop_more_same coming all i settled.rest;
+        }
         | false ↦ λ coming_is kept_is passed.
             let room : kept < length coming = omega (arith, settled.within, settled.size, more) in
             record {

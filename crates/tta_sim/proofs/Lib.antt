@@ -13,3 +13,4 @@ pub mod Wrote
 pub mod Faulting
 pub mod Acting
 pub mod Going
+pub mod Sampled

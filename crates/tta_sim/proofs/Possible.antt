@@ -1,12 +1,11 @@
 -- What is known of the instructions that a machine can carry out.
-use Rattle.std.proofs.Common.{◌≡◌, ℕ, zero, suc, ◌+◌, ◌<◌, ◌≤◌, ◌==◌, Bool, true, false, not, ◌&&◌, ◌||◌, nat_lt, nat_le, IsTrue, List, [], ◌∷◌, length, map, Option, Some, None, refl, sym, ap, ◌∙◌, subst, arith}
-use Rattle.std.specs.Prelude.{is_some, is_none, slice_get, option_map, option_and_then, filter, if◌then◌else◌}
+use Rattle.std.proofs.Common.{◌≡◌, ℕ, zero, suc, ◌+◌, ◌<◌, ◌≤◌, ◌==◌, Bool, true, false, ◌&&◌, ◌||◌, nat_lt, IsTrue, List, [], ◌∷◌, length, map, Option, Some, None, refl, subst, arith}
+use Rattle.std.specs.Prelude.{is_some, slice_get, option_map, option_and_then, if◌then◌else◌}
 use Rattle.std.specs.Option.{option_map_or}
-use Rattle.std.specs.List.{list_any, list_all, filter_map, AllByRecursion}
+use Rattle.std.specs.List.{list_any, list_all, AllByRecursion}
 use Rattle.std.proofs.lemmas.Bool.{and_parts, eqb-true}
 use Rattle.tta_machine.specs.declared.parts.File.{File}
 use Rattle.tta_machine.specs.declared.parts.ImmUnit.{ImmUnit}
-use Rattle.tta_machine.specs.declared.parts.Unit.{Unit as OpUnit}
 use Rattle.tta_machine.specs.declared.parts.Guard.{Guard}
 use Rattle.tta_machine.specs.declared.parts.Template.{Template}
 use Rattle.tta_machine.specs.declared.ends.GuardRef.{GuardRef}
@@ -17,8 +16,8 @@ use Rattle.tta_machine.specs.declared.ends.Dest.TheVariants as dest
 use Rattle.tta_machine.specs.Machine.{Machine}
 use Rattle.tta_machine.specs.Joins.{within, source_socket, dest_socket, has_socket, is_source_on, is_dest_on, has_guard, joins, is_same_guard}
 use Rattle.tta_machine.specs.Legal.{Slots, all_slots, keeps_taken, is_joined, has_reads, has_writes, are_apart, can_move, ends_of as ends_in}
-use Rattle.tta_machine.specs.Rules.{IsMachine, is_file, is_imm, is_guard, is_template, is_from_to}
-use Rattle.tta_machine.specs.Effects.{KeptReg, KeptImm, KeptOperand}
+use Rattle.tta_machine.specs.Rules.{IsMachine, is_file, is_imm, is_guard, is_template}
+use Rattle.tta_machine.specs.Effects.{KeptReg, KeptImm}
 use Rattle.tta_machine.proofs.Lists.{list_all_one}
 use Rattle.tta_code.specs.declared.code.Move.{Move}
 use Rattle.tta_code.specs.declared.code.Long.{Long}

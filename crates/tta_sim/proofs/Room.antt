@@ -1,7 +1,7 @@
 -- Room for the results that are to come.
-use Rattle.std.proofs.Common.{◌≡◌, ◌≢◌, ◌<◌, ◌≤◌, ◌+◌, ◌*◌, ◌-◌, ◌&&◌, ◌==◌, ℕ, suc, Bool, true, false, not, eqb, List, [], ◌∷◌, ◌++◌, length, map, Option, None, Some, refl, ap, sym, ◌∙◌, subst, arith}
+use Rattle.std.proofs.Common.{◌≡◌, ◌<◌, ◌≤◌, ◌+◌, ◌*◌, ◌-◌, ◌==◌, ℕ, suc, Bool, true, false, not, eqb, List, [], ◌∷◌, ◌++◌, length, map, Option, None, refl, ◌∙◌, arith}
 use Rattle.std.specs.Prelude.{filter, if◌then◌else◌}
-use Rattle.std.specs.List.{find, AllByRecursion, list_any, IsDistinct}
+use Rattle.std.specs.List.{AllByRecursion, list_any, IsDistinct}
 use Rattle.std.proofs.lemmas.List.{length-append, length-map}
 use Rattle.std.proofs.lemmas.List.Folds.{list_any-append}
 use Rattle.std.proofs.lemmas.Map.Keys.{IsDistinct-cons}
@@ -64,8 +64,7 @@ numbers_apart : (now : ℕ) (r : Result') (rs : List Result') → now < r.due �
     → AllByRecursion (λ n. eqb (number now r) n ≡ false) (map (number now) rs)
 numbers_apart now r [] after within soon alone = tt
 numbers_apart now r (q ∷ rs) after within soon alone =
-    let other : meet r q ≡ false = grind arith in
-    (
+    let other : meet r q ≡ false = grind arith in (
       differ other soon.0.0 soon.0.1,
       numbers_apart now r rs after within soon.1 (grind arith),
     )

@@ -1,9 +1,9 @@
 -- What a write into a place changes.
-use Rattle.std.proofs.Common.{◌≡◌, ◌≢◌, ◌<◌, ◌+◌, ◌*◌, ◌&&◌, ◌==◌, ℕ, zero, suc, replicate, Bool, true, false, List, [], ◌∷◌, length, Option, None, Some, get_or, set, refl, ap, sym, ◌∙◌, arith, IsTrue}
-use Rattle.std.specs.Prelude.{slice_set, if◌then◌else◌, nat_lt}
+use Rattle.std.proofs.Common.{◌≡◌, ◌≢◌, ◌<◌, ℕ, zero, suc, replicate, true, false, List, [], ◌∷◌, length, Option, None, Some, get_or, set, refl, ap, sym, ◌∙◌, arith, IsTrue}
+use Rattle.std.specs.Prelude.{if◌then◌else◌}
 use Rattle.std.proofs.lemmas.List.{get_or-set_same, get_or-set_other}
 use Rattle.tta_machine.specs.Effects.{Place, KeptReg, KeptImm, KeptOperand, KeptRa, KeptPort, Written, same_place, kept}
-use Rattle.tta_sim.specs.Places.{is_place, number_of, word_at, HasWritten}
+use Rattle.tta_sim.specs.Places.{is_place, number_of, HasWritten}
 
 -- each place is within the row
 pub number_within : (p : Place) → IsTrue (is_place p) → number_of p < 609

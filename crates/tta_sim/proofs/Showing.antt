@@ -1,8 +1,8 @@
 -- Results that become due.
-use Rattle.std.proofs.Common.{◌≡◌, ◌≢◌, ◌<◌, ◌≤◌, ◌+◌, ◌*◌, ◌-◌, ◌&&◌, ◌==◌, ℕ, suc, Bool, true, false, not, eqb, List, [], ◌∷◌, ◌++◌, length, map, Option, None, Some, get_or, set, refl, ap, sym, ◌∙◌, subst, arith}
-use Rattle.std.specs.Prelude.{if◌then◌else◌, fold, filter, nat_le, nat_lt, option_map, slice_index_or}
+use Rattle.std.proofs.Common.{◌≡◌, ◌≢◌, ◌<◌, ◌≤◌, ◌+◌, ◌==◌, ℕ, true, false, not, List, [], ◌∷◌, ◌++◌, length, Option, None, Some, get_or, set, refl, ap, sym, ◌∙◌, subst, arith}
+use Rattle.std.specs.Prelude.{if◌then◌else◌, fold, filter, nat_le, nat_lt, option_map}
 use Rattle.std.specs.Option.{option_map_or, option_or}
-use Rattle.std.specs.List.{find, AllByRecursion, list_any}
+use Rattle.std.specs.List.{AllByRecursion, list_any}
 use Rattle.std.proofs.lemmas.List.{get_or-set_same, get_or-set_other, get_or_read, length-set}
 use Rattle.std.proofs.lemmas.List.Folds.{find-append}
 use Rattle.std.proofs.lemmas.List.Sums.{fold-append}
@@ -39,9 +39,11 @@ later-next unit now best (r ∷ rs) past =
     comes : is_due unit (now + 1) r ≡ true → (best : Option Result') → option_map_or (λ b. nat_le b.due now) best true ≡ true → later unit (now + 1) best r ≡ Some r
     comes is None past = grind arith
     comes is (Some b) past = grind arith
+
     stays : is_due unit (now + 1) r ≡ false → (best : Option Result') → option_map_or (λ b. nat_le b.due now) best true ≡ true → later unit (now + 1) best r ≡ later unit now best r
     stays is None past = grind arith
     stays is (Some b) past = grind arith
+
     still : (best : Option Result') → option_map_or (λ b. nat_le b.due now) best true ≡ true → option_map_or (λ b. nat_le b.due now) (later unit now best r) true ≡ true
     still None past = grind arith
     still (Some b) past = grind arith
@@ -67,6 +69,7 @@ later-first unit now best (r ∷ rs) past =
     comes : is_due unit now r ≡ true → (best : Option Result') → option_map_or (λ b. nat_lt b.due now) best true ≡ true → later unit now best r ≡ Some r
     comes is None past = grind arith
     comes is (Some b) past = grind arith
+
     still : is_due unit now r ≡ false → (best : Option Result') → option_map_or (λ b. nat_lt b.due now) best true ≡ true → option_map_or (λ b. nat_lt b.due now) (later unit now best r) true ≡ true
     still is None past = grind arith
     still is (Some b) past = grind arith

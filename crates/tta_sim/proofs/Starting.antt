@@ -1,6 +1,6 @@
 -- Which operations a legal instruction starts.
-use Rattle.std.proofs.Common.{◌≡◌, ℕ, zero, suc, ◌<◌, ◌≤◌, ◌+◌, ◌==◌, Bool, true, false, not, ◌&&◌, ◌||◌, IsTrue, List, [], ◌∷◌, ◌++◌, length, map, Option, Some, None, refl, sym, ap, ◌∙◌, subst, arith}
-use Rattle.std.specs.Prelude.{is_some, slice_get, option_map, option_and_then, option_to_list, fold, filter, if◌then◌else◌, nat_lt, nat_le}
+use Rattle.std.proofs.Common.{◌≡◌, ℕ, zero, suc, ◌<◌, ◌≤◌, ◌==◌, Bool, true, false, not, ◌&&◌, ◌||◌, IsTrue, List, [], ◌∷◌, ◌++◌, length, map, Option, Some, None, refl, sym, ap, ◌∙◌, arith}
+use Rattle.std.specs.Prelude.{slice_get, option_map, option_and_then, option_to_list, fold, filter, if◌then◌else◌, nat_lt, nat_le}
 use Rattle.std.specs.Option.{option_map_or}
 use Rattle.std.specs.List.{list_any, list_all, filter_map, cons_option, find, AllByRecursion}
 use Rattle.std.proofs.lemmas.Bool.{and_parts}
@@ -14,17 +14,17 @@ use Rattle.tta_machine.specs.declared.ends.Dest.{Dest}
 use Rattle.tta_machine.specs.declared.ends.Dest.TheVariants as dest
 use Rattle.tta_machine.specs.Machine.{Machine}
 use Rattle.tta_machine.specs.Legal.{are_apart, same_place, ends_of as ends_in}
-use Rattle.tta_machine.specs.Rules.{IsMachine, is_unit, is_unit_op, fits_kind, same_op, are_different, has_one_owner}
-use Rattle.tta_machine.specs.Effects.{Start, Reads, op_at, has_result, put_out, moved}
+use Rattle.tta_machine.specs.Rules.{IsMachine, is_unit, is_unit_op, fits_kind, same_op, are_different}
+use Rattle.tta_machine.specs.Effects.{Start, Reads, has_result, put_out, moved}
 use Rattle.tta_machine.proofs.Lists.{list_all_one}
 use Rattle.tta_code.specs.declared.code.Move.{Move}
 use Rattle.tta_code.specs.declared.code.Instruction.{Instruction}
 use Rattle.tta_code.specs.Cycle.{effect_of}
-use Rattle.tta_code.specs.Legal.{ends_of, slots_of, is_legal}
+use Rattle.tta_code.specs.Legal.{ends_of, is_legal}
 use Rattle.tta_sim.specs.declared.arrivals.Arrival.{Arrival}
 use Rattle.tta_sim.specs.Results.{Results}
-use Rattle.tta_sim.specs.Moves.{is_possible_slot, is_possible, is_askable, is_readable, is_reachable, arrival_of, arrivals_of}
-use Rattle.tta_sim.specs.Starts.{triggered, start_by, starts_of, operand_with, is_fitting, puts, clashes_with, CanStart, AreReachable}
+use Rattle.tta_sim.specs.Moves.{is_possible_slot, is_askable, is_readable, is_reachable, arrival_of, arrivals_of}
+use Rattle.tta_sim.specs.Starts.{triggered, start_by, is_fitting, puts, clashes_with, CanStart, AreReachable}
 use Rattle.tta_sim.proofs.Possible.{legal_parts}
 
 -- ---- lists whose elements differ
@@ -117,6 +117,7 @@ is_started m operand a t starts = by a.dst refl starts where
             at = ap (slice_get m.units) (sym same_unit) ∙ at;
             does = there ∙ ap (λ x. Some x) same_op;
           }
+
   by : (d : Dest) → a.dst ≡ d → start_by m operand (record { dst = d; word = a.word }) ≡ Some t → IsStarted m a t
   by (dest.Reg file index) is found = cc
   by (dest.Operand unit) is found = cc
@@ -130,8 +131,8 @@ starts_apart : (m : Machine) (operand : ℕ → Option ℕ) (arrivals : List Arr
 starts_apart m operand arrivals apart =
     apart_filter_map meet_arrivals (λ p q. p.unit == q.unit) (start_by m operand)
     (λ a b p q is it differ.
-      let one = is_started m operand a p is in let two = is_started m operand b q it in
-      sym (ap (λ d. same_place d (dest.Trigger q.unit two.op)) one.dst) ∙ sym (ap (same_place a.dst) two.dst) ∙ differ)
+    let one = is_started m operand a p is in let two = is_started m operand b q it in
+    sym (ap (λ d. same_place d (dest.Trigger q.unit two.op)) one.dst) ∙ sym (ap (same_place a.dst) two.dst) ∙ differ)
     arrivals apart
 
 module _ (m : Machine) (rules : IsMachine m) where

@@ -1,8 +1,8 @@
 -- What a cycle writes, and what its operations take as operands.
-use Rattle.std.proofs.Common.{◌≡◌, ℕ, ◌<◌, ◌≤◌, ◌+◌, ◌==◌, Bool, true, false, ◌&&◌, IsTrue, List, [], ◌∷◌, ◌++◌, length, map, Option, Some, None, refl, sym, ap, ◌∙◌, subst, arith, append_assoc, append-nil}
+use Rattle.std.proofs.Common.{◌≡◌, ℕ, ◌<◌, ◌==◌, true, false, List, [], ◌∷◌, ◌++◌, map, Option, Some, None, refl, sym, ap, ◌∙◌, append_assoc, append-nil}
 use Rattle.std.specs.Prelude.{slice_get, option_map, if◌then◌else◌}
 use Rattle.std.specs.Option.{option_map_or, option_or}
-use Rattle.std.specs.List.{filter_map, cons_option, find, AllByRecursion}
+use Rattle.std.specs.List.{filter_map, cons_option, find}
 use Rattle.std.proofs.lemmas.Bool.{ltb-true}
 use Rattle.std.proofs.lemmas.List.Elements.{filter_map-append}
 use Rattle.tta_machine.specs.declared.parts.Template.{Template}
@@ -10,12 +10,12 @@ use Rattle.tta_machine.specs.declared.parts.UnitOp.{UnitOp}
 use Rattle.tta_machine.specs.declared.ends.Dest.{Dest}
 use Rattle.tta_machine.specs.declared.ends.Dest.TheVariants as dest
 use Rattle.tta_machine.specs.Machine.{Machine}
-use Rattle.tta_machine.specs.Effects.{Imm, KeptImm, KeptOperand, Written, Brought, Start, kept, write_of, start_of, op_at, operand_of}
+use Rattle.tta_machine.specs.Effects.{Imm, KeptImm, KeptOperand, Written, Brought, Start, kept, write_of, start_of, op_at}
 use Rattle.tta_code.specs.declared.code.Long.{Long}
 use Rattle.tta_sim.specs.declared.arrivals.Arrival.{Arrival}
 use Rattle.tta_sim.specs.Places.{word_at}
 use Rattle.tta_sim.specs.Moves.{is_reachable, brought_of}
-use Rattle.tta_sim.specs.Starts.{is_operand_of, operand_with, triggered, start_by, starts_of, AreReachable}
+use Rattle.tta_sim.specs.Starts.{is_operand_of, operand_with, start_by, starts_of, AreReachable}
 use Rattle.tta_sim.specs.Writing.{long_writes}
 use Rattle.tta_sim.proofs.Agreeing.{long_brought}
 
@@ -81,6 +81,7 @@ module _ (m : Machine) (written : Written) (operand : ℕ → Option ℕ) (units
     by (dest.Trigger unit op) there = of (op_at m unit op) where
       made : Option ℕ → UnitOp → Start
       made word o = record { unit = unit; does = o; operand = if o.arity == 2 then word else Some 0; word = a.word }
+
       of : (o : Option UnitOp) → option_map_or (λ o. Some (made (kept written (KeptOperand unit)) o)) o None ≡ option_map (made (operand unit)) o
       of None = refl
       of (Some o) = ap (λ word. Some (made word o)) (same unit (ltb-true unit units there))
@@ -102,7 +103,7 @@ starts_all m back places arrivals long written units same there =
     let bs = map brought_of arrivals in
     let after = filter_map (write_of m back) (bs ++ long_brought m long) ++ written in
     let operands : (unit : ℕ) → unit < units → kept after (KeptOperand unit) ≡ operand_with places arrivals unit = λ unit within.
-        ap (λ ws. kept ws (KeptOperand unit)) (writes_all m back bs long written)
-        ∙ kept_operand m back places arrivals (long_writes m long ++ written) unit (same unit within ∙ sym (long_apart m long written unit)) in
+    ap (λ ws. kept ws (KeptOperand unit)) (writes_all m back bs long written)
+    ∙ kept_operand m back places arrivals (long_writes m long ++ written) unit (same unit within ∙ sym (long_apart m long written unit)) in
     filter_map-append (start_of m after) bs (long_brought m long) ∙ ap (λ ts. filter_map (start_of m after) bs ++ ts) (long_starts m after long)
     ∙ append-nil (filter_map (start_of m after) bs) ∙ starts_same m after (operand_with places arrivals) units operands arrivals there

@@ -1,13 +1,12 @@
 -- Control, as it is kept.
 use Rattle.std.specs.Prelude.{ℕ, ◌+◌, Option, None, Some, option_map}
 use Rattle.tta_machine.specs.Effects.{Kind}
-use Rattle.tta_code.specs.Cycle.{Pending as Underway, Outcome, Running, Halted, Fault, State, lands}
-use Rattle.tta_sim.specs.declared.control.Told.{Told}
+use Rattle.tta_code.specs.Cycle.{Pending as Underway, Outcome, Running, Halted, Fault, State}
 use Rattle.tta_sim.specs.declared.control.Pending.{Pending}
 use Rattle.tta_sim.specs.declared.control.Phase.{Phase}
 use Rattle.tta_sim.specs.declared.control.Phase.TheVariants as phase
 use Rattle.tta_sim.specs.declared.control.Control.{Control}
-use Rattle.tta_sim.specs.Starts.{kind_of, told_of}
+use Rattle.tta_sim.specs.Starts.{kind_of}
 
 -- a control move that is under way
 abbrev pub underway : Pending → Underway

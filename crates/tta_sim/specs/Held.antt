@@ -1,5 +1,5 @@
 -- What a simulator holds, and which state it stands for.
-use Rattle.std.specs.Prelude.{◌≡◌, ℕ, ◌+◌, ◌≤◌, Bool, true, false, List, ◌++◌, length, Option, None, Some, option_to_list}
+use Rattle.std.specs.Prelude.{◌≡◌, ℕ, ◌≤◌, Bool, true, false, List, ◌++◌, length, Option, None, Some, option_to_list}
 use Rattle.tta_ops.specs.Units.{Units}
 use Rattle.tta_machine.specs.Machine.{Machine}
 use Rattle.tta_code.specs.declared.code.Code.{Code}

@@ -1,6 +1,6 @@
 -- How a run is kept, and what a cycle of it comes to.
-use Rattle.std.specs.Prelude.{◌≡◌, ℕ, ◌++◌, false, Option, option_map, option_to_list}
-use Rattle.tta_code.specs.Cycle.{State, Outcome, Fault}
+use Rattle.std.specs.Prelude.{◌≡◌, ◌++◌, false, option_map, option_to_list}
+use Rattle.tta_code.specs.Cycle.{State, Fault}
 use Rattle.tta_sim.specs.declared.answer.CycleStep.{CycleStep}
 use Rattle.tta_sim.specs.declared.answer.CycleStep.TheVariants.{Ran, Halted as HadHalted, Fault as Faults}
 use Rattle.tta_sim.specs.declared.store.Store.{Store}

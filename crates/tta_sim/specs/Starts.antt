@@ -1,16 +1,15 @@
 -- Which operations the moves of a cycle start, and what these do.
-use Rattle.std.specs.Prelude.{◌≡◌, ℕ, ◌+◌, ◌<◌, ◌≤◌, ◌==◌, Bool, true, false, not, ◌&&◌, ◌||◌, nat_lt, nat_le, if◌then◌else◌, List, [], ◌∷◌, map, Option, None, Some, is_some, option_map, IsTrue}
+use Rattle.std.specs.Prelude.{◌≡◌, ℕ, ◌+◌, ◌==◌, Bool, true, false, not, ◌&&◌, ◌||◌, nat_lt, nat_le, if◌then◌else◌, List, [], ◌∷◌, map, Option, None, Some, is_some, option_map, IsTrue}
 use Rattle.std.specs.Option.{option_or}
 use Rattle.std.specs.List.{list_any, filter_map, find, AllByRecursion}
 use Rattle.tta_ops.specs.Units.{Units}
-use Rattle.tta_machine.specs.declared.parts.Op.{Op}
 use Rattle.tta_machine.specs.declared.parts.Op.TheVariants.{Out}
 use Rattle.tta_machine.specs.declared.ends.Dest.{Dest}
 use Rattle.tta_machine.specs.declared.ends.Dest.TheVariants as dest
 use Rattle.tta_machine.specs.Machine.{Machine}
 use Rattle.tta_machine.specs.Rules.{are_different, same_op}
-use Rattle.tta_machine.specs.Effects.{KeptOperand, Start, Written, Kind, Jumps, Calls, Halts, kept, op_at, has_result, result_word, lacks_operand, first_some, control_of, is_port, has_unset}
-use Rattle.tta_code.specs.Cycle.{Result', Pending, first_fault}
+use Rattle.tta_machine.specs.Effects.{KeptOperand, Start, Kind, Jumps, Calls, Halts, op_at, has_result, result_word, lacks_operand, first_some, control_of, is_port, has_unset}
+use Rattle.tta_code.specs.Cycle.{Result', first_fault}
 use Rattle.tta_sim.specs.declared.arrivals.Arrival.{Arrival}
 use Rattle.tta_sim.specs.declared.control.Told.{Told}
 use Rattle.tta_sim.specs.declared.control.Kind.{Kind as ToldKind}

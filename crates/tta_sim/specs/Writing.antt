@@ -1,5 +1,5 @@
 -- What a long immediate writes.
-use Rattle.std.specs.Prelude.{ℕ, Bool, true, List, [], ◌∷◌, Option, slice_get}
+use Rattle.std.specs.Prelude.{Bool, true, [], ◌∷◌, Option, slice_get}
 use Rattle.std.specs.Option.{option_map_or}
 use Rattle.tta_machine.specs.Machine.{Machine}
 use Rattle.tta_machine.specs.Effects.{KeptImm, Written}

@@ -140,6 +140,10 @@ pub fn carry(
     }
     let back = control.pc + 1 + u32::from(delay);
     let word = act(store, doings, m, i, units, back);
-    control.advance(told(doings.arrivals.as_slice()), store.results.cycle(), delay);
+    control.advance(
+        told(doings.arrivals.as_slice()),
+        store.results.cycle(),
+        delay,
+    );
     CycleStep::Ran(word)
 }

@@ -120,8 +120,10 @@ impl Results {
         requires soon { latency ≤ 16 }
         requires free { due_at unit (self.old.cycle + latency) self.old.coming ≡ None }
         requires few { self.old.cycle + 256 < 2 ^ 64 }
-        ensures { self.new ≡ record self.old { coming = self.old.coming
-            ++ due_after self.old.cycle unit latency value ∷ [] } }
+        ensures { self.new ≡ record self.old {
+          coming = self.old.coming
+              ++ due_after self.old.cycle unit latency value ∷ [];
+        } }
     {
         let due = self.cycle + u64::from(latency);
         self.coming.push_reserved(Due { due, value, unit });

@@ -29,10 +29,18 @@ impl Model for Start {
     ghost Value = { Start };
 
     ghost view = { λ t. record {
-        unit = t.unit; does = t.does; operand = t.operand; word = t.word } };
+      unit = t.unit;
+      does = t.does;
+      operand = t.operand;
+      word = t.word;
+    } };
 
     ghost inverse = { λ t. record {
-        unit = t.unit; does = t.does; operand = t.operand; word = t.word } };
+      unit = t.unit;
+      does = t.does;
+      operand = t.operand;
+      word = t.word;
+    } };
 }
 
 /// Whether an operation shows a result.

@@ -1,4 +1,4 @@
-use Rattle.std.proofs.Common.{◌≡◌, ◌+◌, length, sym, ap, ◌∙◌, subst}
+use Rattle.std.proofs.Common.{◌+◌, length, sym, ap, ◌∙◌, subst}
 use Rattle.tta_ops.specs.Set.{stated}
 use Rattle.tta_machine.specs.Rules.{IsMachine}
 use Rattle.tta_sim.specs.Moves.{reads_of}

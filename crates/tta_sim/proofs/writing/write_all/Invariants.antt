@@ -1,4 +1,4 @@
-use Rattle.std.proofs.Common.{◌≡◌, ◌≤◌, ◌++◌, drop, length, map}
+use Rattle.std.proofs.Common.{◌≤◌, ◌++◌, drop, length, map}
 use Rattle.std.specs.List.{filter_map}
 use Rattle.tta_machine.specs.Effects.{Written, write_of}
 use Rattle.tta_sim.specs.Places.{HasWritten}

@@ -1,8 +1,8 @@
-use Rattle.std.proofs.Common.{◌≡◌, refl, sym, ap, ◌∙◌, arith}
+use Rattle.std.proofs.Common.{sym, ap, ◌∙◌, arith}
 use Rattle.std.specs.Prelude.{option_copied}
 use Rattle.std.proofs.lemmas.Option.{slice_get_within}
 use Rattle.tta_ops.specs.Set.{stated}
-use Rattle.tta_code.specs.Cycle.{Halted, Fault}
+use Rattle.tta_code.specs.Cycle.{Fault}
 use Rattle.tta_sim.specs.Controls.{outcome_of}
 use Rattle.tta_sim.proofs.Going.{halted_stands, fault_stands, fault_answer, past_stands, past_answer, goes_stands, goes_answer, legal_at}
 use Rattle.tta_sim.proofs.sim.Sim.cycle.Goals as goal

@@ -1,4 +1,4 @@
-use Rattle.std.proofs.Common.{◌≡◌, length, replicate, refl, ap, ◌∙◌, subst}
+use Rattle.std.proofs.Common.{length, replicate, refl, ap, ◌∙◌, subst}
 use Rattle.tta_machine.specs.Rules.{IsMachine}
 use Rattle.tta_sim.proofs.Going.{first_stands, first_run}
 use Rattle.tta_sim.proofs.sim.Sim.load.Goals as goal
