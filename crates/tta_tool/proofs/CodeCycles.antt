@@ -1,5 +1,5 @@
 -- The output of code grows with each cycle, and code that has halted or faulted stays.
-use Rattle.std.proofs.Common.{◌≡◌, ℕ, ◌+◌, ◌==◌, Bool, true, false, if◌then◌else◌, List, [], ◌∷◌, ◌++◌, fold, Option, Some, None, refl, sym, ap, ◌∙◌, append_assoc, append-nil, slice_get, true≢false}
+use Rattle.std.proofs.Common.{◌≡◌, ℕ, ◌+◌, ◌==◌, Bool, true, false, if◌then◌else◌, List, [], ◌∷◌, ◌++◌, fold, Option, Some, None, refl, sym, ap, ◌∙◌, append_assoc, slice_get, true≢false}
 use Rattle.std.specs.List.{filter_map}
 use Rattle.tta_ops.specs.Units.{Units}
 use Rattle.tta_machine.specs.declared.parts.Op.{Op}

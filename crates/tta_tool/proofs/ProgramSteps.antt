@@ -3,7 +3,7 @@ use Rattle.std.proofs.Common.{◌≡◌, ℕ, ◌+◌, Bool, true, false, if◌t
 use Rattle.std.specs.Option.{option_map_or}
 use Rattle.tta_ops.specs.Units.{Units}
 use Rattle.tta_tac.specs.declared.step.Step.{Step}
-use Rattle.tta_tac.specs.declared.step.Step.TheVariants.{Copy, Apply, Load, Store, Put, If, Goto, When, Invoke, Return, Halt, End}
+use Rattle.tta_tac.specs.declared.step.Step.TheVariants.{Put, When, Invoke, Return, End}
 use Rattle.tta_tac.specs.Program.{Program}
 use Rattle.tta_tac.specs.Sequential.{State, Frame, Outcome, Running, Halted, next, next_of, go_on, carry_out, returns, take_value, assigns, goes_to, operand, holds, step_at}
 use Rattle.tta_tacrun.specs.Run.{Run, Stands, is_over}

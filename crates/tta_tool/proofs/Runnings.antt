@@ -1,10 +1,10 @@
 -- How the endings of the parts of `run` make its own.
-use Rattle.std.proofs.Common.{◌≡◌, ℕ, List, Result, Ok, Err, refl, sym, ap, ◌∙◌, subst, inl, inr}
+use Rattle.std.proofs.Common.{◌≡◌, ℕ, List, Ok, Err, refl, sym, ap, ◌∙◌, subst, inl, inr}
 use Rattle.sha2.specs.Sha256.{sha256}
 use Rattle.tta_ops.specs.Units.{Units}
 use Rattle.tta_machine.specs.Machine.{Machine}
 use Rattle.tta_code.specs.declared.code.Code.{Code}
-use Rattle.tta_code.specs.Cycle.{State, cyc}
+use Rattle.tta_code.specs.Cycle.{cyc}
 use Rattle.tta_image.specs.declared.refusal.ImageError.TheVariants.{Refused}
 use Rattle.tta_image.specs.Image.{Image}
 use Rattle.tta_image.specs.Reading.{decoded_image}
@@ -13,10 +13,10 @@ use Rattle.tta_ports.specs.Store.{Store}
 use Rattle.std.specs.Prelude.{Option}
 use Rattle.tta_tool.specs.declared.status.Status.{Status}
 use Rattle.tta_tool.specs.declared.status.Status.TheVariants as status
-use Rattle.tta_tool.specs.World.{World, IsUntouched}
-use Rattle.tta_tool.specs.Output.{Output, IsQuiet}
-use Rattle.tta_tool.specs.Contents.{HasMachine, HasCode, HasInput, HasText, MachineFails, CodeFails, InputFails, ReadsMachine, ReadsCode, ReadsInput}
-use Rattle.tta_tool.specs.Run.{HasRun, HasPair, BeginsWith, BeginFails, BeginWithEnds, RunEnds, RunFileEnds, Runs}
+use Rattle.tta_tool.specs.World.{World}
+use Rattle.tta_tool.specs.Output.{Output}
+use Rattle.tta_tool.specs.Contents.{HasMachine, HasCode, HasInput, MachineFails, CodeFails, InputFails, ReadsMachine, ReadsCode, ReadsInput}
+use Rattle.tta_tool.specs.Run.{HasRun, BeginsWith, BeginFails, RunEnds, RunFileEnds, Runs}
 use Rattle.tta_tool.proofs.Endings.{same_world}
 
 -- ---- a file that is refused ends the command
@@ -39,7 +39,7 @@ code_fails u m text IMG IN before after (status.BadImage code word bus) fails M 
       text = fails.1.text;
       holds = fails.1.holds;
       is = subst (λ x. decoded_image x (sha256 has.text) fails.1.text ≡ Err (Refused code word bus)) (sym same_machine)
-        (subst (λ y. decoded_image m (sha256 y) fails.1.text ≡ Err (Refused code word bus)) (sym same_text) fails.1.is);
+          (subst (λ y. decoded_image m (sha256 y) fails.1.text ≡ Err (Refused code word bus)) (sym same_text) fails.1.is);
     };
   },
 )
@@ -56,7 +56,7 @@ code_for m text IMG has same_machine same_text code = record {
   code = code.code;
   holds = code.holds;
   image = subst (λ x. Image x (sha256 has.text) code.code code.bytes) (sym same_machine)
-    (subst (λ y. Image m (sha256 y) code.code code.bytes) (sym same_text) code.image);
+      (subst (λ y. Image m (sha256 y) code.code code.bytes) (sym same_text) code.image);
 }
 
 -- the input is refused, where the code was read
@@ -141,8 +141,8 @@ run_ends u m text IMG IN code memory bound before after old new s begins ends M 
 
       same : cyc u m code memory bound ≡ cyc u has.machine held.code words.memory bound
       same =
-        ap (λ x. cyc u x code memory bound) (sym same_machine) ∙ ap (λ x. cyc u has.machine x memory bound) (sym begins.same_code)
-        ∙ ap (λ x. cyc u has.machine held.code x bound) (sym begins.same_memory)
+          ap (λ x. cyc u x code memory bound) (sym same_machine) ∙ ap (λ x. cyc u has.machine x memory bound) (sym begins.same_code)
+          ∙ ap (λ x. cyc u has.machine held.code x bound) (sym begins.same_memory)
 
       of : (s : Status) → RunEnds (cyc u has.machine held.code words.memory bound) old new s → Runs u M IMG IN bound before after old new s
       of status.Ok ends = record { run = run; ended = ends.ended; taken = ends.taken; faults = ends.faults; untouched = begins.untouched }

@@ -78,10 +78,11 @@ next_lines out next grows s k n =
     let put = words_put out next t in
     let whole : out (iterate (n + suc k) next s) ≡ out t ++ (put ++ grown.0) =
     ap out (iterate_more n (suc k) next s) ∙ grown.1 ∙ ap (λ l. l ++ grown.0) (output_after out next grows t)
-    ∙ append_assoc (out t) put grown.0 in
-    (lines_text (word_lines grown.0),
-    ap (λ l. lines_text (word_lines l)) whole ∙ lines_of_both (out t) (put ++ grown.0)
-    ∙ ap (λ l. lines_text (word_lines (out t)) ++ l) (lines_of_both put grown.0))
+    ∙ append_assoc (out t) put grown.0 in (
+      lines_text (word_lines grown.0),
+      ap (λ l. lines_text (word_lines l)) whole ∙ lines_of_both (out t) (put ++ grown.0)
+          ∙ ap (λ l. lines_text (word_lines (out t)) ++ l) (lines_of_both put grown.0),
+    )
 
 -- a step that leaves the output as it is puts no word
 pub quiet_word : {S : Type 0} → (out : S → List ℕ) (next : S → S) (s : S) → out (next s) ≡ out s → lines_text (word_lines (words_put out next s)) ≡ []

@@ -54,7 +54,7 @@ fn run<S: Sink>(
     ensures puts { let U = stated unit_meaning units.now in
         (s : State) → Stands sim.old s → s.output ≡ []
         → PutsBytes (run_text (iterate bound (next U machine.now code.now) s))
-            (S.taken sink.old) (S.taken sink.new) result }
+        (S.taken sink.old) (S.taken sink.new) result }
     ensures cause { CountsFault (is_err result) (S.faults sink.old) (S.faults sink.new) }
 {
     run_cycles(sink, machine, code, units, sim, bound)?;
@@ -80,8 +80,8 @@ pub fn code_to_status<S: Sink>(
     ensures { let U = stated unit_meaning units.now in
         (s : State) → Stands sim.old s → s.output ≡ []
         → RunEnds (iterate bound (next U machine.now code.now) s)
-            (output (S.taken sink.old) (S.faults sink.old))
-            (output (S.taken sink.new) (S.faults sink.new)) result }
+        (output (S.taken sink.old) (S.faults sink.old))
+        (output (S.taken sink.new) (S.faults sink.new)) result }
 {
     match run(sink, machine, code, units, sim, bound) {
         Ok(Ending::Halted) => Status::Ok,

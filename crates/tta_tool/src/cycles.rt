@@ -34,11 +34,11 @@ fn cycle<S: Sink>(
         (s : State) → Stands sim.old s → Stands sim.new (next U machine.now code.now s) }
     ensures over { let U = stated unit_meaning units.now in
         (s : State) → Stands sim.old s → IfOk result (λ ran. ran ≡ false
-            → next U machine.now code.now (next U machine.now code.now s) ≡ next U machine.now code.now s) }
+        → next U machine.now code.now (next U machine.now code.now s) ≡ next U machine.now code.now s) }
     ensures puts { let U = stated unit_meaning units.now in
         (s : State) → Stands sim.old s → PutsBytes
-            (lines_text (word_lines (words_put (λ t. t.output) (next U machine.now code.now) s)))
-            (S.taken sink.old) (S.taken sink.new) result }
+        (lines_text (word_lines (words_put (λ t. t.output) (next U machine.now code.now) s)))
+        (S.taken sink.old) (S.taken sink.new) result }
     ensures cause { CountsFault (is_err result) (S.faults sink.old) (S.faults sink.new) }
 {
     match sim.cycle(machine, code, units) {
@@ -72,8 +72,8 @@ pub fn run_cycles<S: Sink>(
     ensures puts { let U = stated unit_meaning units.now in
         (s : State) → Stands sim.old s → s.output ≡ []
         → PutsBytes
-            (lines_text (word_lines (iterate bound (next U machine.now code.now) s).output))
-            (S.taken sink.old) (S.taken sink.new) result }
+        (lines_text (word_lines (iterate bound (next U machine.now code.now) s).output))
+        (S.taken sink.old) (S.taken sink.new) result }
     ensures cause { CountsFault (is_err result) (S.faults sink.old) (S.faults sink.new) }
 {
     let mut left = bound;

@@ -3,7 +3,7 @@ use Rattle.std.specs.Io.KnownBytes.{append_known}
 use Rattle.tta_list.specs.Iterate.{iterate}
 use Rattle.tta_ops.specs.Set.{stated}
 use Rattle.tta_print.specs.Lines.{lines_text, word_lines}
-use Rattle.tta_print.proofs.Puts.{HasPut, put_part, part_is_put, append_known-nil, append_known-twice}
+use Rattle.tta_print.proofs.Puts.{HasPut, put_part, part_is_put, append_known-twice}
 use Rattle.tta_code.specs.Cycle.{next}
 use Rattle.tta_sim.specs.Held.{Stands}
 use Rattle.tta_tool.specs.Steps.{words_put}

@@ -19,6 +19,6 @@ invariant-cycles g l =
       within : l.left ≤ l.bound;
       stands : (s : State) → Stands l.initial.sim s → Stands l.sim (run s);
       put : (s : State) → Stands l.initial.sim s → s.output ≡ []
-        → g.S.Sink.taken l.sink ≡ append_known (g.S.Sink.taken l.initial.sink) (lines_text (word_lines (run s).output));
+          → g.S.Sink.taken l.sink ≡ append_known (g.S.Sink.taken l.initial.sink) (lines_text (word_lines (run s).output));
       faults : g.S.Sink.faults l.sink ≡ g.S.Sink.faults l.initial.sink;
     }

@@ -1,5 +1,5 @@
 use Rattle.sha2.specs.Sha256.{sha256}
-use Rattle.std.proofs.Common.{◌≡◌, ℕ, List, ap, ◌∙◌, subst}
+use Rattle.std.proofs.Common.{ap, ◌∙◌, subst}
 use Rattle.tta_tool.specs.World.{world}
 use Rattle.tta_tool.specs.Contents.{ReadsCode, CodeFails, ReadsInput, InputFails}
 use Rattle.tta_tool.proofs.Runnings.{begins_with, input_refused, code_fails}
