@@ -1,6 +1,7 @@
 //! The commands over files in memory: a program is compiled or run, and each fault is told.
 
 mod exec;
+mod programs;
 mod run;
 
 use crate::run;
