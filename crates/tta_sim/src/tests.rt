@@ -64,7 +64,7 @@ fn registers_change_places_in_one_cycle(rt: HostRuntime) -> Result<(), Fail> {
     let (output, sim) = run(alloc, &m, &code, &units)?;
     assert_eq!(rt; output.as_slice(), [2, 1].as_slice());
     assert!(rt; sim.halted());
-    assert_eq!(rt; sim.cycles(), 6);
+    assert_eq!(rt; sim.cycles(), 5);
     assert_eq!(rt; sim.reg(0, 1), Some(2));
     Ok(())
 }
