@@ -12,7 +12,7 @@ use Rattle.tta_code.specs.Cycle.{State, first_fault, fault_of, clashes, reads_un
 use Rattle.tta_sim.specs.Places.{HasWritten}
 use Rattle.tta_sim.specs.Results.{Results, AreResultsOf, due_at, is_due}
 use Rattle.tta_sim.specs.Moves.{is_possible_slot, reads_of, lacks_register, effects_in, arrivals_of, brought_of}
-use Rattle.tta_sim.specs.Starts.{is_fitting, clashes_with, starts_of, fault_in, told_in}
+use Rattle.tta_sim.specs.Starts.{is_fitting, is_stopped, clashes_with, starts_of, fault_in, told_in}
 use Rattle.tta_sim.proofs.Agreeing.{long_brought, lacks_all, ports_all}
 
 -- ---- control
@@ -107,3 +107,18 @@ no_clash m places r is_pending i none =
     none_of false false true d e none = cc
     none_of false false false true e none = cc
     none_of false false false false e none = refl
+
+-- ---- each fault
+
+either_or : (a b x y : Bool) → ((a || b) || (x || y)) ≡ ((a || x) || (b || y))
+either_or true true x y = refl
+either_or true false x y = refl
+either_or false true true y = refl
+either_or false true false y = refl
+either_or false false x y = refl
+
+-- operations cannot start where one lacks its operand, or a result would be due at the time of another
+pub stopped_by : (r : Results) (ts : List Start) → list_any (is_stopped r) ts ≡ (list_any lacks_operand ts || list_any (clashes_with r) ts)
+stopped_by r [] = refl
+stopped_by r (t ∷ ts) =
+    ap (λ b. is_stopped r t || b) (stopped_by r ts) ∙ either_or (lacks_operand t) (clashes_with r t) (list_any lacks_operand ts) (list_any (clashes_with r) ts)

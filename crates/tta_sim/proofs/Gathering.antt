@@ -1,6 +1,6 @@
 -- Moves that are read one by one.
-use Rattle.std.proofs.Common.{◌≡◌, ◌<◌, ◌≤◌, ◌+◌, ℕ, Bool, true, false, List, [], ◌∷◌, ◌++◌, length, take, map, get_or, Option, refl, ap, sym, ◌∙◌, arith}
-use Rattle.std.specs.Prelude.{◌||◌}
+use Rattle.std.proofs.Common.{◌≡◌, ◌<◌, ◌≤◌, ◌+◌, ℕ, Bool, true, false, List, [], ◌∷◌, ◌++◌, length, take, map, get_or, Option, None, Some, refl, ap, sym, ◌∙◌, arith}
+use Rattle.std.specs.Prelude.{◌||◌, ◌&&◌, is_none, nat_lt, if◌then◌else◌}
 use Rattle.std.specs.List.{filter_map, list_any}
 use Rattle.std.proofs.lemmas.List.{take_more, map-append, length-take-le}
 use Rattle.std.proofs.lemmas.List.Elements.{filter_map-append}
@@ -52,6 +52,22 @@ fault_more reads slots i d old found new within before one joined =
     ∙ sym (fault_reading-append reads (effects_in (take i slots)) (effects_in (get_or slots i d ∷ [])))
     ∙ ap (fault_reading reads) (sym (effects_in-append (take i slots) (get_or slots i d ∷ [])))
     ∙ ap (λ xs. fault_reading reads (effects_in xs)) (sym (take_more slots i d within))
+
+none_both : (a b : Option ℕ) → (is_none b && is_none a) ≡ is_none (earlier_fault a b)
+none_both None None = refl
+none_both None (Some b) = refl
+none_both (Some a) None = refl
+none_both (Some a) (Some b) = elim (nat_lt b a) as (λ t. false ≡ is_none (if t then Some b else Some a)) [ true ↦ refl | false ↦ refl ]
+
+-- one more slot was read, or could not be
+pub read_more : (reads : Reads) (slots : List (Option Move)) (i : ℕ) (d : Option Move) (old could new : Bool) → i < length slots
+    → old ≡ is_none (fault_reading reads (effects_in (take i slots))) → could ≡ is_none (fault_reading reads (effects_in (get_or slots i d ∷ [])))
+    → new ≡ (could && old) → new ≡ is_none (fault_reading reads (effects_in (take (i + 1) slots)))
+read_more reads slots i d old could new within before one joined =
+    let first = fault_reading reads (effects_in (take i slots)) in
+    let next = fault_reading reads (effects_in (get_or slots i d ∷ [])) in
+    joined ∙ ap (λ b. b && old) one ∙ ap (λ b. is_none next && b) before ∙ none_both first next
+    ∙ ap is_none (fault_more reads slots i d first next (earlier_fault first next) within refl refl refl)
 
 -- ---- arrivals
 

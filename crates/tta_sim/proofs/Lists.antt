@@ -1,9 +1,10 @@
 -- Lists that grow by what a function gives of each element.
-use Rattle.std.proofs.Common.{◌≡◌, ◌<◌, ◌≤◌, ◌+◌, ℕ, zero, suc, Bool, false, List, [], ◌∷◌, ◌++◌, length, take, get_or, Option, None, Some, refl, ap, sym, ◌∙◌, arith}
-use Rattle.std.specs.Prelude.{option_to_list}
+use Rattle.std.proofs.Common.{◌≡◌, ◌<◌, ◌≤◌, ◌+◌, ℕ, zero, suc, Bool, true, false, List, [], ◌∷◌, ◌++◌, length, take, get_or, Option, None, Some, refl, ap, sym, ◌∙◌, arith}
+use Rattle.std.specs.Prelude.{◌||◌, option_to_list}
 use Rattle.std.specs.List.{filter_map, cons_option, list_any}
 use Rattle.std.proofs.lemmas.List.{take_more}
 use Rattle.std.proofs.lemmas.List.Elements.{filter_map-append}
+use Rattle.std.proofs.lemmas.List.Folds.{list_any-append}
 
 pub filter_map-one : {A B : Type 0} (f : A → Option B) (x : A) → filter_map f (x ∷ []) ≡ option_to_list (f x)
 filter_map-one {A} {B} f x = elim (f x) as (λ o. cons_option o [] ≡ option_to_list o) [ None ↦ refl | Some y ↦ refl ]
@@ -27,3 +28,26 @@ pub any_at : {A : Type 0} (p : A → Bool) (xs : List A) (i : ℕ) (d : A) → l
 any_at p [] i d none within = grind arith
 any_at p (x ∷ xs) zero d none within = grind arith
 any_at p (x ∷ xs) (suc i) d none within = any_at p xs i d (grind arith) (omega (arith, within))
+
+or_swap : (a b : Bool) → (a || b) ≡ (b || a)
+or_swap true true = refl
+or_swap true false = refl
+or_swap false true = refl
+or_swap false false = refl
+
+-- a test of a list that grew
+pub any_grown : {A : Type 0} (p : A → Bool) (xs more all : List A) (old one new : Bool) → old ≡ list_any p xs → one ≡ list_any p more
+    → new ≡ (one || old) → all ≡ xs ++ more → new ≡ list_any p all
+any_grown p xs more all old one new before here joined grown =
+    joined ∙ ap (λ b. b || old) here ∙ ap (λ b. list_any p more || b) before ∙ or_swap (list_any p more) (list_any p xs)
+    ∙ sym (list_any-append p xs more) ∙ ap (list_any p) (sym grown)
+
+or_false : (a : Bool) → a ≡ (a || false)
+or_false true = refl
+or_false false = refl
+
+-- a test of one element more
+pub any_more : {A : Type 0} (p : A → Bool) (xs : List A) (i : ℕ) (d : A) (old one new : Bool) → i < length xs → old ≡ list_any p (take i xs)
+    → one ≡ p (get_or xs i d) → new ≡ (one || old) → new ≡ list_any p (take (i + 1) xs)
+any_more p xs i d old one new within before here joined =
+    any_grown p (take i xs) (get_or xs i d ∷ []) (take (i + 1) xs) old one new before (here ∙ or_false (p (get_or xs i d))) joined (take_more xs i d within)

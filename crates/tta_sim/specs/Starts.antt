@@ -4,6 +4,7 @@ use Rattle.std.specs.Option.{option_or}
 use Rattle.std.specs.List.{list_any, filter_map, find, AllByRecursion}
 use Rattle.tta_ops.specs.Units.{Units}
 use Rattle.tta_machine.specs.declared.parts.Op.TheVariants.{Out}
+use Rattle.tta_machine.specs.declared.parts.UnitOp.{UnitOp}
 use Rattle.tta_machine.specs.declared.ends.Dest.{Dest}
 use Rattle.tta_machine.specs.declared.ends.Dest.TheVariants as dest
 use Rattle.tta_machine.specs.Machine.{Machine}
@@ -35,6 +36,10 @@ abbrev pub operand_with : (places : List (Option ℕ)) → List Arrival → ℕ 
 operand_with places arrivals unit =
     option_or (option_map (λ a. a.word) (find (λ a. is_operand_of unit a.dst) arrivals)) (word_at places (KeptOperand unit))
 
+-- an operation that a word starts
+abbrev pub started : (operand : ℕ → Option ℕ) → (unit : ℕ) → UnitOp → (word : ℕ) → Start
+started operand unit o word = record { unit = unit; does = o; operand = if o.arity == 2 then operand unit else Some 0; word = word }
+
 -- the operation that a word starts in a trigger port
 abbrev pub triggered : Machine → (operand : ℕ → Option ℕ) → (unit op word : ℕ) → Option Start
 triggered m operand unit op word =
@@ -60,6 +65,14 @@ starts_of m places arrivals = filter_map (start_by m (operand_with places arriva
 -- whether a result would be due at the time of another one of its unit
 abbrev pub clashes_with : Results → Start → Bool
 clashes_with r t = has_result t.does.op && is_some (due_at t.unit (r.cycle + t.does.latency) r.coming)
+
+-- whether the result of an operation of a unit would be due at the time of another one
+abbrev pub clashes_at : Results → (unit : ℕ) → UnitOp → Bool
+clashes_at r unit o = has_result o.op && is_some (due_at unit (r.cycle + o.latency) r.coming)
+
+-- whether an operation cannot start: it lacks its operand, or its result would be due at the time of another
+abbrev pub is_stopped : Results → Start → Bool
+is_stopped r t = lacks_operand t || clashes_with r t
 
 -- the fault of a cycle, if any
 abbrev pub fault_in : Machine → (places : List (Option ℕ)) → Results → (is_pending : Bool) → List (Option Move) → Option ℕ
@@ -87,6 +100,10 @@ begun u now memory frame t =
     if has_result t.does.op
     then Some (due_of now t (result_word u memory frame t t.does.op))
     else None
+
+-- whether an operation shows no result: it stores its word or puts it out
+abbrev pub is_resultless : Start → Bool
+is_resultless t = not (has_result t.does.op)
 
 -- whether an operation puts its word out
 abbrev pub puts : Start → Bool

@@ -10,28 +10,31 @@ ghost use Rattle.tta_code.specs.Legal.{is_legal};
 ghost use Rattle.tta_sim.specs.Places.{HasWritten};
 ghost use Rattle.tta_sim.specs.Results.{AreResultsOf};
 ghost use Rattle.tta_sim.specs.Moves.{reads_of, arrivals_of, brought_of, IsPossible};
-ghost use Rattle.tta_sim.specs.Starts.{starts_of, fault_in, begun, puts, told_in, CanStart, AreReachable};
+ghost use Rattle.tta_sim.specs.Starts.{starts_of, fault_in, begun, puts, told_in, told_of};
+ghost use Rattle.tta_sim.specs.Starts.{CanStart, AreReachable};
 ghost use Rattle.tta_sim.specs.Writing.{long_writes, is_long_place};
 ghost use Rattle.tta_sim.specs.Held.{Stands, cycles_of};
 ghost use Rattle.tta_sim.specs.Kept.{held_of, IsCarried};
 
 use crate::answer::CycleStep;
-use crate::arrivals::{gather, told};
+use crate::arrivals::{any_tells, gather};
 use crate::begin::begin_all;
-use crate::control::{Control, Phase};
-use crate::spaces::{put_out, store_all};
-use crate::starts::{clash, collect, lack_operand};
+use crate::control::{Control, Phase, Told};
+use crate::spaces::finish;
+use crate::starts::collect;
 use crate::store::{Doings, Store};
 use crate::writing::{write_all, write_long};
+use crate::{arrivals, starts};
 use tta_code::Instruction;
 use tta_machine::Machine;
 use tta_ops::UnitSet;
 
 /// Collects what the moves of an instruction bring and start, and answers the fault of its cycle.
+#[tactic(auto, using(crate::proofs::Faulting::stopped_by))]
 fn find_fault(
     doings: &mut Doings,
     store: &Store,
-    control: Control,
+    control: &Control,
     m: &Machine,
     i: &Instruction,
 ) -> Option<u8>
@@ -42,30 +45,33 @@ fn find_fault(
         doings.new.arrivals ≡ arrivals_of reads i.now.moves }
     ensures starts { result ≡ None
         → doings.new.starts ≡ starts_of m.now store.now.places doings.new.arrivals }
-    ensures fault { let is_pending = is_some control.pending in
+    ensures fault { let is_pending = is_some control.now.pending in
         result ≡ fault_in m.now store.now.places store.now.results is_pending i.now.moves }
 {
     let moves = i.moves.as_slice();
-    let unset = gather(&mut doings.arrivals, &store.places, &store.results, moves);
-    if unset.is_some() {
-        return unset;
+    let places = &store.places;
+    let results = &store.results;
+    if !gather(&mut doings.arrivals, places, results, moves) {
+        return arrivals::fault_of(places, results, moves);
     }
     let arrivals = doings.arrivals.as_slice();
-    collect(&mut doings.starts, m, arrivals, &store.places);
-    if lack_operand(doings.starts.as_slice()) {
-        return Some(62);
+    if collect(&mut doings.starts, m, arrivals, places, results) {
+        return Some(starts::fault_of(doings.starts.as_slice()));
     }
-    if clash(doings.starts.as_slice(), &store.results) {
-        return Some(63);
-    }
-    if control.pending.is_some() && told(arrivals).is_some() {
+    if control.pending.is_some() && any_tells(arrivals) {
         return Some(64);
     }
     None
 }
 
-/// Does what the moves of an instruction bring and start, and goes on to the next cycle. It answers
-/// the word that is put out, if any.
+/// What a cycle puts out, and what it tells control.
+#[derive(Drop)]
+pub struct Deed {
+    pub word: Option<u32>,
+    pub told: Option<Told>,
+}
+
+/// Does what the moves of an instruction bring and start, and goes on to the next cycle.
 fn act(
     store: &mut Store,
     doings: &Doings,
@@ -73,7 +79,7 @@ fn act(
     i: &Instruction,
     units: &UnitSet,
     back: u32,
-) -> Option<u32>
+) -> Deed
     requires arrivals { AreReachable (length m.now.units) doings.now.arrivals }
     requires starts { CanStart store.old.results (length m.now.units) doings.now.starts }
     requires long { IsTrue (is_long_place m.now i.now.long) }
@@ -94,21 +100,22 @@ fn act(
         ≡ fold store_data store.old.memory.items doings.now.starts }
     ensures frame { store.new.frame.items
         ≡ fold store_frame store.old.frame.items doings.now.starts }
-    ensures word { result ≡ option_map (λ t. t.word) (find puts doings.now.starts) }
+    ensures word { result.word ≡ option_map (λ t. t.word) (find puts doings.now.starts) }
+    ensures told { option_map told_of result.told ≡ told_in doings.now.arrivals }
 {
     write_long(&mut store.places, m, i.long);
-    write_all(&mut store.places, m, back, doings.arrivals.as_slice());
+    let told = write_all(&mut store.places, m, back, doings.arrivals.as_slice());
     let starts = doings.starts.as_slice();
-    begin_all(
+    let none = begin_all(
         &mut store.results,
         starts,
         units,
         store.memory.as_slice(),
         store.frame.as_slice(),
     );
-    store_all(&mut store.memory, &mut store.frame, starts);
+    let word = finish(&mut store.memory, &mut store.frame, starts, none);
     store.results.advance();
-    put_out(starts)
+    Deed { word, told }
 }
 
 /// Carries out a cycle of a run that goes on, with the instruction at its address.
@@ -134,16 +141,12 @@ pub fn carry(
         → IsCarried (held_of store.new control.new) s (carry_out U m.now s (Some i.now)) result }
 {
     let delay = m.control.delay;
-    if let Some(number) = find_fault(doings, store, *control, m, i) {
+    if let Some(number) = find_fault(doings, store, control, m, i) {
         control.phase = Phase::Fault(number);
         return CycleStep::Fault(number);
     }
     let back = control.pc + 1 + u32::from(delay);
-    let word = act(store, doings, m, i, units, back);
-    control.advance(
-        told(doings.arrivals.as_slice()),
-        store.results.cycle(),
-        delay,
-    );
-    CycleStep::Ran(word)
+    let deed = act(store, doings, m, i, units, back);
+    control.advance(deed.told, store.results.cycle(), delay);
+    CycleStep::Ran(deed.word)
 }

@@ -8,7 +8,8 @@ pub struct Due {
     /// The cycle from which on it shows.
     pub due: u64,
     pub value: u32,
-    pub unit: u8,
+    // As wide as the others, so that no byte of a result is room that is copied for nothing.
+    pub unit: u32,
 }
 
 impl Model for Due {

@@ -25,7 +25,7 @@ fn settle(
     ensures kept { result ≡ (if next.due == now then kept else kept + 1) }
 {
     if next.due == now {
-        shown[usize::from(next.unit)] = Some(next);
+        shown[next.unit as usize] = Some(next);
         return kept;
     }
     coming[kept] = next;

@@ -19,6 +19,7 @@ mod store;
 #[cfg(test)]
 mod tests;
 mod told;
+mod truth;
 mod writing;
 
 pub use answer::CycleStep;

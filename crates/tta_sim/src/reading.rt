@@ -97,12 +97,12 @@ fn take_word(places: &Places, results: &Results, src: Source) -> Taken
 }
 
 /// What a move takes at the start of a cycle.
-pub fn take(places: &Places, results: &Results, v: Move) -> Taken
-    requires { IsTrue (is_possible (length results.now.shown) v) }
+pub fn take(places: &Places, results: &Results, v: &Move) -> Taken
+    requires { IsTrue (is_possible (length results.now.shown) v.now) }
     ensures word { let reads = reads_of places.now results.now.shown in
-        word_taken result ≡ moved reads (effect_of v) }
+        word_taken result ≡ moved reads (effect_of v.now) }
     ensures fault { let reads = reads_of places.now results.now.shown in
-        fault_taken result ≡ fault_reading reads (effect_of v ∷ []) }
+        fault_taken result ≡ fault_reading reads (effect_of v.now ∷ []) }
 {
     match ask(places, v.guard) {
         Verdict::Acts => take_word(places, results, v.src),

@@ -84,6 +84,7 @@ impl Results {
     fn later(&self, unit: u8, due: u64) -> Option<u32>
         ensures { result ≡ option_map (λ r. r.value) (due_at unit due self.now.coming) }
     {
+        let unit = u32::from(unit);
         for r in self.coming.as_slice() {
             if r.unit == unit && r.due == due {
                 return Some(r.value);
@@ -114,7 +115,7 @@ impl Results {
     }
 
     /// Adds a result that is due so many cycles from now.
-    pub fn start(&mut self, unit: u8, latency: u8, value: u32)
+    pub fn start(&mut self, unit: u32, latency: u8, value: u32)
         requires unit { unit < length self.old.shown }
         requires later { 0 < latency }
         requires soon { latency ≤ 16 }

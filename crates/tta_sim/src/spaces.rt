@@ -1,9 +1,9 @@
 //! The data space, the frame space and the output.
 
 ghost use Rattle.std.specs.Prelude.{◌≡◌, fold, length, option_map, replicate, slice_index, slice_set, IfOk};
-ghost use Rattle.std.specs.List.{find};
+ghost use Rattle.std.specs.List.{find, list_any};
 ghost use Rattle.tta_machine.specs.Effects.{store_data, store_frame};
-ghost use Rattle.tta_sim.specs.Starts.{puts};
+ghost use Rattle.tta_sim.specs.Starts.{is_resultless, puts};
 
 use crate::starts::Start;
 use std::alloc::{AllocError, Global};
@@ -38,9 +38,9 @@ fn store(space: &mut Vec<u32>, address: u32, word: u32)
 }
 
 /// Stores an operation's word in the space that it is for, if it stores.
-fn store_one(memory: &mut Vec<u32>, frame: &mut Vec<u32>, start: Start)
-    ensures data { memory.new.items ≡ store_data memory.old.items start }
-    ensures frame { frame.new.items ≡ store_frame frame.old.items start }
+fn store_one(memory: &mut Vec<u32>, frame: &mut Vec<u32>, start: &Start)
+    ensures data { memory.new.items ≡ store_data memory.old.items start.now }
+    ensures frame { frame.new.items ≡ store_frame frame.old.items start.now }
 {
     match start.does.op {
         Op::Stw => store(memory, start.operand.unwrap_or(0), start.word),
@@ -55,7 +55,7 @@ pub fn store_all(memory: &mut Vec<u32>, frame: &mut Vec<u32>, starts: &[Start])
     ensures frame { frame.new.items ≡ fold store_frame frame.old.items starts.now }
 {
     for start in starts {
-        store_one(memory, frame, *start);
+        store_one(memory, frame, start);
     }
 }
 
@@ -69,4 +69,24 @@ pub fn put_out(starts: &[Start]) -> Option<u32>
         }
     }
     None
+}
+
+/// Stores the words of all operations that store, and answers the word that is put out, if any.
+/// `none` is whether some operation has no result: no other stores or puts out.
+pub fn finish(
+    memory: &mut Vec<u32>,
+    frame: &mut Vec<u32>,
+    starts: &[Start],
+    none: bool,
+) -> Option<u32>
+    requires { none ≡ list_any is_resultless starts.now }
+    ensures data { memory.new.items ≡ fold store_data memory.old.items starts.now }
+    ensures frame { frame.new.items ≡ fold store_frame frame.old.items starts.now }
+    ensures word { result ≡ option_map (λ t. t.word) (find puts starts.now) }
+{
+    if !none {
+        return None;
+    }
+    store_all(memory, frame, starts);
+    put_out(starts)
 }

@@ -1,23 +1,26 @@
 //! The operations that start in a cycle.
 
-ghost use Rattle.std.specs.Prelude.{◌≡◌, ◌+◌, ◌<◌, ◌≤◌, ◌^◌, [], ◌∷◌, ◌++◌, length, option_to_list, IsTrue};
+ghost use Rattle.std.specs.Prelude.{◌≡◌, ◌==◌, ◌+◌, ◌<◌, ◌≤◌, ◌^◌, [], ◌∷◌, ◌++◌, if◌then◌else◌, length, true, Some};
+ghost use Rattle.std.specs.Prelude.{is_some, option_copied, option_to_list, IsTrue};
 ghost use Rattle.std.specs.List.{list_any, AllByRecursion};
-ghost use Rattle.tta_machine.specs.Effects.{KeptOperand, has_result, lacks_operand};
+ghost use Rattle.tta_machine.specs.Effects.{KeptOperand, has_result, lacks_operand, op_at};
 ghost use Rattle.tta_sim.specs.Places.{is_place};
 ghost use Rattle.tta_sim.specs.Results.{Results};
-ghost use Rattle.tta_sim.specs.Starts.{operand_with, start_by, starts_of, clashes_with, AreReachable};
+ghost use Rattle.tta_sim.specs.Starts.{operand_with, start_by, starts_of, started, clashes_at};
+ghost use Rattle.tta_sim.specs.Starts.{is_stopped};
 
 use crate::arrivals::Arrival;
 use crate::places::Places;
 use crate::results::Results;
 use crate::short::Short;
+use crate::truth::either;
 use std::marker::Model;
 use tta_machine::{Dest, Machine, Op, UnitOp};
 
 /// An operation that starts: its unit, its operand where there is one, and the moved word.
 #[derive(Clone, Copy)]
 pub struct Start {
-    pub unit: u8,
+    pub unit: u32,
     pub does: UnitOp,
     pub operand: Option<u32>,
     pub word: u32,
@@ -68,53 +71,118 @@ fn operand_after(arrivals: &[Arrival], places: &Places, unit: u8) -> Option<u32>
     places.operand(unit)
 }
 
-/// The operation that an arrival starts, if it does.
-fn start_of(m: &Machine, arrivals: &[Arrival], places: &Places, a: Arrival) -> Option<Start>
-    requires few { length m.now.units ≤ 32 }
-    ensures { result ≡ start_by m.now (operand_with places.now arrivals.now) a }
+/// The operand that an operation starts with, 0 where it takes none.
+fn operand_of(arrivals: &[Arrival], places: &Places, unit: u8, does: &UnitOp) -> Option<u32>
+    requires { IsTrue (is_place (KeptOperand unit)) }
+    ensures { let operand = operand_with places.now arrivals.now in
+        result ≡ (if does.now.arity == 2 then operand unit else Some 0) }
 {
-    let Dest::Trigger { unit, op } = a.dst else {
-        return None;
-    };
-    let u = m.units.as_slice().get(usize::from(unit))?;
-    let does = *u.ops.as_slice().get(usize::from(op))?;
-    let operand = if does.arity == 2 {
+    if does.arity == 2 {
         operand_after(arrivals, places, unit)
     } else {
         Some(0)
-    };
-    Some(Start {
-        unit,
-        does,
-        operand,
-        word: a.word,
-    })
-}
-
-/// Notes the operation that an arrival starts, if it does.
-fn note(starts: &mut Short<Start>, start: Option<Start>)
-    requires { length starts.old < 16 }
-    ensures { starts.new ≡ starts.old ++ option_to_list start }
-{
-    if let Some(start) = start {
-        starts.push(start);
     }
 }
 
-/// Collects the operations that start.
-pub fn collect(starts: &mut Short<Start>, m: &Machine, arrivals: &[Arrival], places: &Places)
+/// Whether a unit's result of an operation would be due at the time of another one.
+fn clashes(results: &Results, unit: u8, does: &UnitOp) -> bool
+    requires { results.now.cycle + 256 < 2 ^ 64 }
+    ensures { result ≡ clashes_at results.now unit does.now }
+{
+    has_result(does.op) && results.clashes(unit, does.latency)
+}
+
+/// The operation of a unit with this number, if there is one.
+fn op_of(m: &Machine, unit: u8, op: u8) -> Option<&UnitOp>
+    ensures op { option_copied result ≡ op_at m.now unit op }
+    ensures unit { is_some result ≡ true → unit < length m.now.units }
+{
+    match m.units.as_slice().get(usize::from(unit)) {
+        Some(u) => u.ops.as_slice().get(usize::from(op)),
+        None => None,
+    }
+}
+
+/// Notes an operation that a word starts, and answers whether it cannot start.
+fn note(
+    starts: &mut Short<Start>,
+    arrivals: &[Arrival],
+    places: &Places,
+    results: &Results,
+    unit: u8,
+    does: &UnitOp,
+    word: u32,
+) -> bool
+    requires room { length starts.old < 16 }
+    requires place { IsTrue (is_place (KeptOperand unit)) }
+    requires few { results.now.cycle + 256 < 2 ^ 64 }
+    ensures starts { let operand = operand_with places.now arrivals.now in
+        starts.new ≡ starts.old ++ started operand unit does.now word ∷ [] }
+    ensures stopped { let operand = operand_with places.now arrivals.now in
+        result ≡ is_stopped results.now (started operand unit does.now word) }
+{
+    let operand = operand_of(arrivals, places, unit, does);
+    let stopped = operand.is_none() || clashes(results, unit, does);
+    starts.push(Start {
+        unit: u32::from(unit),
+        does: *does,
+        operand,
+        word,
+    });
+    stopped
+}
+
+/// Notes the operation that an arrival starts, if it does, and answers whether it cannot start.
+fn note_of(
+    starts: &mut Short<Start>,
+    m: &Machine,
+    arrivals: &[Arrival],
+    places: &Places,
+    results: &Results,
+    a: &Arrival,
+) -> bool
+    requires room { length starts.old < 16 }
+    requires units { length m.now.units ≤ 32 }
+    requires few { results.now.cycle + 256 < 2 ^ 64 }
+    ensures starts { let start = start_by m.now (operand_with places.now arrivals.now) in
+        starts.new ≡ starts.old ++ option_to_list (start a.now) }
+    ensures stopped { let start = start_by m.now (operand_with places.now arrivals.now) in
+        result ≡ list_any (is_stopped results.now) (option_to_list (start a.now)) }
+{
+    let Dest::Trigger { unit, op } = a.dst else {
+        return false;
+    };
+    match op_of(m, unit, op) {
+        Some(does) => note(starts, arrivals, places, results, unit, does, a.word),
+        None => false,
+    }
+}
+
+/// Collects the operations that start, and answers whether some of them cannot.
+pub fn collect(
+    starts: &mut Short<Start>,
+    m: &Machine,
+    arrivals: &[Arrival],
+    places: &Places,
+    results: &Results,
+) -> bool
     requires few { length arrivals.now ≤ 16 }
     requires units { length m.now.units ≤ 32 }
-    ensures { starts.new ≡ starts_of m.now places.now arrivals.now }
+    requires cycle { results.now.cycle + 256 < 2 ^ 64 }
+    ensures starts { starts.new ≡ starts_of m.now places.now arrivals.now }
+    ensures stopped { result ≡ list_any (is_stopped results.now) starts.new }
 {
     starts.clear();
+    let mut stopped = false;
     for a in arrivals {
-        note(starts, start_of(m, arrivals, places, *a));
+        let by_this = note_of(starts, m, arrivals, places, results, a);
+        stopped = either(by_this, stopped);
     }
+    stopped
 }
 
-/// Whether an operation lacks its operand.
-pub fn lack_operand(starts: &[Start]) -> bool
+/// Whether some operation lacks its operand.
+fn lack_operand(starts: &[Start]) -> bool
     ensures { result ≡ list_any lacks_operand starts.now }
 {
     for start in starts {
@@ -125,23 +193,10 @@ pub fn lack_operand(starts: &[Start]) -> bool
     false
 }
 
-/// Whether a result would be due at the time of another one of its unit.
-fn clashes(results: &Results, start: Start) -> bool
-    requires { results.now.cycle + 256 < 2 ^ 64 }
-    ensures { result ≡ clashes_with results.now start }
+/// The fault of operations some of which cannot start: 62 where one lacks its operand, and else 63,
+/// since two results of a unit would be due at one time.
+pub fn fault_of(starts: &[Start]) -> u8
+    ensures { result ≡ (if list_any lacks_operand starts.now then 62 else 63) }
 {
-    has_result(start.does.op) && results.clashes(start.unit, start.does.latency)
-}
-
-/// Whether two results of a unit would be due at one time.
-pub fn clash(starts: &[Start], results: &Results) -> bool
-    requires { results.now.cycle + 256 < 2 ^ 64 }
-    ensures { result ≡ list_any (clashes_with results.now) starts.now }
-{
-    for start in starts {
-        if clashes(results, *start) {
-            return true;
-        }
-    }
-    false
+    if lack_operand(starts) { 62 } else { 63 }
 }

@@ -7,4 +7,4 @@ pub collect-requires-clause-few : goal.collect-requires-clause-few
 collect-requires-clause-few c =
     let reads = reads_of c.args.store.now.places c.args.store.now.results.shown in
     let few = length-arrivals_of reads c.as_slice-moves.result.now in
-    omega (arith, few, c.requires.possible.few, ap length c.gather-unset.ensures.arrivals, ap length c.as_slice-arrivals.ensures, ap length c.as_slice-moves.ensures)
+    omega (arith, few, c.requires.possible.few, ap length c.gather.ensures.arrivals, ap length c.as_slice-arrivals.ensures, ap length c.as_slice-moves.ensures)
