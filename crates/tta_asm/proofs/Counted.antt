@@ -1,0 +1,54 @@
+-- How many pieces a text can have.
+use Rattle.std.proofs.Common.{ℕ, zero, suc, ◌+◌, ◌-◌, ◌≤◌, Bool, true, false, not, List, [], ◌∷◌, ◌++◌, length, Option, None, Some, arith, ◌≡◌, refl}
+use Rattle.tta_text.specs.declared.lexeme.Kind.{Kind}
+use Rattle.tta_text.specs.declared.lexeme.Token.{Token}
+use Rattle.tta_text.specs.Tokens.{tokens_from, tokens_of, with_token, piece_of, line_after}
+use Rattle.tta_text.specs.Bytes.{is_newline}
+use Rattle.tta_reading.specs.Lines.{is_line_end, lexeme_of}
+use Rattle.tta_asm.specs.declared.pieces.Close.{Close}
+use Rattle.tta_asm.specs.Pieces.{Placed, closing, placed, pieces_from}
+
+-- a front has at most one token
+length-with_token : (kind : Option Kind) (line start end : ℕ) (tokens : List Token) → length (with_token kind line start end tokens) ≤ length tokens + 1
+length-with_token None line start end tokens = omega arith
+length-with_token (Some kind) line start end tokens = omega arith
+
+-- bytes have at most one token each, and one behind the last
+length-tokens_from : (bytes : List ℕ) (skip : ℕ) (is_open : Bool) (line at : ℕ) → length (tokens_from skip is_open line at bytes) ≤ length bytes + 1
+unfolding tokens_from
+length-tokens_from [] skip false line at = omega arith
+length-tokens_from [] skip true line at = omega arith
+length-tokens_from (byte ∷ rest) (suc skip) is_open line at = omega (arith, length-tokens_from rest skip true line (at + 1))
+length-tokens_from (byte ∷ rest) zero is_open line at =
+    let piece = piece_of (byte ∷ rest) in
+    let others = tokens_from (piece.len - 1) (not (is_newline byte)) (line_after byte line) (at + 1) rest in
+    omega (
+      arith,
+      length-with_token piece.kind line at (at + piece.len) others,
+      length-tokens_from rest (piece.len - 1) (not (is_newline byte)) (line_after byte line) (at + 1),
+    )
+
+module _ (text : List ℕ) (line : ℕ) (t : Token) (ts : List Token) (before : List Placed) where
+  -- a token begins at most one piece more
+  counted : (b : Bool) (c : Option Close) → is_line_end t.kind ≡ b → closing (lexeme_of text t) ≡ c
+      → length (pieces_from text (t.line + 1) before ts) ≤ length ts + 1
+      → length (pieces_from text line [] ts) ≤ length ts + 1
+      → length (pieces_from text line (before ++ placed text t ∷ []) ts) ≤ length ts + 1
+      → length (pieces_from text line before (t ∷ ts)) ≤ length (t ∷ ts) + 1
+  counted true c is closes ended closed more = rw is (omega (arith, ended))
+  counted false (Some close) is closes ended closed more = rw (is, closes) (omega (arith, closed))
+  counted false None is closes ended closed more = rw (is, closes) (omega (arith, more))
+
+-- tokens make at most one piece each, and one behind the last
+length-pieces_from : (text : List ℕ) (line : ℕ) (before : List Placed) (ts : List Token) → length (pieces_from text line before ts) ≤ length ts + 1
+length-pieces_from text line before [] = omega arith
+length-pieces_from text line before (t ∷ ts) =
+    counted text line t ts before (is_line_end t.kind) (closing (lexeme_of text t)) refl refl
+    (length-pieces_from text (t.line + 1) before ts) (length-pieces_from text line [] ts)
+    (length-pieces_from text line (before ++ placed text t ∷ []) ts)
+
+-- a text has at most two pieces more than bytes
+pub length-pieces : (text : List ℕ) → length (pieces_from text 1 [] (tokens_of text)) ≤ length text + 2
+unfolding tokens_of
+length-pieces text =
+    omega (arith, length-pieces_from text 1 [] (tokens_from 0 false 1 0 text), length-tokens_from text 0 false 1 0)

@@ -1,0 +1,34 @@
+-- The slots of an instruction are printed one after another.
+use Rattle.std.proofs.Common.{◌≡◌, ℕ, ◌-◌, ◌≤◌, List, [], ◌∷◌, ◌++◌, length, take, drop, get_or, ap, sym, ◌∙◌, arith, le_refl}
+use Rattle.std.specs.Prelude.{Option, None}
+use Rattle.std.specs.List.{flat_map}
+use Rattle.std.proofs.lemmas.List.{append-nil, append_assoc, take_all}
+use Rattle.tta_ops.specs.Units.{Units}
+use Rattle.tta_machine.specs.Machine.{Machine}
+use Rattle.tta_code.specs.declared.code.Move.{Move}
+use Rattle.tta_asm.specs.Canonical.{slot_text, slots_text}
+use Rattle.tta_asm.specs.Printing.{later_slot_text}
+
+-- the first slot, and then each other with a comma before it
+pub slots_by_comma : (u : Units) (m : Machine) (slot : Option Move) (slots : List (Option Move))
+    → slots_text u m (slot ∷ slots) ≡ slot_text u m slot ++ flat_map (later_slot_text u m) slots
+slots_by_comma u m slot [] = sym (append-nil (slot_text u m slot))
+slots_by_comma u m slot (next ∷ slots) =
+    let comma : List ℕ = 32 ∷ 44 ∷ 32 ∷ [] in
+    ap (λ t. slot_text u m slot ++ (comma ++ t)) (slots_by_comma u m next slots)
+    ∙ ap (λ t. slot_text u m slot ++ t) (sym (append_assoc comma (slot_text u m next) (flat_map (later_slot_text u m) slots)))
+
+-- the slots that are left behind the first
+rest_of : {A : Type 0} (x : A) (xs : List A) → take (length (x ∷ xs) - 1) xs ≡ xs
+rest_of x xs = let n : length (x ∷ xs) - 1 ≡ length xs = omega arith in rw n (take_all (length xs) xs (le_refl (length xs)))
+
+-- slots stand behind a text once the first does, and then the others
+pub slots_done : (u : Units) (m : Machine) (slots : List (Option Move)) (old first all : List ℕ) → 1 ≤ length slots
+    → first ≡ old ++ slot_text u m (get_or slots 0 None)
+    → all ≡ first ++ flat_map (later_slot_text u m) (take (length slots - 1) (drop 1 slots))
+    → all ≡ old ++ slots_text u m slots
+slots_done u m [] old first all some one more = absurd (omega arith)
+slots_done u m (slot ∷ slots) old first all some one more =
+    let end = rw (rest_of slot slots) at more in
+    let text = slots_by_comma u m slot slots in
+    rw (text, ← append_assoc old (slot_text u m slot) (flat_map (later_slot_text u m) slots), ← one) end

@@ -1,0 +1,30 @@
+-- Why an assembly text is refused.
+use Rattle.std.specs.Prelude.{◌≡◌, ℕ, Result, Ok, Err}
+use Rattle.tta_asm.specs.declared.refusal.AsmRefusal.{AsmRefusal}
+use Rattle.tta_asm.specs.declared.refusal.AsmRefusal.TheVariants.{Syntax, Unknown, NoConnection, Illegal, Slots, Label, Range}
+use Rattle.tta_asm.specs.declared.refusal.AsmError.{AsmError}
+use Rattle.tta_asm.specs.declared.refusal.AsmError.TheVariants.{Refused, NoMemory}
+
+-- the number of a refusal
+abbrev pub code_of : AsmRefusal → ℕ
+code_of Syntax = 50
+code_of Unknown = 51
+code_of NoConnection = 52
+code_of Illegal = 53
+code_of Slots = 54
+code_of Label = 55
+code_of Range = 56
+
+-- a refusal with its line
+abbrev pub Refusal : Type 0
+Refusal = ℕ × AsmRefusal
+
+-- a refusal as it is told
+abbrev pub told : Refusal → AsmError
+told r = Refused r.0 (code_of r.1)
+
+-- the answer is what the definition makes, or its refusal, or there was no memory
+abbrev pub Answers : {A : Type 0} → Result A AsmError → Result A Refusal → Type 0
+Answers (Err NoMemory) made = Unit {0}
+Answers (Ok x) made = made ≡ Ok x
+Answers (Err e) made = (r : Refusal) × (e ≡ told r) × (made ≡ Err r)

@@ -1,0 +1,101 @@
+//! The code of an assembly text.
+
+ghost use Rattle.std.specs.Prelude.{◌≤◌, ◌^◌, length, IfOk};
+ghost use Rattle.tta_ops.specs.Set.{stated};
+ghost use Rattle.tta_connect.specs.Net.{IsNetOf};
+ghost use Rattle.tta_code.specs.Legal.{IsLegalCode};
+ghost use Rattle.tta_asm.specs.Assembly.{nothing, take_pieces, assembled};
+ghost use Rattle.tta_asm.specs.Drafts.{draft_seen, Drafts};
+ghost use Rattle.tta_asm.specs.Pieces.{pieces_of};
+ghost use Rattle.tta_asm.specs.Refusals.{Answers};
+ghost use Rattle.tta_asm.specs.Table.{IsTableOf};
+
+use crate::draft::Draft;
+use crate::labels::{Label, collect_labels};
+use crate::pieces::{Close, Pieces};
+use crate::refusal::AsmError;
+use crate::table::Table;
+use std::alloc::Global;
+use tta_code::Code;
+use tta_connect::Net;
+use tta_machine::Machine;
+use tta_ops::UnitSet;
+use tta_reading::Names;
+
+/// The draft of all pieces of a text, or its first refusal.
+fn take_pieces<'t>(
+    alloc: Global,
+    units: &UnitSet,
+    m: &Machine,
+    net: &Net,
+    table: &Table,
+    labels: &Names<Label>,
+    text: &'t [u8],
+) -> Result<Draft<'t>, AsmError>
+    requires few { length text.now ≤ 2 ^ 24 }
+    requires net { IsNetOf net.now m.now }
+    requires table { IsTableOf (stated unit_meaning units.now) m.now table.now }
+    ensures { Drafts result (take_pieces (stated unit_meaning units.now) m.now labels.now nothing
+        (pieces_of text.now)) }
+{
+    let mut pieces = Pieces::new(text);
+    let mut words = Vec::new(alloc);
+    let mut draft = Draft::new(alloc);
+    loop {
+        let closed = pieces.next_piece(&mut words)?;
+        if draft.is_over(words.as_slice(), closed) {
+            return Ok(draft);
+        }
+        draft.take_piece(
+            alloc,
+            units,
+            m,
+            net,
+            table,
+            labels,
+            words.as_slice(),
+            closed,
+        )?;
+        // What the end of the text closes is the last piece.
+        if closed.close == Close::End {
+            return Ok(draft);
+        }
+    }
+}
+
+/// The code of a text, or its first refusal.
+#[tactic(auto, unfolding(crate::specs::Assembly::assembled))]
+fn code_of(
+    alloc: Global,
+    text: &[u8],
+    m: &Machine,
+    units: &UnitSet,
+    net: &Net,
+    table: &Table,
+) -> Result<Code, AsmError>
+    requires few { length text.now ≤ 2 ^ 24 }
+    requires net { IsNetOf net.now m.now }
+    requires table { IsTableOf (stated unit_meaning units.now) m.now table.now }
+    ensures answers { Answers result (assembled (stated unit_meaning units.now) m.now text.now) }
+    ensures legal { IfOk result (λ code. IsLegalCode m.now code) }
+{
+    let labels = collect_labels(alloc, text)?;
+    let draft = take_pieces(alloc, units, m, net, table, &labels, text)?;
+    Ok(Code { words: draft.words })
+}
+
+/// The code of an assembly text of at most 2^24 bytes, over these operation units. The machine can
+/// carry it out.
+///
+/// `Refused` tells the first refusal of the text: piece by piece, and for each instruction by the
+/// number of its slots, then slot by slot, then by its long immediate, then as a whole. Labels are
+/// collected first, so a label may stand behind its use.
+pub fn assemble(alloc: Global, text: &[u8], m: &Machine, units: &UnitSet) -> Result<Code, AsmError>
+    requires { length text.now ≤ 2 ^ 24 }
+    ensures answers { Answers result (assembled (stated unit_meaning units.now) m.now text.now) }
+    ensures legal { IfOk result (λ code. IsLegalCode m.now code) }
+{
+    let net = Net::of(alloc, m)?;
+    let table = Table::of(alloc, m, units)?;
+    code_of(alloc, text, m, units, &net, &table)
+}

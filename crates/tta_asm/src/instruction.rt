@@ -1,0 +1,149 @@
+//! The instruction of slots and a long immediate.
+
+ghost use Rattle.std.specs.Prelude.{◌≡◌, ◌^◌, ◌≤◌, Ok, length, map, nat_le, not, option_map, true};
+ghost use Rattle.std.specs.Prelude.{IfOk};
+ghost use Rattle.std.specs.Option.{option_map_or};
+ghost use Rattle.tta_reading.specs.Steps.{refuse_if};
+ghost use Rattle.tta_ops.specs.Set.{stated};
+ghost use Rattle.tta_connect.specs.Net.{IsNetOf};
+ghost use Rattle.tta_code.specs.Legal.{is_instruction, is_legal, is_long};
+ghost use Rattle.tta_asm.specs.declared.refusal.AsmRefusal.TheVariants.{Illegal, Range};
+ghost use Rattle.tta_asm.specs.Assembly.{at_line, moves_of, longs_of, instruction_of};
+ghost use Rattle.tta_asm.specs.Parts.{parts_of};
+ghost use Rattle.tta_asm.specs.Refusals.{Answers};
+ghost use Rattle.tta_asm.specs.Resolving.{action_of};
+ghost use Rattle.tta_asm.specs.Seen.{move_seen, slot_seen, long_seen};
+ghost use Rattle.tta_asm.specs.Table.{NameTheSame, IsTableOf};
+
+use crate::forms::{LongForm, SlotForm};
+use crate::labels::Label;
+use crate::refusal::{AsmError, AsmRefusal};
+use crate::resolving::{action_of, long_of};
+use crate::table::Table;
+use std::alloc::Global;
+use tta_code::{Instruction, Long, Move, legal};
+use tta_connect::Net;
+use tta_list::Items;
+use tta_machine::Machine;
+use tta_ops::UnitSet;
+use tta_reading::Names;
+
+/// The move of a slot on this bus, if it has one. A refusal is told at the slot's line.
+fn slot_move(
+    units: &UnitSet,
+    m: &Machine,
+    net: &Net,
+    table: &Table,
+    labels: &Names<Label>,
+    bus: u8,
+    slot: &SlotForm,
+) -> Result<Option<Move>, AsmError>
+    requires net { IsNetOf net.now m.now }
+    requires table { IsTableOf (stated unit_meaning units.now) m.now table.now }
+    ensures { Answers result (at_line slot.now.line (action_of (stated unit_meaning units.now)
+        m.now labels.now bus (option_map move_seen slot.now.action))) }
+{
+    match action_of(units, m, net, table, labels, bus, &slot.action) {
+        Ok(action) => Ok(action),
+        Err(refusal) => Err(refusal.at(slot.line)),
+    }
+}
+
+/// The moves of slots, the first of them on bus 0. The first slot that is refused is told.
+fn moves_of(
+    alloc: Global,
+    units: &UnitSet,
+    m: &Machine,
+    net: &Net,
+    table: &Table,
+    labels: &Names<Label>,
+    slots: &[SlotForm],
+) -> Result<Items<Option<Move>>, AsmError>
+    requires net { IsNetOf net.now m.now }
+    requires table { IsTableOf (stated unit_meaning units.now) m.now table.now }
+    requires few { length slots.now ≤ 16 }
+    ensures answer { Answers result (moves_of (stated unit_meaning units.now) m.now labels.now 0
+        (map slot_seen slots.now)) }
+    ensures count { IfOk result (λ moves. length moves ≡ length slots.now) }
+{
+    let mut moves = Items::new(alloc);
+    for (bus, slot) in slots.iter().enumerate() {
+        let action = slot_move(units, m, net, table, labels, bus as u8, slot)?;
+        moves.push(action)?;
+    }
+    Ok(moves)
+}
+
+/// The long immediate of a form, if there is one. A refusal is told at its line.
+fn longs_of(
+    m: &Machine,
+    table: &Table,
+    labels: &Names<Label>,
+    form: &Option<LongForm>,
+) -> Result<Option<Long>, AsmError>
+    requires { NameTheSame table.now.parts (parts_of m.now) }
+    ensures answer { Answers result (longs_of m.now labels.now (option_map long_seen form.now)) }
+    ensures long { IfOk result (λ long. option_map_or (is_long m.now) long true ≡ true) }
+{
+    let Some(l) = form else {
+        return Ok(None);
+    };
+    match long_of(m, table, labels, l) {
+        Ok(long) => Ok(Some(long)),
+        Err(refusal) => Err(refusal.at(l.line)),
+    }
+}
+
+/// An instruction, unless the machine cannot carry it out, which is refused as `Illegal`, or no
+/// address is left for it behind so many others, which is refused as `Range`.
+fn checked(
+    m: &Machine,
+    net: &Net,
+    line: u32,
+    before: u32,
+    i: Instruction,
+) -> Result<Instruction, AsmError>
+    requires net { IsNetOf net.now m.now }
+    requires instruction { is_instruction m.now i ≡ true }
+    ensures { Answers result (refuse_if (not (is_legal m.now i)) (line, Illegal)
+        (refuse_if (nat_le (2 ^ m.now.control.address) before) (line, Range) (Ok i))) }
+{
+    if legal(m, net, &i).is_err() {
+        return Err(AsmRefusal::Illegal.at(line));
+    }
+    if m.addresses() <= before {
+        return Err(AsmRefusal::Range.at(line));
+    }
+    Ok(i)
+}
+
+/// The instruction of slots and a long immediate that ends on this line, behind so many others.
+///
+/// It is refused as `Slots` where the slots are not as many as the buses; then slot by slot, and by
+/// its long immediate, each at its own line, as `action_of` and `long_of` refuse; then as `Illegal`
+/// where the machine cannot carry it out; and as `Range` where no address is left.
+#[tactic(auto, unfolding(crate::specs::Assembly::instruction_of))]
+pub fn instruction_of(
+    alloc: Global,
+    units: &UnitSet,
+    m: &Machine,
+    net: &Net,
+    table: &Table,
+    labels: &Names<Label>,
+    line: u32,
+    before: u32,
+    slots: &[SlotForm],
+    long: Option<LongForm>,
+) -> Result<Instruction, AsmError>
+    requires net { IsNetOf net.now m.now }
+    requires table { IsTableOf (stated unit_meaning units.now) m.now table.now }
+    ensures { Answers result (instruction_of (stated unit_meaning units.now) m.now labels.now line
+        before (map slot_seen slots.now) (option_map long_seen long.entry)) }
+{
+    if slots.len() != m.buses.len() {
+        return Err(AsmRefusal::Slots.at(line));
+    }
+    let moves = moves_of(alloc, units, m, net, table, labels, slots)?;
+    let long = longs_of(m, table, labels, &long)?;
+    checked(m, net, line, before, Instruction { moves, long })
+}

@@ -1,0 +1,170 @@
+//! What the names of a slot or a long immediate stand for in a machine.
+
+ghost use Rattle.std.specs.Prelude.{◌≡◌, IfOk, IfSome, is_some, option_map, slice_get, true};
+ghost use Rattle.tta_reading.specs.Names.{named_in};
+ghost use Rattle.tta_reading.specs.Steps.{◌>>?◌};
+ghost use Rattle.tta_ops.specs.Set.{stated};
+ghost use Rattle.tta_connect.specs.Net.{IsNetOf};
+ghost use Rattle.tta_code.specs.Legal.{is_long};
+ghost use Rattle.tta_asm.specs.Parts.{parts_of};
+ghost use Rattle.tta_asm.specs.Resolving.{guard_at, guard_of, fits_bus, move_of, action_of};
+ghost use Rattle.tta_asm.specs.Resolving.{template_at, long_of};
+ghost use Rattle.tta_asm.specs.Seen.{guard_seen, move_seen, long_seen};
+ghost use Rattle.tta_asm.specs.Table.{NameTheSame, IsTableOf};
+
+mod dests;
+mod sources;
+
+use crate::forms::{GuardForm, LongForm, MoveForm};
+use crate::labels::Label;
+use crate::parts::Part;
+use crate::refusal::AsmRefusal;
+use crate::resolving::dests::dest_of;
+use crate::resolving::sources::{source_of, word_of};
+use crate::table::Table;
+use tta_code::{Long, Move};
+use tta_connect::Net;
+use tta_machine::{GuardRef, Machine, Source};
+use tta_ops::UnitSet;
+use tta_reading::Names;
+
+/// The register of a guard, where the part is a file of width 1 that has it.
+fn guard_at(m: &Machine, form: &GuardForm, part: Part) -> Option<GuardRef>
+    ensures { result ≡ guard_at m.now (guard_seen form.now) part }
+{
+    let Part::File(file) = part else {
+        return None;
+    };
+    let f = m.files.as_slice().get(usize::from(file))?;
+    if f.width == 1 && form.index < u32::from(f.size) {
+        Some(GuardRef {
+            file,
+            index: form.index as u8,
+            inverted: form.inverted,
+        })
+    } else {
+        None
+    }
+}
+
+/// The guard of a form, if there is one, where the machine has its register.
+fn guard_of(m: &Machine, table: &Table, form: &Option<GuardForm>) -> Option<Option<GuardRef>>
+    requires { NameTheSame table.now.parts (parts_of m.now) }
+    ensures { result ≡ guard_of m.now (option_map guard_seen form.now) }
+{
+    let Some(g) = form else {
+        return Some(None);
+    };
+    let part = table.part(m, g.file)?;
+    let on = guard_at(m, g, part)?;
+    Some(Some(on))
+}
+
+/// Whether the short field of a bus holds the source, where it is a word.
+fn fits_bus(m: &Machine, bus: u8, src: Source) -> bool
+    ensures { result ≡ fits_bus m.now bus src }
+{
+    let Source::Value(word) = src else {
+        return true;
+    };
+    let _control = &m.control;
+    match m.buses.as_slice().get(usize::from(bus)) {
+        Some(b) => b.holds(word),
+        None => false,
+    }
+}
+
+/// The move of a form on this bus.
+///
+/// It is refused as `Unknown` where the machine has no such guard, then no such destination, then
+/// no such source; as `Label` where a name that stands for a word is no label; as `Range` where the
+/// word does not fit the bus; and as `NoConnection` where the bus does not join the ends or does
+/// not have the guard.
+#[tactic(auto, unfolding(crate::specs::Resolving::move_of))]
+fn move_of(
+    units: &UnitSet,
+    m: &Machine,
+    net: &Net,
+    table: &Table,
+    labels: &Names<Label>,
+    bus: u8,
+    form: &MoveForm,
+) -> Result<Move, AsmRefusal>
+    requires net { IsNetOf net.now m.now }
+    requires table { IsTableOf (stated unit_meaning units.now) m.now table.now }
+    ensures { result ≡ move_of (stated unit_meaning units.now) m.now labels.now bus
+        (move_seen form.now) }
+{
+    let guard = guard_of(m, table, &form.guard).ok_or(AsmRefusal::Unknown)?;
+    let dst = dest_of(units, m, table, &form.dst).ok_or(AsmRefusal::Unknown)?;
+    let src = source_of(m, table, labels, &form.src)?;
+    if !fits_bus(m, bus, src) {
+        return Err(AsmRefusal::Range);
+    }
+    if !net.joins(m, bus, &src, &dst, &guard) {
+        return Err(AsmRefusal::NoConnection);
+    }
+    Ok(Move { guard, src, dst })
+}
+
+/// The move of a slot on this bus, if it has one. It is refused as `move_of` refuses it.
+pub fn action_of(
+    units: &UnitSet,
+    m: &Machine,
+    net: &Net,
+    table: &Table,
+    labels: &Names<Label>,
+    bus: u8,
+    form: &Option<MoveForm>,
+) -> Result<Option<Move>, AsmRefusal>
+    requires net { IsNetOf net.now m.now }
+    requires table { IsTableOf (stated unit_meaning units.now) m.now table.now }
+    ensures { result ≡ action_of (stated unit_meaning units.now) m.now labels.now bus
+        (option_map move_seen form.now) }
+{
+    let Some(form) = form else {
+        return Ok(None);
+    };
+    match move_of(units, m, net, table, labels, bus, form) {
+        Ok(v) => Ok(Some(v)),
+        Err(refusal) => Err(refusal),
+    }
+}
+
+/// The template that a part is.
+fn template_at(part: Part) -> Option<u8>
+    ensures { result ≡ template_at part }
+{
+    match part {
+        Part::Template(template) => Some(template),
+        _ => None,
+    }
+}
+
+/// The template of this name.
+fn template_named(m: &Machine, table: &Table, name: &[u8]) -> Option<u8>
+    requires { NameTheSame table.now.parts (parts_of m.now) }
+    ensures value { result ≡ (named_in (parts_of m.now) name.now >>? template_at) }
+    ensures there { IfSome result (λ k. is_some (slice_get m.now.templates k) ≡ true) }
+{
+    let part = table.part(m, name)?;
+    template_at(part)
+}
+
+/// The long immediate of a form. It is refused as `Unknown` where the machine has no such
+/// template, and as `Label` where a name that stands for the word is no label.
+#[tactic(auto, unfolding(crate::specs::Resolving::long_of))]
+pub fn long_of(
+    m: &Machine,
+    table: &Table,
+    labels: &Names<Label>,
+    form: &LongForm,
+) -> Result<Long, AsmRefusal>
+    requires { NameTheSame table.now.parts (parts_of m.now) }
+    ensures value { result ≡ long_of m.now labels.now (long_seen form.now) }
+    ensures long { IfOk result (λ l. is_long m.now l ≡ true) }
+{
+    let template = template_named(m, table, form.template).ok_or(AsmRefusal::Unknown)?;
+    let value = word_of(labels, &form.value)?;
+    Ok(Long { template, value })
+}

@@ -1,0 +1,128 @@
+//! What destinations stand for.
+
+ghost use Rattle.std.specs.Prelude.{◌≡◌};
+ghost use Rattle.tta_reading.specs.Names.{named_in};
+ghost use Rattle.tta_reading.specs.Steps.{◌>>?◌};
+ghost use Rattle.tta_ops.specs.Set.{stated};
+ghost use Rattle.tta_asm.specs.Parts.{parts_of};
+ghost use Rattle.tta_asm.specs.Resolving.{register_at, operand_of, trigger_of, control_of};
+ghost use Rattle.tta_asm.specs.Resolving.{dest_of};
+ghost use Rattle.tta_asm.specs.Seen.{dest_seen};
+ghost use Rattle.tta_asm.specs.Table.{NameTheSame, IsTableOf};
+
+use crate::forms::DestForm;
+use crate::parts::Part;
+use crate::table::Table;
+use tta_machine::{Dest, Machine};
+use tta_ops::UnitSet;
+
+/// The register of a file that has this index.
+fn register_at(m: &Machine, index: u32, part: Part) -> Option<Dest>
+    ensures { result ≡ register_at m.now index part }
+{
+    let Part::File(file) = part else {
+        return None;
+    };
+    let f = m.files.as_slice().get(usize::from(file))?;
+    if index < u32::from(f.size) {
+        let index = index as u8;
+        Some(Dest::Reg { file, index })
+    } else {
+        None
+    }
+}
+
+/// The operand port of a unit that has one.
+fn operand_of(m: &Machine, part: Part) -> Option<Dest>
+    ensures { result ≡ operand_of m.now part }
+{
+    let Part::Unit(unit) = part else {
+        return None;
+    };
+    let u = m.units.as_slice().get(usize::from(unit))?;
+    if u.operand.is_some() {
+        Some(Dest::Operand { unit })
+    } else {
+        None
+    }
+}
+
+/// The operation of a unit that has this name.
+fn trigger_of(units: &UnitSet, m: &Machine, table: &Table, name: &[u8], part: Part) -> Option<Dest>
+    requires { IsTableOf (stated unit_meaning units.now) m.now table.now }
+    ensures { result ≡ trigger_of (stated unit_meaning units.now) m.now name.now part }
+{
+    let Part::Unit(unit) = part else {
+        return None;
+    };
+    let op = table.op(units, m, unit, name)?;
+    Some(Dest::Trigger { unit, op })
+}
+
+/// What control can be told.
+fn control_of(op: &[u8]) -> Option<Dest>
+    ensures { result ≡ control_of op.now }
+{
+    if op == b"jump".as_slice() {
+        return Some(Dest::Jump);
+    }
+    if op == b"call".as_slice() {
+        return Some(Dest::Call);
+    }
+    if op == b"halt".as_slice() {
+        return Some(Dest::Halt);
+    }
+    None
+}
+
+/// The register of this index in the file of this name.
+fn register_named(m: &Machine, table: &Table, name: &[u8], index: u32) -> Option<Dest>
+    requires { NameTheSame table.now.parts (parts_of m.now) }
+    ensures { result ≡ (named_in (parts_of m.now) name.now >>? register_at m.now index) }
+{
+    let part = table.part(m, name)?;
+    register_at(m, index, part)
+}
+
+/// The operand port of the unit of this name.
+fn operand_named(m: &Machine, table: &Table, name: &[u8]) -> Option<Dest>
+    requires { NameTheSame table.now.parts (parts_of m.now) }
+    ensures { result ≡ (named_in (parts_of m.now) name.now >>? operand_of m.now) }
+{
+    let part = table.part(m, name)?;
+    operand_of(m, part)
+}
+
+/// The operation of this name of the unit of this name.
+fn trigger_named(
+    units: &UnitSet,
+    m: &Machine,
+    table: &Table,
+    unit: &[u8],
+    op: &[u8],
+) -> Option<Dest>
+    requires { IsTableOf (stated unit_meaning units.now) m.now table.now }
+    ensures { result ≡ (named_in (parts_of m.now) unit.now
+        >>? trigger_of (stated unit_meaning units.now) m.now op.now) }
+{
+    let part = table.part(m, unit)?;
+    trigger_of(units, m, table, op, part)
+}
+
+/// The destination of a form, where the machine has it.
+pub fn dest_of(units: &UnitSet, m: &Machine, table: &Table, form: &DestForm) -> Option<Dest>
+    requires { IsTableOf (stated unit_meaning units.now) m.now table.now }
+    ensures { result ≡ dest_of (stated unit_meaning units.now) m.now (dest_seen form.now) }
+{
+    match *form {
+        DestForm::Place { name, index } => register_named(m, table, name, index),
+        DestForm::Operand { unit } => operand_named(m, table, unit),
+        DestForm::Trigger { unit, op } => {
+            if unit == b"gcu".as_slice() {
+                control_of(op)
+            } else {
+                trigger_named(units, m, table, unit, op)
+            }
+        }
+    }
+}

@@ -1,0 +1,50 @@
+//! What the names of a machine stand for, prepared for look-ups.
+
+use crate::naming::{all_ops, all_parts};
+use crate::parts::Part;
+use std::alloc::{AllocError, Global};
+use tta_list::Items;
+use tta_machine::Machine;
+use tta_ops::UnitSet;
+use tta_reading::Names;
+
+/// What the names of a machine stand for, made once, so that no look-up walks over the machine.
+#[derive(Drop)]
+pub struct Table {
+    parts: Names<Part>,
+    /// For each unit its operations, each with its place in the unit.
+    ops: Items<Names<u8>>,
+}
+
+impl Table {
+    ghost use Rattle.std.specs.Prelude.{◌≡◌, IfOk};
+    ghost use Rattle.tta_reading.specs.Names.{named_in};
+    ghost use Rattle.tta_ops.specs.Set.{stated};
+    ghost use Rattle.tta_asm.specs.Parts.{parts_of};
+    ghost use Rattle.tta_asm.specs.Table.{NameTheSame, IsTableOf, op_named};
+
+    /// The table of a machine. It fails only where there is no memory.
+    pub fn of(alloc: Global, m: &Machine, units: &UnitSet) -> Result<Table, AllocError>
+        ensures { IfOk result (IsTableOf (stated unit_meaning units.now) m.now) }
+    {
+        let parts = all_parts(alloc, m)?;
+        let ops = all_ops(alloc, m, units)?;
+        Ok(Table { parts, ops })
+    }
+
+    /// The part of the machine that has this name.
+    pub fn part(&self, m: &Machine, name: &[u8]) -> Option<Part>
+        requires { NameTheSame self.now.parts (parts_of m.now) }
+        ensures { result ≡ named_in (parts_of m.now) name.now }
+    {
+        self.parts.get(name)
+    }
+
+    /// The operation of a unit that has this name, by its place in the unit.
+    pub fn op(&self, units: &UnitSet, m: &Machine, unit: u8, name: &[u8]) -> Option<u8>
+        requires { IsTableOf (stated unit_meaning units.now) m.now self.now }
+        ensures { result ≡ op_named (stated unit_meaning units.now) m.now unit name.now }
+    {
+        self.ops.as_slice().get(usize::from(unit))?.get(name)
+    }
+}
