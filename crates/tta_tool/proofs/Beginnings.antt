@@ -11,7 +11,7 @@ use Rattle.tta_tool.specs.World.{World}
 use Rattle.tta_tool.specs.Output.{Output}
 use Rattle.tta_tool.specs.Contents.{HasMachine, HasProgram, MachineFails, ProgramFails, InputFails, ReadsMachine, ReadsProgram, ReadsInput}
 use Rattle.tta_tool.specs.Exec.{Begins, BeginsWith, BeginFails, BeginEnds, BeginWithEnds, RunEnds, Execs}
-use Rattle.tta_tool.proofs.Endings.{same_world}
+use Rattle.tta_tool.proofs.Worlds.{same_world}
 
 -- ---- a file that is refused ends the command
 

@@ -1,25 +1,18 @@
 -- How the endings of the parts of `build` make its own.
-use Rattle.std.proofs.Common.{◌≡◌, ℕ, true, false, List, Option, Result, Ok, Err, refl, ap, ◌∙◌, subst, inl, inr}
+use Rattle.std.proofs.Common.{◌≡◌, ℕ, true, false, List, Result, Ok, Err, refl, subst, inl, inr}
 use Rattle.sha2.specs.Sha256.{sha256}
 use Rattle.tta_ops.specs.Units.{Units}
 use Rattle.tta_machine.specs.Machine.{Machine}
 use Rattle.tta_tac.specs.Program.{Program}
 use Rattle.tta_tool.specs.declared.status.Status.{Status}
 use Rattle.tta_tool.specs.declared.status.Status.TheVariants as status
-use Rattle.tta_ports.specs.declared.fault.Fault.{Fault}
-use Rattle.tta_ports.specs.Store.{Store}
 use Rattle.tta_build.specs.First.{is_first_machine, is_direct}
-use Rattle.tta_tool.specs.World.{World, world, IsUntouched}
+use Rattle.tta_tool.specs.World.{World, IsUntouched}
 use Rattle.tta_tool.specs.Stages.{PairEnds, LacksRoom}
 use Rattle.tta_tool.specs.Contents.{HasMachine, MachineFails, ProgramFails, ReadsMachine, ReadsProgram}
-use Rattle.tta_tool.specs.Build.{HasFirst, Builds, CompileProgramEnds, CompileForEnds, CompileEnds, IsResult, WriteEnds}
-
--- files that were not touched are the files as they were
-pub same_world : (before after : World) → IsUntouched before after → after ≡ before
-same_world before after e =
-    let of : Option Store → ℕ → Option Fault → World = world in
-    ap (λ c. of c after.faults after.latest) e.contents ∙ ap (λ n. of before.contents n after.latest) e.faults
-    ∙ ap (λ l. of before.contents before.faults l) e.latest
+use Rattle.tta_tool.specs.Build.{HasFirst, Builds, CompileProgramEnds, CompileForEnds, CompileEnds, IsResult}
+use Rattle.tta_tool.specs.Writing.{WriteEnds, WritingEnds}
+use Rattle.tta_tool.proofs.Worlds.{same_world, writing_ends}
 
 -- ---- a file that is refused ends the command
 
@@ -116,9 +109,9 @@ compile_ends {T} u M P text m before between after items result reads ends =
 pub build_ends : (u : Units) (M P OUT bytes : List ℕ) (before between after : World) (s : Status)
     → IsResult u before.contents M P bytes → IsUntouched before between → WriteEnds OUT bytes between after s → Builds u M P OUT before after s
 build_ends u M P OUT bytes before between after s made untouched ends =
-    of s (subst (λ w. WriteEnds OUT bytes w after s) (same_world before between untouched) ends) where
-      of : (s : Status) → WriteEnds OUT bytes before after s → Builds u M P OUT before after s
-      of status.Ok ends = record { bytes = bytes; result = made; written = ends.0; faults = ends.1; latest = ends.2 }
-      of status.WriteFault ends = record { bytes = bytes; result = made; partly = ends.0; rose = ends.1; latest = ends.2 }
+    of s (writing_ends (IsResult u before.contents M P) OUT bytes before between after s made untouched ends) where
+      of : (s : Status) → WritingEnds (IsResult u before.contents M P) OUT before after s → Builds u M P OUT before after s
+      of status.Ok ends = ends
+      of status.WriteFault ends = ends
       of status.NoMemory ends = ends
       of s ends = absurd ends

@@ -1,4 +1,7 @@
+pub mod Worlds
 pub mod Endings
+pub mod Assemblies
+pub mod Showings
 pub mod Runs
 pub mod ProgramSteps
 pub mod CodeCycles

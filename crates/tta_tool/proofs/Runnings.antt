@@ -17,7 +17,7 @@ use Rattle.tta_tool.specs.World.{World}
 use Rattle.tta_tool.specs.Output.{Output}
 use Rattle.tta_tool.specs.Contents.{HasMachine, HasCode, HasInput, MachineFails, CodeFails, InputFails, ReadsMachine, ReadsCode, ReadsInput}
 use Rattle.tta_tool.specs.Run.{HasRun, BeginsWith, BeginFails, RunEnds, RunFileEnds, Runs}
-use Rattle.tta_tool.proofs.Endings.{same_world}
+use Rattle.tta_tool.proofs.Worlds.{same_world}
 
 -- ---- a file that is refused ends the command
 

@@ -1,18 +1,16 @@
 -- What the command `build` does, and why it does not.
-use Rattle.std.specs.Prelude.{◌≡◌, ◌⊎◌, ℕ, true, false, List, Option, Some, Result, Ok, Err}
+use Rattle.std.specs.Prelude.{◌≡◌, ◌⊎◌, ℕ, true, false, List, Option, Result, Ok, Err}
 use Rattle.sha2.specs.Sha256.{sha256}
 use Rattle.tta_ops.specs.Units.{Units}
 use Rattle.tta_machine.specs.Machine.{Machine}
 use Rattle.tta_build.specs.First.{is_first_machine, is_direct}
-use Rattle.tta_ports.specs.declared.fault.Fault.TheVariants.{Write}
 use Rattle.tta_ports.specs.Store.{Store}
-use Rattle.tta_ports.specs.Faults.{Rose}
-use Rattle.tta_ports.specs.Files.{written, IsPartlyWritten}
 use Rattle.tta_tool.specs.declared.status.Status.{Status}
 use Rattle.tta_tool.specs.declared.status.Status.TheVariants as status
 use Rattle.tta_tool.specs.World.{World, IsUntouched, ReadFailed, IsTooLong}
 use Rattle.tta_tool.specs.Stages.{IsBadMachine, IsBadProgram, IsImageOf, LacksRoom}
 use Rattle.tta_tool.specs.Contents.{HasMachine, HasProgram, HasText}
+use Rattle.tta_tool.specs.Writing.{IsWritten, WriteFailed}
 
 -- ---- what was read
 
@@ -46,22 +44,6 @@ pub record IsResult (u : Units) (files : Option Store) (M P bytes : List ℕ) : 
   pub pair : HasPair u files M P
   pub image : IsImageOf pair.machine.file.machine pair.program.program (sha256 pair.machine.file.text) bytes
 
--- OUT holds the result, and every other file what it held
-pub record IsBuilt (u : Units) (M P OUT : List ℕ) (before after : World) : Type 0 where
-  pub bytes : List ℕ
-  pub result : IsResult u before.contents M P bytes
-  pub written : after.contents ≡ written OUT bytes before.contents
-  pub faults : after.faults ≡ before.faults
-  pub latest : after.latest ≡ before.latest
-
--- the write of OUT has failed: OUT holds the front of a result or is as it was, and so is every other file
-pub record WriteFailed (u : Units) (M P OUT : List ℕ) (before after : World) : Type 0 where
-  pub bytes : List ℕ
-  pub result : IsResult u before.contents M P bytes
-  pub partly : IsPartlyWritten OUT bytes before.contents after.contents
-  pub rose : Rose before.faults after.faults
-  pub latest : after.latest ≡ Some (Write OUT)
-
 -- ---- why nothing was made
 
 -- the code needs these many words, and the machine has fewer addresses
@@ -86,14 +68,14 @@ NotYet u files M P word = ((word ≡ 1) × HasOther u files M) ⊎ ((word ≡ 2)
 -- How `build M P OUT` ends. Each ending but want of memory has its cause, and the causes exclude each other: so each
 -- comes exactly where its cause holds, as far as memory and files do not fail.
 abbrev pub Builds : Units → (M P OUT : List ℕ) → (before after : World) → Status → Type 0
-Builds u M P OUT before after status.Ok = IsBuilt u M P OUT before after
+Builds u M P OUT before after status.Ok = IsWritten (IsResult u before.contents M P) OUT before after
 Builds u M P OUT before after (status.BadMachine line code) =
     IsUntouched before after × HasText before.contents M (λ text. IsBadMachine u text line code)
 Builds u M P OUT before after (status.BadProgram line code) =
     IsUntouched before after × HasFirst u before.contents M × HasText before.contents P (λ text. IsBadProgram u text line code)
 Builds u M P OUT before after (status.CodeFull words have) = IsUntouched before after × IsFull u before.contents M P words have
 Builds u M P OUT before after (status.ReadFault word) = ReadFault u M P before after word
-Builds u M P OUT before after status.WriteFault = WriteFailed u M P OUT before after
+Builds u M P OUT before after status.WriteFault = WriteFailed (IsResult u before.contents M P) OUT before after
 Builds u M P OUT before after (status.TooLong word) = TooLong u M P before after word
 Builds u M P OUT before after status.NoMemory = IsUntouched before after
 Builds u M P OUT before after (status.NotYet word) = IsUntouched before after × NotYet u before.contents M P word
@@ -124,12 +106,3 @@ CompileForEnds u P text machine before after items (Ok v) =
     (is_first_machine machine ≡ true) × MakesImage u P text machine (items v) before after
 CompileForEnds u P text machine before after items (Err s) =
     (M OUT : List ℕ) (has : HasMachine u before.contents M) → machine ≡ has.machine → Builds u M P OUT before after s
-
--- bytes were written, or they were not
-abbrev pub WriteEnds : (OUT bytes : List ℕ) → (before after : World) → Status → Type 0
-WriteEnds OUT bytes before after status.Ok =
-    (after.contents ≡ written OUT bytes before.contents) × (after.faults ≡ before.faults) × (after.latest ≡ before.latest)
-WriteEnds OUT bytes before after status.WriteFault =
-    IsPartlyWritten OUT bytes before.contents after.contents × Rose before.faults after.faults × (after.latest ≡ Some (Write OUT))
-WriteEnds OUT bytes before after status.NoMemory = IsUntouched before after
-WriteEnds OUT bytes before after s = ⊥

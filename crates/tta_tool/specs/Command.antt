@@ -8,14 +8,26 @@ use Rattle.tta_tool.specs.World.{World, IsUntouched}
 use Rattle.tta_tool.specs.Output.{Output, IsQuiet}
 use Rattle.tta_tool.specs.Bound.{bound_of}
 use Rattle.tta_tool.specs.Build.{Builds}
+use Rattle.tta_tool.specs.Asm.{Assembles}
+use Rattle.tta_tool.specs.Dis.{Shows}
 use Rattle.tta_tool.specs.Exec.{Execs}
 use Rattle.tta_tool.specs.Run.{Runs}
 
 -- what can be asked for
 pub data Request : Type 0 where
   Build : (machine program out : List ℕ) → Request
+  Asm : (machine assembly out : List ℕ) → Request
+  Dis : (machine image out : List ℕ) → Request
   Exec : (machine program input : List ℕ) (bound : ℕ) → Request
   Run : (machine image input : List ℕ) (bound : ℕ) → Request
+
+-- the request of the name of a command whose last word is a file that it writes
+abbrev pub writing_request : (word machine second out : List ℕ) → Option Request
+writing_request word machine second out =
+    if bytes_eq word (codes "build") then Some (Build machine second out)
+    else if bytes_eq word (codes "asm") then Some (Asm machine second out)
+    else if bytes_eq word (codes "dis") then Some (Dis machine second out)
+    else None
 
 -- the request of the name of a command whose last word is a bound
 abbrev pub bounded_request : (word machine second input : List ℕ) → (bound : ℕ) → Option Request
@@ -26,7 +38,7 @@ bounded_request word machine second input bound =
 
 -- the request of some words; none where they are no command
 abbrev pub request_of : List (List ℕ) → Option Request
-request_of (word ∷ machine ∷ program ∷ out ∷ []) = if bytes_eq word (codes "build") then Some (Build machine program out) else None
+request_of (word ∷ machine ∷ second ∷ out ∷ []) = writing_request word machine second out
 request_of (word ∷ machine ∷ second ∷ input ∷ bound ∷ []) = option_and_then (bounded_request word machine second input) (bound_of bound)
 request_of words = None
 
@@ -36,9 +48,11 @@ pub record IsUsage (before after : World) (old new : Output) (s : Status) : Type
   pub untouched : IsUntouched before after
   pub quiet : IsQuiet old new
 
--- how a request ends; `build` puts nothing out
+-- how a request ends; what writes a file puts nothing out
 abbrev pub Ends : Units → Option Request → (before after : World) → (old new : Output) → Status → Type 0
 Ends u None before after old new s = IsUsage before after old new s
 Ends u (Some (Build machine program out)) before after old new s = Builds u machine program out before after s × IsQuiet old new
+Ends u (Some (Asm machine assembly out)) before after old new s = Assembles u machine assembly out before after s × IsQuiet old new
+Ends u (Some (Dis machine image out)) before after old new s = Shows u machine image out before after s × IsQuiet old new
 Ends u (Some (Exec machine program input bound)) before after old new s = Execs u machine program input bound before after old new s
 Ends u (Some (Run machine image input bound)) before after old new s = Runs u machine image input bound before after old new s

@@ -3,7 +3,10 @@ pub mod World
 pub mod Output
 pub mod Stages
 pub mod Contents
+pub mod Writing
 pub mod Build
+pub mod Asm
+pub mod Dis
 pub mod Bound
 pub mod Steps
 pub mod Exec

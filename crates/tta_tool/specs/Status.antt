@@ -11,6 +11,7 @@ number_of (status.BadMachine line code) = 2
 number_of (status.BadProgram line code) = 3
 number_of (status.CodeFull words have) = 7
 number_of (status.BadImage code word bus) = 8
+number_of (status.BadAsm line code) = 9
 number_of (status.BadInput line) = 10
 number_of (status.MachineFault code cycle) = 11
 number_of status.Running = 12

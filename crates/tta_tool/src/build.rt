@@ -6,17 +6,18 @@ ghost use Rattle.tta_ops.specs.Set.{stated};
 ghost use Rattle.tta_build.specs.First.{is_first_machine, is_direct};
 ghost use Rattle.tta_tool.specs.World.{world};
 ghost use Rattle.tta_tool.specs.Stages.{ImageEnds, PairEnds};
-ghost use Rattle.tta_tool.specs.Build.{Builds, CompileProgramEnds, CompileForEnds, CompileEnds, WriteEnds};
+ghost use Rattle.tta_tool.specs.Build.{Builds, CompileProgramEnds, CompileForEnds, CompileEnds};
 
 use crate::contents::{MachineFile, machine_file, program_file};
 use crate::status::Status;
+use crate::write::write_out;
 use sha2::{Digest, Sha256};
 use std::alloc::Global;
 use tta_build::{BuildError, build, is_direct, is_first_machine};
 use tta_image::write_image;
 use tta_machine::Machine;
 use tta_ops::UnitSet;
-use tta_ports::{Files, WriteError};
+use tta_ports::Files;
 use tta_tac::Program;
 
 // The image of a program for a machine, with the digest of the machine's text.
@@ -112,19 +113,6 @@ fn compile<F: Files>(
     match machine_file(alloc, units, files, machine) {
         Ok(file) => compile_for(alloc, units, files, program, &file),
         Err(status) => Err(status),
-    }
-}
-
-// Makes OUT hold the result.
-fn write_out<F: Files>(files: &mut F, out: &str, bytes: &[u8]) -> Status
-    ensures { WriteEnds out.now bytes.now
-        (world (F.contents files.old) (F.faults files.old) (F.latest files.old))
-        (world (F.contents files.new) (F.faults files.new) (F.latest files.new)) result }
-{
-    match files.write(out, bytes) {
-        Ok(()) => Status::Ok,
-        Err(WriteError::Failed) => Status::WriteFault,
-        Err(WriteError::NoMemory) => Status::NoMemory,
     }
 }
 

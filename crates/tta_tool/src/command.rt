@@ -5,16 +5,48 @@ ghost use Rattle.std.specs.String.{string_bytes};
 ghost use Rattle.tta_ops.specs.Set.{stated};
 ghost use Rattle.tta_tool.specs.World.{world};
 ghost use Rattle.tta_tool.specs.Output.{output};
-ghost use Rattle.tta_tool.specs.Command.{Ends, bounded_request, request_of};
+ghost use Rattle.tta_tool.specs.Command.{Ends, bounded_request, writing_request, request_of};
 
+use crate::asm::assemble_image;
 use crate::bound::bound_of;
 use crate::build::build_image;
+use crate::dis::show_image;
 use crate::exec::exec_program;
 use crate::running::run_image;
 use crate::status::Status;
 use std::alloc::Global;
 use tta_ops::UnitSet;
 use tta_ports::{Files, Sink};
+
+// Carries out the command of this name whose last word is a file that it writes. The output is not touched.
+fn run_writing<F: Files, S: Sink>(
+    alloc: Global,
+    units: &UnitSet,
+    files: &mut F,
+    sink: &S,
+    word: &str,
+    machine: &str,
+    second: &str,
+    out: &str,
+) -> Status
+    ensures { Ends (stated unit_meaning units.now)
+        (writing_request word.now machine.now second.now out.now)
+        (world (F.contents files.old) (F.faults files.old) (F.latest files.old))
+        (world (F.contents files.new) (F.faults files.new) (F.latest files.new))
+        (output (S.taken sink.now) (S.faults sink.now)) (output (S.taken sink.now) (S.faults sink.now))
+        result }
+{
+    if word == "build" {
+        return build_image(alloc, units, files, machine, second, out);
+    }
+    if word == "asm" {
+        return assemble_image(alloc, units, files, machine, second, out);
+    }
+    if word == "dis" {
+        return show_image(alloc, units, files, machine, second, out);
+    }
+    Status::Usage
+}
 
 // Carries out the command of this name whose last word is a bound.
 fn run_bounded<F: Files, S: Sink>(
@@ -52,6 +84,9 @@ fn run_bounded<F: Files, S: Sink>(
 /// it is refused, every file is as it was, but after a fault of the write OUT may hold the front of an image. It puts
 /// nothing out.
 ///
+/// `asm M A OUT` reads the assembly of the file A for the machine of the file M and makes OUT hold the image of its code.
+/// `dis M IMG OUT` makes OUT hold the canonical assembly of the image in the file IMG. Both are otherwise as `build`.
+///
 /// `exec M P IN N` runs the program of the file P for at most N steps, from the words of the file IN in the data space of
 /// the machine of the file M. It puts out each word as it comes, then how the run ended, the data words that are not 0 and
 /// the number of steps. Where it is refused, it puts nothing out. It changes no file.
@@ -72,20 +107,16 @@ pub fn tool<F: Files, S: Sink>(
         result }
 {
     match words.as_slice() {
-        [word, machine, program, out] => {
-            if word.as_str() == "build" {
-                build_image(
-                    alloc,
-                    units,
-                    files,
-                    machine.as_str(),
-                    program.as_str(),
-                    out.as_str(),
-                )
-            } else {
-                Status::Usage
-            }
-        }
+        [word, machine, second, out] => run_writing(
+            alloc,
+            units,
+            files,
+            &*sink,
+            word.as_str(),
+            machine.as_str(),
+            second.as_str(),
+            out.as_str(),
+        ),
         [word, machine, second, input, bound] => match bound_of(bound.as_bytes()) {
             Some(bound) => run_bounded(
                 alloc,

@@ -4,10 +4,13 @@ ghost use Rattle.std.specs.Prelude.{◌≡◌, ◌≤◌, ◌^◌, length, IfOk}
 ghost use Rattle.tta_ops.specs.Set.{stated};
 ghost use Rattle.tta_tool.specs.World.{world};
 ghost use Rattle.tta_tool.specs.Stages.{ReadEnds, MachineEnds, ProgramEnds, CodeEnds, InputEnds};
+ghost use Rattle.tta_code.specs.Legal.{IsLegalCode};
+ghost use Rattle.tta_tool.specs.Asm.{AssemblyEnds, AssemblyFileEnds};
 ghost use Rattle.tta_tool.specs.Contents.{MachineFileEnds, ProgramFileEnds, CodeFileEnds, InputFileEnds};
 
 use crate::status::Status;
 use std::alloc::Global;
+use tta_asm::{AsmError, assemble};
 use tta_code::Code;
 use tta_image::{ImageError, read_image};
 use tta_input::{InputError, read_input};
@@ -86,6 +89,24 @@ fn words_of(alloc: Global, bytes: &[u8], space: u32) -> Result<Vec<u32>, Status>
     }
 }
 
+// The code of an assembly text for a machine.
+fn assembly_of(
+    alloc: Global,
+    text: &[u8],
+    machine: &Machine,
+    units: &UnitSet,
+) -> Result<Code, Status>
+    requires { length text.now ≤ 2 ^ 24 }
+    ensures ends { AssemblyEnds (stated unit_meaning units.now) machine.now text.now result }
+    ensures legal { IfOk result (λ code. IsLegalCode machine.now code) }
+{
+    match assemble(alloc, text, machine, units) {
+        Ok(code) => Ok(code),
+        Err(AsmError::Refused { line, code }) => Err(Status::BadAsm { line, code }),
+        Err(AsmError::NoMemory) => Err(Status::NoMemory),
+    }
+}
+
 /// A machine with the text that describes it.
 #[derive(Drop)]
 pub struct MachineFile {
@@ -144,6 +165,26 @@ pub fn code_file<F: Files>(
 {
     let bytes = read_file(files, name, 2)?;
     match code_of(alloc, bytes.as_slice(), machine, digest) {
+        Ok(code) => Ok(code),
+        Err(status) => Err(status),
+    }
+}
+
+/// The code of the assembly of the file that word 2 names, for a machine.
+pub fn assembly_file<F: Files>(
+    alloc: Global,
+    units: &UnitSet,
+    files: &mut F,
+    name: &str,
+    machine: &Machine,
+) -> Result<Code, Status>
+    ensures ends { AssemblyFileEnds (stated unit_meaning units.now) machine.now name.now
+        (world (F.contents files.old) (F.faults files.old) (F.latest files.old))
+        (world (F.contents files.new) (F.faults files.new) (F.latest files.new)) result }
+    ensures legal { IfOk result (λ code. IsLegalCode machine.now code) }
+{
+    let assembly = read_file(files, name, 2)?;
+    match assembly_of(alloc, assembly.as_slice(), machine, units) {
         Ok(code) => Ok(code),
         Err(status) => Err(status),
     }

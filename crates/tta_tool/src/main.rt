@@ -1,12 +1,14 @@
 //! The command line of the toolset.
 #![tactic(auto)]
 
+mod asm;
 mod bound;
 mod build;
 mod command;
 mod contents;
 mod cycle_report;
 mod cycles;
+mod dis;
 mod exec;
 mod report;
 mod running;
@@ -14,11 +16,13 @@ mod status;
 mod steps;
 #[cfg(test)]
 mod tests;
+mod write;
 
 use command::tool;
 use status::Status;
 use std::alloc::{AllocError, Global};
 use std::env;
+use std::io::ErrorKind;
 use std::process::ExitCode;
 use std::rt::Env;
 use tta_ops::{Arith, Compare, Divide, Logic, OpUnit, Shift, UnitSet};
@@ -26,8 +30,10 @@ use tta_ports::{Files, RealFiles, RealSink, Sink};
 
 // The words behind the program's name. A word that is not UTF-8 makes no command.
 fn words_of(rt: &(impl Env + AllocGlobal)) -> Result<Vec<String>, Status> {
-    let Ok(all) = env::args(rt) else {
-        return Err(Status::Usage);
+    let all = match env::args(rt) {
+        Ok(all) => all,
+        Err(e) if e.kind() == ErrorKind::OutOfMemory => return Err(Status::NoMemory),
+        Err(_) => return Err(Status::Usage),
     };
     let mut words = Vec::new(rt.alloc());
     for word in all.skip(1) {

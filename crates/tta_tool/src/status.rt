@@ -27,6 +27,9 @@ pub enum Status {
     /// The file of an image is refused, for a reason with a number from 40 to 47, at a word and a bus.
     #[error("image: code {code}, word {word}, bus {bus}")]
     BadImage { code: u8, word: u32, bus: u8 },
+    /// The assembly is refused at a line, for a reason with a number from 50 to 56.
+    #[error("assembly: line {line}, code {code}")]
+    BadAsm { line: u32, code: u8 },
     /// The file of the data words is refused at a line: it is no word, or one more than the data space has.
     #[error("input: line {line}")]
     BadInput { line: u32 },
@@ -65,6 +68,7 @@ impl Status {
             Status::BadProgram { .. } => 3,
             Status::CodeFull { .. } => 7,
             Status::BadImage { .. } => 8,
+            Status::BadAsm { .. } => 9,
             Status::BadInput { .. } => 10,
             Status::MachineFault { .. } => 11,
             Status::Running => 12,

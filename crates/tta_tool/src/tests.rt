@@ -1,5 +1,7 @@
 //! The commands over files in memory: a program is compiled or run, and each fault is told.
 
+mod assembly;
+mod dot_product;
 mod exec;
 mod programs;
 mod run;

@@ -1,7 +1,7 @@
 use Rattle.std.proofs.Common.{ℕ, List, subst}
 use Rattle.tta_ops.specs.Set.{stated}
 use Rattle.tta_tool.specs.World.{world}
-use Rattle.tta_tool.specs.Build.{WriteEnds}
+use Rattle.tta_tool.specs.Writing.{WriteEnds}
 use Rattle.tta_tool.proofs.Endings.{build_ends}
 use Rattle.tta_tool.proofs.build.build_image.Goals as goal
 

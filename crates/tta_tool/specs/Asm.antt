@@ -1,0 +1,105 @@
+-- What the command `asm` does, and why it does not.
+use Rattle.std.specs.Prelude.{◌≡◌, ℕ, List, Option, Result, Ok, Err}
+use Rattle.sha2.specs.Sha256.{sha256}
+use Rattle.tta_ops.specs.Units.{Units}
+use Rattle.tta_machine.specs.Machine.{Machine}
+use Rattle.tta_code.specs.declared.code.Code.{Code}
+use Rattle.tta_image.specs.Image.{Image}
+use Rattle.tta_asm.specs.declared.refusal.AsmRefusal.{AsmRefusal}
+use Rattle.tta_asm.specs.Refusals.{code_of}
+use Rattle.tta_asm.specs.Assembly.{assembled}
+use Rattle.tta_ports.specs.Store.{Store}
+use Rattle.tta_ports.specs.Files.{Holds}
+use Rattle.tta_tool.specs.declared.status.Status.{Status}
+use Rattle.tta_tool.specs.declared.status.Status.TheVariants as status
+use Rattle.tta_tool.specs.World.{World, IsUntouched, ReadFailed, IsTooLong}
+use Rattle.tta_tool.specs.Stages.{IsBadMachine}
+use Rattle.tta_tool.specs.Contents.{HasMachine, HasText}
+use Rattle.tta_tool.specs.Writing.{IsWritten, WriteFailed, ReadFault, TooLong}
+
+-- the file of a name holds the assembly of code for a machine
+pub record HasAssembly (u : Units) (m : Machine) (files : Option Store) (A : List ℕ) : Type 0 where
+  pub text : List ℕ
+  pub code : Code
+  pub holds : Holds files A text
+  pub read : assembled u m text ≡ Ok code
+
+-- bytes are the image of the code that a file's text is the assembly of, with the digest of the machine's text
+pub record IsAssembled (u : Units) (files : Option Store) (M A bytes : List ℕ) : Type 0 where
+  pub machine : HasMachine u files M
+  pub assembly : HasAssembly u machine.machine files A
+  pub image : Image machine.machine (sha256 machine.text) assembly.code bytes
+
+-- a text is refused as assembly for a machine, with this number at this line
+pub record IsBadAssembly (u : Units) (m : Machine) (text : List ℕ) (line code : ℕ) : Type 0 where
+  pub refusal : AsmRefusal
+  pub refused : assembled u m text ≡ Err (line, refusal)
+  pub told : code ≡ code_of refusal
+
+-- the text of a file is refused as assembly for the machine of another
+pub record HasBadAssembly (u : Units) (files : Option Store) (M A : List ℕ) (line code : ℕ) : Type 0 where
+  pub machine : HasMachine u files M
+  pub assembly : HasText files A (λ text. IsBadAssembly u machine.machine text line code)
+
+-- How `asm M A OUT` ends. Each ending but want of memory has its cause, and the causes exclude each other: so each comes
+-- exactly where its cause holds, as far as memory and files do not fail.
+abbrev pub Assembles : Units → (M A OUT : List ℕ) → (before after : World) → Status → Type 0
+Assembles u M A OUT before after status.Ok = IsWritten (IsAssembled u before.contents M A) OUT before after
+Assembles u M A OUT before after (status.BadMachine line code) =
+    IsUntouched before after × HasText before.contents M (λ text. IsBadMachine u text line code)
+Assembles u M A OUT before after (status.BadAsm line code) = IsUntouched before after × HasBadAssembly u before.contents M A line code
+Assembles u M A OUT before after (status.ReadFault word) = ReadFault u M A before after word
+Assembles u M A OUT before after status.WriteFault = WriteFailed (IsAssembled u before.contents M A) OUT before after
+Assembles u M A OUT before after (status.TooLong word) = TooLong u M A before after word
+Assembles u M A OUT before after status.NoMemory = IsUntouched before after
+Assembles u M A OUT before after s = ⊥
+
+-- ---- the command's parts
+
+-- code has its image, or there was no memory
+abbrev pub CodeImageEnds : {T : Type 0} → Machine → (digest : List ℕ) → Code → (T → List ℕ) → Result T Status → Type 0
+CodeImageEnds m digest code items (Ok v) = Image m digest code (items v)
+CodeImageEnds m digest code items (Err s) = s ≡ status.NoMemory
+
+-- a text is the assembly of code, or there is a cause
+abbrev pub AssemblyEnds : Units → Machine → (text : List ℕ) → Result Code Status → Type 0
+AssemblyEnds u m text (Ok code) = assembled u m text ≡ Ok code
+AssemblyEnds u m text (Err (status.BadAsm line code)) = IsBadAssembly u m text line code
+AssemblyEnds u m text (Err status.NoMemory) = Unit {0}
+AssemblyEnds u m text (Err s) = ⊥
+
+-- the assembly, which word 2 names, is refused
+abbrev pub AssemblyFails : Units → Machine → (A : List ℕ) → (before after : World) → Status → Type 0
+AssemblyFails u m A before after (status.BadAsm line code) =
+    IsUntouched before after × HasText before.contents A (λ text. IsBadAssembly u m text line code)
+AssemblyFails u m A before after (status.ReadFault word) = (word ≡ 2) × ReadFailed A before after
+AssemblyFails u m A before after (status.TooLong word) = (word ≡ 2) × IsTooLong A before after
+AssemblyFails u m A before after status.NoMemory = IsUntouched before after
+AssemblyFails u m A before after s = ⊥
+
+-- the assembly was read and no file was touched
+pub record ReadsAssembly (u : Units) (m : Machine) (A : List ℕ) (code : Code) (before after : World) : Type 0 where
+  pub text : List ℕ
+  pub holds : Holds before.contents A text
+  pub read : assembled u m text ≡ Ok code
+  pub untouched : IsUntouched before after
+
+abbrev pub AssemblyFileEnds : Units → Machine → (A : List ℕ) → (before after : World) → Result Code Status → Type 0
+AssemblyFileEnds u m A before after (Ok code) = ReadsAssembly u m A code before after
+AssemblyFileEnds u m A before after (Err s) = AssemblyFails u m A before after s
+
+-- the image was made and no file was touched, or the command ends
+abbrev pub AssembleEnds : {T : Type 0} → Units → (M A : List ℕ) → (before after : World) → (T → List ℕ) → Result T Status → Type 0
+AssembleEnds u M A before after items (Ok v) = IsAssembled u before.contents M A (items v) × IsUntouched before after
+AssembleEnds u M A before after items (Err s) = (OUT : List ℕ) → Assembles u M A OUT before after s
+
+-- the same where the machine was read
+pub record MakesAssembled (u : Units) (A text : List ℕ) (m : Machine) (bytes : List ℕ) (before after : World) : Type 0 where
+  pub assembly : HasAssembly u m before.contents A
+  pub image : Image m (sha256 text) assembly.code bytes
+  pub untouched : IsUntouched before after
+
+abbrev pub AssembleForEnds : {T : Type 0} → Units → (A text : List ℕ) → Machine → (before after : World) → (T → List ℕ) → Result T Status → Type 0
+AssembleForEnds u A text m before after items (Ok v) = MakesAssembled u A text m (items v) before after
+AssembleForEnds u A text m before after items (Err s) =
+    (M OUT : List ℕ) (has : HasMachine u before.contents M) → m ≡ has.machine → Assembles u M A OUT before after s

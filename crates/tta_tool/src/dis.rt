@@ -1,0 +1,93 @@
+//! The command `dis`: the code of an image, as its canonical assembly.
+
+ghost use Rattle.tta_ops.specs.Set.{stated};
+ghost use Rattle.tta_code.specs.Legal.{IsLegalCode};
+ghost use Rattle.tta_tool.specs.World.{world};
+ghost use Rattle.tta_tool.specs.Dis.{Shows, CodeTextEnds, ShowForEnds, ShowEnds};
+
+use crate::contents::{MachineFile, code_file, machine_file};
+use crate::status::Status;
+use crate::write::write_out;
+use sha2::{Digest, Sha256};
+use std::alloc::Global;
+use tta_asm::disassemble;
+use tta_code::Code;
+use tta_machine::Machine;
+use tta_ops::UnitSet;
+use tta_ports::Files;
+
+// The canonical text of code for a machine.
+fn text_of_code(
+    alloc: Global,
+    units: &UnitSet,
+    machine: &Machine,
+    code: &Code,
+) -> Result<Vec<u8>, Status>
+    requires { IsLegalCode machine.now code.now }
+    ensures { CodeTextEnds (stated unit_meaning units.now) machine.now code.now (λ v. v.items) result }
+{
+    match disassemble(alloc, code, machine, units) {
+        Ok(text) => Ok(text),
+        Err(_) => Err(Status::NoMemory),
+    }
+}
+
+// The text of the code that word 2 names, for a machine that was read.
+fn show_for<F: Files>(
+    alloc: Global,
+    units: &UnitSet,
+    files: &mut F,
+    name: &str,
+    file: &MachineFile,
+) -> Result<Vec<u8>, Status>
+    ensures { ShowForEnds (stated unit_meaning units.now) name.now
+        file.now.text.items file.now.machine
+        (world (F.contents files.old) (F.faults files.old) (F.latest files.old))
+        (world (F.contents files.new) (F.faults files.new) (F.latest files.new))
+        (λ v. v.items) result }
+{
+    let digest = Sha256::digest(file.text.as_slice());
+    match code_file(alloc, files, name, &file.machine, &digest) {
+        Ok(code) => text_of_code(alloc, units, &file.machine, &code),
+        Err(status) => Err(status),
+    }
+}
+
+// The text of the code that word 2 names, for the machine that word 1 names.
+fn show_files<F: Files>(
+    alloc: Global,
+    units: &UnitSet,
+    files: &mut F,
+    machine: &str,
+    image: &str,
+) -> Result<Vec<u8>, Status>
+    ensures { ShowEnds (stated unit_meaning units.now) machine.now image.now
+        (world (F.contents files.old) (F.faults files.old) (F.latest files.old))
+        (world (F.contents files.new) (F.faults files.new) (F.latest files.new))
+        (λ v. v.items) result }
+{
+    match machine_file(alloc, units, files, machine) {
+        Ok(file) => show_for(alloc, units, files, image, &file),
+        Err(status) => Err(status),
+    }
+}
+
+/// Shows the code of the image in the file `image` for the machine of the file `machine`: writes its canonical assembly to
+/// `out`.
+pub fn show_image<F: Files>(
+    alloc: Global,
+    units: &UnitSet,
+    files: &mut F,
+    machine: &str,
+    image: &str,
+    out: &str,
+) -> Status
+    ensures { Shows (stated unit_meaning units.now) machine.now image.now out.now
+        (world (F.contents files.old) (F.faults files.old) (F.latest files.old))
+        (world (F.contents files.new) (F.faults files.new) (F.latest files.new)) result }
+{
+    match show_files(alloc, units, files, machine, image) {
+        Ok(text) => write_out(files, out, text.as_slice()),
+        Err(status) => status,
+    }
+}
