@@ -5,8 +5,6 @@ mod code;
 mod laws;
 mod legality;
 mod room;
-#[cfg(test)]
-mod tests;
 
 pub use code::{Code, Instruction, Long, Move};
 pub use laws::tells_legal;

@@ -6,7 +6,5 @@ mod guards;
 mod net;
 mod ports;
 mod sets;
-#[cfg(test)]
-mod tests;
 
 pub use net::Net;

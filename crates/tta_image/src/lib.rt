@@ -9,8 +9,6 @@ mod read;
 mod refusal;
 mod sink;
 mod slots;
-#[cfg(test)]
-mod tests;
 mod words;
 mod write;
 

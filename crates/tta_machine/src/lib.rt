@@ -8,8 +8,6 @@ mod layout;
 mod machine;
 mod parts;
 mod reading;
-#[cfg(test)]
-mod tests;
 mod word;
 
 pub use ends::{Dest, GuardRef, Source};

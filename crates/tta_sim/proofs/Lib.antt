@@ -13,4 +13,3 @@ pub mod Wrote
 pub mod Faulting
 pub mod Acting
 pub mod Going
-pub mod Sampled

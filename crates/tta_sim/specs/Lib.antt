@@ -5,6 +5,5 @@ pub mod Landing
 pub mod Moves
 pub mod Places
 pub mod Results
-pub mod Sample
 pub mod Starts
 pub mod Writing

@@ -16,8 +16,6 @@ mod sim;
 mod spaces;
 mod starts;
 mod store;
-#[cfg(test)]
-mod tests;
 mod told;
 mod truth;
 mod writing;

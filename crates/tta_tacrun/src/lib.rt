@@ -9,8 +9,6 @@ mod pass;
 mod phase;
 mod relations;
 mod seq;
-#[cfg(test)]
-mod tests;
 mod words;
 
 pub use answer::SeqStep;

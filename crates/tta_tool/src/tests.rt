@@ -3,6 +3,8 @@
 mod assembly;
 mod dot_product;
 mod exec;
+mod moves;
+mod operations;
 mod programs;
 mod run;
 

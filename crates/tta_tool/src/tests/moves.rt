@@ -1,0 +1,125 @@
+//! Small programs of moves, handed to a simulator as values and run cycle by cycle.
+
+ghost use Rattle.std.specs.Prelude.{◌+◌, ◌<◌, ◌≤◌, ◌^◌, IfOk};
+ghost use Rattle.tta_code.specs.Legal.{IsLegalCode};
+ghost use Rattle.tta_sim.specs.Held.{IsRunOf};
+
+use std::alloc::Global;
+use std::test::Fail;
+use tta_asm::assemble;
+use tta_code::Code;
+use tta_machine::{Machine, read_machine};
+use tta_ops::{Arith, OpUnit, UnitSet};
+use tta_sim::{CycleStep, Sim};
+
+/// A machine of two buses with two delay slots, whose products show after three cycles.
+const MACHINE: &str =
+    "bus A short 8 signed\nbus B short 8 signed\nsocket I in A B\nsocket O out A B\nfile R width 32 size 4 read 2 write 2 out O in I\nfile G width 1 size 1 read 1 write 1 out O in I\nunit MUL o I t I r O\nop MUL mul 3\nunit IO t I\nop IO out\nguard A G.0 plain\ncontrol delay 2 address 4 t I\n";
+
+/// Two registers change places.
+const SWAP: &str =
+    "1 -> R.1 , 2 -> R.2 ; R.1 -> R.2 , R.2 -> R.1 ; R.1 -> IO.t.out , ... ; R.2 -> IO.t.out , ... ; 0 -> gcu.t.halt , ... ; ... , ... ; ... , ... ;";
+
+/// A product is read as soon as it shows.
+const PRODUCT: &str =
+    "5 -> MUL.o , 6 -> MUL.t.mul ; ... , ... ; ... , ... ; MUL.r -> IO.t.out , ... ; 0 -> gcu.t.halt , ... ; ... , ... ; ... , ... ;";
+
+/// A product is read one cycle before it shows.
+const EARLY: &str =
+    "5 -> MUL.o , 6 -> MUL.t.mul ; ... , ... ; MUL.r -> IO.t.out , ... ; 0 -> gcu.t.halt , ... ; ... , ... ; ... , ... ;";
+
+/// A guarded jump over a word, behind two words that are put out in any case.
+const JUMP: &str =
+    "1 -> G.0 , ... ; ?G.0 7 -> gcu.t.jump , ... ; 10 -> IO.t.out , ... ; 11 -> IO.t.out , ... ; 12 -> IO.t.out , ... ; ... , ... ; ... , ... ; 13 -> IO.t.out , ... ; 0 -> gcu.t.halt , ... ; ... , ... ; ... , ... ;";
+
+/// Nothing ends the code.
+const UNENDED: &str = "7 -> R.1 , ... ;";
+
+/// What a run put out, and how it ended.
+#[derive(Drop)]
+struct Outcome {
+    output: Vec<u32>,
+    halted: bool,
+    fault: Option<u8>,
+    cycles: u64,
+}
+
+/// The machine's two operation units.
+fn units_of(alloc: Global) -> Result<UnitSet, Fail> {
+    let mut boxes: Vec<Box<dyn OpUnit>> = Vec::new(alloc);
+    let unit = Box::new(alloc, Arith)?;
+    boxes.push(unit).ok().ok_or("no memory")?;
+    if !UnitSet::fits(boxes.as_slice()) {
+        return Err(Fail::new("too many operations"));
+    }
+    Ok(UnitSet::new(alloc, boxes).ok().ok_or("no units")?)
+}
+
+/// The code of an assembly text.
+fn code_of(alloc: Global, text: &str, m: &Machine, units: &UnitSet) -> Result<Code, Fail>
+    ensures { IfOk result (λ code. IsLegalCode m.now code) }
+{
+    if text.len() > 1000 {
+        return Err(Fail::new("too long"));
+    }
+    match assemble(alloc, text.as_bytes(), m, units) {
+        Ok(code) => Ok(code),
+        Err(_) => Err(Fail::new("the assembly is refused")),
+    }
+}
+
+/// Carries out a cycle, and answers the word that it puts out, if any.
+fn step(sim: &mut Sim, m: &Machine, code: &Code, units: &UnitSet) -> Option<u32>
+    requires loaded { IsRunOf m.now code.now sim.old }
+    requires few { sim.old.cycle < 2 ^ 62 }
+    ensures loaded { IsRunOf m.now code.now sim.new }
+    ensures counted { sim.new.cycle ≤ sim.old.cycle + 1 }
+{
+    match sim.cycle(m, code, units) {
+        CycleStep::Ran(word) => word,
+        CycleStep::Halted | CycleStep::Fault(_) => None,
+    }
+}
+
+/// How 20 cycles of an assembly text end.
+fn outcome_of(alloc: Global, text: &str) -> Result<Outcome, Fail> {
+    let units = units_of(alloc)?;
+    let m = read_machine(alloc, MACHINE.as_bytes(), &units)
+        .ok()
+        .ok_or("no machine")?;
+    let code = code_of(alloc, text, &m, &units)?;
+    let memory = vec![in alloc; 0; m.data_words as usize]?;
+    let mut sim = Sim::load(alloc, &m, &code, memory)?;
+    let mut output = Vec::new(alloc);
+    for _ in 0..20u64 {
+        if let Some(word) = step(&mut sim, &m, &code, &units) {
+            output.push(word)?;
+        }
+    }
+    Ok(Outcome {
+        output,
+        halted: sim.halted(),
+        fault: sim.fault(),
+        cycles: sim.cycles(),
+    })
+}
+
+#[test]
+fn programs_of_moves_run(rt: HostRuntime) -> Result<(), Fail> {
+    let alloc = rt.alloc();
+    let runs = [
+        (SWAP, [2, 1, 0], 2, None, 7),
+        (PRODUCT, [30, 0, 0], 1, None, 7),
+        (EARLY, [0, 0, 0], 0, Some(61), 2),
+        (JUMP, [10, 11, 13], 3, None, 8),
+        (UNENDED, [0, 0, 0], 0, Some(65), 1),
+    ];
+    for (text, words, count, fault, cycles) in runs {
+        let outcome = outcome_of(alloc, text)?;
+        assert_eq!(rt; outcome.output.as_slice(), &words[..count], "{text}");
+        assert_eq!(rt; outcome.halted, fault.is_none(), "{text}");
+        assert_eq!(rt; outcome.fault, fault, "{text}");
+        assert_eq!(rt; outcome.cycles, cycles, "{text}");
+    }
+    Ok(())
+}
