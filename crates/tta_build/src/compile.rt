@@ -1,12 +1,15 @@
 //! Code that puts constants out.
 
-ghost use Rattle.std.specs.Prelude.{◌≡◌, ◌+◌, ◌<◌, ◌≤◌, ◌^◌, ◌++◌, ◌∷◌, [], true, map, replicate, length, None, IfOk, OnOk, IfErr};
+ghost use Rattle.std.specs.Prelude.{◌≡◌, ◌+◌, ◌<◌, ◌≤◌, ◌^◌, ◌++◌, ◌∷◌, [], true, map, replicate};
+ghost use Rattle.std.specs.Prelude.{length, None, IfOk, OnOk, IfErr};
 ghost use Rattle.tta_ops.specs.Units.{Units};
 ghost use Rattle.tta_tac.specs.Rules.{IsProgram};
 ghost use Rattle.tta_code.specs.Legal.{IsLegalCode};
 ghost use Rattle.tta_code.specs.Agrees.{Agrees};
-ghost use Rattle.tta_build.specs.Constants.{puts, on_bus, put_instruction, halt_instruction, constants_code};
-ghost use Rattle.tta_build.specs.First.{is_first_machine, is_direct, main_steps, constants_of, code_length};
+ghost use Rattle.tta_build.specs.Constants.{puts, on_bus, put_instruction, halt_instruction};
+ghost use Rattle.tta_build.specs.Constants.{constants_code};
+ghost use Rattle.tta_build.specs.First.{is_first_machine, is_direct, main_steps, constants_of};
+ghost use Rattle.tta_build.specs.First.{code_length};
 ghost use Rattle.tta_build.specs.declared.compile.BuildError.TheVariants.{NoMemory};
 ghost use Rattle.tta_build.specs.Causes.{HasCause};
 
@@ -123,11 +126,12 @@ fn code_length(m: &Machine, p: &Program) -> u64
     constants as u64 + 1 + u64::from(m.control.delay)
 }
 
-/// Code of a machine that does what a program does: from every memory and for every bound it never faults, halts as
-/// the program does and only then, and puts out the same words. One constant is put out each cycle; then comes the
-/// halt with its delay.
+/// Code of a machine that does what a program does: from every memory and for every bound it never
+/// faults, halts as the program does and only then, and puts out the same words. One constant is
+/// put out each cycle; then comes the halt with its delay.
 ///
-/// `CodeFull` comes exactly where that needs more words than the machine has addresses, with both numbers.
+/// `CodeFull` comes exactly where that needs more words than the machine has addresses, with both
+/// numbers.
 #[tactic(auto, using(crate::proofs::Agreement::agrees, crate::proofs::Agreement::legal))]
 pub fn build(alloc: Global, m: &Machine, p: &Program) -> Result<Built, BuildError>
     requires first { is_first_machine m.now ≡ true }

@@ -7,7 +7,8 @@ ghost use Rattle.tta_machine.specs.Joins.{holds_word};
 ghost use Rattle.tta_machine.specs.Rules.{is_bus, IsMachine};
 ghost use Rattle.tta_tac.specs.Rules.{IsProgram};
 ghost use Rattle.tta_build.specs.Constants.{constant_of, puts};
-ghost use Rattle.tta_build.specs.First.{is_output_unit, only_puts_out, is_halt_and_end, only_constants, is_first_program, main_steps, is_joined};
+ghost use Rattle.tta_build.specs.First.{is_output_unit, only_puts_out, is_halt_and_end};
+ghost use Rattle.tta_build.specs.First.{only_constants, is_first_program, main_steps, is_joined};
 
 use tta_machine::{Bus, Machine, Op, Unit, UnitOp};
 use tta_tac::{Proc, Program, Src, Step};
@@ -33,8 +34,8 @@ fn are_output_units(units: &[Unit]) -> bool
     units.iter().all(|unit| is_output_unit(unit))
 }
 
-/// Whether a machine has one bus, one socket, one unit, which puts words out and does nothing else, a control whose
-/// return address is not read, and no more.
+/// Whether a machine has one bus, one socket, one unit, which puts words out and does nothing else,
+/// a control whose return address is not read, and no more.
 pub fn is_first_machine(m: &Machine) -> bool
     ensures { result ≡ spec.is_first_machine m.now }
 {
@@ -145,8 +146,8 @@ fn only_bus(m: &Machine) -> &Bus
     &m.buses.as_slice()[0]
 }
 
-/// Whether a program is `main` alone, which puts constants out and halts, and the bus of a first machine holds
-/// each of its constants.
+/// Whether a program is `main` alone, which puts constants out and halts, and the bus of a first
+/// machine holds each of its constants.
 pub fn is_direct(m: &Machine, p: &Program) -> bool
     requires { spec.is_first_machine m.now ≡ true }
     ensures { result ≡ spec.is_direct m.now p.now }

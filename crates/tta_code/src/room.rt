@@ -4,7 +4,8 @@ ghost use Rattle.std.specs.Prelude.{◌≡◌, false};
 ghost use Rattle.std.specs.List.{list_any};
 ghost use Rattle.std.specs.Option.{option_map_or};
 ghost use Rattle.tta_machine.specs.Legal.{reads_file, reads_imm, writes_file, same_place};
-ghost use Rattle.tta_code.specs.Illegal.{taken_by, moves_where, has_read_left, has_write_left, goes_into, is_place_free};
+ghost use Rattle.tta_code.specs.Illegal.{taken_by, moves_where, has_read_left, has_write_left};
+ghost use Rattle.tta_code.specs.Illegal.{goes_into, is_place_free};
 
 use crate::code::{Long, Move};
 use tta_machine::{Dest, Machine, Source, Template};

@@ -1,6 +1,7 @@
 //! The net of a machine.
 
-ghost use Rattle.std.specs.Prelude.{◌≡◌, ℕ, ◌<◌, true, false, length, IfOk, IfSome, IfNone, slice_index};
+ghost use Rattle.std.specs.Prelude.{◌≡◌, ℕ, ◌<◌, true, false, length, IfOk, IfSome, IfNone};
+ghost use Rattle.std.specs.Prelude.{slice_index};
 ghost use Rattle.tta_machine.specs.Joins.{has_bit, is_source_on, joins};
 ghost use Rattle.tta_connect.specs.Net.{buses_within};
 

@@ -2,7 +2,8 @@
 
 ghost use Rattle.std.specs.Prelude.{◌≡◌, map, if◌then◌else◌, false, true, Some, IfOk};
 ghost use Rattle.tta_machine.specs.Rules.{IsMachine};
-ghost use Rattle.tta_connect.specs.Ports.{socket_buses, file_buses, imm_buses, unit_buses, control_buses};
+ghost use Rattle.tta_connect.specs.Ports.{socket_buses, file_buses, imm_buses, unit_buses};
+ghost use Rattle.tta_connect.specs.Ports.{control_buses};
 
 use std::alloc::{AllocError, Global};
 use tta_machine::{File, ImmUnit, Machine, Unit};

@@ -4,7 +4,8 @@ ghost use Rattle.std.specs.Prelude.{◌≡◌, ◌+◌, ◌≤◌, ◌<◌, ◌%
 ghost use Rattle.std.specs.List.{position, position_or_len};
 ghost use Rattle.tta_machine.specs.Joins.{is_same_guard};
 ghost use Rattle.tta_machine.specs.Fields.{same_source, same_dest};
-ghost use Rattle.tta_image.specs.Fields.{guard_number, dest_number, source_field, slot_field, bus_field, left_after};
+ghost use Rattle.tta_image.specs.Fields.{guard_number, dest_number, source_field, slot_field};
+ghost use Rattle.tta_image.specs.Fields.{bus_field, left_after};
 
 use crate::sink::{BitSink, without_low};
 use std::alloc::AllocError;

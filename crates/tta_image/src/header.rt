@@ -2,7 +2,8 @@
 
 ghost use Rattle.std.specs.Prelude.{◌≡◌, ◌+◌, ◌*◌, ◌<◌, ◌≤◌, ◌^◌, length, IsTrue, IfOk};
 ghost use Rattle.tta_machine.specs.Fields.{word_width};
-ghost use Rattle.tta_image.specs.Reading.{stands_at, bytes_for, word_count, has_length, decoded_header};
+ghost use Rattle.tta_image.specs.Reading.{stands_at, bytes_for, word_count, has_length};
+ghost use Rattle.tta_image.specs.Reading.{decoded_header};
 
 use crate::refusal::{ImageError, ImageRefusal};
 use tta_machine::Machine;
@@ -10,7 +11,8 @@ use tta_machine::Machine;
 /// Whether the bytes hold a piece after so many bytes. Bytes that are missing are wrong ones.
 fn stands_at(bytes: &[u8], at: usize, piece: &[u8]) -> bool
     ensures value { result ≡ stands_at at piece.now bytes.now }
-    ensures inside { IsTrue result → 0 < length piece.now → at + length piece.now ≤ length bytes.now }
+    ensures inside { IsTrue result → 0 < length piece.now
+        → at + length piece.now ≤ length bytes.now }
 {
     match bytes.get(at..) {
         Some(rest) => rest.starts_with(piece),

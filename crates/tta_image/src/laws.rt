@@ -13,7 +13,8 @@ pub fn one_code()
     ensures { HasOneCode }
 {}
 
-/// Bytes decode to a code just where they are its image. So the reader takes every image, and nothing else.
+/// Bytes decode to a code just where they are its image. So the reader takes every image, and
+/// nothing else.
 pub fn decodes_images()
     ensures { DecodesImages }
 {}

@@ -31,8 +31,8 @@ pub enum ImageRefusal {
 /// Why no code was read.
 #[derive(Clone, Copy, Debug, PartialEq, Eq)]
 pub enum ImageError {
-    /// The bytes are refused with this number. A field is refused with its word, counted from 0, and
-    /// its bus, an illegal instruction with its word; all else is 0.
+    /// The bytes are refused with this number. A field is refused with its word, counted from 0,
+    /// and its bus, an illegal instruction with its word; all else is 0.
     Refused { code: u8, word: u32, bus: u8 },
     NoMemory,
 }

@@ -1,6 +1,7 @@
 //! A sink of bits, which packs them into bytes.
 
-ghost use Rattle.std.specs.Prelude.{◌≡◌, ◌+◌, ◌-◌, ◌*◌, ◌<◌, ◌/◌, ◌%◌, ◌^◌, ◌==◌, [], ◌∷◌, ◌++◌, false, replicate, IfOk, OnOk};
+ghost use Rattle.std.specs.Prelude.{◌≡◌, ◌+◌, ◌-◌, ◌*◌, ◌<◌, ◌/◌, ◌%◌, ◌^◌, ◌==◌, [], ◌∷◌, ◌++◌};
+ghost use Rattle.std.specs.Prelude.{false, replicate, IfOk, OnOk};
 ghost use Rattle.tta_image.specs.Bits.{bits_of};
 ghost use Rattle.tta_image.specs.Image.{AreBytesOf};
 ghost use Rattle.tta_image.specs.Sink.{bit_value};

@@ -1,7 +1,9 @@
 //! The fields of a slot, read bus by bus.
 
 ghost use Rattle.std.specs.Prelude.{◌≡◌, ◌+◌, ◌*◌, ◌<◌, ◌≤◌, ◌^◌, length, drop, slice_get};
-ghost use Rattle.tta_image.specs.Decoding.{bits_in, slot_numbers, decoded_guard, short_word, decoded_source, decoded_dest, decoded_move, decoded_slot};
+ghost use Rattle.tta_image.specs.Decoding.{bits_in, slot_numbers, decoded_guard, short_word};
+ghost use Rattle.tta_image.specs.Decoding.{decoded_source, decoded_dest, decoded_move};
+ghost use Rattle.tta_image.specs.Decoding.{decoded_slot};
 ghost use Rattle.tta_image.specs.Narrow.{IsNarrow};
 
 use crate::bits::number_at;

@@ -1,9 +1,13 @@
 //! The instructions of an image, read word by word.
 
-ghost use Rattle.std.specs.Prelude.{◌≡◌, ◌+◌, ◌*◌, ◌<◌, ◌≤◌, ◌^◌, if◌then◌else◌, Some, length, drop};
+ghost use Rattle.std.specs.Prelude.{◌≡◌, ◌+◌, ◌*◌, ◌<◌, ◌≤◌, ◌^◌, if◌then◌else◌, Some, length};
+ghost use Rattle.std.specs.Prelude.{drop};
 ghost use Rattle.std.specs.List.{sum_by};
 ghost use Rattle.tta_machine.specs.Layout.{layout_of};
-ghost use Rattle.tta_image.specs.Decoding.{number_of, bits_in, is_signed, decoded_template, taken_by, least_bus, taken_bits, decoded_long, decoded_bus, decoded_slots, decoded_instruction, word_only, field};
+ghost use Rattle.tta_image.specs.Decoding.{number_of, bits_in, is_signed, decoded_template};
+ghost use Rattle.tta_image.specs.Decoding.{taken_by, least_bus, taken_bits, decoded_long};
+ghost use Rattle.tta_image.specs.Decoding.{decoded_bus, decoded_slots, decoded_instruction};
+ghost use Rattle.tta_image.specs.Decoding.{word_only, field};
 ghost use Rattle.tta_image.specs.Narrow.{IsNarrow, AreNarrow};
 ghost use Rattle.tta_image.specs.Refusals.{Answers};
 
@@ -90,8 +94,9 @@ fn value_after(
     requires narrow { IsNarrow fields.now }
     requires few { 8 * length bytes.now < 2 ^ 64 }
     requires room { at + fields.now.width ≤ 8 * length bytes.now }
-    ensures { result ≡ (if is_taken
-        then word_only (value * 2 ^ fields.now.width + field at fields.now.width (bits_in bytes.now))
+    ensures { let more = field at fields.now.width (bits_in bytes.now) in
+        result ≡ (if is_taken
+        then word_only (value * 2 ^ fields.now.width + more)
         else Some value) }
 {
     if is_taken {
@@ -131,7 +136,8 @@ fn read_long(
     requires narrow { AreNarrow layout.now.buses }
     requires few { 8 * length bytes.now < 2 ^ 64 }
     requires room { at + sum_by (λ f. f.width) layout.now.buses ≤ 8 * length bytes.now }
-    ensures { result ≡ decoded_long m.now word layout.now.buses template (drop at (bits_in bytes.now)) }
+    ensures { let bits = drop at (bits_in bytes.now) in
+        result ≡ decoded_long m.now word layout.now.buses template bits }
 {
     let Some(template) = template else {
         return Ok(None);

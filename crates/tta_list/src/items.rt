@@ -20,7 +20,8 @@ impl<T> Model for Items<T> {
 }
 
 impl<T> Items<T> {
-    ghost use Rattle.std.specs.Prelude.{◌≡◌, ◌<◌, ◌==◌, [], ◌∷◌, ◌++◌, length, slice_get, OnErr, OnOk};
+    ghost use Rattle.std.specs.Prelude.{◌≡◌, ◌<◌, ◌==◌, [], ◌∷◌, ◌++◌, length, slice_get, OnErr};
+    ghost use Rattle.std.specs.Prelude.{OnOk};
     ghost use Rattle.std.specs.Borrow.{sem};
     ghost use Rattle.tta_list.specs.Lends.{LendsItem};
 

@@ -3,7 +3,8 @@
 ghost use Rattle.std.specs.Prelude.{◌≡◌, ◌≤◌, [], ◌∷◌, ◌++◌, length, map, All, IfOk, OnOk};
 ghost use Rattle.std.specs.Option.{option_map_or};
 ghost use Rattle.tta_machine.specs.Fields.{numbers, all_sources, all_dests};
-ghost use Rattle.tta_machine.specs.Layout.{file_sources, imm_sources, result_sources, file_dests, unit_dests, dests_of_unit};
+ghost use Rattle.tta_machine.specs.Layout.{file_sources, imm_sources, result_sources, file_dests};
+ghost use Rattle.tta_machine.specs.Layout.{unit_dests, dests_of_unit};
 
 use crate::ends::{Dest, Source};
 use crate::machine::Machine;

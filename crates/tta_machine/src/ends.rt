@@ -32,7 +32,8 @@ pub enum Dest {
     Halt,
 }
 
-/// A register of a file of width 1 that lets a move act where it is 1, or where it is 0 if inverted.
+/// A register of a file of width 1 that lets a move act where it is 1, or where it is 0 if
+/// inverted.
 #[derive(Clone, Copy, Debug, PartialEq, Eq)]
 pub struct GuardRef {
     pub file: u8,

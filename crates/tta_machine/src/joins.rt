@@ -1,7 +1,8 @@
 //! Which sources, destinations and guards a bus has.
 
 ghost use Rattle.std.specs.Prelude.{◌≡◌, true, filter, IfOk};
-ghost use Rattle.tta_machine.specs.Joins.{has_bit, within, source_socket, dest_socket, has_socket, is_dest_on};
+ghost use Rattle.tta_machine.specs.Joins.{has_bit, within, source_socket, dest_socket, has_socket};
+ghost use Rattle.tta_machine.specs.Joins.{is_dest_on};
 ghost use Rattle.tta_machine.specs.Fields.{guards_on};
 ghost use Rattle.tta_machine.specs.Layout.{has_source_socket};
 

@@ -1,4 +1,5 @@
-//! What a machine is made of, which of its places a bus joins, and how its instructions are laid out.
+//! What a machine is made of, which of its places a bus joins, and how its instructions are laid
+//! out.
 #![tactic(auto)]
 
 mod codes;

@@ -99,7 +99,8 @@ pub struct Guard {
     pub on: GuardRef,
 }
 
-/// A template: an instruction that names it carries a long immediate in place of moves on some buses.
+/// A template: an instruction that names it carries a long immediate in place of moves on some
+/// buses.
 #[derive(Drop)]
 pub struct Template {
     pub name: Name,

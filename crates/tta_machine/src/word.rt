@@ -7,8 +7,8 @@ ghost use Rattle.tta_machine.specs.Rules.{is_bus};
 use crate::parts::Bus;
 
 impl Bus {
-    /// Whether the short field holds a word. A field of n bits holds the words below 2^n; a signed one holds the
-    /// words whose upper 33 - n bits are equal.
+    /// Whether the short field holds a word. A field of n bits holds the words below 2^n; a signed
+    /// one holds the words whose upper 33 - n bits are equal.
     pub fn holds(&self, word: u32) -> bool
         requires { is_bus self.now ≡ true }
         ensures { result ≡ holds_word self.now word }

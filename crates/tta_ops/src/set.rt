@@ -1,7 +1,8 @@
 //! A set of units.
 
 ghost use Rattle.std.specs.Prelude.{◌≡◌, ◌<◌, ◌≤◌, ◌==◌, ◌↔◌, [], Some, IsTrue, IfSome, IfOk};
-ghost use Rattle.std.specs.Prelude.{length, option_map, slice_get, slice_index, slice_index_or, sum_by};
+ghost use Rattle.std.specs.Prelude.{length, option_map, slice_get, slice_index, slice_index_or};
+ghost use Rattle.std.specs.Prelude.{sum_by};
 ghost use Rattle.tta_ops.specs.Units.{named};
 ghost use Rattle.tta_ops.specs.Offers.{rows_from, IsOffered};
 ghost use Rattle.tta_ops.specs.Refusal.{first_refusal, IsWalkResult};

@@ -80,8 +80,8 @@ impl Table {
         unit: usize,
     ) -> Result<(), OpsError>
         requires { length self.old.operations + U.unit_size offered.now ≤ 65536 }
-        ensures refusal { let rows = unit_rows U.unit_size U.unit_name U.unit_arity unit offered.now in
-            IsWalkResult (first_refusal (names_of self.old.operations) rows) result }
+        ensures refusal { IsWalkResult (first_refusal (names_of self.old.operations)
+            (unit_rows U.unit_size U.unit_name U.unit_arity unit offered.now)) result }
         ensures ok { let rows = unit_rows U.unit_size U.unit_name U.unit_arity unit offered.now in
             OnOk result (self.new.operations ≡ self.old.operations ++ rows) }
     {

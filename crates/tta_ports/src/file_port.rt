@@ -9,7 +9,8 @@ pub trait Files {
     ghost use Rattle.tta_ports.specs.declared.fault.Fault.TheVariants.{Read, Write};
     ghost use Rattle.tta_ports.specs.Store.{Store};
     ghost use Rattle.tta_ports.specs.Faults.{CountsFault, TellsFault};
-    ghost use Rattle.tta_ports.specs.Files.{Holds, HoldsMore, IfTooLong, WritesFile, read_failed, write_failed};
+    ghost use Rattle.tta_ports.specs.Files.{Holds, HoldsMore, IfTooLong, WritesFile, read_failed};
+    ghost use Rattle.tta_ports.specs.Files.{write_failed};
 
     /// The bytes of each name, where these files tell them.
     ghost contents: { Self → Option Store };

@@ -1,6 +1,7 @@
 //! Files in memory, for tests: calls fail where they are told to.
 
-ghost use Rattle.std.specs.Prelude.{◌≡◌, ◌≢◌, ℕ, List, ◌<◌, ◌≤◌, ◌^◌, length, OnOk, OnErr, IfOk, Some, option_copied, position, bytes_eq};
+ghost use Rattle.std.specs.Prelude.{◌≡◌, ◌≢◌, ℕ, List, ◌<◌, ◌≤◌, ◌^◌, length, OnOk, OnErr, IfOk};
+ghost use Rattle.std.specs.Prelude.{Some, option_copied, position, bytes_eq};
 ghost use Rattle.tta_ports.specs.declared.fault.Fault.TheVariants.{Read, Write};
 ghost use Rattle.tta_ports.specs.Store.{file_at, with_file};
 ghost use Rattle.tta_ports.specs.Entries.{store_of};
@@ -132,7 +133,8 @@ impl MemFiles {
 impl Files for MemFiles {
     ghost use Rattle.tta_ports.specs.Store.{Store};
     ghost use Rattle.tta_ports.specs.Faults.{CountsFault, TellsFault};
-    ghost use Rattle.tta_ports.specs.Files.{Holds, HoldsMore, IfTooLong, WritesFile, read_failed, write_failed};
+    ghost use Rattle.tta_ports.specs.Files.{Holds, HoldsMore, IfTooLong, WritesFile, read_failed};
+    ghost use Rattle.tta_ports.specs.Files.{write_failed};
     ghost use Rattle.tta_ports.specs.Disk.{read_answer, ReadAnswers, after_read, WriteAnswers};
 
     ghost contents = { λ m. Some m.store };

@@ -1,6 +1,7 @@
 //! A sink in memory, for tests: puts fail where they are told to, and where there is no room.
 
-ghost use Rattle.std.specs.Prelude.{◌≡◌, ◌+◌, ◌<◌, ◌≤◌, ◌^◌, ◌++◌, length, vec_len, vec_capacity, IfOk, Some, is_err};
+ghost use Rattle.std.specs.Prelude.{◌≡◌, ◌+◌, ◌<◌, ◌≤◌, ◌^◌, ◌++◌, length, vec_len, vec_capacity};
+ghost use Rattle.std.specs.Prelude.{IfOk, Some, is_err};
 
 use crate::{Failed, Sink};
 use std::alloc::{AllocError, Global};

@@ -24,7 +24,8 @@ fn push_number(text: &mut ArrayString<ROOM>, n: u64)
 // Puts two numbers with a blank between them behind a word.
 fn push_two(text: &mut ArrayString<ROOM>, first: u64, second: u64)
     requires { array_string_len text.old ≤ 6 }
-    ensures bytes { text.new.bytes ≡ text.old.bytes ++ decimal first ++ codes " " ++ decimal second }
+    ensures bytes { text.new.bytes
+        ≡ text.old.bytes ++ decimal first ++ codes " " ++ decimal second }
     ensures room { array_string_len text.new ≤ 47 }
 {
     push_number(text, first);

@@ -47,9 +47,11 @@ impl<'t> Lines<'t> {
     /// answers `true`. Where no line is left, it answers `false`. An `Err` is want of memory, and
     /// leaves the reader within a line. All calls together take time that is linear in the text.
     pub fn next_line(&mut self, words: &mut Vec<Word<'t>>) -> Result<bool, AllocError>
-        ensures more { IfOk result (λ more. Takes more (map plain words.new.items) self.old self.new) }
+        ensures more { IfOk result (λ more.
+            Takes more (map plain words.new.items) self.old self.new) }
         ensures none { IfOk result (λ more. Ends more self.old self.new) }
-        ensures counted { IfOk result (λ more. more ≡ true → length self.old ≡ length self.new + 1) }
+        ensures counted { IfOk result (λ more.
+            more ≡ true → length self.old ≡ length self.new + 1) }
         ensures room { vec_capacity words.old ≤ vec_capacity words.new }
     {
         words.clear();

@@ -24,7 +24,8 @@ fn line_count(alloc: Global, text: &[u8]) -> Result<u32, AllocError>
 /// How many words the longest line of a text has.
 fn most_words(alloc: Global, text: &[u8]) -> Result<usize, AllocError>
     requires { length text.now ≤ 2 ^ 24 }
-    ensures { IfOk result (λ most. most ≡ fold (λ most line. max most (length line)) 0 (lines_of text.now)) }
+    ensures { IfOk result (λ most.
+        most ≡ fold (λ most line. max most (length line)) 0 (lines_of text.now)) }
 {
     let mut lines = Lines::new(text);
     let mut words: Vec<Word> = Vec::new(alloc);

@@ -42,8 +42,8 @@ impl<'t> Word<'t> {
         }
     }
 
-    /// The value of a number, or of a negative number as the word that stands for it, and `None` for a word of any
-    /// other kind.
+    /// The value of a number, or of a negative number as the word that stands for it, and `None`
+    /// for a word of any other kind.
     pub fn constant(&self) -> Option<u32>
         ensures { result ≡ spec.constant_of (plain self.now) }
     {

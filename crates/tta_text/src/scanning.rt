@@ -1,6 +1,7 @@
 //! Reading the tokens of a text one after another.
 
-ghost use Rattle.std.specs.Prelude.{◌≡◌, ◌+◌, ◌^◌, ◌<◌, ◌≤◌, ◌↔◌, ◌++◌, [], length, IfSome, IsNone, option_to_list};
+ghost use Rattle.std.specs.Prelude.{◌≡◌, ◌+◌, ◌^◌, ◌<◌, ◌≤◌, ◌↔◌, ◌++◌, [], length, IfSome, IsNone};
+ghost use Rattle.std.specs.Prelude.{option_to_list};
 ghost use Rattle.tta_text.specs.Tokens as spec;
 
 use crate::lexeme::{Kind, Token};

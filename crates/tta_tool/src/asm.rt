@@ -73,8 +73,8 @@ fn assemble_files<F: Files>(
     }
 }
 
-/// Reads the assembly of the file `assembly` for the machine of the file `machine`, and writes the image of its code to
-/// `out`.
+/// Reads the assembly of the file `assembly` for the machine of the file `machine`, and writes the
+/// image of its code to `out`.
 pub fn assemble_image<F: Files>(
     alloc: Global,
     units: &UnitSet,

@@ -116,7 +116,8 @@ fn compile<F: Files>(
     }
 }
 
-/// Compiles the program of the file `program` for the machine of the file `machine`, and writes the image to `out`.
+/// Compiles the program of the file `program` for the machine of the file `machine`, and writes the
+/// image to `out`.
 #[tactic(auto, using(crate::proofs::Endings::build_ends))]
 pub fn build_image<F: Files>(
     alloc: Global,

@@ -18,7 +18,8 @@ use std::alloc::Global;
 use tta_ops::UnitSet;
 use tta_ports::{Files, Sink};
 
-// Carries out the command of this name whose last word is a file that it writes. The output is not touched.
+// Carries out the command of this name whose last word is a file that it writes. The output is not
+// touched.
 fn run_writing<F: Files, S: Sink>(
     alloc: Global,
     units: &UnitSet,
@@ -33,7 +34,8 @@ fn run_writing<F: Files, S: Sink>(
         (writing_request word.now machine.now second.now out.now)
         (world (F.contents files.old) (F.faults files.old) (F.latest files.old))
         (world (F.contents files.new) (F.faults files.new) (F.latest files.new))
-        (output (S.taken sink.now) (S.faults sink.now)) (output (S.taken sink.now) (S.faults sink.now))
+        (output (S.taken sink.now) (S.faults sink.now))
+        (output (S.taken sink.now) (S.faults sink.now))
         result }
 {
     if word == "build" {
@@ -65,7 +67,8 @@ fn run_bounded<F: Files, S: Sink>(
         (bounded_request word.now machine.now second.now input.now bound)
         (world (F.contents files.old) (F.faults files.old) (F.latest files.old))
         (world (F.contents files.new) (F.faults files.new) (F.latest files.new))
-        (output (S.taken sink.old) (S.faults sink.old)) (output (S.taken sink.new) (S.faults sink.new))
+        (output (S.taken sink.old) (S.faults sink.old))
+        (output (S.taken sink.new) (S.faults sink.new))
         result }
 {
     if word == "exec" {
@@ -77,22 +80,24 @@ fn run_bounded<F: Files, S: Sink>(
     Status::Usage
 }
 
-/// Carries out the command that the words ask for, the first of them the command's name, over these operation units,
-/// files and output.
+/// Carries out the command that the words ask for, the first of them the command's name, over these
+/// operation units, files and output.
 ///
-/// `build M P OUT` compiles the program of the file P for the machine of the file M and makes OUT hold the image. Where
-/// it is refused, every file is as it was, but after a fault of the write OUT may hold the front of an image. It puts
-/// nothing out.
+/// `build M P OUT` compiles the program of the file P for the machine of the file M and makes OUT
+/// hold the image. Where it is refused, every file is as it was, but after a fault of the write OUT
+/// may hold the front of an image. It puts nothing out.
 ///
-/// `asm M A OUT` reads the assembly of the file A for the machine of the file M and makes OUT hold the image of its code.
-/// `dis M IMG OUT` makes OUT hold the canonical assembly of the image in the file IMG. Both are otherwise as `build`.
+/// `asm M A OUT` reads the assembly of the file A for the machine of the file M and makes OUT hold
+/// the image of its code. `dis M IMG OUT` makes OUT hold the canonical assembly of the image in the
+/// file IMG. Both are otherwise as `build`.
 ///
-/// `exec M P IN N` runs the program of the file P for at most N steps, from the words of the file IN in the data space of
-/// the machine of the file M. It puts out each word as it comes, then how the run ended, the data words that are not 0 and
-/// the number of steps. Where it is refused, it puts nothing out. It changes no file.
+/// `exec M P IN N` runs the program of the file P for at most N steps, from the words of the file
+/// IN in the data space of the machine of the file M. It puts out each word as it comes, then how
+/// the run ended, the data words that are not 0 and the number of steps. Where it is refused, it
+/// puts nothing out. It changes no file.
 ///
-/// `run M IMG IN N` runs the code of the image in the file IMG on the machine of the file M for at most N cycles, and is
-/// otherwise as `exec`, with the number of cycles in place of that of steps.
+/// `run M IMG IN N` runs the code of the image in the file IMG on the machine of the file M for at
+/// most N cycles, and is otherwise as `exec`, with the number of cycles in place of that of steps.
 pub fn tool<F: Files, S: Sink>(
     alloc: Global,
     words: &Vec<String>,
@@ -100,10 +105,12 @@ pub fn tool<F: Files, S: Sink>(
     files: &mut F,
     sink: &mut S,
 ) -> Status
-    ensures ends { Ends (stated unit_meaning units.now) (request_of (map (λ w. string_bytes w) words.now.items))
+    ensures ends { Ends (stated unit_meaning units.now)
+        (request_of (map (λ w. string_bytes w) words.now.items))
         (world (F.contents files.old) (F.faults files.old) (F.latest files.old))
         (world (F.contents files.new) (F.faults files.new) (F.latest files.new))
-        (output (S.taken sink.old) (S.faults sink.old)) (output (S.taken sink.new) (S.faults sink.new))
+        (output (S.taken sink.old) (S.faults sink.old))
+        (output (S.taken sink.new) (S.faults sink.new))
         result }
 {
     match words.as_slice() {

@@ -6,7 +6,8 @@ ghost use Rattle.tta_tool.specs.World.{world};
 ghost use Rattle.tta_tool.specs.Stages.{ReadEnds, MachineEnds, ProgramEnds, CodeEnds, InputEnds};
 ghost use Rattle.tta_code.specs.Legal.{IsLegalCode};
 ghost use Rattle.tta_tool.specs.Asm.{AssemblyEnds, AssemblyFileEnds};
-ghost use Rattle.tta_tool.specs.Contents.{MachineFileEnds, ProgramFileEnds, CodeFileEnds, InputFileEnds};
+ghost use Rattle.tta_tool.specs.Contents.{MachineFileEnds, ProgramFileEnds, CodeFileEnds};
+ghost use Rattle.tta_tool.specs.Contents.{InputFileEnds};
 
 use crate::status::Status;
 use std::alloc::Global;
@@ -26,7 +27,8 @@ const LIMIT: u64 = 16_777_216;
 fn read_file<F: Files>(files: &mut F, name: &str, word: u8) -> Result<Vec<u8>, Status>
     ensures { ReadEnds name.now word
         (world (F.contents files.old) (F.faults files.old) (F.latest files.old))
-        (world (F.contents files.new) (F.faults files.new) (F.latest files.new)) (λ v. v.items) result }
+        (world (F.contents files.new) (F.faults files.new) (F.latest files.new))
+        (λ v. v.items) result }
 {
     match files.read(name, LIMIT) {
         Ok(bytes) => Ok(bytes),

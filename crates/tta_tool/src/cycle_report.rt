@@ -34,7 +34,8 @@ fn line_of(ending: &Ending) -> Line
 }
 
 // Runs code for at most so many cycles and puts out its text: each word as it comes, and then how
-// the run ended, which it also answers, the data words and the number of cycles. It takes no memory.
+// the run ended, which it also answers, the data words and the number of cycles. It takes no
+// memory.
 //
 // It answers `Failed` at the first line at which the sink does.
 fn run<S: Sink>(

@@ -32,9 +32,9 @@ fn cycle<S: Sink>(
     ensures counted { sim.new.cycle ≤ sim.old.cycle + 1 }
     ensures next { let U = stated unit_meaning units.now in
         (s : State) → Stands sim.old s → Stands sim.new (next U machine.now code.now s) }
-    ensures over { let U = stated unit_meaning units.now in
-        (s : State) → Stands sim.old s → IfOk result (λ ran. ran ≡ false
-        → next U machine.now code.now (next U machine.now code.now s) ≡ next U machine.now code.now s) }
+    ensures over { let step = next (stated unit_meaning units.now) machine.now code.now in
+        (s : State) → Stands sim.old s
+        → IfOk result (λ ran. ran ≡ false → step (step s) ≡ step s) }
     ensures puts { let U = stated unit_meaning units.now in
         (s : State) → Stands sim.old s → PutsBytes
         (lines_text (word_lines (words_put (λ t. t.output) (next U machine.now code.now) s)))

@@ -24,7 +24,8 @@ fn text_of_code(
     code: &Code,
 ) -> Result<Vec<u8>, Status>
     requires { IsLegalCode machine.now code.now }
-    ensures { CodeTextEnds (stated unit_meaning units.now) machine.now code.now (λ v. v.items) result }
+    ensures { let U = stated unit_meaning units.now in
+        CodeTextEnds U machine.now code.now (λ v. v.items) result }
 {
     match disassemble(alloc, code, machine, units) {
         Ok(text) => Ok(text),
@@ -72,8 +73,8 @@ fn show_files<F: Files>(
     }
 }
 
-/// Shows the code of the image in the file `image` for the machine of the file `machine`: writes its canonical assembly to
-/// `out`.
+/// Shows the code of the image in the file `image` for the machine of the file `machine`: writes
+/// its canonical assembly to `out`.
 pub fn show_image<F: Files>(
     alloc: Global,
     units: &UnitSet,

@@ -85,8 +85,10 @@ fn carry_out<S: Sink>(
 ) -> Status
     requires bound { bound < 2 ^ 48 }
     requires short { length beginning.memory.items < 2 ^ 32 }
-    ensures { RunEnds (seq (stated unit_meaning units.now) beginning.program beginning.memory.items bound)
-        (output (S.taken sink.old) (S.faults sink.old)) (output (S.taken sink.new) (S.faults sink.new))
+    ensures { let U = stated unit_meaning units.now in
+        RunEnds (seq U beginning.program beginning.memory.items bound)
+        (output (S.taken sink.old) (S.faults sink.old))
+        (output (S.taken sink.new) (S.faults sink.new))
         result }
 {
     let Beginning { program, memory } = beginning;
@@ -112,7 +114,8 @@ pub fn exec_program<F: Files, S: Sink>(
     ensures { Execs (stated unit_meaning units.now) machine.now program.now input.now bound
         (world (F.contents files.old) (F.faults files.old) (F.latest files.old))
         (world (F.contents files.new) (F.faults files.new) (F.latest files.new))
-        (output (S.taken sink.old) (S.faults sink.old)) (output (S.taken sink.new) (S.faults sink.new))
+        (output (S.taken sink.old) (S.faults sink.old))
+        (output (S.taken sink.new) (S.faults sink.new))
         result }
 {
     match begin(alloc, units, files, machine, program, input) {

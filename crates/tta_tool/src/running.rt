@@ -35,7 +35,8 @@ fn begin_with<F: Files>(
     input: &str,
     file: &MachineFile,
 ) -> Result<Beginning, Status>
-    ensures ends { (u : Units) → BeginWithEnds u file.now.machine file.now.text.items image.now input.now
+    ensures ends { (u : Units)
+        → BeginWithEnds u file.now.machine file.now.text.items image.now input.now
         (world (F.contents files.old) (F.faults files.old) (F.latest files.old))
         (world (F.contents files.new) (F.faults files.new) (F.latest files.new))
         (λ b. b.code) (λ b. b.memory.items) result }
@@ -67,8 +68,10 @@ fn carry_out<S: Sink>(
     requires short { length beginning.memory.items < 2 ^ 32 }
     requires legal { IsLegalCode machine.now beginning.code }
     ensures { RunEnds
-        (cyc (stated unit_meaning units.now) machine.now beginning.code beginning.memory.items bound)
-        (output (S.taken sink.old) (S.faults sink.old)) (output (S.taken sink.new) (S.faults sink.new))
+        (cyc (stated unit_meaning units.now) machine.now
+        beginning.code beginning.memory.items bound)
+        (output (S.taken sink.old) (S.faults sink.old))
+        (output (S.taken sink.new) (S.faults sink.new))
         result }
 {
     let Beginning { code, memory } = beginning;
@@ -94,7 +97,8 @@ fn run_file<F: Files, S: Sink>(
         image.now input.now bound
         (world (F.contents files.old) (F.faults files.old) (F.latest files.old))
         (world (F.contents files.new) (F.faults files.new) (F.latest files.new))
-        (output (S.taken sink.old) (S.faults sink.old)) (output (S.taken sink.new) (S.faults sink.new))
+        (output (S.taken sink.old) (S.faults sink.old))
+        (output (S.taken sink.new) (S.faults sink.new))
         result }
 {
     match begin_with(alloc, files, image, input, file) {
@@ -119,7 +123,8 @@ pub fn run_image<F: Files, S: Sink>(
     ensures { Runs (stated unit_meaning units.now) machine.now image.now input.now bound
         (world (F.contents files.old) (F.faults files.old) (F.latest files.old))
         (world (F.contents files.new) (F.faults files.new) (F.latest files.new))
-        (output (S.taken sink.old) (S.faults sink.old)) (output (S.taken sink.new) (S.faults sink.new))
+        (output (S.taken sink.old) (S.faults sink.old))
+        (output (S.taken sink.new) (S.faults sink.new))
         result }
 {
     match machine_file(alloc, units, files, machine) {

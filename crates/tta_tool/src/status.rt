@@ -5,8 +5,8 @@ ghost use Rattle.tta_tool.specs.Status.{number_of};
 
 use thiserror::Error;
 
-/// How a command ends. Lines are counted from 1, where 0 stands for a whole text; words are those of the command line,
-/// counted from 0 at the command.
+/// How a command ends. Lines are counted from 1, where 0 stands for a whole text; words are those
+/// of the command line, counted from 0 at the command.
 #[derive(Clone, Copy, Debug, PartialEq, Eq, Error)]
 pub enum Status {
     /// All was done.
@@ -24,13 +24,15 @@ pub enum Status {
     /// The code needs more words than the machine has addresses.
     #[error("code full: words {words}, have {have}")]
     CodeFull { words: u64, have: u32 },
-    /// The file of an image is refused, for a reason with a number from 40 to 47, at a word and a bus.
+    /// The file of an image is refused, for a reason with a number from 40 to 47, at a word and a
+    /// bus.
     #[error("image: code {code}, word {word}, bus {bus}")]
     BadImage { code: u8, word: u32, bus: u8 },
     /// The assembly is refused at a line, for a reason with a number from 50 to 56.
     #[error("assembly: line {line}, code {code}")]
     BadAsm { line: u32, code: u8 },
-    /// The file of the data words is refused at a line: it is no word, or one more than the data space has.
+    /// The file of the data words is refused at a line: it is no word, or one more than the data
+    /// space has.
     #[error("input: line {line}")]
     BadInput { line: u32 },
     /// The machine is at a fault with a number from 60 to 65, after so many cycles without one.

@@ -33,7 +33,8 @@ fn step<S: Sink>(
     ensures halted { (s : State) → Stands seq.old s → IfOk result (λ ran.
         ran ≡ false → s.outcome ≡ Halted) }
     ensures puts { let U = stated unit_meaning units.now in
-        (s : State) → Stands seq.old s → PutsBytes (lines_text (word_lines (words_put (λ t. t.output) (next U program.now) s)))
+        (s : State) → Stands seq.old s → PutsBytes
+        (lines_text (word_lines (words_put (λ t. t.output) (next U program.now) s)))
         (S.taken sink.old) (S.taken sink.new) result }
     ensures cause { CountsFault (is_err result) (S.faults sink.old) (S.faults sink.new) }
 {

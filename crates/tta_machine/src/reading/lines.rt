@@ -158,7 +158,8 @@ impl Draft {
         }
     }
 
-    /// What a line declares. A blank line declares nothing. After an error the draft may be in any state.
+    /// What a line declares. A blank line declares nothing. After an error the draft may be in any
+    /// state.
     #[tactic(auto, unfolding(crate::specs::Text::take_line))]
     pub fn take_line(
         &mut self,

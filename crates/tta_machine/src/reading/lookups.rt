@@ -3,7 +3,8 @@
 ghost use Rattle.std.specs.Prelude.{◌≡◌, ◌++◌, ◌∷◌, [], false, if◌then◌else◌};
 ghost use Rattle.std.specs.Prelude.{Some, None, option_map, OnOk};
 ghost use Rattle.tta_machine.specs.Draft.{nothing, is_taken};
-ghost use Rattle.tta_machine.specs.Draft.{bus_named, socket_named, file_named, imm_named, unit_named};
+ghost use Rattle.tta_machine.specs.Draft.{bus_named, socket_named, file_named, imm_named};
+ghost use Rattle.tta_machine.specs.Draft.{unit_named};
 ghost use Rattle.tta_machine.specs.Declarations.{port_named};
 ghost use Rattle.tta_machine.specs.Rules.{is_socket};
 

@@ -43,7 +43,8 @@ fn read_draft(alloc: Global, text: &[u8], units: &UnitSet) -> Result<Draft, Mach
 
 /// The machine that a text describes, over these operation units. The text has at most 2^24 bytes.
 ///
-/// `Refused` tells the first refusal of the text with its line, counted from 1 (0 stands for the whole text).
+/// `Refused` tells the first refusal of the text with its line, counted from 1 (0 stands for the
+/// whole text).
 pub fn read_machine(alloc: Global, text: &[u8], units: &UnitSet) -> Result<Machine, MachineError>
     requires { length text.now ≤ 2 ^ 24 }
     ensures read { let U = stated unit_meaning units.now in

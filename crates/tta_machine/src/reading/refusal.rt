@@ -2,7 +2,8 @@
 
 ghost use Rattle.std.specs.Prelude.{◌≡◌};
 ghost use Rattle.tta_machine.specs.Draft.{code_of};
-ghost use Rattle.tta_machine.specs.declared.reading.refusal.LineError.TheVariants.{NoMemory, Refused};
+ghost use Rattle.tta_machine.specs.declared.reading.refusal.LineError.TheVariants.{NoMemory};
+ghost use Rattle.tta_machine.specs.declared.reading.refusal.LineError.TheVariants.{Refused};
 ghost use Rattle.tta_machine.specs.declared.reading.refusal.MachineError.TheVariants.{NoMemory as no_memory};
 
 use std::alloc::{AllocError, AllocFailed};
@@ -43,7 +44,8 @@ impl Refusal {
 /// Why no machine was read.
 #[derive(Clone, Copy, Debug, PartialEq, Eq)]
 pub enum MachineError {
-    /// The text is refused at this line, counted from 1, with this number; line 0 stands for the whole text.
+    /// The text is refused at this line, counted from 1, with this number; line 0 stands for the
+    /// whole text.
     Refused { line: u32, code: u8 },
     NoMemory,
 }

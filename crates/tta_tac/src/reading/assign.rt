@@ -11,7 +11,8 @@ use super::forms::{Form, Operands};
 use super::pieces::{free_name, operand_of};
 use tta_reading::Word;
 
-/// `d = s`, `d = load a`, `d = call NAME s ..`, `d = OPERATION b` and `d = OPERATION a b`, behind the equals sign.
+/// `d = s`, `d = load a`, `d = call NAME s ..`, `d = OPERATION b` and `d = OPERATION a b`, behind
+/// the equals sign.
 #[tactic(auto, unfolding(crate::specs::Forms::assign_form))]
 pub fn assign_form<'w, 't>(d: &'t [u8], words: &'w [Word<'t>]) -> Option<Form<'w, 't>>
     ensures { option_map form_seen result ≡ spec.assign_form d.now (map plain words.now) }

@@ -1,8 +1,8 @@
 //! Which procedure leads back to itself by calls.
 //!
-//! Where no procedure does, the order in which a walk along the calls leaves the procedures shows it: each is left
-//! after those that it calls. That takes time in proportion to the calls. Only where this fails, a search from one
-//! procedure after the other finds the first that leads back.
+//! Where no procedure does, the order in which a walk along the calls leaves the procedures shows
+//! it: each is left after those that it calls. That takes time in proportion to the calls. Only
+//! where this fails, a search from one procedure after the other finds the first that leads back.
 
 ghost use Rattle.std.specs.Prelude.{◌≡◌, ◌<◌, ◌==◌, true, false, length, IfOk, OnOk, MatchOption};
 ghost use Rattle.std.specs.List.{list_any};
@@ -15,9 +15,11 @@ use crate::program::Proc;
 use crate::step::Step;
 use std::alloc::{AllocError, Global};
 
-/// The place of the first procedure that leads back to itself by calls, or `None` where there is none.
+/// The place of the first procedure that leads back to itself by calls, or `None` where there is
+/// none.
 pub fn first_recursive(alloc: Global, procs: &[Proc]) -> Result<Option<usize>, AllocError>
-    ensures { IfOk result (λ first. MatchOption first (IsAcyclic procs.now) (IsFirstRecursive procs.now)) }
+    ensures { IfOk result (λ first.
+        MatchOption first (IsAcyclic procs.now) (IsFirstRecursive procs.now)) }
 {
     let ends = ends_of(alloc, procs)?;
     if are_ordered(procs, ends.as_slice()) {
@@ -35,7 +37,8 @@ pub fn first_recursive(alloc: Global, procs: &[Proc]) -> Result<Option<usize>, A
 fn leads_back(alloc: Global, procs: &[Proc], from: usize) -> Result<bool, AllocError>
     requires { from < length procs.now }
     ensures back { IfOk result (λ back. back ≡ true → Reaches (with_main procs.now 0) from from) }
-    ensures no { IfOk result (λ back. back ≡ false → Reaches (with_main procs.now 0) from from → ⊥) }
+    ensures no { IfOk result (λ back.
+        back ≡ false → Reaches (with_main procs.now 0) from from → ⊥) }
 {
     let mut marks = vec![in alloc; false; procs.len()]?;
     let mut found = Vec::new(alloc);
@@ -58,8 +61,8 @@ fn mark_callees(
     requires { IsMarked marks.old.items found.old.items }
     ensures size { OnOk result (length marks.new.items ≡ length marks.old.items) }
     ensures marked { OnOk result (IsMarked marks.new.items found.new.items) }
-    ensures finds { OnOk result (Finds (length marks.old.items) (λ k. list_any (calls_proc k) steps.now)
-        found.old.items found.new.items) }
+    ensures finds { OnOk result (Finds (length marks.old.items)
+        (λ k. list_any (calls_proc k) steps.now) found.old.items found.new.items) }
 {
     for step in steps {
         mark_callee(step, marks, found)?;

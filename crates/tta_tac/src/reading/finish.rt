@@ -14,8 +14,9 @@ use crate::reading::draft::Draft;
 use crate::reading::refusal::Refusal;
 use std::alloc::Global;
 
-/// The program of a draft, whose procedures have all ended. `Refused` tells the first step that names what there is
-/// not, then the first procedure that leads back to itself, then, with line 0, that `main` is missing.
+/// The program of a draft, whose procedures have all ended. `Refused` tells the first step that
+/// names what there is not, then the first procedure that leads back to itself, then, with line 0,
+/// that `main` is missing.
 pub fn finish(alloc: Global, draft: &Draft) -> Result<Program, TacError>
     requires kept { IsKept (draft_seen draft.now) }
     requires ended { (draft_seen draft.now).begun ≡ None }

@@ -4,7 +4,8 @@ ghost use Rattle.std.specs.Prelude.{◌≡◌, [], length};
 ghost use Rattle.std.specs.List.{AllByRecursion};
 ghost use Rattle.tta_reading.specs.Names.{named_in};
 ghost use Rattle.tta_reading.specs.Steps.{or_refuse};
-ghost use Rattle.tta_tac.specs.Draft.{CallTo, draft_seen, proc_seen, procs_seen, step_seen, steps_seen};
+ghost use Rattle.tta_tac.specs.Draft.{CallTo, draft_seen, proc_seen, procs_seen, step_seen};
+ghost use Rattle.tta_tac.specs.Draft.{steps_seen};
 ghost use Rattle.tta_tac.specs.Kept.{IsEnded};
 ghost use Rattle.tta_tac.specs.SecondPass as spec;
 ghost use Rattle.tta_tac.specs.Told.{Tells};
@@ -19,8 +20,8 @@ use std::alloc::Global;
 use tta_list::Items;
 use tta_reading::Names;
 
-/// The procedures of a draft in the order of the text. `Refused` tells the first step that names what there is not, or
-/// calls a procedure with another number of arguments than it has parameters.
+/// The procedures of a draft in the order of the text. `Refused` tells the first step that names
+/// what there is not, or calls a procedure with another number of arguments than it has parameters.
 pub fn link_procs(alloc: Global, draft: &Draft) -> Result<Items<Proc>, TacError>
     requires { AllByRecursion IsEnded (procs_seen draft.now.procs) }
     ensures { Tells result (spec.link_procs (draft_seen draft.now) (procs_seen draft.now.procs)) }

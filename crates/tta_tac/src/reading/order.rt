@@ -61,7 +61,8 @@ fn write_end(ends: &mut Vec<u64>, place: usize, time: u64)
     }
 }
 
-/// Whether each call goes to a procedure that was left earlier; then no procedure leads back to itself.
+/// Whether each call goes to a procedure that was left earlier; then no procedure leads back to
+/// itself.
 pub fn are_ordered(procs: &[Proc], ends: &[u64]) -> bool
     requires { length ends.now ≡ length procs.now }
     ensures { result ≡ true → IsAcyclic procs.now }

@@ -14,7 +14,8 @@ use std::alloc::Global;
 use tta_ops::UnitSet;
 use tta_reading::Lines;
 
-// What all lines of a text say. A text that ends inside a procedure is refused at the line behind it.
+// What all lines of a text say. A text that ends inside a procedure is refused at the line behind
+// it.
 #[tactic(auto, using(crate::proofs::Whole::line_refused, crate::proofs::Whole::text_ended, crate::proofs::Whole::text_open))]
 fn read_draft<'t>(alloc: Global, text: &'t [u8], units: &UnitSet) -> Result<Draft<'t>, TacError>
     requires { length text.now ≤ 2 ^ 24 }
@@ -48,7 +49,8 @@ fn read_draft<'t>(alloc: Global, text: &'t [u8], units: &UnitSet) -> Result<Draf
 
 /// The program of a text, over these operation units. The text has at most 2^24 bytes.
 ///
-/// `Refused` tells the first refusal of the text with its line, counted from 1 (0 stands for the whole text).
+/// `Refused` tells the first refusal of the text with its line, counted from 1 (0 stands for the
+/// whole text).
 pub fn read_program(alloc: Global, text: &[u8], units: &UnitSet) -> Result<Program, TacError>
     requires { length text.now ≤ 2 ^ 24 }
     ensures read { IfOk result (ProgramText (stated unit_meaning units.now) text.now) }

@@ -51,7 +51,8 @@ impl Refusal {
 /// Why no program was read.
 #[derive(Clone, Copy, Debug, PartialEq, Eq)]
 pub enum TacError {
-    /// The text is refused at this line, counted from 1, with this number; line 0 stands for the whole text.
+    /// The text is refused at this line, counted from 1, with this number; line 0 stands for the
+    /// whole text.
     Refused { line: u32, code: u8 },
     NoMemory,
 }

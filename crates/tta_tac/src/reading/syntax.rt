@@ -1,7 +1,7 @@
 //! The forms of a program text's lines: which words a line is made of.
 //!
-//! Each function takes the words of a line behind those that chose the form, and gives what they say, or `None` where
-//! the words are not of the form. Whether a name is known is not judged here.
+//! Each function takes the words of a line behind those that chose the form, and gives what they
+//! say, or `None` where the words are not of the form. Whether a name is known is not judged here.
 
 ghost use Rattle.std.specs.Prelude.{◌≡◌, map, option_map};
 ghost use Rattle.tta_reading.specs.Lines.{plain};
@@ -14,7 +14,8 @@ use super::forms::Form;
 use super::pieces::{free_name, names_alone, operand_of, rel_of};
 use tta_reading::Word;
 
-/// What a line says, told by its first word and the words behind it; `None` where it is none of the forms.
+/// What a line says, told by its first word and the words behind it; `None` where it is none of the
+/// forms.
 #[tactic(auto, unfolding(crate::specs::Forms::form_of))]
 pub fn form_of<'w, 't>(key: &Word<'t>, words: &'w [Word<'t>]) -> Option<Form<'w, 't>>
     ensures { option_map form_seen result ≡ spec.form_of (plain key.now) (map plain words.now) }

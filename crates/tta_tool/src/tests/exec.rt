@@ -41,7 +41,8 @@ fn words_of(alloc: Global, input: &str, bound: &str) -> Result<Vec<String>, Fail
     Ok(words)
 }
 
-/// The front of a text, and behind it the first half of its next line, where a put of that number fails.
+/// The front of a text, and behind it the first half of its next line, where a put of that number
+/// fails.
 fn taken_until(alloc: Global, lines: &[&str], failing: usize) -> Result<Vec<u8>, Fail> {
     let mut taken = Vec::new(alloc);
     for (i, line) in lines.iter().enumerate() {

@@ -1,4 +1,5 @@
-//! Worked programs are run, and what each prints is compared; and an operation of a unit that is handed in is run.
+//! Worked programs are run, and what each prints is compared; and an operation of a unit that is
+//! handed in is run.
 
 use crate::command::tool;
 use crate::run;

@@ -1,4 +1,5 @@
-//! An image is built and run over files in memory, and what it puts out is taken by a sink in memory.
+//! An image is built and run over files in memory, and what it puts out is taken by a sink in
+//! memory.
 
 use crate::run;
 use crate::status::Status;
@@ -11,7 +12,8 @@ const MACHINE: &str =
 
 const PROGRAM: &str = "proc main\nout 7\nhalt\nend\n";
 
-/// The machine `M`, the program `P`, an input without words `I`, and the image `IMG` of the program.
+/// The machine `M`, the program `P`, an input without words `I`, and the image `IMG` of the
+/// program.
 fn files_of(alloc: Global) -> Result<MemFiles, Fail> {
     let mut files = MemFiles::new(alloc, Vec::new(alloc));
     files.add("M", MACHINE.as_bytes())?;

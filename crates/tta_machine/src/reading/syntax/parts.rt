@@ -106,7 +106,8 @@ pub fn imm_form<'t>(words: &'t [Word<'t>]) -> Option<ImmForm<'t>>
     }
 }
 
-/// The ports of a unit behind its operand port: the trigger port, and then the result port or nothing.
+/// The ports of a unit behind its operand port: the trigger port, and then the result port or
+/// nothing.
 fn unit_ports<'t>(
     name: &'t [u8],
     operand: Option<&'t [u8]>,

@@ -1,9 +1,11 @@
-//! The forms of what is said of such parts: operations, guards, templates and control; and of the spaces' sizes.
+//! The forms of what is said of such parts: operations, guards, templates and control; and of the
+//! spaces' sizes.
 
 ghost use Rattle.std.specs.Prelude.{◌≡◌, map, option_map};
 ghost use Rattle.tta_reading.specs.Lines.{plain};
 ghost use Rattle.tta_machine.specs.Forms as spec;
-ghost use Rattle.tta_machine.specs.Seen.{op_seen, guard_seen, template_seen, control_seen, space_seen};
+ghost use Rattle.tta_machine.specs.Seen.{op_seen, guard_seen, template_seen, control_seen};
+ghost use Rattle.tta_machine.specs.Seen.{space_seen};
 
 use super::pieces::{keyed_name, keyed_value, names_alone, one_of_two};
 use crate::reading::forms::{ControlForm, GuardForm, OpForm, SpaceForm, TemplateForm};
