@@ -19,6 +19,7 @@ use Rattle.tta_code.specs.declared.code.Move.{Move}
 use Rattle.tta_code.specs.declared.code.Long.{Long}
 use Rattle.tta_code.specs.declared.code.Instruction.{Instruction}
 use Rattle.tta_code.specs.Legal.{ends_of, slots_of, taken, is_long, is_instruction, is_legal}
+use Rattle.tta_code.proofs.LegalParts.{LegalParts, legal_parts}
 use Rattle.tta_asm.specs.Forms.{SlotForm}
 use Rattle.tta_asm.specs.Resolving.{fits_bus, move_of, action_of, long_of}
 use Rattle.tta_asm.specs.Assembly.{moves_of, longs_of, instruction_of}
@@ -127,25 +128,6 @@ long_back u m line (Some l) rules stands h =
 
 -- ---- instructions
 
--- what is known of a legal instruction
-pub record Facts (m : Machine) (i : Instruction) : Type 0 where
-  pub count : (length i.moves == length m.buses) ≡ true
-  pub long : option_map_or (is_long m) i.long true ≡ true
-  pub joined : all_slots (joined_at m) 0 (map (option_map ends_of) i.moves) ≡ true
-
--- a legal instruction is so
-pub facts_of : (m : Machine) (i : Instruction) → is_legal m i ≡ true → Facts m i
-unfolding is_legal can_move
-facts_of m i h =
-    let s = slots_of i in
-    let whole = and_parts (is_instruction m i) (can_move m (taken m i) s) h in
-    let form = and_parts (length i.moves == length m.buses) (option_map_or (is_long m) i.long true) whole.0 in
-    let a = and_parts (keeps_taken (taken m i) s && is_joined m s && has_reads m s && has_writes m s) (are_apart (all_ends s)) whole.1 in
-    let b = and_parts (keeps_taken (taken m i) s && is_joined m s && has_reads m s) (has_writes m s) a.0 in
-    let c = and_parts (keeps_taken (taken m i) s && is_joined m s) (has_reads m s) b.0 in
-    let d = and_parts (keeps_taken (taken m i) s) (is_joined m s) c.0 in
-    record { count = form.0; long = form.1; joined = d.1 }
-
 -- an instruction that a text can give, and that is found again
 pub record InstructionBack (u : Units) (m : Machine) (line before : ℕ) (i : Instruction) : Type 0 where
   pub slots : SlotsFit u m i.moves
@@ -157,7 +139,7 @@ pub instruction_back : (u : Units) (m : Machine) (line before : ℕ) (i : Instru
     → is_legal m i ≡ true → before < 2 ^ m.control.address → InstructionBack u m line before i
 unfolding instruction_of
 instruction_back u m line before i rules stands legal room =
-    let f = facts_of m i legal in
+    let f = legal_parts m i legal in
     let s = slots_back u m line 0 i.moves rules stands f.joined in
     let l = long_back u m line i.long rules stands f.long in
     let left : nat_le (2 ^ m.control.address) before ≡ false = grind (arith, nat_tests) in

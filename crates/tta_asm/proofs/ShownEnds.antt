@@ -26,7 +26,8 @@ use Rattle.tta_asm.specs.Parts.{op_name}
 use Rattle.tta_asm.specs.Resolving.{source_of, dest_of, guard_of}
 use Rattle.tta_asm.specs.Readable.{StandsOver, is_called, has_called_ops}
 use Rattle.tta_asm.proofs.ShownNames.{file_named, imm_named, unit_named, op_named}
-use Rattle.tta_asm.proofs.ShownParts.{small_file, small_imm, held_word_small, there, below, port_there, element_there, guard_there, GuardPlace, guard_place}
+use Rattle.tta_machine.proofs.Sizes.{small_file, small_imm}
+use Rattle.tta_asm.proofs.ShownParts.{held_word_small, there, below, port_there, element_there, guard_there, GuardPlace, guard_place}
 use Rattle.tta_asm.proofs.ShownScanned.{GuardFits, SourceFits, DestFits}
 use Rattle.tta_asm.proofs.ShownForms.{guard_said, source_said, dest_said}
 

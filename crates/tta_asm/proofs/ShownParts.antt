@@ -14,27 +14,7 @@ use Rattle.tta_machine.specs.declared.parts.Guard.{Guard}
 use Rattle.tta_machine.specs.declared.ends.GuardRef.{GuardRef}
 use Rattle.tta_machine.specs.Machine.{Machine}
 use Rattle.tta_machine.specs.Joins.{within, has_socket, holds_word, is_same, is_same_guard}
-use Rattle.tta_machine.specs.Rules.{is_bus, is_file, is_imm, is_guard, is_from_to, is_socket}
-
--- ---- sizes
-
--- a file has at most 64 registers
-pub small_file : (sockets : List Socket) (f : RegisterFile) → is_file sockets f ≡ true → f.size ≤ 64
-small_file sockets f h =
-    let a = and_parts ((f.width == 1 || f.width == 32) && is_from_to 1 64 f.size && is_from_to 1 16 f.read && is_from_to 1 16 f.write && is_socket sockets false f.out) (is_socket sockets true f.into) h in
-    let b = and_parts ((f.width == 1 || f.width == 32) && is_from_to 1 64 f.size && is_from_to 1 16 f.read && is_from_to 1 16 f.write) (is_socket sockets false f.out) a.0 in
-    let c = and_parts ((f.width == 1 || f.width == 32) && is_from_to 1 64 f.size && is_from_to 1 16 f.read) (is_from_to 1 16 f.write) b.0 in
-    let d = and_parts ((f.width == 1 || f.width == 32) && is_from_to 1 64 f.size) (is_from_to 1 16 f.read) c.0 in
-    let e = and_parts (f.width == 1 || f.width == 32) (is_from_to 1 64 f.size) d.0 in
-    let range = and_parts (nat_le 1 f.size) (nat_le f.size 64) e.1 in
-    leb-true f.size 64 range.1
-
--- an immediate unit has at most 16
-pub small_imm : (sockets : List Socket) (i : ImmUnit) → is_imm sockets i ≡ true → i.size ≤ 16
-small_imm sockets i h =
-    let a = and_parts (is_from_to 1 16 i.size) (is_socket sockets false i.out) h in
-    let range = and_parts (nat_le 1 i.size) (nat_le i.size 16) a.0 in
-    leb-true i.size 16 range.1
+use Rattle.tta_machine.specs.Rules.{is_bus, is_guard}
 
 -- ---- words of a short field
 

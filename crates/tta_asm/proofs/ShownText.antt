@@ -13,6 +13,7 @@ use Rattle.tta_code.specs.declared.code.Long.{Long}
 use Rattle.tta_code.specs.declared.code.Instruction.{Instruction}
 use Rattle.tta_code.specs.declared.code.Code.{Code}
 use Rattle.tta_code.specs.Legal.{is_legal, IsLegalCode}
+use Rattle.tta_code.proofs.LegalParts.{LegalParts, legal_parts}
 use Rattle.tta_asm.specs.Forms.{SlotForm}
 use Rattle.tta_asm.specs.Labels.{label_of, is_semicolon, instructions_in, labels_from, labels_of}
 use Rattle.tta_asm.specs.Assembly.{Draft, instruction_of, begun_label, take_piece, take_pieces, assembled}
@@ -24,7 +25,7 @@ use Rattle.tta_asm.proofs.ShownPieces.{PieceText, ArePieces, pieces_shown, piece
 use Rattle.tta_asm.proofs.ShownMoves.{last_piece, inner_piece, slot_pieces, code_pieces, HasFirst, HaveSlots, code_pieces-text}
 use Rattle.tta_asm.proofs.ShownScanned.{SlotFits, SlotsFit, LongFits, slot_pieces-scanned}
 use Rattle.tta_asm.proofs.ShownForms.{slot_said, long_said, shown_piece, last_read, inner_read}
-use Rattle.tta_asm.proofs.ShownCode.{slots_said, Facts, facts_of, instruction_back}
+use Rattle.tta_asm.proofs.ShownCode.{slots_said, instruction_back}
 
 -- ---- there are no labels
 
@@ -105,7 +106,7 @@ take_instruction u m (slot ∷ next ∷ moves) long slots words is_open line sta
 -- ---- code
 
 -- an instruction of a machine has a slot
-has_first : (m : Machine) (i : Instruction) → IsMachine m → Facts m i → HasFirst i.moves
+has_first : (m : Machine) (i : Instruction) → IsMachine m → LegalParts m i → HasFirst i.moves
 has_first m i rules f =
     let count : length i.moves ≡ length m.buses = eqb-true (length i.moves) (length m.buses) f.count in
     let bus = rules.limits.some_bus in
@@ -122,7 +123,7 @@ take_code u m [] words line start rules stands legal room = rw (append-nil words
 take_code u m (i ∷ is) words line start rules stands legal room =
     let left : length words < 2 ^ m.control.address = omega arith in
     let b = instruction_back u m line (length words) i rules stands legal.0 left in
-    let first = has_first m i rules (facts_of m i legal.0) in
+    let first = has_first m i rules (legal_parts m i legal.0) in
     let pieces = slot_pieces u m i.moves i.long in
     let one = take_instruction u m i.moves i.long [] words false line start (code_pieces u m is) i first b.slots b.long b.back in
     let long = length-append words (i ∷ []) in
@@ -137,7 +138,7 @@ code_scanned u m (i ∷ is) rules stands legal =
     let b = instruction_back u m 0 0 i rules stands legal.0 (pow_pos m.control.address) in
     let more = code_scanned u m is rules stands legal.1 in (
       slot_pieces-scanned u m i.moves i.long (code_pieces u m is) b.slots b.long more.0,
-      (has_first m i rules (facts_of m i legal.0), more.1),
+      (has_first m i rules (legal_parts m i legal.0), more.1),
     )
 
 -- legal code is read back from its canonical text

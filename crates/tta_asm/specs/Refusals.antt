@@ -23,8 +23,12 @@ Refusal = ℕ × AsmRefusal
 abbrev pub told : Refusal → AsmError
 told r = Refused r.0 (code_of r.1)
 
--- the answer is what the definition makes, or its refusal, or there was no memory
+-- an answer that is seen as another is what the definition makes, or its refusal is told, or there was no memory
+abbrev pub AnswersAs : {A B : Type 0} → (A → B) → Result A AsmError → Result B Refusal → Type 0
+AnswersAs seen (Ok x) made = made ≡ Ok (seen x)
+AnswersAs seen (Err NoMemory) made = Unit {0}
+AnswersAs seen (Err e) made = (r : Refusal) × (e ≡ told r) × (made ≡ Err r)
+
+-- the answer itself is what the definition makes, or its refusal is told, or there was no memory
 abbrev pub Answers : {A : Type 0} → Result A AsmError → Result A Refusal → Type 0
-Answers (Err NoMemory) made = Unit {0}
-Answers (Ok x) made = made ≡ Ok x
-Answers (Err e) made = (r : Refusal) × (e ≡ told r) × (made ≡ Err r)
+Answers = AnswersAs (λ x. x)

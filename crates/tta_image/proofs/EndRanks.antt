@@ -14,7 +14,8 @@ use Rattle.tta_machine.specs.declared.ends.Dest.TheVariants as dest
 use Rattle.tta_machine.specs.Machine.{Machine}
 use Rattle.tta_machine.specs.Fields.{numbers, all_sources, all_dests, sources_on, dests_on}
 use Rattle.tta_machine.specs.Joins.{is_source_on, is_dest_on}
-use Rattle.tta_machine.specs.Rules.{IsMachine, is_file, is_imm, is_unit, is_unit_op, is_socket, is_port_socket, is_from_to, are_different, same_op}
+use Rattle.tta_machine.specs.Rules.{IsMachine, is_file, is_imm, is_unit}
+use Rattle.tta_machine.proofs.Sizes.{small_file, small_imm, small_unit}
 use Rattle.tta_image.proofs.Rising.{Rising, rising_lower, rising_raise, rising-append, rising-filter, rising-range, rising-pieces}
 
 -- ---- ranks
@@ -39,29 +40,6 @@ dest_rank dest.Halt = 16386
 all_from : {X : Type 0} (p : X → Bool) (P : X → Type 0) (xs : List X) → ((x : X) → p x ≡ true → P x) → list_all p xs ≡ true → AllByRecursion P xs
 all_from p P [] one h = tt
 all_from p P (x ∷ xs) one h = let parts = and_parts (p x) (list_all p xs) h in (one x parts.0, all_from p P xs one parts.1)
-
-small_file : (sockets : List Socket) (f : File) → is_file sockets f ≡ true → f.size ≤ 64
-small_file sockets f h =
-    let a = and_parts ((f.width == 1 || f.width == 32) && is_from_to 1 64 f.size && is_from_to 1 16 f.read && is_from_to 1 16 f.write && is_socket sockets false f.out) (is_socket sockets true f.into) h in
-    let b = and_parts ((f.width == 1 || f.width == 32) && is_from_to 1 64 f.size && is_from_to 1 16 f.read && is_from_to 1 16 f.write) (is_socket sockets false f.out) a.0 in
-    let c = and_parts ((f.width == 1 || f.width == 32) && is_from_to 1 64 f.size && is_from_to 1 16 f.read) (is_from_to 1 16 f.write) b.0 in
-    let d = and_parts ((f.width == 1 || f.width == 32) && is_from_to 1 64 f.size) (is_from_to 1 16 f.read) c.0 in
-    let e = and_parts (f.width == 1 || f.width == 32) (is_from_to 1 64 f.size) d.0 in
-    let range = and_parts (nat_le 1 f.size) (nat_le f.size 64) e.1 in
-    leb-true f.size 64 range.1
-
-small_imm : (sockets : List Socket) (u : ImmUnit) → is_imm sockets u ≡ true → u.size ≤ 16
-small_imm sockets u h =
-    let a = and_parts (is_from_to 1 16 u.size) (is_socket sockets false u.out) h in
-    let range = and_parts (nat_le 1 u.size) (nat_le u.size 16) a.0 in
-    leb-true u.size 16 range.1
-
-small_unit : (sockets : List Socket) (u : OpUnit) → is_unit sockets u ≡ true → length u.ops ≤ 32
-small_unit sockets u h =
-    let a = and_parts (is_socket sockets true u.trigger && is_port_socket sockets true u.operand && is_port_socket sockets false u.result && nat_le (length u.ops) 32 && list_all (is_unit_op u) u.ops) (are_different (λ o p. same_op o.op p.op) u.ops) h in
-    let b = and_parts (is_socket sockets true u.trigger && is_port_socket sockets true u.operand && is_port_socket sockets false u.result && nat_le (length u.ops) 32) (list_all (is_unit_op u) u.ops) a.0 in
-    let c = and_parts (is_socket sockets true u.trigger && is_port_socket sockets true u.operand && is_port_socket sockets false u.result) (nat_le (length u.ops) 32) b.0 in
-    leb-true (length u.ops) 32 c.1
 
 any_unit : (units : List OpUnit) → AllByRecursion (λ u. 0 ≤ length u.ops) units
 any_unit [] = tt

@@ -15,6 +15,7 @@ use Rattle.tta_machine.specs.Legal.{can_move}
 use Rattle.tta_code.specs.declared.code.Instruction.{Instruction}
 use Rattle.tta_code.specs.declared.code.Code.{Code}
 use Rattle.tta_code.specs.Legal.{is_legal, is_instruction, is_long, taken, slots_of, IsLegalCode}
+use Rattle.tta_code.proofs.LegalParts.{legal_parts}
 use Rattle.tta_image.specs.Image.{header, AreBytesOf}
 
 -- ---- the bytes
@@ -35,17 +36,10 @@ are_bytes_of_same shown bits bytes same h = rw (← same) h
 
 -- ---- legal code
 
-legal_slots_of : (m : Machine) (i : Instruction) → is_legal m i ≡ true → length i.moves ≡ length m.buses
-unfolding is_legal
-legal_slots_of m i h =
-    let both = and_parts (is_instruction m i) (can_move m (taken m i) (slots_of i)) h in
-    let first = and_parts (length i.moves == length m.buses) (option_map_or (is_long m) i.long true) both.0 in
-    eqb-true (length i.moves) (length m.buses) first.0
-
 -- an instruction has an entry for each bus
 pub legal_slots : (m : Machine) (words : List Instruction) → AllByRecursion (λ i. IsTrue (is_legal m i)) words → All (λ i. length i.moves ≡ length m.buses) words
 legal_slots m [] h = All-nil (λ i. length i.moves ≡ length m.buses)
-legal_slots m (i ∷ is) h = All-cons (λ i. length i.moves ≡ length m.buses) i is (legal_slots_of m i h.0) (legal_slots m is h.1)
+legal_slots m (i ∷ is) h = All-cons (λ i. length i.moves ≡ length m.buses) i is (eqb-true (length i.moves) (length m.buses) (legal_parts m i h.0).count) (legal_slots m is h.1)
 
 pub short_address : (sockets : List Socket) (c : Control) → is_control sockets c ≡ true → c.address ≤ 16
 short_address sockets c h =

@@ -18,6 +18,7 @@ use Rattle.tta_code.specs.declared.code.Instruction.{Instruction}
 use Rattle.tta_code.specs.Legal.{ends_of, slots_of, taken, is_long, is_instruction, is_legal}
 use Rattle.tta_image.specs.Bits.{bits_of, slot_bits, slots_bits, template_code, long_bits, instruction_bits}
 use Rattle.tta_machine.proofs.Layouts.{set_width_at, no_bus_in_none}
+use Rattle.tta_code.proofs.LegalParts.{legal_parts}
 use Rattle.tta_image.proofs.Unique.{split_same, length-bits_of, same_number}
 use Rattle.tta_machine.proofs.Widths.{pow_le}
 use Rattle.tta_image.proofs.SlotLemmas.{length-slot_bits, is_joined_slot, slot_bits_tell, code_tells}
@@ -245,19 +246,12 @@ whole_tells m moves moves' (Some l) (Some l') rules h h' same =
     (told.1, ap (λ (x : Long). Some x) (long_from l l' template value))
 
 pub whole_of : (m : Machine) (i : Instruction) → is_legal m i ≡ true → IsWhole m i.moves i.long
-unfolding is_legal can_move
 whole_of m i h =
-    let t : ℕ = taken m i in let s : Slots = slots_of i in
-    let both = and_parts (is_instruction m i) (keeps_taken t s && is_joined m s && has_reads m s && has_writes m s && are_apart (moves_of s)) h in
-    let first = and_parts (length i.moves == length m.buses) (option_map_or (is_long m) i.long true) both.0 in
-    let four = and_parts (keeps_taken t s && is_joined m s && has_reads m s && has_writes m s) (are_apart (moves_of s)) both.1 in
-    let three = and_parts (keeps_taken t s && is_joined m s && has_reads m s) (has_writes m s) four.0 in
-    let two = and_parts (keeps_taken t s && is_joined m s) (has_reads m s) three.0 in
-    let one = and_parts (keeps_taken t s) (is_joined m s) two.0 in
+    let parts = legal_parts m i h in
     record {
-      count = eqb-true (length i.moves) (length m.buses) first.0;
-      template = first.1;
-      slots = are_legal m t 0 i.moves one.0 one.1;
+      count = eqb-true (length i.moves) (length m.buses) parts.count;
+      template = parts.long;
+      slots = are_legal m (taken m i) 0 i.moves parts.kept parts.joined;
     }
 
 -- the bits of a legal instruction tell it

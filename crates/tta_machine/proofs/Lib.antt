@@ -38,5 +38,6 @@ pub mod Limits
 pub mod LineKinds
 pub mod Widths
 pub mod CodeLists
+pub mod Sizes
 pub mod BusSources
 pub mod Layouts

@@ -1,3 +1,4 @@
+pub mod Counted
 pub mod Values
 pub mod Turns
 pub mod Shapes

@@ -43,8 +43,8 @@ input_fails u P IN space before after (status.BadInput line) file fails M has sa
     input = record { text = fails.1.text; holds = fails.1.holds; is = subst (λ n. input_of n fails.1.text ≡ Err line) (sym same) fails.1.is };
   },
 )
-input_fails u P IN space before after (status.ReadFault word) file fails M has same = inr (inr (fails.0, has, file, fails.1))
-input_fails u P IN space before after (status.TooLong word) file fails M has same = inr (inr (fails.0, has, file, fails.1))
+input_fails u P IN space before after (status.ReadFault word) file fails M has same = inr (inr (fails.0, (has, file), fails.1))
+input_fails u P IN space before after (status.TooLong word) file fails M has same = inr (inr (fails.0, (has, file), fails.1))
 input_fails u P IN space before after status.NoMemory file fails M has same = fails
 input_fails u P IN space before after s file fails M has same = absurd fails
 
@@ -113,8 +113,8 @@ exec_ends u M P IN p memory bound before after old new s begins ends =
       same = ap (λ q. seq u q memory bound) (sym begins.same_program) ∙ ap (λ l. seq u begins.run.program.program l bound) (sym begins.same_memory)
 
       of : (s : Status) → RunEnds (seq u begins.run.program.program begins.run.input.memory bound) old new s → Execs u M P IN bound before after old new s
-      of status.Ok ends = record { run = begins.run; ended = ends.ended; taken = ends.taken; faults = ends.faults; untouched = begins.untouched }
-      of status.Running ends = record { run = begins.run; ended = ends.ended; taken = ends.taken; faults = ends.faults; untouched = begins.untouched }
-      of status.WriteFault ends = record { run = begins.run; count = ends.count; taken = ends.taken; rose = ends.rose; untouched = begins.untouched }
+      of status.Ok ends = record { run = begins.run; ended = ends.0; put = ends.1; untouched = begins.untouched }
+      of status.Running ends = record { run = begins.run; ended = ends.0; put = ends.1; untouched = begins.untouched }
+      of status.WriteFault ends = record { run = begins.run; cut = ends; untouched = begins.untouched }
       of status.NoMemory ends = (begins.untouched, ends)
       of s ends = absurd ends

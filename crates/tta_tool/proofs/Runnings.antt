@@ -145,10 +145,10 @@ run_ends u m text IMG IN code memory bound before after old new s begins ends M 
           ∙ ap (λ x. cyc u has.machine held.code x bound) (sym begins.same_memory)
 
       of : (s : Status) → RunEnds (cyc u has.machine held.code words.memory bound) old new s → Runs u M IMG IN bound before after old new s
-      of status.Ok ends = record { run = run; ended = ends.ended; taken = ends.taken; faults = ends.faults; untouched = begins.untouched }
-      of status.Running ends = record { run = run; ended = ends.ended; taken = ends.taken; faults = ends.faults; untouched = begins.untouched }
-      of (status.MachineFault code cycle) ends = record { run = run; ended = ends.ended; taken = ends.taken; faults = ends.faults; untouched = begins.untouched }
-      of status.WriteFault ends = record { run = run; count = ends.count; taken = ends.taken; rose = ends.rose; untouched = begins.untouched }
+      of status.Ok ends = record { run = run; ended = ends.0; put = ends.1; untouched = begins.untouched }
+      of status.Running ends = record { run = run; ended = ends.0; put = ends.1; untouched = begins.untouched }
+      of (status.MachineFault code cycle) ends = record { run = run; ended = ends.0; put = ends.1; untouched = begins.untouched }
+      of status.WriteFault ends = record { run = run; cut = ends; untouched = begins.untouched }
       of status.NoMemory ends = (begins.untouched, ends)
       of s ends = absurd ends
 

@@ -1,21 +1,20 @@
 -- What the command `exec` does, and why it does not.
-use Rattle.std.specs.Prelude.{◌≡◌, ◌⊎◌, ℕ, List, ◌++◌, take, Option, Result, Ok, Err}
-use Rattle.std.specs.Io.KnownBytes.{append_known}
+use Rattle.std.specs.Prelude.{◌≡◌, ℕ, List, ◌++◌, Option, Result, Ok, Err}
 use Rattle.tta_ops.specs.Units.{Units}
 use Rattle.tta_tac.specs.Program.{Program}
 use Rattle.tta_tac.specs.Sequential.{State, Outcome, Running, Halted, seq}
 use Rattle.tta_ports.specs.Store.{Store}
-use Rattle.tta_ports.specs.Faults.{Rose}
 use Rattle.tta_input.specs.Input.{input_of}
 use Rattle.tta_print.specs.declared.line.Line.{Line}
 use Rattle.tta_print.specs.declared.line.Line.TheVariants as line
 use Rattle.tta_print.specs.Lines.{lines_text, word_lines, report_lines}
 use Rattle.tta_tool.specs.declared.status.Status.{Status}
 use Rattle.tta_tool.specs.declared.status.Status.TheVariants as status
-use Rattle.tta_tool.specs.World.{World, IsUntouched, ReadFailed, IsTooLong}
+use Rattle.tta_tool.specs.World.{World, IsUntouched}
 use Rattle.tta_tool.specs.Output.{Output, IsQuiet}
 use Rattle.tta_tool.specs.Stages.{IsBadMachine, IsBadProgram}
 use Rattle.tta_tool.specs.Contents.{HasMachine, HasProgram, HasInput, HasText}
+use Rattle.tta_tool.specs.Running.{IsPut, IsCut, ReadFault, TooLong}
 
 -- ---- what is printed
 
@@ -46,31 +45,18 @@ state_at {u} run bound = seq u run.program.program run.input.memory bound
 pub record IsExecuted (u : Units) (M P IN : List ℕ) (bound : ℕ) (before after : World) (old new : Output) (outcome : Outcome) : Type 0 where
   pub run : HasRun u before.contents M P IN
   pub ended : (state_at run bound).outcome ≡ outcome
-  pub taken : new.taken ≡ append_known old.taken (run_text (state_at run bound))
-  pub faults : new.faults ≡ old.faults
+  pub put : IsPut (run_text (state_at run bound)) old new
   pub untouched : IsUntouched before after
 
 -- a put has failed: the front of the text was put
 pub record IsCutShort (u : Units) (M P IN : List ℕ) (bound : ℕ) (before after : World) (old new : Output) : Type 0 where
   pub run : HasRun u before.contents M P IN
-  pub count : ℕ
-  pub taken : new.taken ≡ append_known old.taken (take count (run_text (state_at run bound)))
-  pub rose : Rose old.faults new.faults
+  pub cut : IsCut (run_text (state_at run bound)) old new
   pub untouched : IsUntouched before after
 
--- a read of word 1 has failed, or of word 2 where word 1 has passed, or of word 3 where both have
-abbrev pub ReadFault : Units → (M P IN : List ℕ) → (before after : World) → (word : ℕ) → Type 0
-ReadFault u M P IN before after word =
-    ((word ≡ 1) × ReadFailed M before after)
-    ⊎ ((word ≡ 2) × HasMachine u before.contents M × ReadFailed P before after)
-    ⊎ ((word ≡ 3) × HasMachine u before.contents M × HasProgram u before.contents P × ReadFailed IN before after)
-
--- the same of a file that is too long
-abbrev pub TooLong : Units → (M P IN : List ℕ) → (before after : World) → (word : ℕ) → Type 0
-TooLong u M P IN before after word =
-    ((word ≡ 1) × IsTooLong M before after)
-    ⊎ ((word ≡ 2) × HasMachine u before.contents M × IsTooLong P before after)
-    ⊎ ((word ≡ 3) × HasMachine u before.contents M × HasProgram u before.contents P × IsTooLong IN before after)
+-- the machine was read, and the program
+abbrev pub HasPair : Units → Option Store → (M P : List ℕ) → Type 0
+HasPair u files M P = HasMachine u files M × HasProgram u files P
 
 -- a file's words are refused at a line: one that is no word, or one more than the data space has
 pub record HasBadInput (u : Units) (files : Option Store) (M P IN : List ℕ) (line : ℕ) : Type 0 where
@@ -85,8 +71,10 @@ BeginFails u M P IN before after (status.BadMachine line code) =
 BeginFails u M P IN before after (status.BadProgram line code) =
     IsUntouched before after × HasMachine u before.contents M × HasText before.contents P (λ text. IsBadProgram u text line code)
 BeginFails u M P IN before after (status.BadInput line) = IsUntouched before after × HasBadInput u before.contents M P IN line
-BeginFails u M P IN before after (status.ReadFault word) = ReadFault u M P IN before after word
-BeginFails u M P IN before after (status.TooLong word) = TooLong u M P IN before after word
+BeginFails u M P IN before after (status.ReadFault word) =
+    ReadFault (HasMachine u before.contents M) (HasPair u before.contents M P) M P IN before after word
+BeginFails u M P IN before after (status.TooLong word) =
+    TooLong (HasMachine u before.contents M) (HasPair u before.contents M P) M P IN before after word
 BeginFails u M P IN before after status.NoMemory = IsUntouched before after
 BeginFails u M P IN before after s = ⊥
 
@@ -125,20 +113,10 @@ BeginWithEnds u P IN space before after program memory (Ok v) = BeginsWith u P I
 BeginWithEnds u P IN space before after program memory (Err s) =
     (M : List ℕ) (has : HasMachine u before.contents M) → has.machine.data_words ≡ space → BeginFails u M P IN before after s
 
--- a run has come to a state, and what was put of its text
-pub record IsRun (outcome : Outcome) (s : State) (old new : Output) : Type 0 where
-  pub ended : s.outcome ≡ outcome
-  pub taken : new.taken ≡ append_known old.taken (run_text s)
-  pub faults : new.faults ≡ old.faults
-
-pub record IsCut (s : State) (old new : Output) : Type 0 where
-  pub count : ℕ
-  pub taken : new.taken ≡ append_known old.taken (take count (run_text s))
-  pub rose : Rose old.faults new.faults
-
+-- a run has come to a state, and its text was put, or the front of it
 abbrev pub RunEnds : State → (old new : Output) → Status → Type 0
-RunEnds s old new status.Ok = IsRun Halted s old new
-RunEnds s old new status.Running = IsRun Running s old new
-RunEnds s old new status.WriteFault = IsCut s old new
+RunEnds s old new status.Ok = (s.outcome ≡ Halted) × IsPut (run_text s) old new
+RunEnds s old new status.Running = (s.outcome ≡ Running) × IsPut (run_text s) old new
+RunEnds s old new status.WriteFault = IsCut (run_text s) old new
 RunEnds s old new status.NoMemory = IsQuiet old new
 RunEnds s old new other = ⊥

@@ -1,6 +1,5 @@
 -- What the command `run` does, and why it does not.
-use Rattle.std.specs.Prelude.{◌≡◌, ◌⊎◌, ℕ, List, ◌++◌, take, Option, Result, Ok, Err}
-use Rattle.std.specs.Io.KnownBytes.{append_known}
+use Rattle.std.specs.Prelude.{◌≡◌, ℕ, List, ◌++◌, Option, Result, Ok, Err}
 use Rattle.sha2.specs.Sha256.{sha256}
 use Rattle.tta_ops.specs.Units.{Units}
 use Rattle.tta_machine.specs.Machine.{Machine}
@@ -9,17 +8,17 @@ use Rattle.tta_code.specs.Cycle.{State, Outcome, Running, Halted, Fault, cyc}
 use Rattle.tta_image.specs.declared.refusal.ImageError.TheVariants.{Refused}
 use Rattle.tta_image.specs.Reading.{decoded_image}
 use Rattle.tta_ports.specs.Store.{Store}
-use Rattle.tta_ports.specs.Faults.{Rose}
 use Rattle.tta_input.specs.Input.{input_of}
 use Rattle.tta_print.specs.declared.line.Line.{Line}
 use Rattle.tta_print.specs.declared.line.Line.TheVariants as line
 use Rattle.tta_print.specs.Lines.{lines_text, word_lines, report_lines}
 use Rattle.tta_tool.specs.declared.status.Status.{Status}
 use Rattle.tta_tool.specs.declared.status.Status.TheVariants as status
-use Rattle.tta_tool.specs.World.{World, IsUntouched, ReadFailed, IsTooLong}
+use Rattle.tta_tool.specs.World.{World, IsUntouched}
 use Rattle.tta_tool.specs.Output.{Output, IsQuiet}
 use Rattle.tta_tool.specs.Stages.{IsBadMachine}
 use Rattle.tta_tool.specs.Contents.{HasMachine, HasCode, HasInput, HasText}
+use Rattle.tta_tool.specs.Running.{IsPut, IsCut, ReadFault, TooLong}
 
 -- ---- what is printed
 
@@ -52,36 +51,19 @@ state_at {u} run bound = cyc u run.machine.machine run.code.code run.input.memor
 pub record IsExecuted (u : Units) (M IMG IN : List ℕ) (bound : ℕ) (before after : World) (old new : Output) (outcome : Outcome) : Type 0 where
   pub run : HasRun u before.contents M IMG IN
   pub ended : (state_at run bound).outcome ≡ outcome
-  pub taken : new.taken ≡ append_known old.taken (run_text (state_at run bound))
-  pub faults : new.faults ≡ old.faults
+  pub put : IsPut (run_text (state_at run bound)) old new
   pub untouched : IsUntouched before after
 
 -- a put has failed: the front of the text was put
 pub record IsCutShort (u : Units) (M IMG IN : List ℕ) (bound : ℕ) (before after : World) (old new : Output) : Type 0 where
   pub run : HasRun u before.contents M IMG IN
-  pub count : ℕ
-  pub taken : new.taken ≡ append_known old.taken (take count (run_text (state_at run bound)))
-  pub rose : Rose old.faults new.faults
+  pub cut : IsCut (run_text (state_at run bound)) old new
   pub untouched : IsUntouched before after
 
 -- the machine was read, and the image of code for it
 pub record HasPair (u : Units) (files : Option Store) (M IMG : List ℕ) : Type 0 where
   pub machine : HasMachine u files M
   pub code : HasCode machine.machine (sha256 machine.text) files IMG
-
--- a read of word 1 has failed, or of word 2 where word 1 has passed, or of word 3 where both have
-abbrev pub ReadFault : Units → (M IMG IN : List ℕ) → (before after : World) → (word : ℕ) → Type 0
-ReadFault u M IMG IN before after word =
-    ((word ≡ 1) × ReadFailed M before after)
-    ⊎ ((word ≡ 2) × HasMachine u before.contents M × ReadFailed IMG before after)
-    ⊎ ((word ≡ 3) × HasPair u before.contents M IMG × ReadFailed IN before after)
-
--- the same of a file that is too long
-abbrev pub TooLong : Units → (M IMG IN : List ℕ) → (before after : World) → (word : ℕ) → Type 0
-TooLong u M IMG IN before after word =
-    ((word ≡ 1) × IsTooLong M before after)
-    ⊎ ((word ≡ 2) × HasMachine u before.contents M × IsTooLong IMG before after)
-    ⊎ ((word ≡ 3) × HasPair u before.contents M IMG × IsTooLong IN before after)
 
 -- the bytes of a file are no image for a machine, for the first reason that they have
 pub record HasBadImage (u : Units) (files : Option Store) (M IMG : List ℕ) (code word bus : ℕ) : Type 0 where
@@ -100,8 +82,10 @@ BeginFails u M IMG IN before after (status.BadMachine line code) =
 BeginFails u M IMG IN before after (status.BadImage code word bus) =
     IsUntouched before after × HasBadImage u before.contents M IMG code word bus
 BeginFails u M IMG IN before after (status.BadInput line) = IsUntouched before after × HasBadInput u before.contents M IMG IN line
-BeginFails u M IMG IN before after (status.ReadFault word) = ReadFault u M IMG IN before after word
-BeginFails u M IMG IN before after (status.TooLong word) = TooLong u M IMG IN before after word
+BeginFails u M IMG IN before after (status.ReadFault word) =
+    ReadFault (HasMachine u before.contents M) (HasPair u before.contents M IMG) M IMG IN before after word
+BeginFails u M IMG IN before after (status.TooLong word) =
+    TooLong (HasMachine u before.contents M) (HasPair u before.contents M IMG) M IMG IN before after word
 BeginFails u M IMG IN before after status.NoMemory = IsUntouched before after
 BeginFails u M IMG IN before after s = ⊥
 
@@ -131,22 +115,12 @@ BeginWithEnds u m text IMG IN before after code memory (Ok v) = BeginsWith m (sh
 BeginWithEnds u m text IMG IN before after code memory (Err s) =
     (M : List ℕ) (has : HasMachine u before.contents M) → has.machine ≡ m → has.text ≡ text → BeginFails u M IMG IN before after s
 
--- a run has come to a state, and what was put of its text
-pub record IsRun (outcome : Outcome) (s : State) (old new : Output) : Type 0 where
-  pub ended : s.outcome ≡ outcome
-  pub taken : new.taken ≡ append_known old.taken (run_text s)
-  pub faults : new.faults ≡ old.faults
-
-pub record IsCut (s : State) (old new : Output) : Type 0 where
-  pub count : ℕ
-  pub taken : new.taken ≡ append_known old.taken (take count (run_text s))
-  pub rose : Rose old.faults new.faults
-
+-- a run has come to a state, and its text was put, or the front of it
 abbrev pub RunEnds : State → (old new : Output) → Status → Type 0
-RunEnds s old new status.Ok = IsRun Halted s old new
-RunEnds s old new status.Running = IsRun Running s old new
-RunEnds s old new (status.MachineFault code cycle) = IsRun (Fault code cycle) s old new
-RunEnds s old new status.WriteFault = IsCut s old new
+RunEnds s old new status.Ok = (s.outcome ≡ Halted) × IsPut (run_text s) old new
+RunEnds s old new status.Running = (s.outcome ≡ Running) × IsPut (run_text s) old new
+RunEnds s old new (status.MachineFault code cycle) = (s.outcome ≡ Fault code cycle) × IsPut (run_text s) old new
+RunEnds s old new status.WriteFault = IsCut (run_text s) old new
 RunEnds s old new status.NoMemory = IsQuiet old new
 RunEnds s old new other = ⊥
 
