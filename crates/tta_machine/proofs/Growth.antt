@@ -1,5 +1,5 @@
 -- What stays true of a draft when it has more parts.
-use Rattle.std.proofs.Common.{◌≡◌, ◌<◌, ◌≤◌, ◌++◌, ◌∷◌, [], ℕ, Bool, List, Option, Some, None, true, false, length, refl, subst, arith, ◌⊎◌, ⊎_elim, lt_of_lt_of_le, pow_mono}
+use Rattle.std.proofs.Common.{◌≡◌, ◌<◌, ◌≤◌, ◌++◌, ◌∷◌, [], ℕ, Bool, List, Option, Some, None, true, false, length, refl, subst, arith, ◌⊎◌, inl, inr, lt_of_lt_of_le, pow_mono}
 use Rattle.std.specs.Prelude.{◌&&◌, ◌==◌, nat_lt, nat_le, slice_get}
 use Rattle.std.specs.Option.{option_map_or}
 use Rattle.std.specs.List.{list_all}
@@ -57,40 +57,33 @@ stays_there d e g (place.Imm k) h = omega arith
 stays_there d e g (place.Unit k) h = omega arith
 stays_there d e g (place.Template k) h = omega arith
 
+-- what every place of a name keeps, the places of each kind keep
+pub names_there : (d : Draft) → ((name : List ℕ) (at : Named) → named_in d.names name ≡ Some at → IsThere d at × IsMachineName name) → NamesAreThere d
+names_there d all = record {
+  bus = λ name k h. (all name (place.Bus k) h).0;
+  socket = λ name k h. (all name (place.Socket k) h).0;
+  file = λ name k h. (all name (place.File k) h).0;
+  imm = λ name k h. (all name (place.Imm k) h).0;
+  unit = λ name k h. (all name (place.Unit k) h).0;
+  template = λ name k h. (all name (place.Template k) h).0;
+  good = λ name at h. (all name at h).1;
+}
+
 -- the names as before
 pub there_still : (d e : Draft) → NamesAreThere d → e.names ≡ d.names → Grows d e → NamesAreThere e
-there_still d e r same g = record {
-  bus = λ name k h. all name (place.Bus k) h;
-  socket = λ name k h. all name (place.Socket k) h;
-  file = λ name k h. all name (place.File k) h;
-  imm = λ name k h. all name (place.Imm k) h;
-  unit = λ name k h. all name (place.Unit k) h;
-  template = λ name k h. all name (place.Template k) h;
-  good = λ name at h. r.good name at (before name at h);
-} where
-  before : (name : List ℕ) (at : Named) → named_in e.names name ≡ Some at → named_in d.names name ≡ Some at
-  before name at h = subst (λ names. named_in names name ≡ Some at) same h
-
-  all : (name : List ℕ) (at : Named) → named_in e.names name ≡ Some at → IsThere e at
-  all name at h = stays_there d e g at (is_there d r name at (before name at h))
+there_still d e r same g = names_there e (λ name at h.
+    let before : named_in d.names name ≡ Some at = subst (λ names. named_in names name ≡ Some at) same h in
+    (stays_there d e g at (is_there d r name at before), r.good name at before))
 
 -- one name more, of a part that is there
 pub there_more : (d e : Draft) (new : List ℕ) (p : Named) → NamesAreThere d → e.names ≡ d.names ++ (new, p) ∷ [] → Grows d e
     → IsThere e p → IsMachineName new → NamesAreThere e
-there_more d e new p r more g here good = record {
-  bus = λ name k h. all name (place.Bus k) h;
-  socket = λ name k h. all name (place.Socket k) h;
-  file = λ name k h. all name (place.File k) h;
-  imm = λ name k h. all name (place.Imm k) h;
-  unit = λ name k h. all name (place.Unit k) h;
-  template = λ name k h. all name (place.Template k) h;
-  good = λ name at h. ⊎_elim (λ old. r.good name at old) (λ one. subst IsMachineName one.0 good) (cases name at h);
-} where
-  cases : (name : List ℕ) (at : Named) → named_in e.names name ≡ Some at → (named_in d.names name ≡ Some at) ⊎ ((new ≡ name) × (p ≡ at))
-  cases name at h = named_in-push d.names new p name at (subst (λ names. named_in names name ≡ Some at) more h)
-
-  all : (name : List ℕ) (at : Named) → named_in e.names name ≡ Some at → IsThere e at
-  all name at h = ⊎_elim (λ old. stays_there d e g at (is_there d r name at old)) (λ one. subst (IsThere e) one.1 here) (cases name at h)
+there_more d e new p r more g here good = names_there e (λ name at h.
+    by name at (named_in-push d.names new p name at (subst (λ names. named_in names name ≡ Some at) more h)))
+  where
+    by : (name : List ℕ) (at : Named) → (named_in d.names name ≡ Some at) ⊎ ((new ≡ name) × (p ≡ at)) → IsThere e at × IsMachineName name
+    by name at (inl old) = (stays_there d e g at (is_there d r name at old), r.good name at old)
+    by name at (inr one) = (subst (IsThere e) one.1 here, subst IsMachineName one.0 good)
 
 -- ---- more buses
 

@@ -1,40 +1,108 @@
 -- A line is of one kind alone, and adds to the lines of that kind.
-use Rattle.std.proofs.Common.{◌≡◌, ◌+◌, ◌++◌, ◌∷◌, [], ℕ, Bool, List, Option, Some, true, false, suc, length, map, filter_map, refl, sym, ap, subst, ◌∙◌, arith, append_assoc, append-nil}
-use Rattle.std.specs.Prelude.{slice_get}
-use Rattle.std.specs.List.{cons_option}
+use Rattle.std.proofs.Common.{◌≡◌, ◌+◌, ◌++◌, ◌∷◌, [], ℕ, Bool, List, Option, None, true, suc, length, map, sym, ap, ap₂, ◌∙◌, arith, append_assoc, append-nil, codes}
+use Rattle.std.specs.Prelude.{◌&&◌, ◌||◌, slice_get, is_some}
+use Rattle.std.specs.List.{list_all, cons_option}
 use Rattle.std.specs.Str.{bytes_eq}
 use Rattle.std.proofs.lemmas.Bool.{and_parts}
 use Rattle.std.proofs.lemmas.Slice.Eq.{bytes_eq-Decides}
 use Rattle.tta_reading.specs.Lines.{Line, Lexeme}
 use Rattle.tta_reading.specs.Words.{is_keyword, is_name_kind}
 use Rattle.tta_reading.specs.Steps.{only_if}
-use Rattle.tta_machine.specs.Grammar.{declared_as}
+use Rattle.tta_machine.specs.Forms.{BusForm, SocketForm, FileForm, ImmForm, UnitForm, OpForm, GuardForm, TemplateForm, ControlForm, SpaceForm, bus_form, socket_form, file_form, imm_form, unit_form, op_form, guard_form, template_form, control_form, space_form}
+use Rattle.tta_machine.specs.Grammar.{bus_lines, socket_lines, file_lines, imm_lines, unit_lines, op_lines, guard_lines, template_lines, control_lines, space_lines, is_declaration}
 
 -- ---- lines of a kind
 
-other_keyword : (word other : List ℕ) (key : Lexeme) → is_keyword word key ≡ true → bytes_eq word other ≡ false → is_keyword other key ≡ false
-other_keyword word other key is apart =
+-- what lines declare, kind by kind, and whether each of them declares something or is blank
+pub record ByKind : Type 0 where
+  pub all : Bool
+  pub buses : List BusForm
+  pub sockets : List SocketForm
+  pub files : List FileForm
+  pub imms : List ImmForm
+  pub units : List UnitForm
+  pub ops : List OpForm
+  pub guards : List GuardForm
+  pub templates : List TemplateForm
+  pub controls : List ControlForm
+  pub spaces : List SpaceForm
+
+abbrev pub by_kind : List Line → ByKind
+by_kind lines = record {
+  all = list_all is_declaration lines;
+  buses = bus_lines lines;
+  sockets = socket_lines lines;
+  files = file_lines lines;
+  imms = imm_lines lines;
+  units = unit_lines lines;
+  ops = op_lines lines;
+  guards = guard_lines lines;
+  templates = template_lines lines;
+  controls = control_lines lines;
+  spaces = space_lines lines;
+}
+
+-- what one line declares as a line of each kind
+pub record OneLine : Type 0 where
+  pub bus : Option BusForm
+  pub socket : Option SocketForm
+  pub file : Option FileForm
+  pub imm : Option ImmForm
+  pub unit : Option UnitForm
+  pub op : Option OpForm
+  pub guard : Option GuardForm
+  pub template : Option TemplateForm
+  pub control : Option ControlForm
+  pub space : Option SpaceForm
+
+-- its first word passes this test of words, and these are the others
+abbrev pub one_line : (List ℕ → Bool) → Line → OneLine
+one_line test words = record {
+  bus = only_if (test (codes "bus")) (bus_form words);
+  socket = only_if (test (codes "socket")) (socket_form words);
+  file = only_if (test (codes "file")) (file_form words);
+  imm = only_if (test (codes "imm")) (imm_form words);
+  unit = only_if (test (codes "unit")) (unit_form words);
+  op = only_if (test (codes "op")) (op_form words);
+  guard = only_if (test (codes "guard")) (guard_form words);
+  template = only_if (test (codes "template")) (template_form words);
+  control = only_if (test (codes "control")) (control_form words);
+  space = only_if (test (codes "space")) (space_form words);
+}
+
+abbrev pub no_line : OneLine
+no_line = record { bus = None; socket = None; file = None; imm = None; unit = None; op = None; guard = None; template = None; control = None; space = None }
+
+-- a line in front of others
+abbrev pub in_front : OneLine → ByKind → ByKind
+in_front line rest = record {
+  all =
+      (is_some line.bus || is_some line.socket || is_some line.file || is_some line.imm || is_some line.unit || is_some line.op || is_some line.guard
+      || is_some line.template || is_some line.control || is_some line.space)
+      && rest.all;
+  buses = cons_option line.bus rest.buses;
+  sockets = cons_option line.socket rest.sockets;
+  files = cons_option line.file rest.files;
+  imms = cons_option line.imm rest.imms;
+  units = cons_option line.unit rest.units;
+  ops = cons_option line.op rest.ops;
+  guards = cons_option line.guard rest.guards;
+  templates = cons_option line.template rest.templates;
+  controls = cons_option line.control rest.controls;
+  spaces = cons_option line.space rest.spaces;
+}
+
+-- a lexeme that is one keyword is another where the words are alike
+other_keyword : (word other : List ℕ) (key : Lexeme) → is_keyword word key ≡ true → is_keyword other key ≡ bytes_eq word other
+other_keyword word other key is =
     let parts = and_parts (is_name_kind key.kind) (bytes_eq key.text word) is in
-    let same : key.text ≡ word = (bytes_eq-Decides key.text word).0 parts.1 in
-    let not_other : bytes_eq key.text other ≡ false = subst (λ t. bytes_eq t other ≡ false) (sym same) apart in
-    rw (parts.0, not_other) refl
+    ap₂ (λ (b : Bool) (text : List ℕ). b && bytes_eq text other) parts.0 ((bytes_eq-Decides key.text word).0 parts.1)
 
--- a line that begins with another word adds nothing
-pub skipped : {F : Type 0} (word other : List ℕ) (form : Line → Option F) (key : Lexeme) (words : Line) (rest : List Line)
-    → is_keyword word key ≡ true → bytes_eq word other ≡ false
-    → filter_map (declared_as other form) ((key ∷ words) ∷ rest) ≡ filter_map (declared_as other form) rest
-skipped word other form key words rest is apart =
-    ap (λ (b : Bool). cons_option (only_if b (form words)) (filter_map (declared_as other form) rest)) (other_keyword word other key is apart)
-
-pub declared : {F : Type 0} (word : List ℕ) (form : Line → Option F) (key : Lexeme) (words : Line) (f : F)
-    → is_keyword word key ≡ true → form words ≡ Some f → declared_as word form (key ∷ words) ≡ Some f
-declared word form key words f is said = ap (λ (b : Bool). only_if b (form words)) is ∙ said
-
--- a line that begins with the kind's word adds its declaration
-pub added : {F : Type 0} (word : List ℕ) (form : Line → Option F) (key : Lexeme) (words : Line) (rest : List Line) (f : F)
-    → is_keyword word key ≡ true → form words ≡ Some f
-    → filter_map (declared_as word form) ((key ∷ words) ∷ rest) ≡ f ∷ filter_map (declared_as word form) rest
-added word form key words rest f is said = ap (λ o. cons_option o (filter_map (declared_as word form) rest)) (declared word form key words f is said)
+-- a line that begins with a word, by that word alone
+pub by_word : (word : List ℕ) (key : Lexeme) (words : Line) (rest : List Line) → is_keyword word key ≡ true
+    → by_kind ((key ∷ words) ∷ rest) ≡ in_front (one_line (bytes_eq word) words) (by_kind rest)
+by_word word key words rest is =
+    ap (λ (test : List ℕ → Bool). in_front (one_line test words) (by_kind rest)) (λ i other. other_keyword word other key is i)
 
 -- ---- lists that grow by what lines make
 
@@ -45,13 +113,9 @@ Adds earlier later made forms = later ≡ earlier ++ map made forms
 pub adds_none : {A F : Type 0} (earlier : List A) (made : F → A) → Adds earlier earlier made []
 adds_none earlier made = sym (append-nil earlier)
 
-pub adds_skip : {A F : Type 0} (earlier later : List A) (made : F → A) (forms all : List F) → Adds earlier later made forms → all ≡ forms → Adds earlier later made all
-adds_skip earlier later made forms all h same = h ∙ ap (λ l. earlier ++ map made l) (sym same)
-
-pub adds_one : {A F : Type 0} (earlier later : List A) (x : A) (made : F → A) (f : F) (forms all : List F)
-    → Adds (earlier ++ x ∷ []) later made forms → all ≡ f ∷ forms → made f ≡ x → Adds earlier later made all
-adds_one earlier later x made f forms all h same is =
-    h ∙ append_assoc earlier (x ∷ []) (map made forms) ∙ ap (λ y. earlier ++ y ∷ map made forms) (sym is) ∙ ap (λ l. earlier ++ map made l) (sym same)
+pub adds_one : {A F : Type 0} (earlier later : List A) (x : A) (made : F → A) (f : F) (forms : List F)
+    → Adds (earlier ++ x ∷ []) later made forms → made f ≡ x → Adds earlier later made (f ∷ forms)
+adds_one earlier later x made f forms h is = h ∙ append_assoc earlier (x ∷ []) (map made forms) ∙ ap (λ y. earlier ++ y ∷ map made forms) (sym is)
 
 -- an element behind the first list
 pub slice_get-behind : {A : Type 0} (xs ys : List A) (k : ℕ) → slice_get (xs ++ ys) (length xs + k) ≡ slice_get ys k

@@ -18,58 +18,39 @@ use Rattle.tta_machine.proofs.Steps.{same_ok, then-some}
 
 -- ---- parts of one name
 
-pub bus_named-some : (d : Draft) (name : List ℕ) (k : ℕ) → bus_named d name ≡ Some k → named_in d.names name ≡ Some (place.Bus k)
-bus_named-some d name k h = by (named_in d.names name) h where
-  by : (o : Option Named) → option_map_or bus_place o None ≡ Some k → o ≡ Some (place.Bus k)
-  by None e = cc
-  by (Some (place.Bus j)) e = cc
-  by (Some (place.Socket j)) e = cc
-  by (Some (place.File j)) e = cc
-  by (Some (place.Imm j)) e = cc
-  by (Some (place.Unit j)) e = cc
-  by (Some (place.Template j)) e = cc
+-- a place is of the one kind that tells its number
+record OfKind (p : Named) : Type 0 where
+  bus : (k : ℕ) → bus_place p ≡ Some k → p ≡ place.Bus k
+  socket : (k : ℕ) → socket_place p ≡ Some k → p ≡ place.Socket k
+  file : (k : ℕ) → file_place p ≡ Some k → p ≡ place.File k
+  imm : (k : ℕ) → imm_place p ≡ Some k → p ≡ place.Imm k
+  unit : (k : ℕ) → unit_place p ≡ Some k → p ≡ place.Unit k
 
-pub socket_place-some : (o : Option Named) (k : ℕ) → option_map_or socket_place o None ≡ Some k → o ≡ Some (place.Socket k)
-socket_place-some None k e = cc
-socket_place-some (Some (place.Bus j)) k e = cc
-socket_place-some (Some (place.Socket j)) k e = cc
-socket_place-some (Some (place.File j)) k e = cc
-socket_place-some (Some (place.Imm j)) k e = cc
-socket_place-some (Some (place.Unit j)) k e = cc
-socket_place-some (Some (place.Template j)) k e = cc
+of_kind : (p : Named) → OfKind p
+of_kind (place.Bus j) = record { bus = λ k e. cc; socket = λ k e. cc; file = λ k e. cc; imm = λ k e. cc; unit = λ k e. cc }
+of_kind (place.Socket j) = record { bus = λ k e. cc; socket = λ k e. cc; file = λ k e. cc; imm = λ k e. cc; unit = λ k e. cc }
+of_kind (place.File j) = record { bus = λ k e. cc; socket = λ k e. cc; file = λ k e. cc; imm = λ k e. cc; unit = λ k e. cc }
+of_kind (place.Imm j) = record { bus = λ k e. cc; socket = λ k e. cc; file = λ k e. cc; imm = λ k e. cc; unit = λ k e. cc }
+of_kind (place.Unit j) = record { bus = λ k e. cc; socket = λ k e. cc; file = λ k e. cc; imm = λ k e. cc; unit = λ k e. cc }
+of_kind (place.Template j) = record { bus = λ k e. cc; socket = λ k e. cc; file = λ k e. cc; imm = λ k e. cc; unit = λ k e. cc }
+
+-- the same of a name that may be unknown
+place_some : (select : Named → Option ℕ) (at : ℕ → Named) (o : Option Named) (k : ℕ) → ((p : Named) → select p ≡ Some k → p ≡ at k)
+    → option_map_or select o None ≡ Some k → o ≡ Some (at k)
+place_some select at None k one e = cc
+place_some select at (Some p) k one e = ap (λ q. Some q) (one p e)
+
+pub bus_named-some : (d : Draft) (name : List ℕ) (k : ℕ) → bus_named d name ≡ Some k → named_in d.names name ≡ Some (place.Bus k)
+bus_named-some d name k h = place_some bus_place place.Bus (named_in d.names name) k (λ p. (of_kind p).bus k) h
 
 pub file_named-some : (d : Draft) (name : List ℕ) (k : ℕ) → file_named d name ≡ Some k → named_in d.names name ≡ Some (place.File k)
-file_named-some d name k h = by (named_in d.names name) h where
-  by : (o : Option Named) → option_map_or file_place o None ≡ Some k → o ≡ Some (place.File k)
-  by None e = cc
-  by (Some (place.Bus j)) e = cc
-  by (Some (place.Socket j)) e = cc
-  by (Some (place.File j)) e = cc
-  by (Some (place.Imm j)) e = cc
-  by (Some (place.Unit j)) e = cc
-  by (Some (place.Template j)) e = cc
+file_named-some d name k h = place_some file_place place.File (named_in d.names name) k (λ p. (of_kind p).file k) h
 
 pub imm_named-some : (d : Draft) (name : List ℕ) (k : ℕ) → imm_named d name ≡ Some k → named_in d.names name ≡ Some (place.Imm k)
-imm_named-some d name k h = by (named_in d.names name) h where
-  by : (o : Option Named) → option_map_or imm_place o None ≡ Some k → o ≡ Some (place.Imm k)
-  by None e = cc
-  by (Some (place.Bus j)) e = cc
-  by (Some (place.Socket j)) e = cc
-  by (Some (place.File j)) e = cc
-  by (Some (place.Imm j)) e = cc
-  by (Some (place.Unit j)) e = cc
-  by (Some (place.Template j)) e = cc
+imm_named-some d name k h = place_some imm_place place.Imm (named_in d.names name) k (λ p. (of_kind p).imm k) h
 
 pub unit_named-some : (d : Draft) (name : List ℕ) (k : ℕ) → unit_named d name ≡ Some k → named_in d.names name ≡ Some (place.Unit k)
-unit_named-some d name k h = by (named_in d.names name) h where
-  by : (o : Option Named) → option_map_or unit_place o None ≡ Some k → o ≡ Some (place.Unit k)
-  by None e = cc
-  by (Some (place.Bus j)) e = cc
-  by (Some (place.Socket j)) e = cc
-  by (Some (place.File j)) e = cc
-  by (Some (place.Imm j)) e = cc
-  by (Some (place.Unit j)) e = cc
-  by (Some (place.Template j)) e = cc
+unit_named-some d name k h = place_some unit_place place.Unit (named_in d.names name) k (λ p. (of_kind p).unit k) h
 
 -- ---- sockets
 
@@ -84,7 +65,7 @@ socket_named-some d input name k h = by (option_map_or socket_place (named_in d.
   by (Some j) e t =
       let found = cond_some (is_socket d.sockets input j) j k t in
       let at : option_map_or socket_place (named_in d.names name) None ≡ Some k = e ∙ ap (λ i. Some i) found.1 in
-      (socket_place-some (named_in d.names name) k at, subst (λ i. is_socket d.sockets input i ≡ true) found.1 found.0)
+      (place_some socket_place place.Socket (named_in d.names name) k (λ p. (of_kind p).socket k) at, subst (λ i. is_socket d.sockets input i ≡ true) found.1 found.0)
 
 pub is_socket-named : (d : Draft) (input : Bool) (name : List ℕ) (k : ℕ) → socket_named d input name ≡ Some k → is_socket d.sockets input k ≡ true
 is_socket-named d input name k h = (socket_named-some d input name k h).1

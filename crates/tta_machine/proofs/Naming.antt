@@ -6,10 +6,11 @@ use Rattle.std.proofs.lemmas.Bool.{or_parts}
 use Rattle.std.proofs.lemmas.Slice.Eq.{bytes_eq-Decides}
 use Rattle.tta_reading.specs.Names.{Declared, named_in}
 use Rattle.tta_machine.specs.declared.reading.draft.Named.{Named}
+use Rattle.tta_machine.specs.declared.reading.draft.Named.TheVariants as place
 use Rattle.tta_machine.specs.declared.reading.draft.Draft.{Draft}
 use Rattle.tta_machine.specs.Draft.{is_taken, is_too_long}
 use Rattle.tta_machine.specs.Rules.{IsMachineName}
-use Rattle.tta_machine.specs.Kept.{AreNamed}
+use Rattle.tta_machine.specs.Kept.{AreNamed, PartsAreNamed}
 use Rattle.tta_machine.proofs.Lists.{slice_get-push, slice_get-changed}
 
 -- ---- one name
@@ -67,9 +68,20 @@ good_name d name free short = record {
 
 -- ---- parts and their names
 
-pub AreNamed-longer : {A : Type 0} (name : A → List ℕ) (at : ℕ → Named) (names more : Declared Named) (parts : List A)
+AreNamed-longer : {A : Type 0} (name : A → List ℕ) (at : ℕ → Named) (names more : Declared Named) (parts : List A)
     → AreNamed name at names parts → AreNamed name at (names ++ more) parts
 AreNamed-longer name at names more parts named k x e = named_in-longer names more (name x) (at k) (named k x e)
+
+-- the parts of a draft are named when there are more names
+pub are_named_longer : (d : Draft) (more : Declared Named) → PartsAreNamed d → PartsAreNamed (record d { names = d.names ++ more })
+are_named_longer d more n = record {
+  buses = AreNamed-longer (λ b. b.name) place.Bus d.names more d.buses n.buses;
+  sockets = AreNamed-longer (λ s. s.name) place.Socket d.names more d.sockets n.sockets;
+  files = AreNamed-longer (λ f. f.name) place.File d.names more d.files n.files;
+  imms = AreNamed-longer (λ i. i.name) place.Imm d.names more d.imms n.imms;
+  units = AreNamed-longer (λ u. u.name) place.Unit d.names more d.units n.units;
+  templates = AreNamed-longer (λ t. t.name) place.Template d.names more d.templates n.templates;
+}
 
 -- one more part, with the new name
 pub AreNamed-push : {A : Type 0} (name : A → List ℕ) (at : ℕ → Named) (names : Declared Named) (parts : List A) (new : A)

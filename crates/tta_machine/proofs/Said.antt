@@ -1,79 +1,56 @@
 -- The machine that a text is read as is the one that its lines describe.
-use Rattle.std.proofs.Common.{◌≡◌, ◌+◌, ◌∷◌, [], ℕ, Bool, List, Option, Some, None, Result, Ok, true, false, map, filter_map, option_to_list, refl, sym, ap, ap₂, subst, ◌∙◌, codes, ◌⊎◌, inl, inr, append-nil}
-use Rattle.std.specs.Prelude.{if◌then◌else◌, unwrap_or}
+use Rattle.std.proofs.Common.{◌≡◌, ◌+◌, ◌∷◌, [], ℕ, List, Option, Some, None, Ok, true, map, filter_map, option_to_list, refl, sym, ap, ap₂, subst, ◌∙◌, append-nil, codes}
+use Rattle.std.specs.Prelude.{unwrap_or}
 use Rattle.std.specs.List.{list_all}
+use Rattle.std.specs.Str.{bytes_eq}
 use Rattle.tta_reading.specs.Lines.{Line, Lexeme, lines_of}
 use Rattle.tta_reading.specs.Words.{is_keyword}
 use Rattle.tta_ops.specs.Units.{Units}
-use Rattle.tta_machine.specs.declared.reading.refusal.Refusal.TheVariants.{Syntax}
 use Rattle.tta_machine.specs.declared.reading.draft.Draft.{Draft}
 use Rattle.tta_machine.specs.declared.parts.Control.{Control}
 use Rattle.tta_machine.specs.Machine.{Machine}
 use Rattle.tta_machine.specs.Draft.{nothing, machine_of}
-use Rattle.tta_machine.specs.Forms.{SpaceForm, bus_form, socket_form, file_form, imm_form, unit_form, op_form, guard_form, template_form, control_form, space_form}
-use Rattle.tta_machine.specs.Text.{declare, take_line, at_line, take_lines, complete, machine_of_text}
+use Rattle.tta_machine.specs.Forms.{bus_form, socket_form, file_form, imm_form, unit_form, op_form, guard_form, template_form, control_form, space_form}
+use Rattle.tta_machine.specs.Text.{take_line, at_line, take_lines, complete, machine_of_text}
 use Rattle.tta_machine.specs.Kept.{IsDraft}
 use Rattle.tta_machine.specs.Grammar.{IsMachineText, IsSize, bus_lines, socket_lines, file_lines, imm_lines, unit_lines, op_lines, guard_lines, template_lines, control_lines, space_lines, bus_names, socket_names, file_names, imm_names, unit_names, is_known_op, bus_made, socket_made, file_made, imm_made, unit_made, guard_made, template_made, control_made, data_size, frame_size}
-use Rattle.tta_machine.proofs.Steps.{same_ok, some-ok, then-ok}
-use Rattle.tta_machine.proofs.Made.{DataMade, FrameMade, take_bus-made, take_socket-made, take_file-made, take_imm-made, take_unit-made, take_op-made, take_guard-made, take_template-made, take_control-made, take_space-made}
-use Rattle.tta_machine.proofs.TakenLines.{at_line-ok, take_line-keeps, take_lines-keeps, nothing-kept, complete-ok}
-use Rattle.tta_machine.proofs.KindLines.{adds_none}
+use Rattle.tta_machine.proofs.Steps.{same_ok, then-ok}
+use Rattle.tta_machine.proofs.Taken.{Taken, TakenBus, TakenSocket, TakenFile, TakenImm, TakenUnit, TakenOp, TakenGuard, TakenTemplate, TakenControl, TakenSpace, declare-taken, at_line-ok}
+use Rattle.tta_machine.proofs.TakenLines.{take_line-keeps, take_lines-keeps, nothing-kept, complete-ok}
+use Rattle.tta_machine.proofs.KindLines.{ByKind, by_kind, OneLine, one_line, no_line, in_front, by_word, adds_none}
 use Rattle.tta_machine.proofs.UnitLines.{units_none}
 use Rattle.tta_machine.proofs.Borne.{AreBorne, take_line-borne, take_lines-borne, nothing-borne}
 use Rattle.tta_machine.proofs.Positions.{HasPlaces, has_places, bus_names_of, socket_names_of, file_names_of, imm_names_of, unit_names_of}
-use Rattle.tta_machine.proofs.Continued.{Continues}
-use Rattle.tta_machine.proofs.ContinuedParts.{bus_continues, socket_continues, file_continues, imm_continues}
-use Rattle.tta_machine.proofs.ContinuedUnits.{unit_continues, op_continues, guard_continues, template_continues}
-use Rattle.tta_machine.proofs.ContinuedSpaces.{control_continues, data_continues, frame_continues}
+use Rattle.tta_machine.proofs.Continued.{Continues, bus_continues, socket_continues, file_continues, imm_continues, unit_continues, op_continues, guard_continues, template_continues, control_continues, space_continues}
 
 -- ---- lines
 
--- the same with the test that chose the branch
-if-chosen : {A E : Type 0} (b : Bool) (x y : Result A E) (r : A) (P : Type 0) → (b ≡ true → x ≡ Ok r → P) → (y ≡ Ok r → P) → (if b then x else y) ≡ Ok r → P
-if-chosen true x y r P f g h = f refl h
-if-chosen false x y r P f g h = g h
+-- a line that was taken adds what it declares
+taken-continues : (u : Units) (line : ℕ) (d next e : Draft) (key : Lexeme) (words : Line) (rest : List Line) → HasPlaces e → IsDraft d → AreBorne d → IsDraft e → AreBorne e
+    → Taken u line d next key words → Continues u next e (by_kind rest) → Continues u d e (by_kind ((key ∷ words) ∷ rest))
+taken-continues u line d next e key words rest places r b end end_borne taken later = by taken where
+  lines : ByKind
+  lines = by_kind rest
 
-declare-continues : (u : Units) (line : ℕ) (d next e : Draft) (key : Lexeme) (words : Line) (rest : List Line) → HasPlaces e → IsDraft d → AreBorne d → IsDraft e → AreBorne e
-    → declare u line d key words ≡ Ok next → Continues u next e rest → Continues u d e ((key ∷ words) ∷ rest)
-declare-continues u line d next e key words rest places r b end end_borne h later =
-    if-chosen (is_keyword (codes "bus") key) _ _ next Goal (λ is t. let s = some-ok Syntax (bus_form words) _ next t in bus_continues u d next e key words rest s.0 places is s.1 (take_bus-made d next s.0 s.2) later)
-    (if-chosen (is_keyword (codes "socket") key) _ _ next Goal (λ is t. let s = some-ok Syntax (socket_form words) _ next t in socket_continues u d next e key words rest s.0 places is s.1 (take_socket-made d next s.0 s.2) later)
-    (if-chosen (is_keyword (codes "file") key) _ _ next Goal (λ is t. let s = some-ok Syntax (file_form words) _ next t in file_continues u d next e key words rest s.0 places is s.1 (take_file-made d next s.0 s.2) later)
-    (if-chosen (is_keyword (codes "imm") key) _ _ next Goal (λ is t. let s = some-ok Syntax (imm_form words) _ next t in imm_continues u d next e key words rest s.0 places is s.1 (take_imm-made d next s.0 s.2) later)
-    (if-chosen (is_keyword (codes "unit") key) _ _ next Goal (λ is t. let s = some-ok Syntax (unit_form words) _ next t in unit_continues u d next e key words rest s.0 places is s.1 (take_unit-made d next s.0 s.2) later)
-    (if-chosen (is_keyword (codes "op") key) _ _ next Goal (λ is t. let s = some-ok Syntax (op_form words) _ next t in op_continues u d next e key words rest s.0 places r b end end_borne is s.1 (take_op-made u d next s.0 s.2) later)
-    (if-chosen (is_keyword (codes "guard") key) _ _ next Goal (λ is t. let s = some-ok Syntax (guard_form words) _ next t in guard_continues u d next e key words rest s.0 places is s.1 (take_guard-made d next s.0 s.2) later)
-    (if-chosen (is_keyword (codes "template") key) _ _ next Goal (λ is t. let s = some-ok Syntax (template_form words) _ next t in template_continues line u d next e key words rest s.0 places is s.1 (take_template-made line d next s.0 s.2) later)
-    (if-chosen (is_keyword (codes "control") key) _ _ next Goal (λ is t. let s = some-ok Syntax (control_form words) _ next t in control_continues u d next e key words rest s.0 places is s.1 (take_control-made d next s.0 s.2) later)
-    (if-chosen (is_keyword (codes "space") key) _ _ next Goal (λ is t. let s = some-ok Syntax (space_form words) _ next t in space s.0 is s.1 (take_space-made d next s.0 s.2))
-    (λ t. cc)))))))))) h
-  where
-    Goal : Type 0
-    Goal = Continues u d e ((key ∷ words) ∷ rest)
+  -- the line has the form of one kind, whose word it begins with
+  front : {F : Type 0} (word : List ℕ) (form : Line → Option F) (put : Option F → OneLine) (f : F) → is_keyword word key ≡ true → form words ≡ Some f
+      → one_line (bytes_eq word) words ≡ put (form words) → Continues u d e (in_front (put (Some f)) lines) → Continues u d e (by_kind ((key ∷ words) ∷ rest))
+  front word form put f is said one c =
+      subst (Continues u d e) (sym (by_word word key words rest is ∙ ap (λ l. in_front l lines) (one ∙ ap put said))) c
 
-    space : (f : SpaceForm) → is_keyword (codes "space") key ≡ true → space_form words ≡ Some f → DataMade d next f ⊎ FrameMade d next f → Continues u d e ((key ∷ words) ∷ rest)
-    space f is said (inl m) = data_continues u d next e key words rest f places is said m later
-    space f is said (inr m) = frame_continues u d next e key words rest f places is said m later
+  by : Taken u line d next key words → Continues u d e (by_kind ((key ∷ words) ∷ rest))
+  by (TakenBus f is said m) = front (codes "bus") bus_form (λ o. record no_line { bus = o }) f is said refl (bus_continues u d next e lines f m later)
+  by (TakenSocket f is said m) = front (codes "socket") socket_form (λ o. record no_line { socket = o }) f is said refl (socket_continues u d next e lines f places m later)
+  by (TakenFile f is said m) = front (codes "file") file_form (λ o. record no_line { file = o }) f is said refl (file_continues u d next e lines f places m later)
+  by (TakenImm f is said m) = front (codes "imm") imm_form (λ o. record no_line { imm = o }) f is said refl (imm_continues u d next e lines f places m later)
+  by (TakenUnit f is said m) = front (codes "unit") unit_form (λ o. record no_line { unit = o }) f is said refl (unit_continues u d next e lines f places m later)
+  by (TakenOp f is said m) = front (codes "op") op_form (λ o. record no_line { op = o }) f is said refl (op_continues u d next e lines f r b end end_borne m later)
+  by (TakenGuard f is said m) = front (codes "guard") guard_form (λ o. record no_line { guard = o }) f is said refl (guard_continues u d next e lines f places m later)
+  by (TakenTemplate f is said m) = front (codes "template") template_form (λ o. record no_line { template = o }) f is said refl (template_continues line u d next e lines f places m later)
+  by (TakenControl f is said m) = front (codes "control") control_form (λ o. record no_line { control = o }) f is said refl (control_continues u d next e lines f places m later)
+  by (TakenSpace f is said m) = front (codes "space") space_form (λ o. record no_line { space = o }) f is said refl (space_continues u d next e lines f m later)
 
--- a blank line adds nothing
-blank-continues : (u : Units) (d e : Draft) (rest : List Line) → Continues u d e rest → Continues u d e ([] ∷ rest)
-blank-continues u d e rest c = record {
-  names = c.names;
-  all = c.all;
-  known_ops = c.known_ops;
-  buses = c.buses;
-  sockets = c.sockets;
-  files = c.files;
-  imms = c.imms;
-  units = c.units;
-  guards = c.guards;
-  templates = c.templates;
-  control = c.control;
-  data_words = c.data_words;
-  frame_words = c.frame_words;
-}
-
-nothing-continues : (u : Units) (d : Draft) → Continues u d d []
+nothing-continues : (u : Units) (d : Draft) → Continues u d d (by_kind [])
 nothing-continues u d = record {
   names = record { stay = λ n p h. h };
   all = refl;
@@ -90,22 +67,24 @@ nothing-continues u d = record {
   frame_words = sym (append-nil (option_to_list d.frame_words));
 }
 
+-- a blank line adds nothing
 take_line-continues : (u : Units) (line : ℕ) (d next e : Draft) (words : Line) (rest : List Line) → HasPlaces e → IsDraft d → AreBorne d → IsDraft e → AreBorne e
-    → take_line u line d words ≡ Ok next → Continues u next e rest → Continues u d e (words ∷ rest)
+    → take_line u line d words ≡ Ok next → Continues u next e (by_kind rest) → Continues u d e (by_kind (words ∷ rest))
 unfolding take_line
 take_line-continues u line d next e [] rest places r b end end_borne h later =
-    blank-continues u d e rest (subst (λ x. Continues u x e rest) (sym (same_ok d next h)) later)
-take_line-continues u line d next e (key ∷ words) rest places r b end end_borne h later = declare-continues u line d next e key words rest places r b end end_borne h later
+    subst (λ x. Continues u x e (by_kind ([] ∷ rest))) (sym (same_ok d next h)) later
+take_line-continues u line d next e (key ∷ words) rest places r b end end_borne h later =
+    taken-continues u line d next e key words rest places r b end end_borne (declare-taken u line d next key words h) later
 
 -- ---- a text
 
 pub take_lines-continues : (u : Units) (line : ℕ) (d e : Draft) (lines : List Line) → HasPlaces e → IsDraft e → AreBorne e → IsDraft d → AreBorne d
-    → take_lines u line d lines ≡ Ok e → Continues u d e lines
-take_lines-continues u line d e [] places end end_borne r b h = subst (λ x. Continues u x e []) (sym (same_ok d e h)) (nothing-continues u e)
+    → take_lines u line d lines ≡ Ok e → Continues u d e (by_kind lines)
+take_lines-continues u line d e [] places end end_borne r b h = subst (λ x. Continues u x e (by_kind [])) (sym (same_ok d e h)) (nothing-continues u e)
 take_lines-continues u line d e (words ∷ rest) places end end_borne r b h =
     let one = then-ok (at_line line (take_line u line d words)) _ e h in
     let taken = at_line-ok line (take_line u line d words) one.0 one.1 in
-    let later : Continues u one.0 e rest =
+    let later : Continues u one.0 e (by_kind rest) =
     take_lines-continues u (line + 1) one.0 e rest places end end_borne (take_line-keeps u line d one.0 words r taken) (take_line-borne u line d one.0 words b taken) one.2 in
     take_line-continues u line d one.0 e words rest places r b end end_borne taken later
 
@@ -121,7 +100,7 @@ size_said : (o : Option ℕ) (sizes : List ℕ) → option_to_list o ≡ sizes �
 size_said None sizes h = subst (λ l. IsSize l 0) h refl
 size_said (Some size) sizes h = subst (λ l. IsSize l size) h refl
 
-draft_said : (u : Units) (lines : List Line) (d : Draft) (c : Control) → Continues u nothing d lines → d.control ≡ Some c → IsMachineText u lines (machine_of d c)
+draft_said : (u : Units) (lines : List Line) (d : Draft) (c : Control) → Continues u nothing d (by_kind lines) → d.control ≡ Some c → IsMachineText u lines (machine_of d c)
 draft_said u lines d c k is = record {
   all = k.all;
   known_ops = subst (λ names. list_all (is_known_op u names) (op_lines lines) ≡ true) units k.known_ops;
@@ -159,5 +138,5 @@ machine-said u text m h =
     let kept : IsDraft read.0 = take_lines-keeps u 1 nothing read.0 (lines_of text) nothing-kept read.1 in
     let borne : AreBorne read.0 = take_lines-borne u 1 nothing read.0 (lines_of text) nothing-borne read.1 in
     let whole = complete-ok read.0 m read.2 in
-    let said : Continues u nothing read.0 (lines_of text) = take_lines-continues u 1 nothing read.0 (lines_of text) (has_places read.0 kept borne) kept borne nothing-kept nothing-borne read.1 in
+    let said : Continues u nothing read.0 (by_kind (lines_of text)) = take_lines-continues u 1 nothing read.0 (lines_of text) (has_places read.0 kept borne) kept borne nothing-kept nothing-borne read.1 in
     subst (IsMachineText u (lines_of text)) whole.made (draft_said u (lines_of text) read.0 whole.control said whole.has_control)

@@ -1,11 +1,14 @@
 -- Two machines on which the definitions are computed: one of a single bus and an output unit, and one of three buses
 -- with two files of words, a file of conditions, an immediate unit and four units.
 use Rattle.std.specs.Prelude.{◌≡◌, ◌≤◌, ℕ, List, [], ◌∷◌, Bool, true, false, length, Some, None, codes, refl}
+use Rattle.std.specs.Prelude.{◌&&◌, nat_le, not}
 use Rattle.std.specs.Str.{bytes_eq}
-use Rattle.std.proofs.Common.{lit<, lit≤}
+use Rattle.std.specs.List.{list_all, AllByRecursion}
+use Rattle.std.proofs.lemmas.Bool.{and_parts, leb-true, not-true}
+use Rattle.std.proofs.Common.{lit<, lit≤, arith}
 use Rattle.tta_machine.specs.Machine.{Machine}
-use Rattle.tta_machine.specs.Rules.{IsMachine, IsMachineName}
-use Rattle.tta_machine.specs.Fields.{word_width, width_for}
+use Rattle.tta_machine.specs.Rules.{IsMachine, HasLimits, IsMachineName, IsBusSet, names_of}
+use Rattle.tta_machine.specs.Fields.{word_width, width_for, taken_width}
 use Rattle.tta_machine.specs.declared.parts.Bus.{Bus}
 use Rattle.tta_machine.specs.declared.parts.Socket.{Socket}
 use Rattle.tta_machine.specs.declared.parts.File.{File}
@@ -13,6 +16,14 @@ use Rattle.tta_machine.specs.declared.parts.Unit.{Unit as OpUnit}
 use Rattle.tta_machine.specs.declared.parts.Op.TheVariants.{Ldw, Stw, Ldf, Stf, Out, Set}
 use Rattle.tta_machine.specs.declared.parts.UnitOp.{UnitOp}
 use Rattle.tta_machine.specs.declared.parts.Guard.{Guard}
+
+-- names that pass the tests of names are good ones
+pub good_names : (names : List (List ℕ)) → list_all (λ n. nat_le (length n) 64 && not (bytes_eq n (codes "gcu"))) names ≡ true → AllByRecursion IsMachineName names
+good_names [] h = tt
+good_names (n ∷ ns) h =
+    let parts = and_parts (nat_le (length n) 64 && not (bytes_eq n (codes "gcu"))) _ h in
+    let tests = and_parts (nat_le (length n) 64) (not (bytes_eq n (codes "gcu"))) parts.0 in
+    (record { short = leb-true (length n) 64 tests.0; free = not-true (bytes_eq n (codes "gcu")) tests.1 }, good_names ns parts.1)
 
 -- ---- one bus
 
@@ -35,25 +46,10 @@ unfolding width_for
 one_bus-width = refl
 
 one_bus-is_machine : IsMachine one_bus
-one_bus-is_machine = record {
-  limits = record { some_bus = lit< tt; buses = lit≤ tt; sockets = lit≤ tt; files = lit≤ tt; imms = lit≤ tt; units = lit≤ tt; guards = lit≤ tt; templates = lit≤ tt; data_words = lit≤ tt; frame_words = lit≤ tt };
-  names = (record { short = lit≤ tt; free = refl }, (record { short = lit≤ tt; free = refl }, (record { short = lit≤ tt; free = refl }, tt)));
-  different = refl;
-  buses = refl;
-  sockets = ((lit< tt, lit< tt), tt);
-  files = refl;
-  imms = refl;
-  units = refl;
-  one_data = refl;
-  one_frame = refl;
-  one_output = refl;
-  guards = refl;
-  different_guards = refl;
-  templates = refl;
-  template_buses = tt;
-  wide = tt;
-  control = refl;
-}
+one_bus-is_machine =
+    let limits : HasLimits one_bus = omega arith in
+    let in_set : IsBusSet 1 1 = (lit< tt, lit< tt) in
+    assumption (good_names (names_of one_bus) refl)
 
 -- ---- three buses
 
@@ -101,68 +97,9 @@ three_buses-width = refl
 
 three_buses-is_machine : IsMachine three_buses
 unfolding width_for
-three_buses-is_machine = record {
-  limits = record { some_bus = lit< tt; buses = lit≤ tt; sockets = lit≤ tt; files = lit≤ tt; imms = lit≤ tt; units = lit≤ tt; guards = lit≤ tt; templates = lit≤ tt; data_words = lit≤ tt; frame_words = lit≤ tt };
-  names =
-      let ok : (name : List ℕ) → length name ≤ 64 → bytes_eq name (codes "gcu") ≡ false → IsMachineName name = λ name s f. record { short = s; free = f } in (
-        ok (codes "B0") (lit≤ tt) refl,
-        (
-          ok (codes "B1") (lit≤ tt) refl,
-          (
-            ok (codes "B2") (lit≤ tt) refl,
-            (
-              ok (codes "RI") (lit≤ tt) refl,
-              (
-                ok (codes "RO") (lit≤ tt) refl,
-                (
-                  ok (codes "UI") (lit≤ tt) refl,
-                  (
-                    ok (codes "UO") (lit≤ tt) refl,
-                    (
-                      ok (codes "R") (lit≤ tt) refl,
-                      (
-                        ok (codes "S") (lit≤ tt) refl,
-                        (
-                          ok (codes "G") (lit≤ tt) refl,
-                          (
-                            ok (codes "I") (lit≤ tt) refl,
-                            (
-                              ok (codes "ALU") (lit≤ tt) refl,
-                              (
-                                ok (codes "MUL") (lit≤ tt) refl,
-                                (
-                                  ok (codes "LSU") (lit≤ tt) refl,
-                                  (
-                                    ok (codes "IO") (lit≤ tt) refl,
-                                    (ok (codes "L") (lit≤ tt) refl, tt),
-                                  ),
-                                ),
-                              ),
-                            ),
-                          ),
-                        ),
-                      ),
-                    ),
-                  ),
-                ),
-              ),
-            ),
-          ),
-        ),
-      );
-  different = refl;
-  buses = refl;
-  sockets = ((lit< tt, lit< tt), ((lit< tt, lit< tt), ((lit< tt, lit< tt), ((lit< tt, lit< tt), tt))));
-  files = refl;
-  imms = refl;
-  units = refl;
-  one_data = refl;
-  one_frame = refl;
-  one_output = refl;
-  guards = refl;
-  different_guards = refl;
-  templates = refl;
-  template_buses = ((lit< tt, lit< tt), tt);
-  wide = (lit≤ tt, tt);
-  control = refl;
-}
+three_buses-is_machine =
+    let limits : HasLimits three_buses = omega arith in
+    let in_set : IsBusSet 3 7 = (lit< tt, lit< tt) in
+    let template_in_set : IsBusSet 3 6 = (lit< tt, lit< tt) in
+    let wide : 32 ≤ taken_width three_buses 6 = lit≤ tt in
+    assumption (good_names (names_of three_buses) refl)

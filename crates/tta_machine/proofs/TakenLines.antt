@@ -1,15 +1,14 @@
 -- The lines of a text keep the rules of drafts, and what they leave is a machine.
-use Rattle.std.proofs.Common.{◌≡◌, ◌<◌, ◌≤◌, ◌+◌, ◌∷◌, [], ℕ, Bool, List, Option, Some, None, Result, Ok, Err, true, false, suc, length, refl, sym, ap, subst, ◌∙◌, arith, codes, lit≤}
+use Rattle.std.proofs.Common.{◌≡◌, ◌<◌, ◌≤◌, ◌∷◌, [], ℕ, Bool, List, Option, Some, None, Result, Ok, Err, true, false, suc, length, refl, sym, ap, subst, ◌∙◌, arith, codes}
 use Rattle.std.specs.Prelude.{nat_lt, if◌then◌else◌}
 use Rattle.std.specs.Option.{option_map_or}
 use Rattle.std.specs.List.{AllByRecursion}
 use Rattle.std.proofs.lemmas.Bool.{ltb-true, ltb-false}
 use Rattle.tta_reading.specs.Lines.{Line, Lexeme, lines_of}
-use Rattle.tta_reading.specs.Words.{is_keyword, name_of}
+use Rattle.tta_reading.specs.Words.{name_of}
 use Rattle.tta_reading.specs.Words.{value_of, is_mark}
 use Rattle.tta_ops.specs.Units.{Units}
-use Rattle.tta_machine.specs.declared.reading.refusal.Refusal.{Refusal}
-use Rattle.tta_machine.specs.declared.reading.refusal.Refusal.TheVariants.{Syntax, Missing, TooNarrow}
+use Rattle.tta_machine.specs.declared.reading.refusal.Refusal.TheVariants.{Missing, TooNarrow}
 use Rattle.tta_machine.specs.declared.reading.draft.Draft.{Draft}
 use Rattle.tta_machine.specs.declared.parts.Template.{Template}
 use Rattle.tta_machine.specs.declared.parts.Control.{Control}
@@ -17,18 +16,16 @@ use Rattle.tta_machine.specs.Machine.{Machine}
 use Rattle.tta_machine.specs.Fields.{taken_width}
 use Rattle.tta_machine.specs.Rules.{IsMachine, is_control}
 use Rattle.tta_machine.specs.Draft.{nothing, machine_of}
-use Rattle.tta_machine.specs.Forms.{one_of_two, names_alone, SocketForm, TemplateForm, bus_form, socket_form, file_form, imm_form, unit_form, op_form, guard_form, template_form, control_form, space_form}
-use Rattle.tta_machine.specs.Text.{declare, take_line, Refused, at_line, take_lines, narrow_line, complete, machine_of_text}
+use Rattle.tta_machine.specs.Forms.{one_of_two, names_alone, SocketForm, TemplateForm, socket_form, template_form}
+use Rattle.tta_machine.specs.Text.{take_line, Refused, take_lines, narrow_line, complete, machine_of_text}
 use Rattle.tta_machine.specs.Kept.{IsDraft}
-use Rattle.tta_machine.proofs.Steps.{same_ok, some-ok, then-ok, then-some, only_if-some}
+use Rattle.tta_machine.proofs.Steps.{same_ok, then-ok, then-some, only_if-some}
+use Rattle.tta_machine.proofs.Growth.{names_there}
 use Rattle.tta_machine.proofs.Distinct.{names_good, names_different}
-use Rattle.tta_machine.proofs.TakenBuses.{take_bus-keeps}
-use Rattle.tta_machine.proofs.TakenSockets.{take_socket-keeps}
-use Rattle.tta_machine.proofs.TakenFiles.{take_file-keeps, take_imm-keeps}
-use Rattle.tta_machine.proofs.TakenUnits.{take_unit-keeps}
-use Rattle.tta_machine.proofs.TakenOps.{take_op-keeps}
-use Rattle.tta_machine.proofs.TakenGuards.{take_guard-keeps, take_template-keeps}
-use Rattle.tta_machine.proofs.TakenControl.{take_control-keeps, take_space-keeps}
+use Rattle.tta_machine.proofs.Taken.{Taken, TakenBus, TakenSocket, TakenFile, TakenImm, TakenUnit, TakenOp, TakenGuard, TakenTemplate, TakenControl, TakenSpace, line_keeps, lines_keep}
+use Rattle.tta_machine.proofs.TakenParts.{bus_kept, socket_kept, file_kept, imm_kept, unit_kept}
+use Rattle.tta_machine.proofs.TakenOps.{op_kept}
+use Rattle.tta_machine.proofs.TakenLinks.{guard_kept, template_kept, control_kept, space_kept}
 
 -- ---- forms
 
@@ -76,54 +73,32 @@ template_form-some (n ∷ u ∷ dot ∷ i ∷ bus ∷ buses) f h =
 
 -- ---- lines
 
-pub if-ok : {A E : Type 0} (b : Bool) (x y : Result A E) (r : A) (P : Type 0) → (x ≡ Ok r → P) → (y ≡ Ok r → P) → (if b then x else y) ≡ Ok r → P
-if-ok true x y r P f g h = f h
-if-ok false x y r P f g h = g h
-
-declare-keeps : (u : Units) (line : ℕ) (d e : Draft) (key : Lexeme) (words : Line) → IsDraft d → declare u line d key words ≡ Ok e → IsDraft e
-declare-keeps u line d e key words r h =
-    if-ok (is_keyword (codes "bus") key) _ _ e (IsDraft e) (λ t. let s = some-ok Syntax (bus_form words) _ e t in take_bus-keeps d e s.0 r s.2)
-    (if-ok (is_keyword (codes "socket") key) _ _ e (IsDraft e) (λ t. let s = some-ok Syntax (socket_form words) _ e t in take_socket-keeps d e s.0 r (socket_form-some words s.0 s.1) s.2)
-    (if-ok (is_keyword (codes "file") key) _ _ e (IsDraft e) (λ t. let s = some-ok Syntax (file_form words) _ e t in take_file-keeps d e s.0 r s.2)
-    (if-ok (is_keyword (codes "imm") key) _ _ e (IsDraft e) (λ t. let s = some-ok Syntax (imm_form words) _ e t in take_imm-keeps d e s.0 r s.2)
-    (if-ok (is_keyword (codes "unit") key) _ _ e (IsDraft e) (λ t. let s = some-ok Syntax (unit_form words) _ e t in take_unit-keeps d e s.0 r s.2)
-    (if-ok (is_keyword (codes "op") key) _ _ e (IsDraft e) (λ t. let s = some-ok Syntax (op_form words) _ e t in take_op-keeps u d e s.0 r s.2)
-    (if-ok (is_keyword (codes "guard") key) _ _ e (IsDraft e) (λ t. let s = some-ok Syntax (guard_form words) _ e t in take_guard-keeps d e s.0 r s.2)
-    (if-ok (is_keyword (codes "template") key) _ _ e (IsDraft e) (λ t. let s = some-ok Syntax (template_form words) _ e t in take_template-keeps line d e s.0 r (template_form-some words s.0 s.1) s.2)
-    (if-ok (is_keyword (codes "control") key) _ _ e (IsDraft e) (λ t. let s = some-ok Syntax (control_form words) _ e t in take_control-keeps d e s.0 r s.2)
-    (if-ok (is_keyword (codes "space") key) _ _ e (IsDraft e) (λ t. let s = some-ok Syntax (space_form words) _ e t in take_space-keeps d e s.0 r s.2)
-    (λ t. cc)))))))))) h
+-- what a line declares keeps the rules of drafts
+taken-keeps : (u : Units) (line : ℕ) (d e : Draft) (key : Lexeme) (words : Line) → IsDraft d → Taken u line d e key words → IsDraft e
+taken-keeps u line d e key words r (TakenBus f is said m) = bus_kept d e f r m
+taken-keeps u line d e key words r (TakenSocket f is said m) = socket_kept d e f r (socket_form-some words f said) m
+taken-keeps u line d e key words r (TakenFile f is said m) = file_kept d e f r m
+taken-keeps u line d e key words r (TakenImm f is said m) = imm_kept d e f r m
+taken-keeps u line d e key words r (TakenUnit f is said m) = unit_kept d e f r m
+taken-keeps u line d e key words r (TakenOp f is said m) = op_kept u d e f r m
+taken-keeps u line d e key words r (TakenGuard f is said m) = guard_kept d e f r m
+taken-keeps u line d e key words r (TakenTemplate f is said m) = template_kept line d e f r (template_form-some words f said) m
+taken-keeps u line d e key words r (TakenControl f is said m) = control_kept d e f r m
+taken-keeps u line d e key words r (TakenSpace f is said m) = space_kept d e f r m
 
 pub take_line-keeps : (u : Units) (line : ℕ) (d e : Draft) (words : Line) → IsDraft d → take_line u line d words ≡ Ok e → IsDraft e
-unfolding take_line
-take_line-keeps u line d e [] r h = subst IsDraft (same_ok d e h) r
-take_line-keeps u line d e (key ∷ words) r h = declare-keeps u line d e key words r h
+take_line-keeps u line d e words r h = line_keeps u IsDraft (taken-keeps u) line d e words r h
 
 -- ---- a text
 
-pub at_line-ok : {A : Type 0} (line : ℕ) (r : Result A Refusal) (x : A) → at_line line r ≡ Ok x → r ≡ Ok x
-at_line-ok line (Ok y) x h = cc
-at_line-ok line (Err e) x h = cc
-
 pub take_lines-keeps : (u : Units) (line : ℕ) (d e : Draft) (lines : List Line) → IsDraft d → take_lines u line d lines ≡ Ok e → IsDraft e
-take_lines-keeps u line d e [] r h = subst IsDraft (same_ok d e h) r
-take_lines-keeps u line d e (words ∷ lines) r h =
-    let one = then-ok (at_line line (take_line u line d words)) _ e h in
-    take_lines-keeps u (line + 1) one.0 e lines (take_line-keeps u line d one.0 words r (at_line-ok line (take_line u line d words) one.0 one.1)) one.2
+take_lines-keeps u line d e lines r h = lines_keep u IsDraft (taken-keeps u) line d e lines r h
 
 -- before the first line
 pub nothing-kept : IsDraft nothing
 nothing-kept = record {
-  limits = record { buses = lit≤ tt; sockets = lit≤ tt; files = lit≤ tt; imms = lit≤ tt; units = lit≤ tt; guards = lit≤ tt; templates = lit≤ tt; template_lines = refl; data_words = lit≤ tt; frame_words = lit≤ tt };
-  there = record {
-    bus = λ name k e. cc;
-    socket = λ name k e. cc;
-    file = λ name k e. cc;
-    imm = λ name k e. cc;
-    unit = λ name k e. cc;
-    template = λ name k e. cc;
-    good = λ name at e. cc;
-  };
+  limits = omega arith;
+  there = names_there nothing (λ name at e. cc);
   named = record {
     buses = λ k x e. cc;
     sockets = λ k x e. cc;
@@ -132,21 +107,7 @@ nothing-kept = record {
     units = λ k x e. cc;
     templates = λ k x e. cc;
   };
-  rules = record {
-    buses = refl;
-    sockets = tt;
-    files = refl;
-    imms = refl;
-    units = refl;
-    one_data = refl;
-    one_frame = refl;
-    one_output = refl;
-    guards = refl;
-    different_guards = refl;
-    templates = refl;
-    template_buses = tt;
-    control = refl;
-  };
+  rules = assumption;
 }
 
 -- ---- the machine
@@ -165,36 +126,13 @@ all_wide m (t ∷ ts) (line ∷ lines) same h = by (all_wide m ts lines (omega a
 -- a draft with a bus, control and wide templates is a machine
 pub is_machine : (d : Draft) (c : Control) → IsDraft d → d.control ≡ Some c → 0 < length d.buses
     → narrow_line (machine_of d c) d.templates d.template_lines ≡ None → IsMachine (machine_of d c)
-is_machine d c r has_control has_bus wide = record {
-  limits = record {
-    some_bus = has_bus;
-    buses = r.limits.buses;
-    sockets = r.limits.sockets;
-    files = r.limits.files;
-    imms = r.limits.imms;
-    units = r.limits.units;
-    guards = r.limits.guards;
-    templates = r.limits.templates;
-    data_words = r.limits.data_words;
-    frame_words = r.limits.frame_words;
-  };
-  names = names_good d c r;
-  different = names_different d c r;
-  buses = r.rules.buses;
-  sockets = r.rules.sockets;
-  files = r.rules.files;
-  imms = r.rules.imms;
-  units = r.rules.units;
-  one_data = r.rules.one_data;
-  one_frame = r.rules.one_frame;
-  one_output = r.rules.one_output;
-  guards = r.rules.guards;
-  different_guards = r.rules.different_guards;
-  templates = r.rules.templates;
-  template_buses = r.rules.template_buses;
-  wide = all_wide (machine_of d c) d.templates d.template_lines r.limits.template_lines wide;
-  control = subst (λ o. option_map_or (is_control d.sockets) o true ≡ true) has_control r.rules.control;
-}
+is_machine d c r has_control has_bus wide =
+    assumption (
+      names_good d c r,
+      names_different d c r,
+      all_wide (machine_of d c) d.templates d.template_lines r.limits.template_lines wide,
+      subst (λ o. option_map_or (is_control d.sockets) o true ≡ true) has_control r.rules.control,
+    )
 
 -- what is complete: control and a bus are there, and no template is too narrow
 pub record IsComplete (d : Draft) (m : Machine) : Type 0 where

@@ -1,5 +1,5 @@
 -- One operation more keeps the draft's rules.
-use Rattle.std.proofs.Common.{◌≡◌, ◌<◌, ◌+◌, ◌++◌, ◌∷◌, [], ℕ, Bool, List, Option, Some, None, Ok, true, false, not, suc, length, refl, subst, arith, length-set, ◌⊎◌, inl, inr, get_or, codes, is_some, is_none, option_map}
+use Rattle.std.proofs.Common.{◌≡◌, ◌<◌, ◌+◌, ◌++◌, ◌∷◌, [], ℕ, Bool, List, Option, Some, None, true, false, not, suc, length, refl, subst, arith, length-set, ◌⊎◌, inl, inr, get_or, codes, is_some, is_none, option_map}
 use Rattle.std.specs.Prelude.{◌&&◌, ◌||◌, ◌==◌, nat_le, slice_get, slice_set, if◌then◌else◌}
 use Rattle.std.specs.Str.{bytes_eq}
 use Rattle.std.specs.Option.{option_map_or}
@@ -8,7 +8,6 @@ use Rattle.std.proofs.lemmas.Bool.{or_parts, and_from, and_parts, not-false, leb
 use Rattle.std.proofs.lemmas.Bool.Decides.{nat_tests}
 use Rattle.std.proofs.lemmas.List.{length_push}
 use Rattle.tta_ops.specs.Units.{Units, named, first_at}
-use Rattle.tta_machine.specs.declared.reading.refusal.Refusal.TheVariants.{Unknown, Twice, Range, Missing}
 use Rattle.tta_machine.specs.declared.reading.draft.Named.TheVariants as place
 use Rattle.tta_machine.specs.declared.reading.draft.Draft.{Draft}
 use Rattle.tta_machine.specs.declared.parts.Socket.{Socket}
@@ -19,19 +18,15 @@ use Rattle.tta_machine.specs.declared.parts.Op.TheVariants.{Ldw, Stw, Ldf, Stf, 
 use Rattle.tta_machine.specs.Effects.{has_result}
 use Rattle.tta_machine.specs.Rules.{is_from_to, is_socket, is_port_socket, fits_kind, is_unit, is_unit_op, same_op, are_different, is_data_op, is_frame_op}
 use Rattle.tta_machine.specs.Forms.{OpForm}
-use Rattle.tta_machine.specs.Draft.{unit_named}
-use Rattle.tta_machine.specs.Declarations.{take_op, add_op, op_named, timed_op, untimed_op, arity_of, is_latency, is_served, has_other, with_op}
+use Rattle.tta_machine.specs.Declarations.{op_named, timed_op, untimed_op, arity_of, is_latency, is_served, has_other, with_op}
 use Rattle.tta_machine.specs.Kept.{IsDraft}
 use Rattle.tta_machine.proofs.Lists.{list_all_push, list_all_changed, list_all_one, different_push}
-use Rattle.tta_machine.proofs.Steps.{some-ok, refuse_if-ok, same_ok}
 use Rattle.tta_machine.proofs.Naming.{AreNamed-changed}
 use Rattle.tta_machine.proofs.Growth.{Grows, there_still}
 use Rattle.tta_machine.proofs.Owners.{one_owner-more}
+use Rattle.tta_machine.proofs.MadeLinks.{unit_op, op_added, OpMade}
 
 -- ---- operations
-
-abbrev pub unit_op : Units → Op → Option ℕ → UnitOp
-unit_op u o latency = record { op = o; arity = arity_of u o; latency = option_map_or (λ l. l) latency 0 }
 
 first_at-lt : (name : List ℕ) (k : ℕ) (names : List (List ℕ)) (j : ℕ) → first_at name k names ≡ Some j → j < k + length names
 first_at-lt name k [] j h = cc
@@ -99,9 +94,6 @@ has_port false port h = refl
 
 -- ---- the draft
 
-abbrev pub op_added : Draft → ℕ → OpUnit → UnitOp → Draft
-op_added d k unit o = record d { units = slice_set d.units k (with_op unit o) }
-
 unit_still : (sockets : List Socket) (unit : OpUnit) (o : UnitOp) → is_unit sockets unit ≡ true → is_unit_op unit o ≡ true
     → list_any (λ p. same_op p.op o.op) unit.ops ≡ false → length unit.ops < 32 → is_unit sockets (with_op unit o) ≡ true
 unit_still sockets unit o h one new room =
@@ -117,9 +109,10 @@ unit_still sockets unit o h one new room =
     (list_all_push (is_unit_op unit) unit.ops o all.1 one))
     (different_push (λ p q. same_op p.op q.op) unit.ops o differ.1 new)
 
-op_kept : (d : Draft) (k : ℕ) (unit : OpUnit) (o : UnitOp) → IsDraft d → slice_get d.units k ≡ Some unit → is_unit_op unit o ≡ true
+-- a unit with an operation more
+unit_op_kept : (d : Draft) (k : ℕ) (unit : OpUnit) (o : UnitOp) → IsDraft d → slice_get d.units k ≡ Some unit → is_unit_op unit o ≡ true
     → list_any (λ p. same_op p.op o.op) unit.ops ≡ false → is_served d.units k o.op ≡ false → length unit.ops < 32 → IsDraft (op_added d k unit o)
-op_kept d k unit o r at one new alone room =
+unit_op_kept d k unit o r at one new alone room =
     let output = or_parts (is_data_op o.op && has_other is_data_op k 0 d.units || is_frame_op o.op && has_other is_frame_op k 0 d.units)
     (same_op o.op Out && has_other (λ p. same_op p Out) k 0 d.units) alone in
     let spaces = or_parts (is_data_op o.op && has_other is_data_op k 0 d.units) (is_frame_op o.op && has_other is_frame_op k 0 d.units) output.0 in
@@ -130,53 +123,24 @@ op_kept d k unit o r at one new alone room =
     record {
       limits = let l = r.limits in omega arith;
       there = there_still d (op_added d k unit o) r.there refl grows;
-      named = record {
-        buses = r.named.buses;
-        sockets = r.named.sockets;
-        files = r.named.files;
-        imms = r.named.imms;
-        units = AreNamed-changed (λ v. v.name) place.Unit d.names d.units k (with_op unit o) unit at refl r.named.units;
-        templates = r.named.templates;
-      };
-      rules = record {
-        buses = r.rules.buses;
-        sockets = r.rules.sockets;
-        files = r.rules.files;
-        imms = r.rules.imms;
-        units = list_all_changed (is_unit d.sockets) d.units k (with_op unit o) r.rules.units rule;
-        one_data = one_owner-more is_data_op d.units k unit o at spaces.0 r.rules.one_data;
-        one_frame = one_owner-more is_frame_op d.units k unit o at spaces.1 r.rules.one_frame;
-        one_output = one_owner-more (λ p. same_op p Out) d.units k unit o at output.1 r.rules.one_output;
-        guards = r.rules.guards;
-        different_guards = r.rules.different_guards;
-        templates = r.rules.templates;
-        template_buses = r.rules.template_buses;
-        control = r.rules.control;
-      };
+      named = assumption (AreNamed-changed (λ v. v.name) place.Unit d.names d.units k (with_op unit o) unit at refl r.named.units);
+      rules = assumption (
+        list_all_changed (is_unit d.sockets) d.units k (with_op unit o) r.rules.units rule,
+        one_owner-more is_data_op d.units k unit o at spaces.0 r.rules.one_data,
+        one_owner-more is_frame_op d.units k unit o at spaces.1 r.rules.one_frame,
+        one_owner-more (λ p. same_op p Out) d.units k unit o at output.1 r.rules.one_output,
+      );
     }
 
-pub add_op-keeps : (u : Units) (d e : Draft) (k : ℕ) (unit : OpUnit) (o : Op) (latency : Option ℕ) (name : List ℕ) → IsDraft d
-    → slice_get d.units k ≡ Some unit → op_named u latency name ≡ Some o → add_op u d k unit o latency ≡ Ok e → IsDraft e
-add_op-keeps u d e k unit o latency name r at is h =
-    let twice = refuse_if-ok (list_any (λ p. same_op p.op o) unit.ops || is_served d.units k o) Twice _ e h in
-    let range = refuse_if-ok (not (is_latency latency) || nat_le 32 (length unit.ops)) Range _ e twice.1 in
-    let ports = refuse_if-ok ((arity_of u o == 2 && is_none unit.operand) || (has_result o && is_none unit.result)) Missing _ e range.1 in
-    let new = or_parts (list_any (λ p. same_op p.op o) unit.ops) (is_served d.units k o) twice.0 in
-    let room = or_parts (not (is_latency latency)) (nat_le 32 (length unit.ops)) range.0 in
-    let missing = or_parts (arity_of u o == 2 && is_none unit.operand) (has_result o && is_none unit.result) ports.0 in
-    let fits : fits_kind (unit_op u o latency) ≡ true = op_fits u latency name o is (not-false (is_latency latency) room.0) in
-    let words : (arity_of u o ≡ 1) ⊎ (arity_of u o ≡ 2) = arity_cases o (arity_of u o) (option_map_or (λ l. l) latency 0) fits in
-    let one : is_unit_op unit (unit_op u o latency) ≡ true =
-    and_from _ (not (has_result o) || is_some unit.result)
-    (and_from (fits_kind (unit_op u o latency)) (arity_of u o == 1 || is_some unit.operand) fits (has_operand (arity_of u o) unit.operand words missing.0))
-    (has_port (has_result o) unit.result missing.1) in
-    subst IsDraft (same_ok (op_added d k unit (unit_op u o latency)) e ports.1)
-    (op_kept d k unit (unit_op u o latency) r at one new.0 new.1 (leb-false 32 (length unit.ops) room.1))
-
-pub take_op-keeps : (u : Units) (d e : Draft) (f : OpForm) → IsDraft d → take_op u d f ≡ Ok e → IsDraft e
-unfolding take_op
-take_op-keeps u d e f r h =
-    let k = some-ok Unknown (unit_named d f.unit) _ e h in
-    let unit = some-ok Unknown (slice_get d.units k.0) _ e k.2 in
-    let o = some-ok Unknown (op_named u f.latency f.operation) _ e unit.2 in
-    add_op-keeps u d e k.0 unit.0 o.0 f.latency f.operation r unit.1 o.1 o.2
+pub op_kept : (u : Units) (d e : Draft) (f : OpForm) → IsDraft d → OpMade u d e f → IsDraft e
+op_kept u d e f r m =
+    let new = or_parts (list_any (λ p. same_op p.op m.op) m.unit.ops) (is_served d.units m.k m.op) m.new in
+    let room = or_parts (not (is_latency f.latency)) (nat_le 32 (length m.unit.ops)) m.range in
+    let ports = or_parts (arity_of u m.op == 2 && is_none m.unit.operand) (has_result m.op && is_none m.unit.result) m.ports in
+    let fits : fits_kind (unit_op u m.op f.latency) ≡ true = op_fits u f.latency f.operation m.op m.is (not-false (is_latency f.latency) room.0) in
+    let words : (arity_of u m.op ≡ 1) ⊎ (arity_of u m.op ≡ 2) = arity_cases m.op (arity_of u m.op) (option_map_or (λ l. l) f.latency 0) fits in
+    let one : is_unit_op m.unit (unit_op u m.op f.latency) ≡ true =
+    and_from _ (not (has_result m.op) || is_some m.unit.result)
+    (and_from (fits_kind (unit_op u m.op f.latency)) (arity_of u m.op == 1 || is_some m.unit.operand) fits (has_operand (arity_of u m.op) m.unit.operand words ports.0))
+    (has_port (has_result m.op) m.unit.result ports.1) in
+    subst IsDraft m.made (unit_op_kept d m.k m.unit (unit_op u m.op f.latency) r m.there one new.0 new.1 (leb-false 32 (length m.unit.ops) room.1))

@@ -86,29 +86,20 @@ AddsUnits u sockets earlier later ops forms = later ≡ map (with_ops u ops) ear
 pub units_none : (u : Units) (sockets : List (List ℕ)) (units : List OpUnit) → AddsUnits u sockets units units [] []
 units_none u sockets units = sym (append-nil (map (with_ops u []) units) ∙ with_no_ops u units)
 
-pub units_skip : (u : Units) (sockets : List (List ℕ)) (earlier later : List OpUnit) (ops all_ops : List OpForm) (forms all : List UnitForm)
-    → AddsUnits u sockets earlier later ops forms → all_ops ≡ ops → all ≡ forms → AddsUnits u sockets earlier later all_ops all
-units_skip u sockets earlier later ops all_ops forms all h same_ops same =
-    h ∙ sym (ap₂ (λ os fs. map (with_ops u os) earlier ++ map (unit_made u sockets os) fs) same_ops same)
-
 -- a line that declares a unit
-pub units_one : (u : Units) (sockets : List (List ℕ)) (earlier later : List OpUnit) (x : OpUnit) (f : UnitForm) (ops all_ops : List OpForm) (forms all : List UnitForm)
-    → AddsUnits u sockets (earlier ++ x ∷ []) later ops forms → all_ops ≡ ops → all ≡ f ∷ forms → unit_made u sockets ops f ≡ with_ops u ops x
-    → AddsUnits u sockets earlier later all_ops all
-units_one u sockets earlier later x f ops all_ops forms all h same_ops same is =
-    let joined : map (with_ops u ops) (earlier ++ x ∷ []) ++ map (unit_made u sockets ops) forms ≡ map (with_ops u ops) earlier ++ map (unit_made u sockets ops) (f ∷ forms) =
-    ap (λ l. l ++ map (unit_made u sockets ops) forms) (map-append (with_ops u ops) earlier (x ∷ []))
+pub units_one : (u : Units) (sockets : List (List ℕ)) (earlier later : List OpUnit) (x : OpUnit) (f : UnitForm) (ops : List OpForm) (forms : List UnitForm)
+    → AddsUnits u sockets (earlier ++ x ∷ []) later ops forms → unit_made u sockets ops f ≡ with_ops u ops x → AddsUnits u sockets earlier later ops (f ∷ forms)
+units_one u sockets earlier later x f ops forms h is =
+    h ∙ ap (λ l. l ++ map (unit_made u sockets ops) forms) (map-append (with_ops u ops) earlier (x ∷ []))
     ∙ append_assoc (map (with_ops u ops) earlier) (with_ops u ops x ∷ []) (map (unit_made u sockets ops) forms)
-    ∙ ap (λ y. map (with_ops u ops) earlier ++ y ∷ map (unit_made u sockets ops) forms) (sym is) in
-    units_skip u sockets earlier later ops all_ops (f ∷ forms) all (h ∙ joined) same_ops same
+    ∙ ap (λ y. map (with_ops u ops) earlier ++ y ∷ map (unit_made u sockets ops) forms) (sym is)
 
 -- a line that gives a unit an operation
-pub units_op : (u : Units) (d end_draft : Draft) (sockets : List (List ℕ)) (f : OpForm) (k : ℕ) (unit : OpUnit) (o : UnitOp) (ops all_ops : List OpForm) (forms all : List UnitForm)
+pub units_op : (u : Units) (d end_draft : Draft) (sockets : List (List ℕ)) (f : OpForm) (k : ℕ) (unit : OpUnit) (o : UnitOp) (ops : List OpForm) (forms : List UnitForm)
     → IsDraft d → AreBorne d → IsDraft end_draft → named_in d.names f.unit ≡ Some (place.Unit k) → named_in end_draft.names f.unit ≡ Some (place.Unit k)
     → slice_get d.units k ≡ Some unit → op_made u f ≡ Some o
-    → AddsUnits u sockets (slice_set d.units k (with_op unit o)) end_draft.units ops forms → all_ops ≡ f ∷ ops → all ≡ forms → AddsUnits u sockets d.units end_draft.units all_ops all
-units_op u d end_draft sockets f k unit o ops all_ops forms all r b end found found_later at is h same_ops same =
-    units_skip u sockets d.units end_draft.units (f ∷ ops) all_ops forms all (h ∙ ap₂ (λ xs ys. xs ++ ys) before behind) same_ops same
+    → AddsUnits u sockets (slice_set d.units k (with_op unit o)) end_draft.units ops forms → AddsUnits u sockets d.units end_draft.units (f ∷ ops) forms
+units_op u d end_draft sockets f k unit o ops forms r b end found found_later at is h = h ∙ ap₂ (λ xs ys. xs ++ ys) before behind
   where
     front : List OpUnit
     front = map (with_ops u ops) (slice_set d.units k (with_op unit o))

@@ -23,6 +23,7 @@ use Rattle.tta_machine.specs.Draft.{is_taken, is_too_long, bus_named, socket_nam
 
 -- ---- buses and sockets
 
+-- the draft with a bus more
 unfoldable pub take_bus : Draft → BusForm → Result Draft Refusal
 take_bus d f =
     refuse_if (is_taken d f.name) Twice (
@@ -42,6 +43,7 @@ abbrev pub bus_set : List ℕ → ℕ
 bus_set [] = 0
 bus_set (bus ∷ buses) = 2 ^ bus + bus_set buses
 
+-- the draft with a socket more, at buses that are there, each of them once
 unfoldable pub take_socket : Draft → SocketForm → Result Draft Refusal
 take_socket d f =
     or_refuse Unknown (buses_named d f.buses) >>= λ buses.
@@ -54,6 +56,7 @@ take_socket d f =
 
 -- ---- files and immediate units
 
+-- the draft with a register file more, between a socket out and a socket in
 unfoldable pub take_file : Draft → FileForm → Result Draft Refusal
 take_file d f =
     or_refuse Unknown (socket_named d false f.out) >>= λ out.
@@ -67,6 +70,7 @@ take_file d f =
       files = d.files ++ record { name = f.name; width = f.width; size = f.size; read = f.read; write = f.write; out = out; into = into } ∷ [];
     })))
 
+-- the draft with an immediate unit more, behind a socket out
 unfoldable pub take_imm : Draft → ImmForm → Result Draft Refusal
 take_imm d f =
     or_refuse Unknown (socket_named d false f.out) >>= λ out.
@@ -84,6 +88,7 @@ abbrev pub port_named : Draft → (input : Bool) → Option (List ℕ) → Resul
 port_named d input None = Ok None
 port_named d input (Some name) = or_refuse Unknown (option_map (λ k. Some k) (socket_named d input name))
 
+-- the draft with a unit more, which has no operation yet
 unfoldable pub take_unit : Draft → UnitForm → Result Draft Refusal
 take_unit d f =
     port_named d true f.operand >>= λ operand.
@@ -113,6 +118,7 @@ untimed_op name =
     else if bytes_eq name (codes "out") then Some Out
     else None
 
+-- the operation of a name in a line with this latency, or with none
 abbrev pub op_named : Units → (latency : Option ℕ) → List ℕ → Option Op
 op_named u None name = untimed_op name
 op_named u (Some latency) name = timed_op u name
@@ -160,6 +166,7 @@ add_op u d k unit o latency =
     refuse_if ((arity_of u o == 2 && is_none unit.operand) || (has_result o && is_none unit.result)) Missing (
     Ok (record d { units = slice_set d.units k (with_op unit added) }))))
 
+-- the draft with an operation more in the unit that the line names
 unfoldable pub take_op : Units → Draft → OpForm → Result Draft Refusal
 take_op u d f =
     or_refuse Unknown (unit_named d f.unit) >>= λ k.
@@ -169,6 +176,7 @@ take_op u d f =
 
 -- ---- guards and templates
 
+-- the draft with a guard more: a register of a file of width 1, for one bus
 unfoldable pub take_guard : Draft → GuardForm → Result Draft Refusal
 take_guard d f =
     or_refuse Unknown (bus_named d f.bus) >>= λ bus.
@@ -179,6 +187,7 @@ take_guard d f =
     refuse_if (not (q.width == 1) || nat_le q.size f.index || nat_le 64 (length d.guards)) Range (
     Ok (record d { guards = d.guards ++ added ∷ [] })))
 
+-- the draft with a template more, and with the line where it stands
 unfoldable pub take_template : (line : ℕ) → Draft → TemplateForm → Result Draft Refusal
 take_template line d f =
     or_refuse Unknown (imm_named d f.imm) >>= λ imm.
@@ -194,6 +203,7 @@ take_template line d f =
 
 -- ---- control and spaces
 
+-- the draft with control, where it had none
 unfoldable pub take_control : Draft → ControlForm → Result Draft Refusal
 take_control d f =
     or_refuse Unknown (socket_named d true f.trigger) >>= λ trigger.
@@ -202,6 +212,7 @@ take_control d f =
     refuse_if (not (nat_le f.delay 4) || not (is_from_to 1 16 f.address)) Range (
     Ok (record d { control = Some (record { delay = f.delay; address = f.address; trigger = trigger; ra = ra }) })))
 
+-- the draft with the size of one of the two spaces, where it had none
 unfoldable pub take_space : Draft → SpaceForm → Result Draft Refusal
 take_space d f =
     if f.is_data

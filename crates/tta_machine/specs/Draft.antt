@@ -48,22 +48,27 @@ is_taken d name = is_some (named_in d.names name) || bytes_eq name (codes "gcu")
 abbrev pub is_too_long : List ℕ → Bool
 is_too_long name = nat_lt 64 (length name)
 
+-- the number of a bus, where a name names one
 abbrev pub bus_place : Named → Option ℕ
 bus_place (named.Bus k) = Some k
 bus_place place = None
 
+-- the same of a socket
 abbrev pub socket_place : Named → Option ℕ
 socket_place (named.Socket k) = Some k
 socket_place place = None
 
+-- the same of a file
 abbrev pub file_place : Named → Option ℕ
 file_place (named.File k) = Some k
 file_place place = None
 
+-- the same of an immediate unit
 abbrev pub imm_place : Named → Option ℕ
 imm_place (named.Imm k) = Some k
 imm_place place = None
 
+-- the same of a unit
 abbrev pub unit_place : Named → Option ℕ
 unit_place (named.Unit k) = Some k
 unit_place place = None
@@ -78,13 +83,15 @@ socket_named d input name = option_map_or of_direction (option_map_or socket_pla
   of_direction : ℕ → Option ℕ
   of_direction k = if is_socket d.sockets input k then Some k else None
 
--- the file, the immediate unit and the unit of a name
+-- the file of a name
 abbrev pub file_named : Draft → List ℕ → Option ℕ
 file_named d name = option_map_or file_place (named_in d.names name) None
 
+-- the immediate unit of a name
 abbrev pub imm_named : Draft → List ℕ → Option ℕ
 imm_named d name = option_map_or imm_place (named_in d.names name) None
 
+-- the unit of a name
 abbrev pub unit_named : Draft → List ℕ → Option ℕ
 unit_named d name = option_map_or unit_place (named_in d.names name) None
 

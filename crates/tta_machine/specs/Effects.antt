@@ -58,6 +58,7 @@ pub data Place : Type 0 where
   KeptRa : Place
   KeptPort : (unit : ℕ) → Place
 
+-- whether two places are one
 abbrev pub same_place : Place → Place → Bool
 same_place (KeptReg f i) (KeptReg g j) = f == g && i == j
 same_place (KeptImm f i) (KeptImm g j) = f == g && i == j
@@ -157,6 +158,7 @@ start_of m written (Imm unit index, word) = None
 start_of m written (Operand unit, word) = None
 start_of m written (Control kind, word) = None
 
+-- the operand of an operation, and 0 where it has none
 abbrev pub operand_word : Start → ℕ
 operand_word t = option_map_or (λ a. a) t.operand 0
 

@@ -53,9 +53,11 @@ guards_on m bus = filter (λ g. g.bus == bus) m.guards
 
 -- ---- how wide a field is
 
+-- how many bits tell the templates and the lack of one apart
 abbrev pub template_width : Machine → ℕ
 template_width m = width_for (1 + length m.templates)
 
+-- how many bits tell the guards of a bus and the lack of one apart
 abbrev pub guard_width : Machine → ℕ → ℕ
 guard_width m bus = width_for (1 + length (guards_on m bus))
 
@@ -67,6 +69,7 @@ short_width m bus = option_map_or (λ b. b.short) (slice_get m.buses bus) 0
 abbrev pub payload_width : Machine → ℕ → ℕ
 payload_width m bus = max (short_width m bus) (width_for (length (sources_on m bus)))
 
+-- how many bits tell the destinations of a bus and the lack of one apart
 abbrev pub dest_width : Machine → ℕ → ℕ
 dest_width m bus = width_for (1 + length (dests_on m bus))
 
@@ -84,6 +87,7 @@ word_width m = template_width m + sum_by (bus_width m) (numbers (length m.buses)
 
 -- ---- codes
 
+-- whether two sources are one
 abbrev pub same_source : Source → Source → Bool
 same_source (source.Reg f i) (source.Reg g j) = f == g && i == j
 same_source (source.Imm f i) (source.Imm g j) = f == g && i == j
@@ -92,6 +96,7 @@ same_source source.Ra source.Ra = true
 same_source (source.Value a) (source.Value b) = a == b
 same_source a b = false
 
+-- whether two destinations are one
 abbrev pub same_dest : Dest → Dest → Bool
 same_dest (dest.Reg f i) (dest.Reg g j) = f == g && i == j
 same_dest (dest.Operand u) (dest.Operand v) = u == v

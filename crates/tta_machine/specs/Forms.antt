@@ -16,11 +16,13 @@ names_alone (w ∷ ws) = name_of w >>? λ name. names_alone ws >>? λ names. Som
 
 -- ---- bus NAME short N signed, or unsigned
 
+-- what a bus line says
 pub record BusForm : Type 0 where
   pub name : List ℕ
   pub short : ℕ
   pub signed : Bool
 
+-- the words behind `bus`, where they have this form
 unfoldable pub bus_form : Line → Option BusForm
 bus_form (n ∷ short ∷ bits ∷ sign ∷ []) =
     only_if (is_keyword (codes "short") short) (
@@ -30,11 +32,13 @@ bus_form line = None
 
 -- ---- socket NAME in BUS .., or out
 
+-- what a socket line says
 pub record SocketForm : Type 0 where
   pub name : List ℕ
   pub input : Bool
   pub buses : List (List ℕ)
 
+-- the words behind `socket`, where they have this form
 unfoldable pub socket_form : Line → Option SocketForm
 socket_form (n ∷ direction ∷ bus ∷ buses) =
     name_of n >>? λ name. one_of_two (codes "in") (codes "out") direction >>? λ input. names_alone (bus ∷ buses) >>? λ all.
@@ -43,6 +47,7 @@ socket_form line = None
 
 -- ---- file NAME width W size K read R write T out SOCKET in SOCKET
 
+-- what a file line says
 pub record FileForm : Type 0 where
   pub name : List ℕ
   pub width : ℕ
@@ -60,6 +65,7 @@ keyed_value word key value = only_if (is_keyword word key) (value_of value)
 abbrev pub keyed_name : (word : List ℕ) → (key name : Lexeme) → Option (List ℕ)
 keyed_name word key name = only_if (is_keyword word key) (name_of name)
 
+-- the words behind `file`, where they have this form
 unfoldable pub file_form : Line → Option FileForm
 file_form (n ∷ k1 ∷ width ∷ k2 ∷ size ∷ k3 ∷ read ∷ k4 ∷ write ∷ k5 ∷ out ∷ k6 ∷ into ∷ []) =
     name_of n >>? λ name.
@@ -71,11 +77,13 @@ file_form line = None
 
 -- ---- imm NAME size K out SOCKET
 
+-- what the line of an immediate unit says
 pub record ImmForm : Type 0 where
   pub name : List ℕ
   pub size : ℕ
   pub out : List ℕ
 
+-- the words behind `imm`, where they have this form
 unfoldable pub imm_form : Line → Option ImmForm
 imm_form (n ∷ k1 ∷ size ∷ k2 ∷ out ∷ []) =
     name_of n >>? λ name. keyed_value (codes "size") k1 size >>? λ s. keyed_name (codes "out") k2 out >>? λ o.
@@ -84,6 +92,7 @@ imm_form line = None
 
 -- ---- unit NAME o SOCKET t SOCKET r SOCKET, where the first and the last pair may be left out
 
+-- what a unit line says
 pub record UnitForm : Type 0 where
   pub name : List ℕ
   pub operand : Option (List ℕ)
@@ -99,6 +108,7 @@ unit_ports name operand (k1 ∷ trigger ∷ k2 ∷ result ∷ []) =
     Some (record { name = name; operand = operand; trigger = t; result = Some r })
 unit_ports name operand line = None
 
+-- the words behind `unit`, where they have this form
 unfoldable pub unit_form : Line → Option UnitForm
 unit_form (n ∷ k1 ∷ first ∷ rest) =
     name_of n >>? λ name.
@@ -109,11 +119,13 @@ unit_form line = None
 
 -- ---- op UNIT OPERATION L, or without a latency
 
+-- what an operation line says
 pub record OpForm : Type 0 where
   pub unit : List ℕ
   pub operation : List ℕ
   pub latency : Option ℕ
 
+-- the words behind `op`, where they have this form
 unfoldable pub op_form : Line → Option OpForm
 op_form (u ∷ o ∷ []) =
     name_of u >>? λ unit. name_of o >>? λ operation. Some (record { unit = unit; operation = operation; latency = None })
@@ -124,12 +136,14 @@ op_form line = None
 
 -- ---- guard BUS FILE.INDEX plain, or inverted
 
+-- what a guard line says
 pub record GuardForm : Type 0 where
   pub bus : List ℕ
   pub file : List ℕ
   pub index : ℕ
   pub inverted : Bool
 
+-- the words behind `guard`, where they have this form
 unfoldable pub guard_form : Line → Option GuardForm
 guard_form (b ∷ f ∷ dot ∷ i ∷ sense ∷ []) =
     only_if (is_mark (codes ".") dot) (
@@ -139,12 +153,14 @@ guard_form line = None
 
 -- ---- template NAME IMM.INDEX BUS ..
 
+-- what a template line says
 pub record TemplateForm : Type 0 where
   pub name : List ℕ
   pub imm : List ℕ
   pub index : ℕ
   pub buses : List (List ℕ)
 
+-- the words behind `template`, where they have this form
 unfoldable pub template_form : Line → Option TemplateForm
 template_form (n ∷ u ∷ dot ∷ i ∷ bus ∷ buses) =
     only_if (is_mark (codes ".") dot) (
@@ -154,6 +170,7 @@ template_form line = None
 
 -- ---- control delay D address A t SOCKET ra SOCKET, where the last pair may be left out
 
+-- what a control line says
 pub record ControlForm : Type 0 where
   pub delay : ℕ
   pub address : ℕ
@@ -166,6 +183,7 @@ ra_pair [] = Some None
 ra_pair (key ∷ socket ∷ []) = keyed_name (codes "ra") key socket >>? λ name. Some (Some name)
 ra_pair line = None
 
+-- the words behind `control`, where they have this form
 unfoldable pub control_form : Line → Option ControlForm
 control_form (k1 ∷ delay ∷ k2 ∷ address ∷ k3 ∷ trigger ∷ rest) =
     keyed_value (codes "delay") k1 delay >>? λ d. keyed_value (codes "address") k2 address >>? λ a.
@@ -175,10 +193,12 @@ control_form line = None
 
 -- ---- space data N, or frame
 
+-- what the line of a space says
 pub record SpaceForm : Type 0 where
   pub is_data : Bool
   pub size : ℕ
 
+-- the words behind `space`, where they have this form
 unfoldable pub space_form : Line → Option SpaceForm
 space_form (which ∷ n ∷ []) =
     one_of_two (codes "data") (codes "frame") which >>? λ is_data. value_of n >>? λ size.

@@ -40,6 +40,7 @@ pub record NamesAreThere (d : Draft) : Type 0 where
 abbrev pub AreNamed : {A : Type 0} → (name : A → List ℕ) → (at : ℕ → Named) → Declared Named → List A → Type 0
 AreNamed {A} name at names parts = (k : ℕ) (x : A) → slice_get parts k ≡ Some x → named_in names (name x) ≡ Some (at k)
 
+-- each part of a draft is what its name names
 pub record PartsAreNamed (d : Draft) : Type 0 where
   pub buses : AreNamed (λ b. b.name) place.Bus d.names d.buses
   pub sockets : AreNamed (λ s. s.name) place.Socket d.names d.sockets

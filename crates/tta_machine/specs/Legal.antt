@@ -34,14 +34,17 @@ abbrev pub all_below : (ℕ → Bool) → ℕ → Bool
 all_below test zero = true
 all_below test (suc n) = test n && all_below test n
 
+-- whether a source is a register of this file
 abbrev pub reads_file : ℕ → Source → Bool
 reads_file file (source.Reg f i) = f == file
 reads_file file s = false
 
+-- whether a source is a register of this immediate unit
 abbrev pub reads_imm : ℕ → Source → Bool
 reads_imm unit (source.Imm u i) = u == unit
 reads_imm unit s = false
 
+-- whether a destination is a register of this file
 abbrev pub writes_file : ℕ → Dest → Bool
 writes_file file (dest.Reg f i) = f == file
 writes_file file d = false

@@ -85,6 +85,7 @@ fits_kind o = kind o.op where
 abbrev pub is_unit_op : OpUnit → UnitOp → Bool
 is_unit_op u o = fits_kind o && (o.arity == 1 || is_some u.operand) && (not (has_result o.op) || is_some u.result)
 
+-- whether two operations are one
 abbrev pub same_op : Op → Op → Bool
 same_op Ldw Ldw = true
 same_op Stw Stw = true
@@ -104,6 +105,7 @@ is_unit sockets u =
 abbrev pub is_data_op : Op → Bool
 is_data_op o = same_op o Ldw || same_op o Stw
 
+-- the same of the frame space
 abbrev pub is_frame_op : Op → Bool
 is_frame_op o = same_op o Ldf || same_op o Stf
 
@@ -116,6 +118,7 @@ abbrev pub is_guard : (buses : ℕ) → List File → Guard → Bool
 is_guard buses files g =
     nat_lt g.bus buses && option_map_or (λ f. f.width == 1 && nat_lt g.on.index f.size) (slice_get files g.on.file) false
 
+-- whether two guards of buses are one
 abbrev pub same_guard : Guard → Guard → Bool
 same_guard a b = a.bus == b.bus && is_same_guard a.on b.on
 

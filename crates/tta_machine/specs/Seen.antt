@@ -33,18 +33,23 @@ formed form take = or_refuse Syntax form >>= take
 abbrev pub texts : List Word → List (List ℕ)
 texts words = map (λ w. w.text.now) words
 
+-- what a bus line says
 abbrev pub bus_seen : BusWords → BusForm
 bus_seen f = record { name = f.name.now; short = f.short; signed = f.signed }
 
+-- what a socket line says
 abbrev pub socket_seen : SocketWords → SocketForm
 socket_seen f = record { name = f.name.now; input = f.input; buses = texts f.buses.now }
 
+-- what a file line says
 abbrev pub file_seen : FileWords → FileForm
 file_seen f = record { name = f.name.now; width = f.width; size = f.size; read = f.read; write = f.write; out = f.out.now; into = f.into.now }
 
+-- what the line of an immediate unit says
 abbrev pub imm_seen : ImmWords → ImmForm
 imm_seen f = record { name = f.name.now; size = f.size; out = f.out.now }
 
+-- what a unit line says
 abbrev pub unit_seen : UnitWords → UnitForm
 unit_seen f = record {
   name = f.name.now;
@@ -53,17 +58,22 @@ unit_seen f = record {
   result = option_map (λ b. b.now) f.result;
 }
 
+-- what an operation line says
 abbrev pub op_seen : OpWords → OpForm
 op_seen f = record { unit = f.unit.now; operation = f.operation.now; latency = f.latency }
 
+-- what a guard line says
 abbrev pub guard_seen : GuardWords → GuardForm
 guard_seen f = record { bus = f.bus.now; file = f.file.now; index = f.index; inverted = f.inverted }
 
+-- what a template line says
 abbrev pub template_seen : TemplateWords → TemplateForm
 template_seen f = record { name = f.name.now; imm = f.imm.now; index = f.index; buses = texts f.buses.now }
 
+-- what a control line says
 abbrev pub control_seen : ControlWords → ControlForm
 control_seen f = record { delay = f.delay; address = f.address; trigger = f.trigger.now; ra = option_map (λ b. b.now) f.ra }
 
+-- what the line of a space says
 abbrev pub space_seen : SpaceWords → SpaceForm
 space_seen f = record { is_data = f.is_data; size = f.size }
