@@ -28,6 +28,7 @@ Bears d (place.Imm k) name = slice_get (map (λ x. x.name) d.imms) k ≡ Some na
 Bears d (place.Unit k) name = slice_get (map (λ x. x.name) d.units) k ≡ Some name
 Bears d (place.Template k) name = slice_get (map (λ x. x.name) d.templates) k ≡ Some name
 
+-- what every name of a draft names bears it
 pub record AreBorne (d : Draft) : Type 0 where
   pub all : (name : List ℕ) (at : Named) → named_in d.names name ≡ Some at → Bears d at name
 
@@ -51,6 +52,7 @@ record BearersStay (d e : Draft) : Type 0 where
   units : (k : ℕ) (n : List ℕ) → Bears d (place.Unit k) n → Bears e (place.Unit k) n
   templates : (k : ℕ) (n : List ℕ) → Bears d (place.Template k) n → Bears e (place.Template k) n
 
+-- and so does the part of any place
 bears_still : (d e : Draft) (at : Named) (name : List ℕ) → BearersStay d e → Bears d at name → Bears e at name
 bears_still d e (place.Bus k) name s h = s.buses k name h
 bears_still d e (place.Socket k) name s h = s.sockets k name h
@@ -79,6 +81,7 @@ map_changed name (y ∷ ys) (suc k) x v at same = ap (λ ns. name y ∷ ns) (map
 
 -- ---- lines
 
+-- an operation more changes a unit, and not its name
 op_borne : (u : Units) (d e : Draft) (f : OpForm) → AreBorne d → OpMade u d e f → AreBorne e
 op_borne u d e f r m =
     let unit : OpUnit = with_op m.unit (unit_op u m.op f.latency) in
@@ -114,6 +117,7 @@ taken-borne u line d e key words r (TakenControl f is said m) = subst AreBorne m
 taken-borne u line d e key words r (TakenSpace f is said (inl m)) = subst AreBorne m.made (borne_still d (spaces_added d (Some f.size) d.frame_words) r refl assumption)
 taken-borne u line d e key words r (TakenSpace f is said (inr m)) = subst AreBorne m.made (borne_still d (spaces_added d d.data_words (Some f.size)) r refl assumption)
 
+-- a line, and the lines of a text
 pub take_line-borne : (u : Units) (line : ℕ) (d e : Draft) (words : Line) → AreBorne d → take_line u line d words ≡ Ok e → AreBorne e
 take_line-borne u line d e words r h = line_keeps u AreBorne (taken-borne u) line d e words r h
 

@@ -4,7 +4,7 @@ use Rattle.std.proofs.Common.{List, [], ◌∷◌, ◌++◌, get_or, take, drop,
 use Rattle.std.specs.Prelude.{◌==◌, ◌&&◌, ◌||◌, if◌then◌else◌, length, bit_and, bit_or, option_map}
 use Rattle.std.specs.List.{list_any}
 use Rattle.std.proofs.lemmas.List.Folds.{list_any-append}
-use Rattle.std.proofs.lemmas.Bool.{and_parts, not-true}
+use Rattle.std.proofs.lemmas.Bool.{and_parts, not-true, eqb-true, eqb-false}
 use Rattle.std.proofs.lemmas.Bool.Decides.{nat_tests}
 use Rattle.std.proofs.lemmas.Nat.{or_disjoint, and_or_self, and_or_apart, pow_apart, pow_pos}
 use Rattle.tta_reading.specs.Steps.{◌>>?◌}
@@ -29,14 +29,9 @@ set_of_none = refl
 set_of_twice : set_once (1 ∷ 2 ∷ 1 ∷ []) ≡ None
 set_of_twice = refl
 
+-- buses of which none stands twice
 abbrev different : List ℕ → Bool
 different xs = are_different (λ a b. a == b) xs
-
-eq_of : (a b : ℕ) → (a == b) ≡ true → a ≡ b
-eq_of a b e = grind (arith, nat_tests)
-
-ne_of : (a b : ℕ) → (a == b) ≡ false → a ≢ b
-ne_of a b e = grind (arith, nat_tests)
 
 -- the set of different buses with one more, in which its bit is set
 with_bit : (x : ℕ) (xs : List ℕ) → bit_and (bus_set xs) (2 ^ x) ≡ 0 → bit_or (bus_set xs) (2 ^ x) ≡ 2 ^ x + bus_set xs
@@ -56,20 +51,22 @@ has_bus (x ∷ xs) y e =
         → bit_and (bus_set xs) (2 ^ y) ≡ (if list_any (λ z. y == z) xs then 2 ^ y else 0)
         → bit_and (2 ^ x + bus_set xs) (2 ^ y) ≡ (if b || list_any (λ z. y == z) xs then 2 ^ y else 0)
     by true h joined others =
-        ap (λ n. bit_and n (2 ^ y)) (sym joined) ∙ ap (λ z. bit_and (bit_or (bus_set xs) (2 ^ z)) (2 ^ y)) (sym (eq_of y x h))
+        ap (λ n. bit_and n (2 ^ y)) (sym joined) ∙ ap (λ z. bit_and (bit_or (bus_set xs) (2 ^ z)) (2 ^ y)) (sym (eqb-true y x h))
         ∙ and_or_self (2 ^ y) (bus_set xs)
     by false h joined others =
         ap (λ n. bit_and n (2 ^ y)) (sym joined)
-        ∙ and_or_apart (2 ^ y) (bus_set xs) (2 ^ x) (pow_apart x y (λ (e : x ≡ y). ne_of y x h (sym e))) ∙ others
+        ∙ and_or_apart (2 ^ y) (bus_set xs) (2 ^ x) (pow_apart x y (λ (e : x ≡ y). eqb-false y x h (sym e))) ∙ others
 
 -- a bus behind the others
 bus_set-push : (xs : List ℕ) (y : ℕ) → bus_set (xs ++ y ∷ []) ≡ bus_set xs + 2 ^ y
 bus_set-push [] y = add_comm (2 ^ y) 0
 bus_set-push (x ∷ xs) y = ap (λ n. 2 ^ x + n) (bus_set-push xs y) ∙ sym (add_assoc (2 ^ x) (bus_set xs) (2 ^ y))
 
+-- such a test does not depend on the order of the two
 same_back : (x y : ℕ) → (x == y) ≡ (y == x)
 same_back x y = grind (arith, nat_tests)
 
+-- how the tests of one bus more come together
 bools : (among rest same other : Bool)
     → (not (among || (same || false)) && (rest && not other)) ≡ ((not among && rest) && not (same || other))
 bools true rest same other = refl
@@ -94,6 +91,7 @@ different-push (x ∷ xs) y =
         ∙ bools among rest same (list_any (λ z. y == z) xs)
         ∙ ap (λ b. (not among && rest) && not (b || list_any (λ z. y == z) xs)) e
 
+-- the same where the others are different already
 different-after : (xs : List ℕ) (y : ℕ) {among : Bool} → different xs ≡ true → list_any (λ z. y == z) xs ≡ among
     → different (xs ++ y ∷ []) ≡ not among
 different-after xs y all is = different-push xs y ∙ ap (λ b. b && not (list_any (λ z. y == z) xs)) all ∙ ap not is
@@ -107,6 +105,7 @@ bit-set : (among : Bool) (n y : ℕ) → n ≡ (if among then 2 ^ y else 0) → 
 bit-set true n y e taken = refl
 bit-set false n y e taken = absurd (taken e)
 
+-- what a set is, by whether its buses are different
 set_at : (b : Bool) (xs : List ℕ) → different xs ≡ b → set_once xs ≡ (if b then Some (bus_set xs) else None)
 set_at b xs e = ap (λ b. if b then Some (bus_set xs) else None) e
 

@@ -15,6 +15,7 @@ use Rattle.tta_machine.specs.Rules.{is_unit, is_unit_op, is_socket, is_port_sock
 use Rattle.tta_machine.specs.Layout.{has_source_socket}
 use Rattle.tta_machine.proofs.Widths.{no_high}
 
+-- the fourth of six tests that all hold
 fourth : (a b c d e f : Bool) → (a && b && c && d && e && f) ≡ true → d ≡ true
 fourth a b c d e f h =
     let five = and_parts (a && b && c && d && e) f h in
@@ -22,6 +23,7 @@ fourth a b c d e f h =
     let three = and_parts (a && b && c) d four.0 in
     three.1
 
+-- a unit has at most 32 operations
 few_ops_of : (sockets : List Socket) (u : OpUnit) → is_unit sockets u ≡ true → length u.ops ≤ 256
 few_ops_of sockets u h =
     let few = fourth (is_socket sockets true u.trigger) (is_port_socket sockets true u.operand) (is_port_socket sockets false u.result)
@@ -38,6 +40,7 @@ few_ops sockets (u ∷ us) h =
 
 -- ---- the sources of a bus
 
+-- two tests that agree on each element of a list keep the same of it; so of lists of lists, and of two lists
 same_kept : {X : Type 0} (p q : X → Bool) (f : ℕ → X) (ns : List ℕ) → ((n : ℕ) → p (f n) ≡ q (f n)) → filter p (map f ns) ≡ filter q (map f ns)
 same_kept p q f [] h = refl
 same_kept p q f (n ∷ ns) h =
@@ -55,6 +58,7 @@ same_kept_both : {X : Type 0} (p q : X → Bool) (xs ys : List X) → filter p x
 same_kept_both p q xs ys h k =
     filter-append p xs ys ∙ ap (λ l. l ++ filter p ys) h ∙ ap (λ l. filter q xs ++ l) k ∙ sym (filter-append q xs ys)
 
+-- a port that may be left out, as the source of a bus
 same_shown : (m : Machine) (bus unit : ℕ) (port : Option ℕ)
     → filter (has_source_socket m bus) (option_map_or (λ r. source.Shown unit ∷ []) port []) ≡ filter (is_source_on m bus) (option_map_or (λ r. source.Shown unit ∷ []) port [])
 same_shown m bus unit None = refl

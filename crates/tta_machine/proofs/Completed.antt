@@ -38,7 +38,7 @@ rules_without d c r has_control has_bus =
       subst (λ o. option_map_or (is_control d.sockets) o true ≡ true) has_control r.rules.control,
     )
 
--- and its buses are as wide
+-- its buses are as wide: its sockets, sources and destinations are those of the whole machine
 socket-same : (m : Machine) (input : Bool) (socket : Option ℕ) (bus : ℕ) → has_socket (without_templates m) input socket bus ≡ has_socket m input socket bus
 socket-same m input None bus = refl
 socket-same m input (Some k) bus = refl
@@ -157,6 +157,7 @@ is_bare d c templates words frame is_empty has_control empty some none data_said
   frame_words = frame_said;
 }
 
+-- built without templates it is the machine without them, and built with them the whole one
 bare : (d : Draft) (c : Control) (templates : List Template) (words frame : ℕ) → IsBare d c templates words frame
     → built d c templates words frame ≡ without_templates (machine_of d c)
 bare d c templates words frame b = rw (b.no_template, b.data_words, b.frame_words) refl
@@ -165,6 +166,7 @@ filled : (d : Draft) (c : Control) (templates : List Template) (words frame : �
     → built d c d.templates words frame ≡ machine_of d c
 filled d c templates words frame b = rw (b.data_words, b.frame_words) refl
 
+-- both keep the rules of machines, the second where no template is too narrow
 pub bare_rules : (d : Draft) (c : Control) (templates : List Template) (words frame : ℕ) → IsDraft d → IsBare d c templates words frame
     → IsMachine (built d c templates words frame)
 bare_rules d c templates words frame r b = subst IsMachine (sym (bare d c templates words frame b)) (rules_without d c r b.has_control b.has_bus)
@@ -183,6 +185,7 @@ pub filled_rules : (d : Draft) (c : Control) (templates : List Template) (words 
     → narrow_line (machine_of d c) d.templates d.template_lines ≡ None → IsMachine (built d c d.templates words frame)
 filled_rules d c templates words frame r b wide = subst IsMachine (sym (filled d c templates words frame b)) (is_machine d c r b.has_control b.has_bus wide)
 
+-- and then the draft is complete
 pub filled_end : (d : Draft) (c : Control) (templates : List Template) (words frame : ℕ) → IsBare d c templates words frame
     → narrow_line (machine_of d c) d.templates d.template_lines ≡ None → complete d ≡ Ok (built d c d.templates words frame)
 filled_end d c templates words frame b wide = is_complete d c b.has_control b.has_bus wide ∙ ap (λ (m : Machine). Ok m) (sym (filled d c templates words frame b))

@@ -47,6 +47,7 @@ stay_before d next e name at more s = record { stay = λ n p h. s.stay n p (rw m
 
 -- ---- parts
 
+-- each adds to the lines of its kind, and leaves the others
 pub bus_continues : (u : Units) (d next e : Draft) (lines : ByKind) (f : BusForm) → BusMade d next f → Continues u next e lines
     → Continues u d e (record lines { buses = f ∷ lines.buses })
 bus_continues u d next e lines f m later =

@@ -1,6 +1,6 @@
 -- What stays true of a draft when it has more parts.
 use Rattle.std.proofs.Common.{◌≡◌, ◌<◌, ◌≤◌, ◌++◌, ◌∷◌, [], ℕ, Bool, List, Option, Some, None, true, false, length, refl, subst, arith, ◌⊎◌, inl, inr, lt_of_lt_of_le, pow_mono}
-use Rattle.std.specs.Prelude.{◌&&◌, ◌==◌, nat_lt, nat_le, slice_get}
+use Rattle.std.specs.Prelude.{◌&&◌, ◌||◌, ◌==◌, nat_lt, nat_le, slice_get}
 use Rattle.std.specs.Option.{option_map_or}
 use Rattle.std.specs.List.{list_all}
 use Rattle.std.proofs.lemmas.Bool.{and_parts, and_from, ltb-true, lt-ltb}
@@ -41,6 +41,7 @@ pub record Grows (d e : Draft) : Type 0 where
   pub units : length d.units ≤ length e.units
   pub templates : length d.templates ≤ length e.templates
 
+-- a place that a name names is there, and stays there when the lists grow
 pub is_there : (d : Draft) → NamesAreThere d → (name : List ℕ) (at : Named) → named_in d.names name ≡ Some at → IsThere d at
 is_there d r name (place.Bus k) e = r.bus name k e
 is_there d r name (place.Socket k) e = r.socket name k e
@@ -99,9 +100,9 @@ is_guard-more_buses n m files g le h =
 
 -- ---- more sockets
 
--- both tests of a pair
-pub and_map : (a b c d : Bool) → (a ≡ true → c ≡ true) → (b ≡ true → d ≡ true) → (a && b) ≡ true → (c && d) ≡ true
-and_map a b c d left right h = let parts = and_parts a b h in and_from c d (left parts.0) (right parts.1)
+-- two tests hold where two others do from which they follow
+pub and_map : {a b c d : Bool} → (a ≡ true → c ≡ true) → (b ≡ true → d ≡ true) → (a && b) ≡ true → (c && d) ≡ true
+and_map {a} {b} {c} {d} left right h = let parts = and_parts a b h in and_from c d (left parts.0) (right parts.1)
 
 -- a test of an element that is there holds in a longer list
 test_longer : {A : Type 0} (p : A → Bool) (xs more : List A) (k : ℕ) → option_map_or p (slice_get xs k) false ≡ true → option_map_or p (slice_get (xs ++ more) k) false ≡ true
@@ -110,6 +111,7 @@ test_longer {A} p xs more k h = by (slice_get xs k) refl h where
   by None e t = cc
   by (Some x) e t = rw (slice_get-longer xs more k x e) t
 
+-- what asks for sockets that are there still has them: a port, a file, an immediate unit, a unit, control
 pub is_socket-longer : (sockets more : List Socket) (input : Bool) (k : ℕ) → is_socket sockets input k ≡ true → is_socket (sockets ++ more) input k ≡ true
 is_socket-longer sockets more input k h = test_longer (λ s. is_same input s.input) sockets more k h
 
@@ -119,37 +121,25 @@ is_port_socket-longer sockets more input (Some k) h = is_socket-longer sockets m
 
 pub is_file-more_sockets : (sockets more : List Socket) (f : File) → is_file sockets f ≡ true → is_file (sockets ++ more) f ≡ true
 is_file-more_sockets sockets more f h =
-    and_map _ (is_socket sockets true f.into) _ (is_socket (sockets ++ more) true f.into)
-    (and_map _ (is_socket sockets false f.out) _ (is_socket (sockets ++ more) false f.out) (λ t. t) (is_socket-longer sockets more false f.out))
-    (is_socket-longer sockets more true f.into)
-    h
+    let front : Bool = (f.width == 1 || f.width == 32) && is_from_to 1 64 f.size && is_from_to 1 16 f.read && is_from_to 1 16 f.write in
+    and_map (and_map (λ (t : front ≡ true). t) (is_socket-longer sockets more false f.out)) (is_socket-longer sockets more true f.into) h
 
 pub is_imm-more_sockets : (sockets more : List Socket) (i : ImmUnit) → is_imm sockets i ≡ true → is_imm (sockets ++ more) i ≡ true
-is_imm-more_sockets sockets more i h =
-    let parts = and_parts (is_from_to 1 16 i.size) (is_socket sockets false i.out) h in
-    and_from (is_from_to 1 16 i.size) (is_socket (sockets ++ more) false i.out) parts.0 (is_socket-longer sockets more false i.out parts.1)
+is_imm-more_sockets sockets more i h = and_map (λ (t : is_from_to 1 16 i.size ≡ true). t) (is_socket-longer sockets more false i.out) h
 
 pub is_unit-more_sockets : (sockets more : List Socket) (u : OpUnit) → is_unit sockets u ≡ true → is_unit (sockets ++ more) u ≡ true
 is_unit-more_sockets sockets more u h =
-    and_map _ (are_different (λ o p. same_op o.op p.op) u.ops) _ (are_different (λ o p. same_op o.op p.op) u.ops)
-    (and_map _ (list_all (is_unit_op u) u.ops) _ (list_all (is_unit_op u) u.ops)
-    (and_map _ (nat_le (length u.ops) 32) _ (nat_le (length u.ops) 32)
-    (and_map _ (is_port_socket sockets false u.result) _ (is_port_socket (sockets ++ more) false u.result)
-    (and_map (is_socket sockets true u.trigger) (is_port_socket sockets true u.operand) (is_socket (sockets ++ more) true u.trigger) (is_port_socket (sockets ++ more) true u.operand)
-    (is_socket-longer sockets more true u.trigger)
-    (is_port_socket-longer sockets more true u.operand))
-    (is_port_socket-longer sockets more false u.result))
-    (λ t. t))
-    (λ t. t))
-    (λ t. t)
+    and_map (and_map (and_map (
+    and_map (and_map (is_socket-longer sockets more true u.trigger) (is_port_socket-longer sockets more true u.operand)) (is_port_socket-longer sockets more false u.result))
+    (λ (t : nat_le (length u.ops) 32 ≡ true). t))
+    (λ (t : list_all (is_unit_op u) u.ops ≡ true). t))
+    (λ (t : are_different (λ o p. same_op o.op p.op) u.ops ≡ true). t)
     h
 
 pub is_control-more_sockets : (sockets more : List Socket) (c : Control) → is_control sockets c ≡ true → is_control (sockets ++ more) c ≡ true
 is_control-more_sockets sockets more c h =
-    and_map _ (is_port_socket sockets false c.ra) _ (is_port_socket (sockets ++ more) false c.ra)
-    (and_map _ (is_socket sockets true c.trigger) _ (is_socket (sockets ++ more) true c.trigger) (λ t. t) (is_socket-longer sockets more true c.trigger))
-    (is_port_socket-longer sockets more false c.ra)
-    h
+    and_map (and_map (λ (t : (nat_le c.delay 4 && is_from_to 1 16 c.address) ≡ true). t) (is_socket-longer sockets more true c.trigger))
+    (is_port_socket-longer sockets more false c.ra) h
 
 -- ---- more files and immediate units
 

@@ -33,6 +33,7 @@ slice_get-changed (x ∷ xs) (suc i) v (suc k) y e = ⊎_elim (λ h. inl h) (λ 
 
 -- ---- a test of all elements
 
+-- one element more, a weaker test, a changed element, and one element alone
 pub list_all_push : {A : Type 0} (p : A → Bool) (xs : List A) (x : A) → list_all p xs ≡ true → p x ≡ true → list_all p (xs ++ x ∷ []) ≡ true
 list_all_push p xs x all one = list_all-append p xs (x ∷ []) ∙ and_from (list_all p xs) (p x && true) all (and_from (p x) true one refl)
 

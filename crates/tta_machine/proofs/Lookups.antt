@@ -40,6 +40,7 @@ place_some : (select : Named → Option ℕ) (at : ℕ → Named) (o : Option Na
 place_some select at None k one e = cc
 place_some select at (Some p) k one e = ap (λ q. Some q) (one p e)
 
+-- what is found as a bus, a file, an immediate unit or a unit is named so
 pub bus_named-some : (d : Draft) (name : List ℕ) (k : ℕ) → bus_named d name ≡ Some k → named_in d.names name ≡ Some (place.Bus k)
 bus_named-some d name k h = place_some bus_place place.Bus (named_in d.names name) k (λ p. (of_kind p).bus k) h
 

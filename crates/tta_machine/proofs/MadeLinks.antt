@@ -1,4 +1,5 @@
--- What each declaration of an operation, a guard, a template, control or a space that was taken found, and what it made of the draft.
+-- The same of operations, guards, templates, control and spaces: what each declaration that was taken found, and what it
+-- made of the draft.
 use Rattle.std.proofs.Common.{◌≡◌, ◌≤◌, ◌++◌, ◌∷◌, [], ◌⊎◌, inl, inr, refl}
 use Rattle.std.specs.Prelude.{ℕ, Bool, true, false, not, ◌||◌, ◌==◌, ◌&&◌, nat_lt, nat_le, List, length, Option, Some, Ok, is_some, is_none, slice_get, slice_set, if◌then◌else◌, ◌^◌}
 use Rattle.std.specs.Option.{option_map_or}

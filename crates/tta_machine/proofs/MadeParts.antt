@@ -1,4 +1,5 @@
--- What each declaration of a part that was taken found, and what it made of the draft.
+-- What each declaration of a part that was taken found, and what it made of the draft. For each kind there are the part
+-- that a form makes, the draft with that part more, what the tests have found, and that this is so of a taken line.
 use Rattle.std.proofs.Common.{◌≡◌, ◌++◌, ◌∷◌, []}
 use Rattle.std.specs.Prelude.{ℕ, Bool, true, false, not, ◌||◌, ◌==◌, nat_le, List, length, Option, Some, Ok}
 use Rattle.std.proofs.lemmas.Bool.{or_parts, not-false}

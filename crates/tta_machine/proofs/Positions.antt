@@ -89,6 +89,7 @@ has_places d r b = record {
 pub record NamesStay (d e : Draft) : Type 0 where
   pub stay : (n : List ℕ) (p : Named) → named_in d.names n ≡ Some p → named_in e.names n ≡ Some p
 
+-- so what a lookup finds is the place in the later draft
 pub bus_found : (d e : Draft) → HasPlaces e → NamesStay d e → (n : List ℕ) (k : ℕ) → bus_named d n ≡ Some k → place_of (bus_names_of e) n ≡ k
 bus_found d e p s n k h = p.bus n k (s.stay n (place.Bus k) (bus_named-some d n k h))
 

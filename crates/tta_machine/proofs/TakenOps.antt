@@ -3,7 +3,7 @@ use Rattle.std.proofs.Common.{◌≡◌, ◌<◌, ◌+◌, ◌++◌, ◌∷◌, 
 use Rattle.std.specs.Prelude.{◌&&◌, ◌||◌, ◌==◌, nat_le, slice_get, slice_set, if◌then◌else◌}
 use Rattle.std.specs.Str.{bytes_eq}
 use Rattle.std.specs.Option.{option_map_or}
-use Rattle.std.specs.List.{list_all, list_any}
+use Rattle.std.specs.List.{list_any}
 use Rattle.std.proofs.lemmas.Bool.{or_parts, and_from, and_parts, not-false, leb-false, le-leb}
 use Rattle.std.proofs.lemmas.Bool.Decides.{nat_tests}
 use Rattle.std.proofs.lemmas.List.{length_push}
@@ -16,13 +16,13 @@ use Rattle.tta_machine.specs.declared.parts.UnitOp.{UnitOp}
 use Rattle.tta_machine.specs.declared.parts.Op.{Op}
 use Rattle.tta_machine.specs.declared.parts.Op.TheVariants.{Ldw, Stw, Ldf, Stf, Out, Set}
 use Rattle.tta_machine.specs.Effects.{has_result}
-use Rattle.tta_machine.specs.Rules.{is_from_to, is_socket, is_port_socket, fits_kind, is_unit, is_unit_op, same_op, are_different, is_data_op, is_frame_op}
+use Rattle.tta_machine.specs.Rules.{is_from_to, is_socket, is_port_socket, fits_kind, is_unit, is_unit_op, same_op, is_data_op, is_frame_op}
 use Rattle.tta_machine.specs.Forms.{OpForm}
 use Rattle.tta_machine.specs.Declarations.{op_named, timed_op, untimed_op, arity_of, is_latency, is_served, has_other, with_op}
 use Rattle.tta_machine.specs.Kept.{IsDraft}
 use Rattle.tta_machine.proofs.Lists.{list_all_push, list_all_changed, list_all_one, different_push}
 use Rattle.tta_machine.proofs.Naming.{AreNamed-changed}
-use Rattle.tta_machine.proofs.Growth.{Grows, there_still}
+use Rattle.tta_machine.proofs.Growth.{Grows, there_still, and_map}
 use Rattle.tta_machine.proofs.Owners.{one_owner-more}
 use Rattle.tta_machine.proofs.MadeLinks.{unit_op, op_added, OpMade}
 
@@ -65,6 +65,7 @@ op_fits : (u : Units) (latency : Option ℕ) (name : List ℕ) (o : Op) → op_n
 op_fits u None name o h range = untimed_fits u name o h
 op_fits u (Some l) name o h range = timed_fits u l name o h range
 
+-- a kind takes one word or two
 arity_cases : (o : Op) (a l : ℕ) → fits_kind (record { op = o; arity = a; latency = l }) ≡ true → (a ≡ 1) ⊎ (a ≡ 2)
 arity_cases Ldw a l h = let t = and_parts (a == 1) (is_from_to 1 16 l) h in grind (arith, nat_tests, t.0)
 arity_cases Stw a l h = let t = and_parts (a == 2) (l == 0) h in grind (arith, nat_tests, t.0)
@@ -97,17 +98,14 @@ has_port false port h = refl
 unit_still : (sockets : List Socket) (unit : OpUnit) (o : UnitOp) → is_unit sockets unit ≡ true → is_unit_op unit o ≡ true
     → list_any (λ p. same_op p.op o.op) unit.ops ≡ false → length unit.ops < 32 → is_unit sockets (with_op unit o) ≡ true
 unit_still sockets unit o h one new room =
-    let differ = and_parts _ (are_different (λ p q. same_op p.op q.op) unit.ops) h in
-    let all = and_parts _ (list_all (is_unit_op unit) unit.ops) differ.0 in
-    let count = and_parts (is_socket sockets true unit.trigger && is_port_socket sockets true unit.operand && is_port_socket sockets false unit.result) (nat_le (length unit.ops) 32) all.0 in
+    let ports : Bool = is_socket sockets true unit.trigger && is_port_socket sockets true unit.operand && is_port_socket sockets false unit.result in
     let more : length (unit.ops ++ o ∷ []) ≡ length unit.ops + 1 = length_push unit.ops o in
-    and_from _ (are_different (λ p q. same_op p.op q.op) (unit.ops ++ o ∷ []))
-    (and_from _ (list_all (is_unit_op unit) (unit.ops ++ o ∷ []))
-    (and_from (is_socket sockets true unit.trigger && is_port_socket sockets true unit.operand && is_port_socket sockets false unit.result) (nat_le (length (unit.ops ++ o ∷ [])) 32)
-    count.0
-    (le-leb (length (unit.ops ++ o ∷ [])) 32 (omega arith)))
-    (list_all_push (is_unit_op unit) unit.ops o all.1 one))
-    (different_push (λ p q. same_op p.op q.op) unit.ops o differ.1 new)
+    let few : nat_le (length (unit.ops ++ o ∷ [])) 32 ≡ true = le-leb (length (unit.ops ++ o ∷ [])) 32 (omega arith) in
+    and_map (and_map (and_map (λ (t : ports ≡ true). t)
+    (λ (t : nat_le (length unit.ops) 32 ≡ true). few))
+    (λ t. list_all_push (is_unit_op unit) unit.ops o t one))
+    (λ t. different_push (λ p q. same_op p.op q.op) unit.ops o t new)
+    h
 
 -- a unit with an operation more
 unit_op_kept : (d : Draft) (k : ℕ) (unit : OpUnit) (o : UnitOp) → IsDraft d → slice_get d.units k ≡ Some unit → is_unit_op unit o ≡ true

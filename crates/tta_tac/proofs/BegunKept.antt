@@ -1,29 +1,27 @@
 -- The line that begins a procedure keeps what makes a program keep the rules.
-use Rattle.std.proofs.Common.{◌≡◌, ℕ, ◌+◌, ◌<◌, ◌≤◌, true, false, List, [], ◌∷◌, ◌++◌, length, Option, Some, None, Result, Ok, refl, sym, ◌∙◌, ap, subst, arith, length-append, append-nil, inl, inr, ◌⊎◌}
-use Rattle.std.specs.Prelude.{◌&&◌, ◌||◌, nat_lt, is_some, slice_get, codes, option_to_list}
+use Rattle.std.proofs.Common.{◌≡◌, ℕ, ◌+◌, ◌<◌, ◌≤◌, true, false, List, ◌++◌, length, Option, Some, None, refl, sym, ◌∙◌, ap, subst, arith, length-append, append-nil, inl, inr, ◌⊎◌}
+use Rattle.std.specs.Prelude.{◌&&◌, nat_lt, is_some, slice_get, codes, option_to_list}
 use Rattle.std.specs.Str.{bytes_eq}
 use Rattle.std.specs.List.{sum_by}
 use Rattle.std.specs.Cmp.Lexicographic.{nat_list_eq_equiv}
+use Rattle.std.proofs.lemmas.Bool.{ltb-false}
 use Rattle.std.proofs.lemmas.Option.{slice_get_within}
 use Rattle.tta_reading.specs.Names.{named_in}
-use Rattle.tta_tac.specs.declared.reading.refusal.Refusal.{Refusal}
-use Rattle.tta_tac.specs.declared.reading.refusal.Refusal.TheVariants.{Syntax, Arity, Twice, TooMany}
 use Rattle.tta_tac.specs.Draft.{ProcDraft, Draft}
-use Rattle.tta_tac.specs.FirstPass.{has_twice, is_full, numbered, take_proc}
 use Rattle.tta_tac.specs.Kept.{IsOpen, all_procs, IsKept}
-use Rattle.tta_tac.proofs.Variables.{is_at_most, named_more, numbered_length, numbered_below}
-use Rattle.tta_tac.proofs.Growing.{passed, or_false, room_left, sum_last, get_last}
+use Rattle.tta_tac.proofs.Variables.{named_more, numbered_length, numbered_below}
+use Rattle.tta_tac.proofs.Taken.{fresh, with_fresh, ProcTaken}
+use Rattle.tta_tac.proofs.Growing.{sum_last, get_last}
 
 none_begun : (o : Option ProcDraft) → is_some o ≡ false → o ≡ None
 none_begun None e = refl
 none_begun (Some q) e = absurd cc
 
 none_over : (n : ℕ) → nat_lt 0 n ≡ false → n ≡ 0
-none_over n e = let few = is_at_most 0 n e in omega arith
+none_over n e = let few = ltb-false 0 n e in omega arith
 
 -- a procedure of which only the first line was read
-fresh_open : (line : ℕ) (params : List (List ℕ)) → length params ≤ 8
-    → IsOpen (record { line = line; params = length params; vars = numbered 0 params; labels = []; steps = []; lines = [] })
+fresh_open : (line : ℕ) (params : List (List ℕ)) → length params ≤ 8 → IsOpen (fresh line params)
 fresh_open line params few =
     let size = numbered_length 0 params in
     record {
@@ -39,72 +37,52 @@ fresh_open line params few =
       no_end = refl;
     }
 
-module _ (d e : Draft) (kept : IsKept d) (line : ℕ) (name : List ℕ) (params : List (List ℕ)) where
-  abbrev with_fresh : Draft
-  with_fresh = record d {
-    names = d.names ++ (name, length d.procs) ∷ [];
-    begun = Some (record { line = line; params = length params; vars = numbered 0 params; labels = []; steps = []; lines = [] });
-    lines = d.lines + 1;
+-- a procedure begins
+module _ (d e : Draft) (kept : IsKept d) (line : ℕ) (name : List ℕ) (params : List (List ℕ)) (t : ProcTaken d e line name params) where
+  old_are : all_procs d ≡ d.procs
+  old_are = ap (λ o. d.procs ++ option_to_list o) (none_begun d.begun t.closed) ∙ append-nil d.procs
+
+  old_within : (m : List ℕ) (k : ℕ) → named_in d.names m ≡ Some k → k < length d.procs
+  old_within m k at = subst (λ qs. k < length qs) old_are (kept.names m k at)
+
+  fresh_names : (m : List ℕ) (k : ℕ) → (named_in d.names m ≡ Some k) ⊎ ((bytes_eq name m ≡ true) × (length d.procs ≡ k))
+      → k < length (all_procs (with_fresh d line name params))
+  fresh_names m k (inl at) = let b = old_within m k at in let s = length-append d.procs (option_to_list (with_fresh d line name params).begun) in omega arith
+  fresh_names m k (inr at) = let same = at.1 in let s = length-append d.procs (option_to_list (with_fresh d line name params).begun) in omega arith
+
+  fresh_once : (a b : List ℕ) (k : ℕ) → (named_in d.names a ≡ Some k) ⊎ ((bytes_eq name a ≡ true) × (length d.procs ≡ k))
+      → (named_in d.names b ≡ Some k) ⊎ ((bytes_eq name b ≡ true) × (length d.procs ≡ k)) → bytes_eq a b ≡ true
+  fresh_once a b k (inl at) (inl on) = kept.once a b k at on
+  fresh_once a b k (inl at) (inr on) = let w = old_within a k at in let same = on.1 in absurd (omega arith)
+  fresh_once a b k (inr at) (inl on) = let w = old_within b k on in let same = at.1 in absurd (omega arith)
+  fresh_once a b k (inr at) (inr on) = sym (nat_list_eq_equiv.congr name a b at.0) ∙ on.0
+
+  fresh_main : (k : ℕ) (r : ProcDraft)
+      → (named_in d.names (codes "main") ≡ Some k) ⊎ ((bytes_eq name (codes "main") ≡ true) × (length d.procs ≡ k))
+      → (slice_get d.procs k ≡ Some r)
+      ⊎ ((k ≡ length d.procs) × (fresh line params ≡ r))
+      → r.params ≡ 0
+  fresh_main k r (inl at) (inl on) = kept.main k r at (ap (λ qs. slice_get qs k) old_are ∙ on)
+  fresh_main k r (inl at) (inr on) = let w = old_within (codes "main") k at in let same = on.0 in absurd (omega arith)
+  fresh_main k r (inr at) (inl on) = let w = slice_get_within d.procs k r on in let same = at.1 in absurd (omega arith)
+  fresh_main k r (inr at) (inr on) =
+      ap (λ x. x.params) (sym on.1)
+      ∙ none_over (length params) (sym (ap (λ t. t && nat_lt 0 (length params)) at.0) ∙ t.bare_main)
+
+  -- and keeps the rules
+  pub fresh_kept : IsKept (with_fresh d line name params)
+  fresh_kept = record {
+    most = omega (arith, t.room);
+    lines =
+        let before = subst (λ qs. sum_by (λ q. length q.steps) qs + length qs ≤ d.lines) old_are kept.lines in
+        let a = sum_last d.procs (fresh line params) in
+        let b = length-append d.procs (option_to_list (with_fresh d line name params).begun) in
+        omega arith;
+    ended = kept.ended;
+    begun = fresh_open line params t.few;
+    names = λ m k at. fresh_names m k (named_more d.names name (length d.procs) m k at);
+    once = λ a b k at on.
+        fresh_once a b k (named_more d.names name (length d.procs) a k at) (named_more d.names name (length d.procs) b k on);
+    main = λ k r at on.
+        fresh_main k r (named_more d.names name (length d.procs) (codes "main") k at) (get_last d.procs _ k r on);
   }
-
-  module _ (none : d.begun ≡ None) (room : d.lines < 65536) (few : length params ≤ 8)
-      (bare_main : (bytes_eq name (codes "main") && nat_lt 0 (length params)) ≡ false) where
-    old_are : all_procs d ≡ d.procs
-    old_are = ap (λ o. d.procs ++ option_to_list o) none ∙ append-nil d.procs
-
-    old_within : (m : List ℕ) (k : ℕ) → named_in d.names m ≡ Some k → k < length d.procs
-    old_within m k at = subst (λ qs. k < length qs) old_are (kept.names m k at)
-
-    fresh_names : (m : List ℕ) (k : ℕ) → (named_in d.names m ≡ Some k) ⊎ ((bytes_eq name m ≡ true) × (length d.procs ≡ k))
-        → k < length (all_procs with_fresh)
-    fresh_names m k (inl at) = let b = old_within m k at in let s = length-append d.procs (option_to_list with_fresh.begun) in omega arith
-    fresh_names m k (inr at) = let same = at.1 in let s = length-append d.procs (option_to_list with_fresh.begun) in omega arith
-
-    fresh_once : (a b : List ℕ) (k : ℕ) → (named_in d.names a ≡ Some k) ⊎ ((bytes_eq name a ≡ true) × (length d.procs ≡ k))
-        → (named_in d.names b ≡ Some k) ⊎ ((bytes_eq name b ≡ true) × (length d.procs ≡ k)) → bytes_eq a b ≡ true
-    fresh_once a b k (inl at) (inl on) = kept.once a b k at on
-    fresh_once a b k (inl at) (inr on) = let w = old_within a k at in let same = on.1 in absurd (omega arith)
-    fresh_once a b k (inr at) (inl on) = let w = old_within b k on in let same = at.1 in absurd (omega arith)
-    fresh_once a b k (inr at) (inr on) = sym (nat_list_eq_equiv.congr name a b at.0) ∙ on.0
-
-    fresh_main : (k : ℕ) (r : ProcDraft)
-        → (named_in d.names (codes "main") ≡ Some k) ⊎ ((bytes_eq name (codes "main") ≡ true) × (length d.procs ≡ k))
-        → (slice_get d.procs k ≡ Some r)
-        ⊎ ((k ≡ length d.procs)
-        × (◌≡◌ {A = ProcDraft} (record { line = line; params = length params; vars = numbered 0 params; labels = []; steps = []; lines = [] }) r))
-        → r.params ≡ 0
-    fresh_main k r (inl at) (inl on) = kept.main k r at (ap (λ qs. slice_get qs k) old_are ∙ on)
-    fresh_main k r (inl at) (inr on) = let w = old_within (codes "main") k at in let same = on.0 in absurd (omega arith)
-    fresh_main k r (inr at) (inl on) = let w = slice_get_within d.procs k r on in let same = at.1 in absurd (omega arith)
-    fresh_main k r (inr at) (inr on) =
-        ap (λ x. x.params) (sym on.1)
-        ∙ none_over (length params) (sym (ap (λ t. t && nat_lt 0 (length params)) at.0) ∙ bare_main)
-
-    fresh_kept : IsKept with_fresh
-    fresh_kept = record {
-      most = omega arith;
-      lines =
-          let before = subst (λ qs. sum_by (λ q. length q.steps) qs + length qs ≤ d.lines) old_are kept.lines in
-          let a = sum_last d.procs (record { line = line; params = length params; vars = numbered 0 params; labels = []; steps = []; lines = [] }) in
-          let b = length-append d.procs (option_to_list with_fresh.begun) in
-          omega arith;
-      ended = kept.ended;
-      begun = fresh_open line params few;
-      names = λ m k at. fresh_names m k (named_more d.names name (length d.procs) m k at);
-      once = λ a b k at on.
-          fresh_once a b k (named_more d.names name (length d.procs) a k at) (named_more d.names name (length d.procs) b k on);
-      main = λ k r at on.
-          fresh_main k r (named_more d.names name (length d.procs) (codes "main") k at) (get_last d.procs _ k r on);
-    }
-
-  pub take_proc_kept : take_proc d line name params ≡ Ok e → IsKept e
-  take_proc_kept taken =
-      let many = is_full d || nat_lt 8 (length params) in
-      let last : Result Draft Refusal = Ok with_fresh in
-      let p1 = passed (is_some d.begun) Syntax _ e taken in
-      let p2 = passed (bytes_eq name (codes "main") && nat_lt 0 (length params)) Arity _ e p1.1 in
-      let p3 = passed (is_some (named_in d.names name) || has_twice params) Twice _ e p2.1 in
-      let p4 = passed many TooMany last e p3.1 in
-      let tests = or_false (is_full d) (nat_lt 8 (length params)) p4.0 in
-      let same : with_fresh ≡ e = cc p4.1 in
-      subst IsKept same (fresh_kept (none_begun d.begun p1.0) (room_left d tests.0) (is_at_most 8 (length params) tests.1) p2.0)

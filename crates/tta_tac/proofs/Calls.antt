@@ -1,6 +1,6 @@
 -- Procedures that others lead to by calls.
 use Rattle.std.proofs.Common.{◌≡◌, ℕ, ◌<◌, Bool, true, false, List, [], ◌∷◌, length, get_or, Option, Some, None, refl, sym, ap, arith}
-use Rattle.std.specs.Prelude.{◌||◌, ◌&&◌, slice_get}
+use Rattle.std.specs.Prelude.{◌||◌, slice_get}
 use Rattle.std.specs.List.{list_all, list_any}
 use Rattle.std.specs.Option.{option_map_or}
 use Rattle.std.proofs.lemmas.Option.{slice_get_read, slice_get_within, slice_get-get_or, get_or_from_slice_get}
@@ -10,6 +10,7 @@ use Rattle.tta_tac.specs.declared.program.Proc.{Proc}
 use Rattle.tta_tac.specs.Rules.{calls, calls_proc, Reaches, ByCall, ByMore}
 use Rattle.tta_tac.specs.Text.{with_main}
 use Rattle.tta_tac.specs.Cycles.{IsAcyclic, goes_down, is_found}
+use Rattle.tta_tac.proofs.Tests.{and_left, and_right}
 
 -- what a procedure calls, by its steps
 pub calls_of : (procs : List Proc) (i j : ℕ) (q : Proc) → i < length procs → q ≡ get_or procs i q
@@ -39,14 +40,6 @@ reaches_within procs i j (ByMore _ via _ e r) = calls_within procs i via e
 
 -- ---- numbers that fall
 
-both_left : (a b : Bool) → (a && b) ≡ true → a ≡ true
-both_left true b e = refl
-both_left false b e = e
-
-both_right : (a b : Bool) → (a && b) ≡ true → b ≡ true
-both_right true b e = e
-both_right false b e = absurd cc
-
 module _ (numbers : List ℕ) (own j : ℕ) (below : j < length numbers) where
   down_one : (s : Step) → goes_down numbers own s ≡ true → calls_proc j s ≡ true → get_or numbers j 0 < own
   down_one (Invoke d k args) down call = grind (arith, slice_get-get_or numbers j 0 below)
@@ -55,10 +48,10 @@ module _ (numbers : List ℕ) (own j : ℕ) (below : j < length numbers) where
   pub down_all : (ss : List Step) → list_all (goes_down numbers own) ss ≡ true → list_any (calls_proc j) ss ≡ true
       → get_or numbers j 0 < own
   down_all [] down call = absurd cc
-  down_all (s ∷ ss) down call = by (down_all ss (both_right (goes_down numbers own s) _ down)) (calls_proc j s) refl call where
+  down_all (s ∷ ss) down call = by (down_all ss (and_right (goes_down numbers own s) _ down)) (calls_proc j s) refl call where
     by : (list_any (calls_proc j) ss ≡ true → get_or numbers j 0 < own)
         → (t : Bool) → calls_proc j s ≡ t → (t || list_any (calls_proc j) ss) ≡ true → get_or numbers j 0 < own
-    by rest true at e = down_one s (both_left (goes_down numbers own s) (list_all (goes_down numbers own) ss) down) at
+    by rest true at e = down_one s (and_left (goes_down numbers own s) (list_all (goes_down numbers own) ss) down) at
     by rest false at e = rest e
 
 module _ (procs : List Proc) (numbers : List ℕ) (size : length numbers ≡ length procs)

@@ -1,5 +1,5 @@
 -- What the second pass makes of a draft, and what it tells.
-use Rattle.std.proofs.Common.{◌≡◌, ℕ, suc, zero, ◌<◌, List, [], ◌∷◌, length, get_or, Some, None, Result, Ok, Err, refl, sym, ◌∙◌, ap, arith}
+use Rattle.std.proofs.Common.{◌≡◌, ℕ, suc, zero, ◌<◌, List, [], ◌∷◌, length, get_or, Some, None, Ok, Err, refl, sym, ◌∙◌, ap, arith}
 use Rattle.std.specs.Prelude.{slice_get, codes}
 use Rattle.std.specs.Option.{option_map_or}
 use Rattle.tta_reading.specs.Names.{named_in}
@@ -16,14 +16,12 @@ use Rattle.tta_tac.specs.SecondPass.{Refused, link_proc, link_procs}
 use Rattle.tta_tac.specs.Text.{linked_text, with_main, IsFirstRecursive, InPasses, ByRecursion, WithoutMain}
 use Rattle.tta_tac.specs.Cycles.{IsAcyclic}
 use Rattle.tta_tac.specs.Told.{Tells, IsDraftOf, MakesProgram, TellsCause, LeadsBack}
+use Rattle.tta_tac.proofs.Steps.{bind_ok}
 use Rattle.tta_tac.proofs.Calls.{reaches_within}
 
 -- ---- the passes, one after the other
 
-pub bind_ok : {E A B : Type 0} (r : Result A E) (f : A → Result B E) (y : B) → (r >>= f) ≡ Ok y → (x : A) × (r ≡ Ok x) × (f x ≡ Ok y)
-bind_ok (Ok x) f y e = (x, refl, e)
-bind_ok (Err x) f y e = absurd cc
-
+-- as many procedures are made as there were
 pub linked_length : (d : Draft) (qs : List ProcDraft) (procs : List Proc) → link_procs d qs ≡ Ok procs → length procs ≡ length qs
 linked_length d [] procs e = let none : [] ≡ procs = cc in ap length (sym none)
 linked_length d (q ∷ qs) procs e =
@@ -32,6 +30,7 @@ linked_length d (q ∷ qs) procs e =
     let all : first.0 ∷ rest.0 ≡ procs = cc rest.2 in
     ap length (sym all) ∙ ap suc (linked_length d qs rest.0 rest.1)
 
+-- both passes end well, or in the refusal of the second
 pub passes_ok : (d : Draft) (procs : List Proc) (u : Units) (text : List ℕ) → IsDraftOf d u text → link_procs d d.procs ≡ Ok procs
     → linked_text u text ≡ Ok (record { draft = d; procs = procs })
 unfolding linked_text
@@ -48,6 +47,7 @@ passes_err d e u text read link =
 
 -- ---- what is told
 
+-- a refusal of a step, a call that leads back, no main, and else the program
 pub told_in_passes : (d : Draft) (e : TacError) → Tells {A = List Proc} (Err e) (link_procs d d.procs) → TellsCause d e
 told_in_passes d tac_error.NoMemory told u text read = tt
 told_in_passes d (tac_error.Refused line code) told u text read =
@@ -97,5 +97,6 @@ line_there [] k q below is = absurd (omega arith)
 line_there (p ∷ qs) zero q below is = ap (λ x. Some x.line) (sym is)
 line_there (p ∷ qs) (suc k) q below is = line_there qs k q (omega arith) is
 
+-- a procedure that leads back is there
 pub first_within : (procs : List Proc) (k : ℕ) → IsFirstRecursive procs k → k < length procs
 first_within procs k first = reaches_within procs k k first.returns

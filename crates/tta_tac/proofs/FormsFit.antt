@@ -5,6 +5,7 @@ use Rattle.std.specs.Option.{option_map_or}
 use Rattle.std.specs.List.{list_all, starts_with}
 use Rattle.std.specs.Char.{is_digit}
 use Rattle.std.specs.Str.Parse.{digits_value}
+use Rattle.std.proofs.lemmas.Bool.{and_from, lt-ltb}
 use Rattle.tta_text.specs.declared.lexeme.Kind.{Kind}
 use Rattle.tta_text.specs.declared.lexeme.Kind.TheVariants.{Number, Negative}
 use Rattle.tta_text.specs.Numbers.{value_below, digits_of, number_of, negated, negative_of}
@@ -12,7 +13,8 @@ use Rattle.tta_reading.specs.Lines.{Lexeme, Line}
 use Rattle.tta_reading.specs.Words.{is_keyword, is_mark, constant_of}
 use Rattle.tta_reading.specs.Steps.{◌>>?◌, only_if}
 use Rattle.tta_tac.specs.Forms.{Operand, Named, Constant, free_name, operand_of, or_constant, operands_alone, names_alone, rel_of, Form, LabelForm, HaltForm, EndForm, proc_form, store_form, put_form, if_form, goto_form, when_form, call_form, return_form, alone_form, assign_form, named_form, form_of}
-use Rattle.tta_tac.proofs.Variables.{is_below, both, fits}
+use Rattle.tta_tac.proofs.Steps.{bind_some}
+use Rattle.tta_tac.proofs.Variables.{fits}
 use Rattle.tta_tac.proofs.StepsKept.{fits_form}
 
 -- ---- numbers
@@ -21,6 +23,7 @@ use Rattle.tta_tac.proofs.StepsKept.{fits_form}
 abbrev under : ℕ → Option ℕ → Type 0
 under limit o = option_map_or (λ n. nat_lt n limit) o true ≡ true
 
+-- the value of digits, of a number, of a negative and of a constant
 value_under : (base limit : ℕ) (digits : List ℕ) → under limit (value_below base limit digits)
 unfolding value_below
 value_under base limit digits = by (list_all (λ digit. is_digit digit base) digits) (nat_lt (digits_value base digits) limit) refl where
@@ -44,7 +47,7 @@ number_under word = by (starts_with nat_eq word (codes "0x")) where
   by false = digits_under 10 10 (2 ^ 32) word
 
 negated_under : (m : ℕ) → nat_lt (negated m) (2 ^ 32) ≡ true
-negated_under m = is_below (negated m) (2 ^ 32) (omega arith)
+negated_under m = lt-ltb (negated m) (2 ^ 32) (omega arith)
 
 negative_under : (word : List ℕ) → under (2 ^ 32) (negative_of word)
 unfolding negative_of
@@ -64,16 +67,13 @@ constant_under kind text = refl
 
 -- ---- operands
 
+-- an operand and operands of a line
 operand_fits : (w : Lexeme) (o : Operand) → operand_of w ≡ Some o → fits o ≡ true
 operand_fits w o e = by (free_name w) (constant_of w) (constant_under w.kind w.text) e where
   by : (name : Option (List ℕ)) (constant : Option ℕ) → under (2 ^ 32) constant → or_constant name constant ≡ Some o → fits o ≡ true
   by (Some name) constant h e = let same : Named name ≡ o = cc in ap fits (sym same)
   by None None h e = absurd cc
   by None (Some n) h e = let same : Constant n ≡ o = cc in ap fits (sym same) ∙ h
-
-bind_some : {A B : Type 0} (o : Option A) (f : A → Option B) (y : B) → (o >>? f) ≡ Some y → (x : A) × (o ≡ Some x) × (f x ≡ Some y)
-bind_some None f y e = absurd cc
-bind_some (Some x) f y e = (x, refl, e)
 
 operands_fit : (ws : Line) (os : List Operand) → operands_alone ws ≡ Some os → list_all fits os ≡ true
 operands_fit [] os e = let same : [] ≡ os = cc in ap (list_all fits) (sym same)
@@ -82,7 +82,7 @@ operands_fit (w ∷ ws) os e =
     let rest = bind_some (operands_alone ws) _ os first.2 in
     let same : first.0 ∷ rest.0 ≡ os = cc rest.2 in
     ap (list_all fits) (sym same)
-    ∙ both (fits first.0) (list_all fits rest.0) (operand_fits w first.0 first.1) (operands_fit ws rest.0 rest.1)
+    ∙ and_from (fits first.0) (list_all fits rest.0) (operand_fits w first.0 first.1) (operands_fit ws rest.0 rest.1)
 
 -- ---- lines
 
@@ -90,6 +90,7 @@ operands_fit (w ∷ ws) os e =
 abbrev fit : Option Form → Type 0
 fit o = option_map_or fits_form o true ≡ true
 
+-- what is read step by step
 fit_bind : {A : Type 0} (o : Option A) (f : A → Option Form) → ((x : A) → o ≡ Some x → fit (f x)) → fit (o >>? f)
 fit_bind None f h = refl
 fit_bind (Some x) f h = h x refl
@@ -102,6 +103,7 @@ fit_if : (t : Bool) (a b : Option Form) → fit a → fit b → fit (if t then a
 fit_if true a b h k = h
 fit_if false a b h k = k
 
+-- each form in its turn
 proc_fit : (line : Line) → fit (proc_form line)
 unfolding proc_form
 proc_fit [] = refl
@@ -112,7 +114,7 @@ unfolding store_form
 store_fit [] = refl
 store_fit (a ∷ []) = refl
 store_fit (a ∷ v ∷ []) =
-    fit_bind (operand_of a) _ (λ x e. fit_bind (operand_of v) _ (λ y f. both (fits x) (fits y) (operand_fits a x e) (operand_fits v y f)))
+    fit_bind (operand_of a) _ (λ x e. fit_bind (operand_of v) _ (λ y f. and_from (fits x) (fits y) (operand_fits a x e) (operand_fits v y f)))
 store_fit (a ∷ v ∷ w ∷ more) = refl
 
 put_fit : (line : Line) → fit (put_form line)
@@ -131,7 +133,7 @@ if_fit (r ∷ a ∷ b ∷ goto ∷ []) = refl
 if_fit (r ∷ a ∷ b ∷ goto ∷ n ∷ []) =
     fit_only (is_keyword (codes "goto") goto) _ (
     fit_bind (rel_of r) _ (λ rel e. fit_bind (operand_of a) _ (λ x f. fit_bind (operand_of b) _ (λ y g. fit_bind (free_name n) _ (λ label h.
-    both (fits x) (fits y) (operand_fits a x f) (operand_fits b y g))))))
+    and_from (fits x) (fits y) (operand_fits a x f) (operand_fits b y g))))))
 if_fit (r ∷ a ∷ b ∷ goto ∷ n ∷ w ∷ more) = refl
 
 goto_fit : (line : Line) → fit (goto_form line)
@@ -152,7 +154,7 @@ when_fit (r ∷ a ∷ b ∷ d ∷ equals ∷ s ∷ []) =
     fit_only (is_mark (codes "=") equals) _ (
     fit_bind (rel_of r) _ (λ rel e. fit_bind (operand_of a) _ (λ x f. fit_bind (operand_of b) _ (λ y g. fit_bind (free_name d) _ (λ target h.
     fit_bind (operand_of s) _ (λ z i.
-    both (fits x && fits y) (fits z) (both (fits x) (fits y) (operand_fits a x f) (operand_fits b y g)) (operand_fits s z i)))))))
+    and_from (fits x && fits y) (fits z) (and_from (fits x) (fits y) (operand_fits a x f) (operand_fits b y g)) (operand_fits s z i)))))))
 when_fit (r ∷ a ∷ b ∷ d ∷ equals ∷ s ∷ w ∷ more) = refl
 
 call_fit : (d : Option (List ℕ)) (line : Line) → fit (call_form d line)
@@ -177,12 +179,12 @@ assign_fit d (s ∷ []) = fit_bind (operand_of s) _ (λ x e. operand_fits s x e)
 assign_fit d (w ∷ a ∷ []) =
     fit_if (is_keyword (codes "call") w) _ _ (call_fit (Some d) (a ∷ []))
     (fit_if (is_keyword (codes "load") w) _ _ (fit_bind (operand_of a) _ (λ x e. operand_fits a x e))
-    (fit_bind (free_name w) _ (λ op e. fit_bind (operand_of a) _ (λ x f. both (fits x) true (operand_fits a x f) refl))))
+    (fit_bind (free_name w) _ (λ op e. fit_bind (operand_of a) _ (λ x f. and_from (fits x) true (operand_fits a x f) refl))))
 assign_fit d (w ∷ a ∷ b ∷ []) =
     fit_if (is_keyword (codes "call") w) _ _ (call_fit (Some d) (a ∷ b ∷ []))
     (fit_if (is_keyword (codes "load") w) _ _ refl
     (fit_bind (free_name w) _ (λ op e. fit_bind (operand_of a) _ (λ x f. fit_bind (operand_of b) _ (λ y g.
-    both (fits x) (fits y && true) (operand_fits a x f) (both (fits y) true (operand_fits b y g) refl))))))
+    and_from (fits x) (fits y && true) (operand_fits a x f) (and_from (fits y) true (operand_fits b y g) refl))))))
 assign_fit d (w ∷ a ∷ b ∷ c ∷ more) =
     fit_if (is_keyword (codes "call") w) _ _ (call_fit (Some d) (a ∷ b ∷ c ∷ more)) (fit_if (is_keyword (codes "load") w) _ _ refl refl)
 

@@ -1,31 +1,18 @@
--- A draft whose last procedure has one step more, and what the tests before it show.
-use Rattle.std.proofs.Common.{◌≡◌, ℕ, suc, zero, ◌+◌, ◌<◌, ◌≤◌, Bool, true, false, List, [], ◌∷◌, ◌++◌, length, Some, None, Result, Ok, refl, sym, ◌∙◌, ap, subst, arith, length-append, append-nil, inl, inr, ◌⊎◌, lit≤}
-use Rattle.std.specs.Prelude.{◌&&◌, ◌||◌, slice_get, codes, option_to_list}
+-- A draft whose last procedure has one step more.
+use Rattle.std.proofs.Common.{◌≡◌, ℕ, suc, zero, ◌+◌, ◌<◌, ◌≤◌, true, List, [], ◌∷◌, ◌++◌, length, Some, None, refl, sym, ◌∙◌, ap, subst, arith, length-append, append-nil, inl, inr, ◌⊎◌, lit≤}
+use Rattle.std.specs.Prelude.{◌&&◌, slice_get, codes, option_to_list}
 use Rattle.std.specs.List.{list_all, sum_by, AllByRecursion}
-use Rattle.std.proofs.lemmas.Bool.Decides.{nat_tests}
+use Rattle.std.proofs.lemmas.Bool.{and_from}
 use Rattle.std.proofs.lemmas.List.Folds.{list_all-append}
 use Rattle.std.proofs.lemmas.List.Sums.{sum_by-cons, sum_by-append}
 use Rattle.tta_reading.specs.Names.{Declared, named_in}
-use Rattle.tta_reading.specs.Steps.{refuse_if}
-use Rattle.tta_tac.specs.declared.reading.refusal.Refusal.{Refusal}
 use Rattle.tta_tac.specs.Draft.{Unlinked, ProcDraft, Draft, nothing}
-use Rattle.tta_tac.specs.FirstPass.{is_full, with_step}
+use Rattle.tta_tac.specs.FirstPass.{with_step}
 use Rattle.tta_tac.specs.Kept.{is_unlinked, IsProcDraft, IsOpen, IsEnded, all_procs, IsKept}
-use Rattle.tta_tac.proofs.Variables.{both, IsNumbered, Grows}
+use Rattle.tta_tac.proofs.Variables.{IsNumbered, Grows}
 use Rattle.tta_tac.proofs.StepsKept.{all_more}
 
-pub passed : {A : Type 0} (test : Bool) (e : Refusal) (rest : Result A Refusal) (x : A) → refuse_if test e rest ≡ Ok x
-    → (test ≡ false) × (rest ≡ Ok x)
-passed true e rest x h = absurd cc
-passed false e rest x h = (refl, h)
-
-pub or_false : (a b : Bool) → (a || b) ≡ false → (a ≡ false) × (b ≡ false)
-or_false true b e = absurd cc
-or_false false b e = (refl, e)
-
-pub room_left : (d : Draft) → is_full d ≡ false → d.lines < 65536
-room_left d e = grind (arith, nat_tests)
-
+-- how many steps there are with one procedure more
 pub sum_last : (qs : List ProcDraft) (q : ProcDraft)
     → sum_by (λ q. length q.steps) (qs ++ q ∷ []) ≡ sum_by (λ q. length q.steps) qs + length q.steps
 sum_last qs q = let e = sum_by-append (λ q. length q.steps) qs (q ∷ []) in let f = sum_by-cons (λ q. length q.steps) q [] in omega arith
@@ -41,6 +28,7 @@ get_last (p ∷ qs) q (suc k) r e = by (get_last qs q k r e) where
   by (inl at) = inl at
   by (inr at) = inr (ap suc at.0, at.1)
 
+-- and where the others and the new one stand
 get_front : (qs : List ProcDraft) (q : ProcDraft) (k : ℕ) (r : ProcDraft) → slice_get qs k ≡ Some r → slice_get (qs ++ q ∷ []) k ≡ Some r
 get_front [] q k r e = absurd cc
 get_front (p ∷ qs) q zero r e = e
@@ -77,8 +65,8 @@ with_step_kept q vars s line h g few fit = record {
   numbers = let before : IsNumbered q.vars = record { below = h.numbers } in let n = g.numbered before in n.below;
   steps =
       list_all-append (is_unlinked (length vars)) q.steps (s ∷ [])
-      ∙ both (list_all (is_unlinked (length vars)) q.steps) (is_unlinked (length vars) s && true)
-      (all_more (length q.vars) (length vars) g.longer q.steps h.steps) (both (is_unlinked (length vars) s) true fit refl);
+      ∙ and_from (list_all (is_unlinked (length vars)) q.steps) (is_unlinked (length vars) s && true)
+      (all_more (length q.vars) (length vars) g.longer q.steps h.steps) (and_from (is_unlinked (length vars) s) true fit refl);
   lines =
       let a = h.lines in
       let b = length-append q.lines (line ∷ []) in
@@ -116,6 +104,7 @@ module _ (d : Draft) (q new : ProcDraft) (kept : IsKept d) (begun : d.begun ≡ 
         ap (λ x. x.params) (sym e.1) ∙ params
         ∙ kept.main k q named (ap (λ qs. slice_get qs k) all_are ∙ ap (slice_get (d.procs ++ q ∷ [])) e.0 ∙ get_new d.procs q)
 
+  -- the procedure goes on, or has ended
   pub open_kept : IsOpen new → IsKept (record d { begun = Some new; lines = d.lines + 1 })
   open_kept h = record {
     most = omega arith;

@@ -4,7 +4,7 @@ use Rattle.std.specs.Prelude.{◌==◌, not, slice_get, codes, option_to_list}
 use Rattle.std.specs.Option.{option_map_or}
 use Rattle.std.specs.Str.{bytes_eq}
 use Rattle.std.specs.List.{AllByRecursion, sum_by}
-use Rattle.std.proofs.lemmas.Bool.{eqb-true, eq-eqb}
+use Rattle.std.proofs.lemmas.Bool.{and_from, eqb-true, eq-eqb}
 use Rattle.std.proofs.lemmas.Bool.Decides.{eqb_tells}
 use Rattle.std.proofs.lemmas.List.Sums.{sum_by-cons}
 use Rattle.std.proofs.Math.Dec.{eqb}
@@ -21,10 +21,11 @@ use Rattle.tta_tac.specs.SecondPass.{callee_named, params_of, link_steps, link_p
 use Rattle.tta_tac.specs.Text.{with_main}
 use Rattle.tta_tac.specs.Cycles.{IsAcyclic}
 use Rattle.tta_tac.specs.Kept.{IsEnded, all_procs, IsKept}
-use Rattle.tta_tac.proofs.Finished.{bind_ok, linked_length}
-use Rattle.tta_tac.proofs.Variables.{both}
+use Rattle.tta_tac.proofs.Steps.{bind_ok}
+use Rattle.tta_tac.proofs.Finished.{linked_length}
 use Rattle.tta_tac.proofs.LinkedSteps.{steps_length, ends_kept, steps_kept}
 
+-- what was made of a procedure
 proc_ok : (d : Draft) (q : ProcDraft) (r : Proc) → link_proc d q ≡ Ok r
     → (steps : List Step) × (link_steps d q.labels q.steps q.lines ≡ Ok steps)
     × (r ≡ record { params = q.params; vars = length q.vars; steps = steps; lines = q.lines })
@@ -50,6 +51,7 @@ procs_params d test (q ∷ qs) procs (suc k) e below h =
     ap (λ ps. option_map_or (λ q. test q.params) (slice_get ps (suc k)) false) (sym all)
     ∙ procs_params d test qs rest.0 k rest.1 (omega arith) h
 
+-- as many steps are made as there were
 procs_steps : (d : Draft) (qs : List ProcDraft) (procs : List Proc) → AllByRecursion IsEnded qs → link_procs d qs ≡ Ok procs
     → sum_by (λ q. length q.steps) procs ≡ sum_by (λ q. length q.steps) qs
 procs_steps d [] procs all e = let none : [] ≡ procs = cc in ap (λ ps. sum_by (λ q. length q.steps) ps) (sym none)
@@ -92,6 +94,7 @@ module _ (d : Draft) (p : Program)
       let whole : first.0 ∷ rest.0 ≡ procs = cc rest.2 in
       subst (λ ps. AllByRecursion (IsProc p) ps) whole (proc_kept q first.0 all.0 first.1, procs_kept qs rest.0 all.1 rest.1)
 
+-- a call names a procedure that is there, and not main
 called : (names : Declared ℕ) (name : List ℕ) (k : ℕ) → callee_named names name ≡ Ok k
     → (bytes_eq name (codes "main") ≡ false) × (named_in names name ≡ Some k)
 called names name k e = by (bytes_eq name (codes "main")) (named_in names name) e where
@@ -100,12 +103,14 @@ called names name k e = by (bytes_eq name (codes "main")) (named_in names name) 
   by false None e = absurd cc
   by false (Some j) e = let same : j ≡ k = cc in (refl, ap Some same)
 
+-- who is main makes no difference to calls
 other_main : (procs : List Proc) (main i j : ℕ) → Reaches (with_main procs main) i j → Reaches (with_main procs 0) i j
 other_main procs main i j (ByCall _ _ e) = ByCall i j e
 other_main procs main i j (ByMore _ via _ e r) = ByMore i via j e (other_main procs main via j r)
 
 -- ---- programs
 
+-- the program of a draft in which no procedure is left open
 pub keeps_rules : (d : Draft) (procs : List Proc) (main : ℕ) → IsKept d → d.begun ≡ None → link_procs d d.procs ≡ Ok procs
     → named_in d.names (codes "main") ≡ Some main → IsAcyclic procs → IsProgram (with_main procs main)
 keeps_rules d procs main kept ended link named acyclic = record {
@@ -135,7 +140,7 @@ keeps_rules d procs main kept ended link named acyclic = record {
       → is_call (with_main procs main) k args ≡ true
   callee name k args at test =
       let c = called d.names name k at in
-      both (not (k == main)) _ (other c.0 c.1 (eqb_tells k main))
+      and_from (not (k == main)) _ (other c.0 c.1 (eqb_tells k main))
       (procs_params d (λ n. length args == n) d.procs procs k link (there name k c.1)
       (eq-eqb (length args) (params_of d.procs k) (sym (eqb-true (params_of d.procs k) (length args) test)))) where
         other : bytes_eq name (codes "main") ≡ false → named_in d.names name ≡ Some k

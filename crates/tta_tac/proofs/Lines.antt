@@ -13,13 +13,10 @@ use Rattle.tta_tac.specs.Forms.{Form}
 use Rattle.tta_tac.specs.declared.reading.draft.NamedStep.{NamedStep}
 use Rattle.tta_tac.specs.declared.reading.draft.Draft.{Draft as CodeDraft}
 use Rattle.tta_tac.specs.Draft.{Unlinked, ProcDraft, Draft, proc_seen, procs_seen, step_seen, draft_seen}
+use Rattle.tta_tac.proofs.Steps.{passed}
+use Rattle.tta_tac.proofs.Taken.{with_fresh}
 use Rattle.tta_tac.proofs.Seen.{steps_seen_append, procs_seen_length}
-use Rattle.tta_tac.specs.FirstPass.{vars_after, lacks_op, has_wrong_arity, has_many_args, is_full, step_of, is_end, close_if, with_step, take_step, take_proc, has_twice, numbered}
-
--- a test that did not refuse
-pub passed : {E A : Type 0} (b : Bool) (e : E) (r : Result A E) (x : A) → refuse_if b e r ≡ Ok x → (b ≡ false) × (r ≡ Ok x)
-passed true e r x p = cc
-passed false e r x p = (refl, p)
+use Rattle.tta_tac.specs.FirstPass.{vars_after, lacks_op, has_wrong_arity, has_many_args, is_full, step_of, is_end, close_if, with_step, take_step, take_proc, has_twice}
 
 last_or : (a b : Bool) → (a || b || true) ≡ true
 last_or true b = refl
@@ -69,9 +66,5 @@ none_begun (Some q) test is e = cc
 pub take_proc_taken : (d : Draft) (line : ℕ) (name : List ℕ) (params : List (List ℕ)) → is_some d.begun ≡ false
     → (bytes_eq name (codes "main") && nat_lt 0 (length params)) ≡ false
     → (is_some (named_in d.names name) || has_twice params) ≡ false → is_full d ≡ false → nat_lt 8 (length params) ≡ false
-    → take_proc d line name params ≡ Ok (record d {
-      names = d.names ++ (name, length d.procs) ∷ [];
-      begun = Some (record { line = line; params = length params; vars = numbered 0 params; labels = []; steps = []; lines = [] });
-      lines = d.lines + 1;
-    })
+    → take_proc d line name params ≡ Ok (with_fresh d line name params)
 take_proc_taken d line name params begun main twice full many = rw (begun, main, twice, full, many) refl

@@ -1,15 +1,15 @@
 -- The steps of a draft's procedure keep the rules once their labels and procedures are found.
-use Rattle.std.proofs.Common.{◌≡◌, ℕ, suc, ◌<◌, Bool, true, false, List, [], ◌∷◌, length, Option, Some, None, Result, Ok, Err, refl, sym, ◌∙◌, ap, subst, arith}
+use Rattle.std.proofs.Common.{◌≡◌, ℕ, suc, ◌<◌, Bool, true, false, List, [], ◌∷◌, length, Option, Some, None, Ok, refl, sym, ◌∙◌, ap, subst, arith}
 use Rattle.std.specs.Prelude.{◌&&◌, ◌==◌, not, nat_lt, if◌then◌else◌}
 use Rattle.std.specs.Option.{option_map_or}
 use Rattle.std.specs.List.{list_all}
+use Rattle.std.proofs.lemmas.Bool.{and_from}
 use Rattle.tta_reading.specs.Names.{Declared, named_in}
 use Rattle.tta_reading.specs.Steps.{◌>>=◌, or_refuse, refuse_if}
 use Rattle.tta_tac.specs.declared.operand.Src.{Src}
 use Rattle.tta_tac.specs.declared.step.Step.{Step}
 use Rattle.tta_tac.specs.declared.step.Step.TheVariants as step
 use Rattle.tta_tac.specs.declared.program.Proc.{Proc}
-use Rattle.tta_tac.specs.declared.reading.refusal.Refusal.{Refusal}
 use Rattle.tta_tac.specs.declared.reading.refusal.Refusal.TheVariants.{UnknownLabel, Arity}
 use Rattle.tta_tac.specs.Program.{Program}
 use Rattle.tta_tac.specs.Rules.{is_src, is_call, is_step, ends_once}
@@ -17,17 +17,10 @@ use Rattle.tta_tac.specs.Draft.{Draft, Unlinked, Plain, IfTo, GotoTo, CallTo}
 use Rattle.tta_tac.specs.SecondPass.{at_line, callee_named, params_of, link_step, link_steps}
 use Rattle.tta_tac.specs.Text.{with_main}
 use Rattle.tta_tac.specs.Kept.{bare, is_unlinked, is_end_step, closes_once}
-use Rattle.tta_tac.proofs.Finished.{bind_ok}
-use Rattle.tta_tac.proofs.Variables.{both}
+use Rattle.tta_tac.proofs.Tests.{and_right, and_map}
+use Rattle.tta_tac.proofs.Steps.{bind_ok, at_line_ok}
 
-left : (a b : Bool) → (a && b) ≡ true → a ≡ true
-left true b e = refl
-left false b e = e
-
-right : (a b : Bool) → (a && b) ≡ true → b ≡ true
-right true b e = e
-right false b e = absurd cc
-
+-- no number is below 0
 none_below : (k : ℕ) → nat_lt k 0 ≡ true → ⊥
 none_below k e = grind arith
 
@@ -40,10 +33,10 @@ plain_kept p q (step.Apply d op a b) h = h
 plain_kept p q (step.Load d a) h = h
 plain_kept p q (step.Store a v) h = h
 plain_kept p q (step.Put v) h = h
-plain_kept p q (step.If rel a b to) h = absurd (none_below to (right _ _ h))
+plain_kept p q (step.If rel a b to) h = absurd (none_below to (and_right _ _ h))
 plain_kept p q (step.Goto to) h = absurd (none_below to h)
 plain_kept p q (step.When rel a b d s) h = h
-plain_kept p q (step.Invoke d callee args) h = absurd (no_call (not (callee == 0)) (right _ _ h)) where
+plain_kept p q (step.Invoke d callee args) h = absurd (no_call (not (callee == 0)) (and_right _ _ h)) where
   no_call : (a : Bool) → (a && false) ≡ true → ⊥
   no_call true e = cc
   no_call false e = cc
@@ -51,6 +44,7 @@ plain_kept p q (step.Return s) h = h
 plain_kept p q step.Halt h = h
 plain_kept p q step.End h = h
 
+-- whether a step is an `end`, and how ends are found in front
 abbrev is_end : Step → Bool
 is_end step.End = true
 is_end s = false
@@ -79,13 +73,10 @@ closes_cons (Plain step.End) [] = refl
 closes_cons (Plain step.End) (y ∷ ys) = refl
 closes_cons s ss = refl
 
-pub at_line_ok : {A : Type 0} (line : ℕ) (r : Result A Refusal) (x : A) → at_line line r ≡ Ok x → r ≡ Ok x
-at_line_ok line (Ok y) x e = let same : y ≡ x = cc in ap Ok same
-at_line_ok line (Err y) x e = absurd cc
-
 -- ---- the steps of one procedure
 
 module _ (d : Draft) (labels : Declared ℕ) where
+  -- the first step and the others of what was made
   steps_cons : (s : Unlinked) (ss : List Unlinked) (line : ℕ) (lines : List ℕ) (steps : List Step)
       → link_steps d labels (s ∷ ss) (line ∷ lines) ≡ Ok steps
       → (x : Step) × (rest : List Step) × (link_step d labels s ≡ Ok x) × (link_steps d labels ss lines ≡ Ok rest) × (x ∷ rest ≡ steps)
@@ -119,6 +110,7 @@ module _ (d : Draft) (labels : Declared ℕ) where
         by k false e = let same : step.Invoke dst k args ≡ x = cc in ap is_end (sym same)
         by k true e = absurd cc
 
+  -- and so a procedure that closes once ends once
   pub ends_kept : (ss : List Unlinked) (lines : List ℕ) (steps : List Step) → length lines ≡ length ss
       → link_steps d labels ss lines ≡ Ok steps → ends_once steps ≡ closes_once ss
   ends_kept [] lines steps same e = let none : [] ≡ steps = cc in ap ends_once (sym none)
@@ -147,7 +139,7 @@ module _ (d : Draft) (labels : Declared ℕ) where
           let same : step.If rel a b to ≡ x = cc in
           let below = target label to at in
           let test : nat_lt to (length q.steps) ≡ true = grind arith in
-          subst (λ y. is_step p q y ≡ true) same (both (is_src q.vars a && is_src q.vars b) (nat_lt to (length q.steps)) h test)
+          subst (λ y. is_step p q y ≡ true) same (and_from (is_src q.vars a && is_src q.vars b) (nat_lt to (length q.steps)) h test)
     step_kept (GotoTo label) x h e = by (named_in labels label) refl e where
       by : (o : Option ℕ) → named_in labels label ≡ o → (or_refuse UnknownLabel o >>= λ to. Ok (step.Goto to)) ≡ Ok x → is_step p q x ≡ true
       by None at e = absurd cc
@@ -165,7 +157,7 @@ module _ (d : Draft) (labels : Declared ℕ) where
           by k at true test e =
               let same : step.Invoke dst k args ≡ x = cc in
               subst (λ y. is_step p q y ≡ true) same
-              (both (option_map_or (λ v. nat_lt v q.vars) dst true && list_all (is_src q.vars) args) (is_call p k args) h (callee name k args at test))
+              (and_from (option_map_or (λ v. nat_lt v q.vars) dst true && list_all (is_src q.vars) args) (is_call p k args) h (callee name k args at test))
 
     pub steps_kept : (ss : List Unlinked) (lines : List ℕ) (steps : List Step) → length lines ≡ length ss
         → list_all (is_unlinked q.vars) ss ≡ true → link_steps d labels ss lines ≡ Ok steps → list_all (is_step p q) steps ≡ true
@@ -174,6 +166,4 @@ module _ (d : Draft) (labels : Declared ℕ) where
     steps_kept (s ∷ ss) (line ∷ lines) steps same h e =
         let c = steps_cons s ss line lines steps e in
         ap (list_all (is_step p q)) (sym c.4)
-        ∙ both (is_step p q c.0) (list_all (is_step p q) c.1)
-        (step_kept s c.0 (left _ _ h) c.2)
-        (steps_kept ss lines c.1 (omega arith) (right (is_unlinked q.vars s) _ h) c.3)
+        ∙ and_map (λ t. step_kept s c.0 t c.2) (λ t. steps_kept ss lines c.1 (omega arith) t c.3) h

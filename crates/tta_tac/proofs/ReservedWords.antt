@@ -1,10 +1,11 @@
 -- A name is reserved only where it is one of the reserved words of its length.
-use Rattle.std.proofs.Common.{◌≡◌, ◌≢◌, ℕ, suc, Bool, true, false, ◌||◌, List, [], ◌∷◌, length, refl, ap, sym, ◌∙◌, inl, inr, eqb}
+use Rattle.std.proofs.Common.{◌≡◌, ◌≢◌, ℕ, suc, false, List, [], ◌∷◌, length, refl, ap, sym, ◌∙◌, inl, inr, eqb}
 use Rattle.std.specs.Prelude.{codes, filter}
 use Rattle.std.specs.Str.{bytes_eq}
 use Rattle.std.specs.List.{list_any}
 use Rattle.std.proofs.lemmas.Bool.{and_right, cases_Bool, cases_eq, eqb-false, ne_eqb}
 use Rattle.tta_tac.specs.Forms.{is_reserved, reserved}
+use Rattle.tta_tac.proofs.Tests.{or_false}
 
 -- bytes of another length differ
 other_length : (a b : List ℕ) → (length a ≡ length b → ⊥) → bytes_eq a b ≡ false
@@ -38,15 +39,13 @@ of_its_length name (word ∷ words) =
 abbrev words_of : ℕ → List (List ℕ)
 words_of size = filter (λ word. eqb (length word) size) reserved
 
+-- a name is looked for among the words of its length alone
 by_length : (name : List ℕ) (size : ℕ) → length name ≡ size
     → is_reserved name ≡ list_any (λ word. bytes_eq name word) (words_of size)
 unfolding is_reserved
 by_length name size len = of_its_length name reserved ∙ rw len refl
 
-or_false : (b : Bool) → (b || false) ≡ b
-or_false true = refl
-or_false false = refl
-
+-- there is one word of two bytes, of five and of six
 pub of_two : (name : List ℕ) → length name ≡ 2 → is_reserved name ≡ bytes_eq name (codes "if")
 of_two name len = by_length name 2 len ∙ or_false (bytes_eq name (codes "if"))
 

@@ -3,7 +3,7 @@ use Rattle.std.proofs.Common.{◌≡◌, ℕ, suc, ◌+◌, ◌<◌, ◌≤◌, 
 use Rattle.std.specs.Prelude.{◌||◌, ◌&&◌, ◌==◌, nat_lt}
 use Rattle.std.specs.List.{list_any}
 use Rattle.std.proofs.lemmas.List.Folds.{list_any-append, list_any_more, list_any_at}
-use Rattle.std.proofs.lemmas.Bool.{eqb-true, eq-eqb}
+use Rattle.std.proofs.lemmas.Bool.{eqb-true, eq-eqb, or_cases}
 use Rattle.std.proofs.lemmas.Bool.Decides.{eqb_tells}
 use Rattle.std.proofs.Math.Dec.{eqb}
 use Rattle.std.proofs.lemmas.List.{take_all, take-append-le}
@@ -13,26 +13,12 @@ use Rattle.tta_tac.specs.declared.program.Proc.{Proc}
 use Rattle.tta_tac.specs.Rules.{calls, calls_proc, Reaches, ByCall}
 use Rattle.tta_tac.specs.Text.{with_main}
 use Rattle.tta_tac.specs.Cycles.{is_found, unset, IsMarked, Finds}
+use Rattle.tta_tac.proofs.Tests.{and_right, or_true, or_false}
 use Rattle.tta_tac.proofs.Calls.{calls_of, all_found, reaches_on}
-
-or_true : (a : Bool) → (a || true) ≡ true
-or_true true = refl
-or_true false = refl
-
-or_false : (a : Bool) → (a || false) ≡ a
-or_false true = refl
-or_false false = refl
-
-one_of : (a b : Bool) → (a || b) ≡ true → (a ≡ true) ⊎ (b ≡ true)
-one_of true b e = inl refl
-one_of false b e = inr e
-
-second : (a b : Bool) → (a && b) ≡ true → b ≡ true
-second true b e = e
-second false b e = absurd cc
 
 -- ---- one mark
 
+-- one mark more is set, and one place more is found
 unset-set : (marks : List Bool) (i : ℕ) → i < length marks → get_or marks i false ≡ false → unset (set marks i true) + 1 ≡ unset marks
 unset-set [] i below e = absurd (omega arith)
 unset-set (m ∷ marks) zero below e = rw e (omega arith)
@@ -64,6 +50,7 @@ marks_one marks found place h below clear = record {
 
 -- ---- steps of a procedure one after the other
 
+-- a test of two lists, at the places that there are
 any_in : (n k : ℕ) (a b c : Bool) → ((a || (nat_lt k n && b)) || (nat_lt k n && c)) ≡ (a || (nat_lt k n && (b || c)))
 any_in n k a b c = by (nat_lt k n) a b c where
   by : (t a b c : Bool) → ((a || (t && b)) || (t && c)) ≡ (a || (t && (b || c)))
@@ -71,6 +58,7 @@ any_in n k a b c = by (nat_lt k n) a b c where
   by true false b c = refl
   by false false b c = refl
 
+-- before the first step, and after one more
 pub finds_none : (n : ℕ) (found : List ℕ) → Finds n (λ k. false) found found
 finds_none n found = record { all = λ k. by (nat_lt k n) (is_found found k); more = []; front = sym (append-nil found) } where
   by : (t a : Bool) → a ≡ (a || (t && false))
@@ -128,7 +116,7 @@ pub search_first : (procs : List Proc) (from : ℕ) (before marks : List Bool) (
 search_first procs from before marks none found q steps below at all empty size same marked finds = record {
   marked = marked;
   size = same ∙ size;
-  sound = λ j e. ByCall from j (calls_are j ∙ second (nat_lt j (length before)) _ (sym (finds_are j) ∙ e));
+  sound = λ j e. ByCall from j (calls_are j ∙ and_right (nat_lt j (length before)) _ (sym (finds_are j) ∙ e));
   start = λ j b e. finds_are j ∙ both j b (sym (calls_are j) ∙ e);
   closed = λ i j f b e. no f;
   within = omega arith;
@@ -182,16 +170,16 @@ module _ (procs : List Proc) (from : ℕ) (marks new_marks : List Bool) (found n
   search_step = record {
     marked = marked;
     size = size ∙ h.size;
-    sound = λ j e. sound j (one_of (is_found found j) _ (sym (finds.all j) ∙ e));
+    sound = λ j e. sound j (or_cases (is_found found j) _ (sym (finds.all j) ∙ e));
     start = λ j b e. stays j (h.start j b e);
-    closed = λ i j f b e. closed i j (one_of (is_found (take next found) i) _ (sym (front_is i) ∙ f)) b e;
+    closed = λ i j f b e. closed i j (or_cases (is_found (take next found) i) _ (sym (front_is i) ∙ f)) b e;
     within = rw (finds.front, length-append) (omega arith);
   } where
     sound : (j : ℕ) → (is_found found j ≡ true) ⊎ ((nat_lt j (length marks) && list_any (calls_proc j) steps) ≡ true)
         → Reaches (with_main procs 0) from j
     sound j (inl e) = h.sound j e
     sound j (inr e) = reaches_on procs from place j (h.sound place (is_there procs from marks found next place h left is))
-        (calls_are j ∙ second (nat_lt j (length marks)) _ e)
+        (calls_are j ∙ and_right (nat_lt j (length marks)) _ e)
 
     closed : (i j : ℕ) → (is_found (take next found) i ≡ true) ⊎ ((get_or found next place == i) ≡ true) → j < length procs
         → calls (with_main procs 0) i j ≡ true → is_found new j ≡ true

@@ -3,18 +3,16 @@ use Rattle.std.proofs.Common.{◌≡◌, ℕ, ◌+◌, true, List, [], ◌∷◌
 use Rattle.std.specs.Option.{option_map_or}
 use Rattle.tta_reading.specs.Lines.{Line, lines_of}
 use Rattle.tta_reading.specs.Names.{Declared}
-use Rattle.tta_reading.specs.Steps.{◌>>=◌, or_refuse}
 use Rattle.tta_ops.specs.Units.{Units}
 use Rattle.tta_tac.specs.declared.reading.refusal.Refusal.TheVariants.{Syntax}
-use Rattle.tta_tac.specs.Forms.{Form, form_of}
+use Rattle.tta_tac.specs.Forms.{form_of}
 use Rattle.tta_tac.specs.Draft.{ProcDraft, Draft, nothing}
-use Rattle.tta_tac.specs.FirstPass.{take_form, take_line}
+use Rattle.tta_tac.specs.FirstPass.{take_line}
 use Rattle.tta_tac.specs.SecondPass.{at_line}
 use Rattle.tta_tac.specs.Text.{take_lines}
 use Rattle.tta_tac.specs.Kept.{IsKept}
 use Rattle.tta_tac.specs.Told.{IsDraftOf}
-use Rattle.tta_tac.proofs.Finished.{bind_ok}
-use Rattle.tta_tac.proofs.LinkedSteps.{at_line_ok}
+use Rattle.tta_tac.proofs.Steps.{bind_ok, some_ok, at_line_ok}
 use Rattle.tta_tac.proofs.StepsKept.{fits_form}
 use Rattle.tta_tac.proofs.FormsFit.{form_fit}
 use Rattle.tta_tac.proofs.Growing.{nothing_kept}
@@ -25,10 +23,9 @@ module _ (u : Units) where
   pub line_kept : (line : ℕ) (d e : Draft) (words : Line) → IsKept d → take_line u line d words ≡ Ok e → IsKept e
   unfolding take_line
   line_kept line d e [] kept taken = let same : d ≡ e = cc in subst IsKept same kept
-  line_kept line d e (key ∷ words) kept taken = by (form_of key words) (form_fit key words) taken where
-    by : (o : Option Form) → option_map_or fits_form o true ≡ true → (or_refuse Syntax o >>= take_form u d line) ≡ Ok e → IsKept e
-    by None fit taken = absurd cc
-    by (Some f) fit taken = take_form_kept u d e kept line f fit taken
+  line_kept line d e (key ∷ words) kept taken =
+      let f = some_ok Syntax (form_of key words) _ e taken in
+      take_form_kept u d e line f.0 kept (subst (λ o. option_map_or fits_form o true ≡ true) f.1 (form_fit key words)) f.2
 
   closed : (line : ℕ) (names : Declared ℕ) (procs : List ProcDraft) (begun : Option ProcDraft) (lines : ℕ) (e : Draft)
       → take_lines u line (record { names = names; procs = procs; begun = begun; lines = lines }) [] ≡ Ok e

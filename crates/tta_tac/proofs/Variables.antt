@@ -1,35 +1,16 @@
 -- Variables get their numbers, and operands are among them.
-use Rattle.std.proofs.Common.{◌≡◌, ℕ, suc, ◌+◌, ◌<◌, ◌≤◌, ◌^◌, Bool, true, false, List, [], ◌∷◌, ◌++◌, length, Option, Some, None, refl, ◌∙◌, ap, arith, length-append, inl, inr, ◌⊎◌}
-use Rattle.std.specs.Prelude.{◌&&◌, nat_lt, if◌then◌else◌, is_some}
+use Rattle.std.proofs.Common.{◌≡◌, ℕ, suc, ◌+◌, ◌<◌, ◌≤◌, ◌^◌, Bool, true, false, List, [], ◌∷◌, ◌++◌, length, Option, Some, None, refl, ap, arith, length-append, inl, inr, ◌⊎◌}
+use Rattle.std.specs.Prelude.{nat_lt, if◌then◌else◌, is_some}
 use Rattle.std.specs.Option.{option_map_or}
 use Rattle.std.specs.Str.{bytes_eq}
 use Rattle.std.specs.List.{list_all}
-use Rattle.std.proofs.lemmas.Bool.Decides.{nat_tests}
+use Rattle.std.proofs.lemmas.Bool.{lt-ltb}
 use Rattle.std.specs.Cmp.Lexicographic.{nat_list_eq_equiv}
 use Rattle.tta_reading.specs.Names.{Declared, named_in}
 use Rattle.tta_tac.specs.Rules.{is_src}
 use Rattle.tta_tac.specs.Forms.{Operand, Named, Constant}
 use Rattle.tta_tac.specs.FirstPass.{with_var, var_number, with_operand, with_operands, src_of, srcs_of, numbered}
-
-pub is_below : (m n : ℕ) → m < n → nat_lt m n ≡ true
-is_below m n h = grind (arith, nat_tests)
-
-pub below_is : (m n : ℕ) → nat_lt m n ≡ true → m < n
-below_is m n h = grind (arith, nat_tests)
-
-pub is_at_most : (most n : ℕ) → nat_lt most n ≡ false → n ≤ most
-is_at_most most n e = grind (arith, nat_tests)
-
-pub both : (a b : Bool) → a ≡ true → b ≡ true → (a && b) ≡ true
-both a b e f = ap (λ x. x && b) e ∙ f
-
-pub and_left : (a b : Bool) → (a && b) ≡ true → a ≡ true
-and_left true b e = refl
-and_left false b e = e
-
-pub and_right : (a b : Bool) → (a && b) ≡ true → b ≡ true
-and_right true b e = e
-and_right false b e = absurd cc
+use Rattle.tta_tac.proofs.Tests.{and_map}
 
 -- ---- names
 
@@ -49,6 +30,7 @@ module _ {P : Type 0} where
     by rest true e = inl e
     by rest false e = rest e
 
+  -- a name goes on naming, and the new one does
   named_stays : (ds : Declared P) (name : List ℕ) (place : P) (m : List ℕ) → is_some (named_in ds m) ≡ true
       → is_some (named_in (ds ++ (name, place) ∷ []) m) ≡ true
   named_stays [] name place m e = absurd cc
@@ -79,6 +61,7 @@ pub record Grows (old new : Declared ℕ) : Type 0 where
   pub longer : length old ≤ length new
   pub stays : (m : List ℕ) → is_some (named_in old m) ≡ true → is_some (named_in new m) ≡ true
 
+-- the same variables, one more, and others after these
 pub grows_not : (vars : Declared ℕ) → Grows vars vars
 grows_not vars = record { numbered = λ h. h; longer = omega arith; stays = λ m e. e }
 
@@ -107,6 +90,7 @@ grows_var vars name = by (is_some (named_in vars name)) where
     stays = named_stays vars name (length vars);
   }
 
+-- a variable that was met has a number, which is below their count
 pub has_var : (vars : Declared ℕ) (name : List ℕ) → is_some (named_in (with_var vars name) name) ≡ true
 has_var vars name = by (is_some (named_in vars name)) refl where
   by : (t : Bool) → is_some (named_in vars name) ≡ t → is_some (named_in (if t then vars else vars ++ (name, length vars) ∷ []) name) ≡ true
@@ -118,7 +102,7 @@ pub var_kept : (vars : Declared ℕ) (name : List ℕ) → IsNumbered vars → i
 var_kept vars name h e = by (named_in vars name) refl e where
   by : (o : Option ℕ) → named_in vars name ≡ o → is_some o ≡ true → nat_lt (option_map_or (λ k. k) o 0) (length vars) ≡ true
   by None at e = absurd cc
-  by (Some k) at e = is_below k (length vars) (h.below name k at)
+  by (Some k) at e = lt-ltb k (length vars) (h.below name k at)
 
 -- ---- operands
 
@@ -132,6 +116,7 @@ abbrev pub has : Declared ℕ → Operand → Bool
 has vars (Named name) = is_some (named_in vars name)
 has vars (Constant n) = nat_lt n (2 ^ 32)
 
+-- an operand adds its variable, and has it from then on
 pub grows_operand : (vars : Declared ℕ) (o : Operand) → Grows vars (with_operand vars o)
 grows_operand vars (Named name) = grows_var vars name
 grows_operand vars (Constant n) = grows_not vars
@@ -148,6 +133,7 @@ pub src_kept : (vars : Declared ℕ) (o : Operand) → IsNumbered vars → has v
 src_kept vars (Named name) h e = var_kept vars name h e
 src_kept vars (Constant n) h e = e
 
+-- the same of several
 pub grows_operands : (vars : Declared ℕ) (os : List Operand) → Grows vars (with_operands vars os)
 grows_operands vars [] = grows_not vars
 grows_operands vars (o ∷ os) = grows_on (grows_operand vars o) (grows_operands (with_operand vars o) os)
@@ -155,19 +141,16 @@ grows_operands vars (o ∷ os) = grows_on (grows_operand vars o) (grows_operands
 pub has_operands : (vars : Declared ℕ) (os : List Operand) → list_all fits os ≡ true → list_all (has (with_operands vars os)) os ≡ true
 has_operands vars [] e = refl
 has_operands vars (o ∷ os) e =
-    both (has (with_operands (with_operand vars o) os) o) (list_all (has (with_operands (with_operand vars o) os)) os)
-    (has_more (grows_operands (with_operand vars o) os) o (has_operand vars o (and_left _ _ e)))
-    (has_operands (with_operand vars o) os (and_right (fits o) _ e))
+    and_map (λ t. has_more (grows_operands (with_operand vars o) os) o (has_operand vars o t)) (has_operands (with_operand vars o) os) e
 
 pub srcs_kept : (vars : Declared ℕ) (os : List Operand) → IsNumbered vars → list_all (has vars) os ≡ true
     → list_all (is_src (length vars)) (srcs_of vars os) ≡ true
 srcs_kept vars [] h e = refl
-srcs_kept vars (o ∷ os) h e =
-    both (is_src (length vars) (src_of vars o)) (list_all (is_src (length vars)) (srcs_of vars os))
-    (src_kept vars o h (and_left _ _ e)) (srcs_kept vars os h (and_right (has vars o) _ e))
+srcs_kept vars (o ∷ os) h e = and_map (src_kept vars o h) (srcs_kept vars os h) e
 
 -- ---- parameters
 
+-- parameters are numbered from the first on
 pub numbered_length : (k : ℕ) (names : List (List ℕ)) → length (numbered k names) ≡ length names
 numbered_length k [] = refl
 numbered_length k (name ∷ names) = ap suc (numbered_length (k + 1) names)

@@ -41,23 +41,28 @@ nothing = record { names = []; procs = []; begun = None; lines = 0 }
 
 -- ---- the same, of the code's values
 
+-- a step
 abbrev pub step_seen : NamedStep → Unlinked
 step_seen (code_step.Plain step) = Plain step
 step_seen (code_step.If rel a b label) = IfTo rel a b label.now
 step_seen (code_step.Goto label) = GotoTo label.now
 step_seen (code_step.Call d callee args) = CallTo d callee.now args
 
+-- the steps of a procedure
 abbrev pub steps_seen : List NamedStep → List Unlinked
 steps_seen [] = []
 steps_seen (s ∷ ss) = step_seen s ∷ steps_seen ss
 
+-- a procedure
 abbrev pub proc_seen : CodeProc → ProcDraft
 proc_seen q = record { line = q.line; params = q.params; vars = q.vars; labels = q.labels; steps = steps_seen q.steps; lines = q.lines }
 
+-- the procedures of a draft
 abbrev pub procs_seen : List CodeProc → List ProcDraft
 procs_seen [] = []
 procs_seen (q ∷ qs) = proc_seen q ∷ procs_seen qs
 
+-- a draft
 abbrev pub draft_seen : CodeDraft → Draft
 draft_seen d = record {
   names = d.names;

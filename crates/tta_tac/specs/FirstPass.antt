@@ -29,10 +29,12 @@ with_var vars name = if is_some (named_in vars name) then vars else vars ++ (nam
 abbrev pub var_number : Declared ℕ → List ℕ → ℕ
 var_number vars name = option_map_or (λ k. k) (named_in vars name) 0
 
+-- the variables after an operand, which is one of them or a constant
 abbrev pub with_operand : Declared ℕ → Operand → Declared ℕ
 with_operand vars (Named name) = with_var vars name
 with_operand vars (Constant n) = vars
 
+-- the variables after several operands, in their order
 abbrev pub with_operands : Declared ℕ → List Operand → Declared ℕ
 with_operands vars [] = vars
 with_operands vars (o ∷ os) = with_operands (with_operand vars o) os
@@ -42,6 +44,7 @@ abbrev pub src_of : Declared ℕ → Operand → Src
 src_of vars (Named name) = Var (var_number vars name)
 src_of vars (Constant n) = Word n
 
+-- the operands of a list, each in its place
 abbrev pub srcs_of : Declared ℕ → List Operand → List Src
 srcs_of vars [] = []
 srcs_of vars (o ∷ os) = src_of vars o ∷ srcs_of vars os
@@ -83,6 +86,7 @@ asked_op (IfForm rel a b label) = Some (rel_name rel, 2)
 asked_op (WhenForm rel a b d s) = Some (rel_name rel, 2)
 asked_op form = None
 
+-- how many words an operation takes
 abbrev pub arity_of : Units → ℕ → ℕ
 arity_of u op = get_or u.arities op 0
 
@@ -95,6 +99,7 @@ abbrev pub has_wrong_arity : Units → Form → Bool
 has_wrong_arity u form =
     option_map_or (λ asked. option_map_or (λ op. not (arity_of u op == asked.1)) (named u asked.0) false) (asked_op form) false
 
+-- the operation of a name, as a step keeps it
 abbrev pub op_id : Units → List ℕ → OpId
 op_id u name = record { 0 = option_map_or (λ op. op) (named u name) 0 }
 
@@ -130,6 +135,7 @@ abbrev pub has_many_args : Form → Bool
 has_many_args (CallForm d callee args) = nat_lt 8 (length args)
 has_many_args form = false
 
+-- whether a line is an `end`
 abbrev pub is_end : Form → Bool
 is_end EndForm = true
 is_end form = false
@@ -153,6 +159,7 @@ abbrev pub has_twice : List (List ℕ) → Bool
 has_twice [] = false
 has_twice (name ∷ names) = list_any (λ other. bytes_eq other name) names || has_twice names
 
+-- names with the numbers from k on
 abbrev pub numbered : ℕ → List (List ℕ) → Declared ℕ
 numbered k [] = []
 numbered k (name ∷ names) = (name, k) ∷ numbered (k + 1) names

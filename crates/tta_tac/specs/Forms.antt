@@ -16,6 +16,7 @@ reserved =
     codes "ldw" ∷ codes "stw" ∷ codes "ldf" ∷ codes "stf" ∷ codes "jump" ∷ codes "proc" ∷ codes "end" ∷ codes "if" ∷ codes "goto"
     ∷ codes "when" ∷ codes "load" ∷ codes "store" ∷ codes "out" ∷ codes "call" ∷ codes "return" ∷ codes "halt" ∷ codes "data" ∷ []
 
+-- whether a name is one of these words
 unfoldable pub is_reserved : List ℕ → Bool
 is_reserved name = list_any (λ word. bytes_eq word name) reserved
 
@@ -28,14 +29,17 @@ pub data Operand : Type 0 where
   Named : List ℕ → Operand
   Constant : ℕ → Operand
 
+-- a constant as an operand, where there is one
 abbrev pub constant_operand : Option ℕ → Option Operand
 constant_operand None = None
 constant_operand (Some n) = Some (Constant n)
 
+-- a name as an operand, or else a constant
 abbrev pub or_constant : Option (List ℕ) → Option ℕ → Option Operand
 or_constant (Some name) constant = Some (Named name)
 or_constant None constant = constant_operand constant
 
+-- what a word is as an operand
 abbrev pub operand_of : Lexeme → Option Operand
 operand_of w = or_constant (free_name w) (constant_of w)
 

@@ -23,6 +23,7 @@ is_unlinked vars (IfTo rel a b label) = is_src vars a && is_src vars b
 is_unlinked vars (GotoTo label) = true
 is_unlinked vars (CallTo d callee args) = option_map_or (λ x. nat_lt x vars) d true && list_all (is_src vars) args
 
+-- whether a step is an `end`
 abbrev pub is_end_step : Unlinked → Bool
 is_end_step (Plain End) = true
 is_end_step step = false

@@ -3,6 +3,7 @@ use Rattle.std.specs.Prelude.{ℕ}
 use Rattle.tta_tac.specs.declared.reading.refusal.Refusal.{Refusal}
 use Rattle.tta_tac.specs.declared.reading.refusal.Refusal.TheVariants.{Syntax, UnknownLabel, UnknownOp, UnknownProc, Arity, Twice, Recursive, NoMain, TooMany}
 
+-- the number of a refusal
 abbrev pub code_of : Refusal → ℕ
 code_of Syntax = 20
 code_of UnknownLabel = 21

@@ -32,6 +32,7 @@ link_step d labels (CallTo dst callee args) =
 abbrev pub Refused : Type 0
 Refused = ℕ × Refusal
 
+-- an answer as it is, and a refusal with its line
 abbrev pub at_line : {A : Type 0} → ℕ → Result A Refusal → Result A Refused
 at_line line (Ok x) = Ok x
 at_line line (Err e) = Err (line, e)

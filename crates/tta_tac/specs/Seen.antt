@@ -29,14 +29,17 @@ texts words = map (λ w. w.text.now) words
 abbrev pub operands_in : List Word → List Operand
 operands_in words = filter_map (λ w. operand_of (plain w)) words
 
+-- an operand
 abbrev pub operand_seen : OperandWords → Operand
 operand_seen (operand_words.Named name) = Named name.now
 operand_seen (operand_words.Constant n) = Constant n
 
+-- one operand or two
 abbrev pub operands_seen : OperandsWords → List Operand
 operands_seen (operands_words.One b) = operand_seen b ∷ []
 operands_seen (operands_words.Two a b) = operand_seen a ∷ operand_seen b ∷ []
 
+-- what a line says
 abbrev pub form_seen : FormWords → Form
 form_seen (form_words.Proc name params) = ProcForm name.now (texts params.now)
 form_seen (form_words.Label name) = LabelForm name.now

@@ -19,6 +19,7 @@ pub record Frame : Type 0 where
   pub at : ℕ
   pub vars : List ℕ
 
+-- whether a run goes on
 pub data Outcome : Type 0 where
   Running : Outcome
   Halted : Outcome
@@ -70,6 +71,7 @@ goes_to s f rest to = record s { stack = record f { at = to } ∷ rest }
 abbrev pub assigns : State → Frame → List Frame → ℕ → ℕ → State
 assigns s f rest d v = record s { stack = record f { at = f.at + 1; vars = slice_set f.vars d v } ∷ rest }
 
+-- the run ends
 abbrev pub halts : State → State
 halts s = record s { outcome = Halted }
 
@@ -109,6 +111,7 @@ abbrev pub go_on : Units → Program → State → List Frame → State
 go_on u p s [] = s
 go_on u p s (f ∷ rest) = option_map_or (carry_out u p (record s { steps = s.steps + 1 }) f rest) (step_at p f.proc f.at) s
 
+-- a state that runs goes on, and one that has halted stays
 abbrev pub next_of : Units → Program → State → Outcome → State
 next_of u p s Running = go_on u p s s.stack
 next_of u p s Halted = s

@@ -30,6 +30,7 @@ pub record Linked : Type 0 where
   pub draft : Draft
   pub procs : List Proc
 
+-- what both passes over a text make of it, or its first refusal
 unfoldable pub linked_text : Units → List ℕ → Result Linked Refused
 linked_text u text =
     take_lines u 1 nothing (lines_of text) >>= λ d. link_procs d d.procs >>= λ procs. Ok (record { draft = d; procs = procs })

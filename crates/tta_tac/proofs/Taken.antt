@@ -1,0 +1,104 @@
+-- What a line that was taken made of the draft: a procedure begins, a label is put, or a step is made.
+use Rattle.std.proofs.Common.{◌≡◌, ℕ, ◌+◌, ◌<◌, ◌≤◌, false, List, [], ◌∷◌, ◌++◌, length, Some, Ok}
+use Rattle.std.specs.Prelude.{◌||◌, ◌&&◌, nat_lt, is_some, codes}
+use Rattle.std.specs.Str.{bytes_eq}
+use Rattle.std.proofs.lemmas.Bool.{or_parts, leb-false, ltb-false}
+use Rattle.tta_reading.specs.Names.{named_in}
+use Rattle.tta_ops.specs.Units.{Units}
+use Rattle.tta_tac.specs.declared.reading.refusal.Refusal.TheVariants.{Syntax, UnknownOp, Arity, Twice, TooMany}
+use Rattle.tta_tac.specs.Forms.{Form, ProcForm, LabelForm}
+use Rattle.tta_tac.specs.Draft.{Unlinked, ProcDraft, Draft}
+use Rattle.tta_tac.specs.FirstPass.{vars_after, lacks_op, has_wrong_arity, has_many_args, has_twice, is_full, step_of, is_end, close_if, with_step, numbered, take_proc, take_label, take_step, take_inside, take_form}
+use Rattle.tta_tac.proofs.Steps.{same_ok, passed, some_ok}
+
+-- ---- procedures
+
+-- a procedure of which only the first line was read
+abbrev pub fresh : (line : ℕ) → (params : List (List ℕ)) → ProcDraft
+fresh line params = record { line = line; params = length params; vars = numbered 0 params; labels = []; steps = []; lines = [] }
+
+-- a draft in which it begins
+abbrev pub with_fresh : Draft → (line : ℕ) → (name : List ℕ) → (params : List (List ℕ)) → Draft
+with_fresh d line name params =
+    record d { names = d.names ++ (name, length d.procs) ∷ []; begun = Some (fresh line params); lines = d.lines + 1 }
+
+-- what the tests of such a line have found
+pub record ProcTaken (d e : Draft) (line : ℕ) (name : List ℕ) (params : List (List ℕ)) : Type 0 where
+  pub closed : is_some d.begun ≡ false
+  pub bare_main : (bytes_eq name (codes "main") && nat_lt 0 (length params)) ≡ false
+  pub room : d.lines < 65536
+  pub few : length params ≤ 8
+  pub made : with_fresh d line name params ≡ e
+
+proc_taken : (d e : Draft) (line : ℕ) (name : List ℕ) (params : List (List ℕ)) → take_proc d line name params ≡ Ok e → ProcTaken d e line name params
+proc_taken d e line name params taken =
+    let p1 = passed (is_some d.begun) Syntax _ e taken in
+    let p2 = passed (bytes_eq name (codes "main") && nat_lt 0 (length params)) Arity _ e p1.1 in
+    let p3 = passed (is_some (named_in d.names name) || has_twice params) Twice _ e p2.1 in
+    let p4 = passed (is_full d || nat_lt 8 (length params)) TooMany _ e p3.1 in
+    let tests = or_parts (is_full d) (nat_lt 8 (length params)) p4.0 in
+    record {
+      closed = p1.0;
+      bare_main = p2.0;
+      room = leb-false 65536 d.lines tests.0;
+      few = ltb-false 8 (length params) tests.1;
+      made = same_ok (with_fresh d line name params) e p4.1;
+    }
+
+-- ---- labels
+
+-- a procedure with a label more, of its next step
+abbrev pub with_label : ProcDraft → (name : List ℕ) → ProcDraft
+with_label q name = record q { labels = q.labels ++ (name, length q.steps) ∷ [] }
+
+-- the tests found room for it
+pub record LabelTaken (d e : Draft) (q : ProcDraft) (name : List ℕ) : Type 0 where
+  pub room : d.lines < 65536
+  pub made : record d { begun = Some (with_label q name); lines = d.lines + 1 } ≡ e
+
+label_taken : (d e : Draft) (q : ProcDraft) (name : List ℕ) → take_label d q name ≡ Ok e → LabelTaken d e q name
+label_taken d e q name taken =
+    let p1 = passed (is_some (named_in q.labels name)) Twice _ e taken in
+    let p2 = passed (is_full d) TooMany _ e p1.1 in
+    record { room = leb-false 65536 d.lines p2.0; made = same_ok (record d { begun = Some (with_label q name); lines = d.lines + 1 }) e p2.1 }
+
+-- ---- steps
+
+-- there is such a step, and room for it and its variables
+pub record StepTaken (u : Units) (d e : Draft) (q : ProcDraft) (line : ℕ) (f : Form) : Type 0 where
+  pub step : Unlinked
+  pub is : step_of u (vars_after q.vars f) f ≡ Some step
+  pub room : d.lines < 65536
+  pub few : length (vars_after q.vars f) ≤ 4096
+  pub made : close_if (is_end f) (record d { lines = d.lines + 1 }) (with_step q (vars_after q.vars f) step line) ≡ e
+
+pub step_taken : (u : Units) (d e : Draft) (q : ProcDraft) (line : ℕ) (f : Form) → take_step u d q line f ≡ Ok e → StepTaken u d e q line f
+step_taken u d e q line f taken =
+    let p1 = passed (lacks_op u f) UnknownOp _ e taken in
+    let p2 = passed (has_wrong_arity u f) Arity _ e p1.1 in
+    let p3 = passed (is_full d || has_many_args f || nat_lt 4096 (length (vars_after q.vars f))) TooMany _ e p2.1 in
+    let s = some_ok Syntax (step_of u (vars_after q.vars f) f) _ e p3.1 in
+    let tests = or_parts (is_full d || has_many_args f) (nat_lt 4096 (length (vars_after q.vars f))) p3.0 in
+    record {
+      step = s.0;
+      is = s.1;
+      room = leb-false 65536 d.lines (or_parts (is_full d) (has_many_args f) tests.0).0;
+      few = ltb-false 4096 (length (vars_after q.vars f)) tests.1;
+      made = same_ok (close_if (is_end f) (record d { lines = d.lines + 1 }) (with_step q (vars_after q.vars f) s.0 line)) e s.2;
+    }
+
+-- ---- any line that is not blank
+
+-- which of the three it is
+pub data Taken (u : Units) (d e : Draft) (line : ℕ) (f : Form) : Type 0 where
+  ProcBegins : (name : List ℕ) (params : List (List ℕ)) → ProcTaken d e line name params → Taken u d e line f
+  LabelIsPut : (q : ProcDraft) (name : List ℕ) → d.begun ≡ Some q → LabelTaken d e q name → Taken u d e line f
+  StepIsMade : (q : ProcDraft) → d.begun ≡ Some q → StepTaken u d e q line f → Taken u d e line f
+
+inside_taken : (u : Units) (d e : Draft) (q : ProcDraft) (line : ℕ) (f : Form) → d.begun ≡ Some q → take_inside u d q line f ≡ Ok e → Taken u d e line f
+inside_taken u d e q line (LabelForm name) begun taken = LabelIsPut q name begun (label_taken d e q name taken)
+inside_taken u d e q line f begun taken = StepIsMade q begun (step_taken u d e q line f taken)
+
+pub form_taken : (u : Units) (d e : Draft) (line : ℕ) (f : Form) → take_form u d line f ≡ Ok e → Taken u d e line f
+form_taken u d e line (ProcForm name params) taken = ProcBegins name params (proc_taken d e line name params taken)
+form_taken u d e line f taken = let q = some_ok Syntax d.begun _ e taken in inside_taken u d e q.0 line f q.1 q.2

@@ -1,0 +1,22 @@
+-- What a test made of two says of each of them.
+use Rattle.std.proofs.Common.{◌≡◌, Bool, true, false, refl}
+use Rattle.std.specs.Prelude.{◌&&◌, ◌||◌}
+use Rattle.std.proofs.lemmas.Bool.{and_parts, and_from, or_right}
+
+pub and_left : (a b : Bool) → (a && b) ≡ true → a ≡ true
+and_left a b e = (and_parts a b e).0
+
+pub and_right : (a b : Bool) → (a && b) ≡ true → b ≡ true
+and_right a b e = (and_parts a b e).1
+
+-- a test that one of two settles
+pub or_true : (a : Bool) → (a || true) ≡ true
+or_true a = or_right a true refl
+
+pub or_false : (a : Bool) → (a || false) ≡ a
+or_false true = refl
+or_false false = refl
+
+-- two tests hold where two others do from which they follow
+pub and_map : {a b c d : Bool} → (a ≡ true → c ≡ true) → (b ≡ true → d ≡ true) → (a && b) ≡ true → (c && d) ≡ true
+and_map {a} {b} {c} {d} left right h = and_from c d (left (and_left a b h)) (right (and_right a b h))
