@@ -1,6 +1,6 @@
 -- Lists that a loop makes item by item.
 use Rattle.std.proofs.Common.{◌≡◌, ℕ, ◌+◌, ◌<◌, ◌≤◌, nat_lt, Bool, not, Option, Some, None, unwrap_or, List, [], ◌∷◌, ◌++◌, length, map, get_or, drop, refl, sym, ap, ◌∙◌, arith}
-use Rattle.std.proofs.lemmas.List.{append_assoc, append-nil, drop_more, drop_all}
+use Rattle.std.proofs.lemmas.List.{append_assoc, drop_more}
 use Rattle.std.proofs.lemmas.List.FromFn.{map-range_with_len_more}
 use Rattle.std.specs.List.{flat_map, enumerate_from, range_with_len, position, position_or_len}
 use Rattle.std.proofs.lemmas.Bool.{cond_both, ltb-false}
@@ -26,12 +26,6 @@ pieces_more g list list' all xs i x h is pushed was =
     ap (λ l. l ++ flat_map g (enumerate_from (i + 1) (drop (i + 1) xs))) pushed
     ∙ append_assoc list (g (i, x)) (flat_map g (enumerate_from (i + 1) (drop (i + 1) xs)))
     ∙ ap (λ l. list ++ flat_map g l) (sym (enumerate_more xs i x h is)) ∙ was
-
--- no item left
-pub pieces_end : {X A : Type 0} (g : ℕ × X → List A) (list all : List A) (xs : List X) (i : ℕ) → length xs ≤ i
-    → list ++ flat_map g (enumerate_from i (drop i xs)) ≡ all → list ≡ all
-pieces_end g list all xs i h was =
-    sym (append-nil list) ∙ ap (λ l. list ++ flat_map g (enumerate_from i l)) (sym (drop_all i xs h)) ∙ was
 
 -- a place, or the length where there is none
 pub place_or_len : {X : Type 0} (p : X → Bool) (xs xs' : List X) (place : Option ℕ) (n : ℕ) → xs ≡ xs' → place ≡ position p xs

@@ -111,14 +111,6 @@ complete_by d o is = opened d.control ∙ ap (λ x. option_map_or (ended_with d)
   opened None = refl
   opened (Some c) = refl
 
--- control is missing
-pub without_control : (d : Draft) → d.control ≡ None → complete d ≡ Err (0, Missing)
-without_control d is = complete_by d None is
-
--- no bus is there
-pub without_bus : (d : Draft) (c : Control) → d.control ≡ Some c → length d.buses ≡ 0 → complete d ≡ Err (0, Missing)
-without_bus d c is none = complete_by d (Some c) is ∙ rw none refl
-
 -- a template is too narrow
 pub too_narrow : (d : Draft) (c : Control) (line : ℕ) → d.control ≡ Some c → 0 < length d.buses
     → narrow_line (machine_of d c) d.templates d.template_lines ≡ Some line → complete d ≡ Err (line, TooNarrow)

@@ -1,9 +1,9 @@
 -- The layout of a machine, part by part.
-use Rattle.std.proofs.Common.{◌≡◌, ℕ, zero, suc, ◌+◌, ◌/◌, ◌^◌, ◌<◌, ◌≤◌, Bool, true, false, if◌then◌else◌, List, [], ◌∷◌, ◌++◌, length, map, max, get_or, drop, Option, lit<, refl, sym, ap, ◌∙◌, arith}
+use Rattle.std.proofs.Common.{◌≡◌, ℕ, zero, suc, ◌+◌, ◌/◌, ◌^◌, ◌<◌, ◌≤◌, Bool, true, false, if◌then◌else◌, List, [], ◌∷◌, ◌++◌, length, map, max, get_or, Option, lit<, refl, sym, ap, ◌∙◌, arith}
 use Rattle.std.specs.Option.{option_map_or}
 use Rattle.std.specs.List.{sum_by, range_with_len, enumerate_from}
-use Rattle.std.proofs.lemmas.List.{map-id, drop_more}
-use Rattle.std.proofs.lemmas.List.Sums.{sum_by_push, sum_by-cons, sum_by-drop_more}
+use Rattle.std.proofs.lemmas.List.{map-id}
+use Rattle.std.proofs.lemmas.List.Sums.{sum_by_push, sum_by-cons}
 use Rattle.std.proofs.lemmas.List.FromFn.{map-range_with_len_more, get_or-map-range_with_len, length-map-range_with_len}
 use Rattle.std.proofs.lemmas.Option.{slice_get-get_or}
 use Rattle.tta_machine.specs.declared.parts.Bus.{Bus}
@@ -12,7 +12,7 @@ use Rattle.tta_machine.specs.declared.ends.Source.{Source}
 use Rattle.tta_machine.specs.declared.ends.Dest.{Dest}
 use Rattle.tta_machine.specs.Machine.{Machine}
 use Rattle.tta_machine.specs.Joins.{has_bit}
-use Rattle.tta_machine.specs.Fields.{width_for, taken_width, word_width, numbers, guards_on, sources_on, dests_on, short_width, guard_width, payload_width, dest_width, bus_width}
+use Rattle.tta_machine.specs.Fields.{width_for, taken_width, numbers, guards_on, sources_on, dests_on, short_width, guard_width, payload_width, dest_width, bus_width}
 use Rattle.tta_machine.specs.declared.layout.BusFields.{BusFields}
 use Rattle.tta_machine.specs.declared.layout.Layout.{Layout}
 use Rattle.tta_machine.specs.Layout.{fields_of, layout_of, width_of_set}
@@ -70,29 +70,9 @@ width_more m start width f n is was =
 abbrev pub width_at : (set : ℕ) → ℕ × BusFields → ℕ
 width_at set b = if has_bit set b.0 then b.1.width else 0
 
-pub set_more : (set : ℕ) (xs : List BusFields) (i : ℕ) (x : BusFields) (width w total : ℕ) → i < length xs → x ≡ get_or xs i x
-    → w ≡ (if has_bit set i then x.width else 0) → width + sum_by (width_at set) (enumerate_from i (drop i xs)) ≡ total
-    → width + w + sum_by (width_at set) (enumerate_from (i + 1) (drop (i + 1) xs)) ≡ total
-set_more set xs i x width w total h is was_w was =
-    let cut = ap (λ (l : List BusFields). sum_by (width_at set) (enumerate_from i l)) (drop_more xs i x h) in
-    let here = ap (λ (y : BusFields). sum_by (width_at set) ((i, y) ∷ enumerate_from (i + 1) (drop (i + 1) xs))) (sym is) in
-    let split = sum_by-cons (width_at set) (i, x) (enumerate_from (i + 1) (drop (i + 1) xs)) in
-    omega arith
-
 part_le : (b : Bool) (n w : ℕ) → w ≡ (if b then n else 0) → w ≤ n
 part_le true n w is = omega arith
 part_le false n w is = omega arith
-
--- the sum so far and the next part stay within the sum of all widths
-pub set_small : (set : ℕ) (xs : List BusFields) (i : ℕ) (x : BusFields) (width w : ℕ) → i < length xs → x ≡ get_or xs i x
-    → w ≡ (if has_bit set i then x.width else 0)
-    → width + sum_by (λ f. f.width) (drop i xs) ≤ sum_by (λ f. f.width) xs
-    → width + w + sum_by (λ f. f.width) (drop (i + 1) xs) ≤ sum_by (λ f. f.width) xs
-set_small set xs i x width w h is was_w was =
-    let step = sum_by-drop_more (λ (f : BusFields). f.width) xs i x h in
-    let here = ap (λ (y : BusFields). y.width) is in
-    let part = part_le (has_bit set i) x.width w was_w in
-    omega arith
 
 -- the buses of a set by the machine's own widths
 abbrev pub set_width_at : Machine → (set : ℕ) → ℕ → ℕ
@@ -110,13 +90,6 @@ set_width_from m set a (suc n) =
 pub set_width : (m : Machine) (l : Layout) (set : ℕ) → l ≡ layout_of m → width_of_set l set ≡ taken_width m set
 set_width m l set is =
     ap (λ (x : Layout). sum_by (width_at set) (enumerate_from 0 x.buses)) is ∙ set_width_from m set 0 (length m.buses)
-
--- all widths of buses are within the width of an instruction
-pub widths_fit : (m : Machine) (l : Layout) → l ≡ layout_of m → word_width m < 2 ^ 32 → sum_by (λ f. f.width) l.buses < 2 ^ 32
-widths_fit m l is fits =
-    let e : sum_by (λ f. f.width) l.buses ≡ sum_by (bus_width m) (numbers (length m.buses)) =
-    ap (λ (x : Layout). sum_by (λ (f : BusFields). f.width) x.buses) is ∙ sum_by-map (λ (f : BusFields). f.width) (fields_of m) (numbers (length m.buses)) in
-    omega arith
 
 -- the fields of one bus of a layout
 pub layout_bus : (m : Machine) (l : Layout) (bus : ℕ) (d : BusFields) → l ≡ layout_of m → bus < length m.buses → get_or l.buses bus d ≡ fields_of m bus

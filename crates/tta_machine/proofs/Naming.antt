@@ -5,6 +5,7 @@ use Rattle.std.specs.Str.{bytes_eq}
 use Rattle.std.proofs.lemmas.Bool.{or_parts}
 use Rattle.std.proofs.lemmas.Slice.Eq.{bytes_eq-Decides}
 use Rattle.tta_reading.specs.Names.{Declared, named_in}
+use Rattle.tta_reading.proofs.Found.{named_in-new}
 use Rattle.tta_machine.specs.declared.reading.draft.Named.{Named}
 use Rattle.tta_machine.specs.declared.reading.draft.Named.TheVariants as place
 use Rattle.tta_machine.specs.declared.reading.draft.Draft.{Draft}
@@ -22,17 +23,6 @@ named_in-longer (d ∷ ds) more name p e = by (named_in-longer ds more name p) (
   by : (named_in ds name ≡ Some p → named_in (ds ++ more) name ≡ Some p)
       → (b : Bool) → (if b then Some d.1 else named_in ds name) ≡ Some p → (if b then Some d.1 else named_in (ds ++ more) name) ≡ Some p
   by later true e = e
-  by later false e = later e
-
--- a new name names what it was declared for
-pub named_in-new : {P : Type 0} (names : Declared P) (name : List ℕ) (p : P) → named_in names name ≡ None → named_in (names ++ (name, p) ∷ []) name ≡ Some p
-named_in-new {P} [] name p e =
-    let same : bytes_eq name name ≡ true = (bytes_eq-Decides name name).1 refl in
-    ap (λ (b : Bool). if b then Some p else None) same
-named_in-new (d ∷ ds) name p e = by (named_in-new ds name p) (bytes_eq d.0 name) e where
-  by : (named_in ds name ≡ None → named_in (ds ++ (name, p) ∷ []) name ≡ Some p)
-      → (b : Bool) → (if b then Some d.1 else named_in ds name) ≡ None → (if b then Some d.1 else named_in (ds ++ (name, p) ∷ []) name) ≡ Some p
-  by later true e = cc
   by later false e = later e
 
 -- a name was declared before, or is the new one
@@ -93,7 +83,7 @@ AreNamed-push {A} name at names parts new named free k x e = ⊎_elim old one (s
 
   one : (k ≡ length parts) × (new ≡ x) → named_in (names ++ (name new, at (length parts)) ∷ []) (name x) ≡ Some (at k)
   one h =
-      let here : named_in (names ++ (name new, at (length parts)) ∷ []) (name new) ≡ Some (at (length parts)) = named_in-new names (name new) (at (length parts)) free in
+      let here : named_in (names ++ (name new, at (length parts)) ∷ []) (name new) ≡ Some (at (length parts)) = named_in-new (name new) (at (length parts)) names free in
       subst (λ y. named_in (names ++ (name new, at (length parts)) ∷ []) (name y) ≡ Some (at k)) h.1 (here ∙ ap (λ j. Some (at j)) (sym h.0))
 
 -- a part changed, but not its name

@@ -1,6 +1,6 @@
 -- The line that begins a procedure keeps what makes a program keep the rules.
-use Rattle.std.proofs.Common.{◌≡◌, ℕ, ◌+◌, ◌<◌, ◌≤◌, true, false, List, ◌++◌, length, Option, Some, None, refl, sym, ◌∙◌, ap, subst, arith, length-append, append-nil, inl, inr, ◌⊎◌}
-use Rattle.std.specs.Prelude.{◌&&◌, nat_lt, is_some, slice_get, codes, option_to_list}
+use Rattle.std.proofs.Common.{◌≡◌, ℕ, ◌+◌, ◌<◌, ◌≤◌, true, false, List, ◌++◌, length, Some, refl, sym, ◌∙◌, ap, subst, arith, length-append, append-nil, inl, inr, ◌⊎◌}
+use Rattle.std.specs.Prelude.{◌&&◌, nat_lt, slice_get, codes, option_to_list}
 use Rattle.std.specs.Str.{bytes_eq}
 use Rattle.std.specs.List.{sum_by}
 use Rattle.std.specs.Cmp.Lexicographic.{nat_list_eq_equiv}
@@ -10,12 +10,9 @@ use Rattle.tta_reading.specs.Names.{named_in}
 use Rattle.tta_tac.specs.Draft.{ProcDraft, Draft}
 use Rattle.tta_tac.specs.Kept.{IsOpen, all_procs, IsKept}
 use Rattle.tta_tac.proofs.Variables.{named_more, numbered_length, numbered_below}
+use Rattle.tta_tac.proofs.Tests.{none_from_is_some}
 use Rattle.tta_tac.proofs.Taken.{fresh, with_fresh, ProcTaken}
 use Rattle.tta_tac.proofs.Growing.{sum_last, get_last}
-
-none_begun : (o : Option ProcDraft) → is_some o ≡ false → o ≡ None
-none_begun None e = refl
-none_begun (Some q) e = absurd cc
 
 none_over : (n : ℕ) → nat_lt 0 n ≡ false → n ≡ 0
 none_over n e = let few = ltb-false 0 n e in omega arith
@@ -40,7 +37,7 @@ fresh_open line params few =
 -- a procedure begins
 module _ (d e : Draft) (kept : IsKept d) (line : ℕ) (name : List ℕ) (params : List (List ℕ)) (t : ProcTaken d e line name params) where
   old_are : all_procs d ≡ d.procs
-  old_are = ap (λ o. d.procs ++ option_to_list o) (none_begun d.begun t.closed) ∙ append-nil d.procs
+  old_are = ap (λ o. d.procs ++ option_to_list o) (none_from_is_some d.begun t.closed) ∙ append-nil d.procs
 
   old_within : (m : List ℕ) (k : ℕ) → named_in d.names m ≡ Some k → k < length d.procs
   old_within m k at = subst (λ qs. k < length qs) old_are (kept.names m k at)

@@ -21,14 +21,19 @@ use Rattle.tta_tac.proofs.Calls.{reaches_within}
 
 -- ---- the passes, one after the other
 
--- as many procedures are made as there were
-pub linked_length : (d : Draft) (qs : List ProcDraft) (procs : List Proc) → link_procs d qs ≡ Ok procs → length procs ≡ length qs
-linked_length d [] procs e = let none : [] ≡ procs = cc in ap length (sym none)
-linked_length d (q ∷ qs) procs e =
+-- the first procedure and the others of what was made
+pub procs_cons : (d : Draft) (q : ProcDraft) (qs : List ProcDraft) (procs : List Proc) → link_procs d (q ∷ qs) ≡ Ok procs
+    → (r : Proc) × (rest : List Proc) × (link_proc d q ≡ Ok r) × (link_procs d qs ≡ Ok rest) × (r ∷ rest ≡ procs)
+procs_cons d q qs procs e =
     let first = bind_ok (link_proc d q) _ procs e in
     let rest = bind_ok (link_procs d qs) _ procs first.2 in
     let all : first.0 ∷ rest.0 ≡ procs = cc rest.2 in
-    ap length (sym all) ∙ ap suc (linked_length d qs rest.0 rest.1)
+    (first.0, rest.0, first.1, rest.1, all)
+
+-- as many procedures are made as there were
+pub linked_length : (d : Draft) (qs : List ProcDraft) (procs : List Proc) → link_procs d qs ≡ Ok procs → length procs ≡ length qs
+linked_length d [] procs e = let none : [] ≡ procs = cc in ap length (sym none)
+linked_length d (q ∷ qs) procs e = let c = procs_cons d q qs procs e in ap length (sym c.4) ∙ ap suc (linked_length d qs c.1 c.3)
 
 -- both passes end well, or in the refusal of the second
 pub passes_ok : (d : Draft) (procs : List Proc) (u : Units) (text : List ℕ) → IsDraftOf d u text → link_procs d d.procs ≡ Ok procs

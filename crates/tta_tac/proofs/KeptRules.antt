@@ -22,7 +22,7 @@ use Rattle.tta_tac.specs.Text.{with_main}
 use Rattle.tta_tac.specs.Cycles.{IsAcyclic}
 use Rattle.tta_tac.specs.Kept.{IsEnded, all_procs, IsKept}
 use Rattle.tta_tac.proofs.Steps.{bind_ok}
-use Rattle.tta_tac.proofs.Finished.{linked_length}
+use Rattle.tta_tac.proofs.Finished.{procs_cons, linked_length}
 use Rattle.tta_tac.proofs.LinkedSteps.{steps_length, ends_kept, steps_kept}
 
 -- what was made of a procedure
@@ -39,32 +39,26 @@ procs_params : (d : Draft) (test : ℕ → Bool) (qs : List ProcDraft) (procs : 
     → test (params_of qs k) ≡ true → option_map_or (λ q. test q.params) (slice_get procs k) false ≡ true
 procs_params d test [] procs k e below h = absurd (omega arith)
 procs_params d test (q ∷ qs) procs zero e below h =
-    let first = bind_ok (link_proc d q) _ procs e in
-    let rest = bind_ok (link_procs d qs) _ procs first.2 in
-    let all : first.0 ∷ rest.0 ≡ procs = cc rest.2 in
-    ap (λ ps. option_map_or (λ q. test q.params) (slice_get ps zero) false) (sym all)
-    ∙ ap (λ r. test r.params) (proc_ok d q first.0 first.1).2 ∙ h
+    let c = procs_cons d q qs procs e in
+    ap (λ ps. option_map_or (λ q. test q.params) (slice_get ps zero) false) (sym c.4)
+    ∙ ap (λ r. test r.params) (proc_ok d q c.0 c.2).2 ∙ h
 procs_params d test (q ∷ qs) procs (suc k) e below h =
-    let first = bind_ok (link_proc d q) _ procs e in
-    let rest = bind_ok (link_procs d qs) _ procs first.2 in
-    let all : first.0 ∷ rest.0 ≡ procs = cc rest.2 in
-    ap (λ ps. option_map_or (λ q. test q.params) (slice_get ps (suc k)) false) (sym all)
-    ∙ procs_params d test qs rest.0 k rest.1 (omega arith) h
+    let c = procs_cons d q qs procs e in
+    ap (λ ps. option_map_or (λ q. test q.params) (slice_get ps (suc k)) false) (sym c.4)
+    ∙ procs_params d test qs c.1 k c.3 (omega arith) h
 
 -- as many steps are made as there were
 procs_steps : (d : Draft) (qs : List ProcDraft) (procs : List Proc) → AllByRecursion IsEnded qs → link_procs d qs ≡ Ok procs
     → sum_by (λ q. length q.steps) procs ≡ sum_by (λ q. length q.steps) qs
 procs_steps d [] procs all e = let none : [] ≡ procs = cc in ap (λ ps. sum_by (λ q. length q.steps) ps) (sym none)
 procs_steps d (q ∷ qs) procs all e =
-    let first = bind_ok (link_proc d q) _ procs e in
-    let rest = bind_ok (link_procs d qs) _ procs first.2 in
-    let whole : first.0 ∷ rest.0 ≡ procs = cc rest.2 in
-    let made = proc_ok d q first.0 first.1 in
-    let size : length first.0.steps ≡ length q.steps = ap (λ r. length r.steps) made.2 ∙ steps_length d q.labels q.steps q.lines made.0 all.0.draft.lines made.1 in
-    ap (λ ps. sum_by (λ q. length q.steps) ps) (sym whole)
-    ∙ sum_by-cons (λ q. length q.steps) first.0 rest.0
-    ∙ ap (λ n. n + sum_by (λ q. length q.steps) rest.0) size
-    ∙ ap (λ n. length q.steps + n) (procs_steps d qs rest.0 all.1 rest.1)
+    let c = procs_cons d q qs procs e in
+    let made = proc_ok d q c.0 c.2 in
+    let size : length c.0.steps ≡ length q.steps = ap (λ r. length r.steps) made.2 ∙ steps_length d q.labels q.steps q.lines made.0 all.0.draft.lines made.1 in
+    ap (λ ps. sum_by (λ q. length q.steps) ps) (sym c.4)
+    ∙ sum_by-cons (λ q. length q.steps) c.0 c.1
+    ∙ ap (λ n. n + sum_by (λ q. length q.steps) c.1) size
+    ∙ ap (λ n. length q.steps + n) (procs_steps d qs c.1 all.1 c.3)
     ∙ sym (sum_by-cons (λ q. length q.steps) q qs)
 
 module _ (d : Draft) (p : Program)
@@ -89,10 +83,8 @@ module _ (d : Draft) (p : Program)
   procs_kept : (qs : List ProcDraft) (procs : List Proc) → AllByRecursion IsEnded qs → link_procs d qs ≡ Ok procs → AllByRecursion (IsProc p) procs
   procs_kept [] procs all e = let none : [] ≡ procs = cc in subst (λ ps. AllByRecursion (IsProc p) ps) none tt
   procs_kept (q ∷ qs) procs all e =
-      let first = bind_ok (link_proc d q) _ procs e in
-      let rest = bind_ok (link_procs d qs) _ procs first.2 in
-      let whole : first.0 ∷ rest.0 ≡ procs = cc rest.2 in
-      subst (λ ps. AllByRecursion (IsProc p) ps) whole (proc_kept q first.0 all.0 first.1, procs_kept qs rest.0 all.1 rest.1)
+      let c = procs_cons d q qs procs e in
+      subst (λ ps. AllByRecursion (IsProc p) ps) c.4 (proc_kept q c.0 all.0 c.2, procs_kept qs c.1 all.1 c.3)
 
 -- a call names a procedure that is there, and not main
 called : (names : Declared ℕ) (name : List ℕ) (k : ℕ) → callee_named names name ≡ Ok k

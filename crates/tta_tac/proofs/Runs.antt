@@ -1,12 +1,12 @@
 -- Words that are operands, all of them, and words that are free names, all of them.
-use Rattle.std.proofs.Common.{◌≡◌, Bool, true, false, not, ◌&&◌, List, [], ◌∷◌, refl, sym, ◌∙◌, ◌⊎◌, inl, inr}
+use Rattle.std.proofs.Common.{◌≡◌, Bool, true, false, not, ◌&&◌, List, [], ◌∷◌, refl, ◌⊎◌, inl, inr}
 use Rattle.std.specs.Prelude.{ℕ, Option, Some, None, map, if◌then◌else◌, is_some}
 use Rattle.std.specs.List.{list_all, cons_option}
 use Rattle.tta_reading.specs.declared.word.Word.{Word}
 use Rattle.tta_reading.specs.Lines.{Lexeme, plain}
 use Rattle.tta_reading.specs.Words.{is_name_kind}
 use Rattle.tta_reading.specs.Steps.{◌>>?◌, only_if}
-use Rattle.tta_tac.specs.Forms.{Operand, operand_of, free_name, is_reserved, operands_alone, names_alone}
+use Rattle.tta_tac.specs.Forms.{operand_of, free_name, is_reserved, operands_alone, names_alone}
 use Rattle.tta_tac.specs.Seen.{operands_in, texts}
 
 -- one more word in front: there is a value where there is one for it and for the words behind it
@@ -22,15 +22,6 @@ pub operands_alone_of : (words : List Word)
     ≡ (if list_all (λ w. is_some (operand_of (plain w))) words then Some (operands_in words) else None)
 operands_alone_of [] = refl
 operands_alone_of (w ∷ ws) = one_more (operand_of (plain w)) _ _ _ (operands_alone_of ws)
-
--- operands alone are what the words themselves stand for
-pub operands_in_alone : (words : List Word) (operands : List Operand)
-    → operands_alone (map plain words) ≡ Some operands → operands_in words ≡ operands
-operands_in_alone words operands alone =
-    by (list_all (λ w. is_some (operand_of (plain w))) words) (sym (operands_alone_of words) ∙ alone) where
-      by : (all : Bool) → (if all then Some (operands_in words) else None) ≡ Some operands → operands_in words ≡ operands
-      by true e = cc
-      by false e = cc
 
 -- a free name is the text of its word
 free_name_text : (w : Lexeme) → (free_name w ≡ None) ⊎ (free_name w ≡ Some w.text)
@@ -58,11 +49,3 @@ pub names_alone_of : (words : List Word)
     → names_alone (map plain words) ≡ (if list_all (λ w. is_some (free_name (plain w))) words then Some (texts words) else None)
 names_alone_of [] = refl
 names_alone_of (w ∷ ws) = one_more_name (free_name (plain w)) w.text.now _ _ _ (free_name_text (plain w)) (names_alone_of ws)
-
--- free names alone are the texts of the words themselves
-pub texts_alone : (words : List Word) (names : List (List ℕ)) → names_alone (map plain words) ≡ Some names → texts words ≡ names
-texts_alone words names alone =
-    by (list_all (λ w. is_some (free_name (plain w))) words) (sym (names_alone_of words) ∙ alone) where
-      by : (all : Bool) → (if all then Some (texts words) else None) ≡ Some names → texts words ≡ names
-      by true e = cc
-      by false e = cc

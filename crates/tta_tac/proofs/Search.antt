@@ -1,5 +1,5 @@
 -- What a search along calls has found.
-use Rattle.std.proofs.Common.{◌≡◌, ℕ, suc, ◌+◌, ◌<◌, ◌≤◌, Bool, true, false, List, [], ◌∷◌, ◌++◌, length, get_or, take, set, replicate, zero, refl, sym, ◌∙◌, ap, arith, append_assoc, length-append, append-nil, inl, inr, ◌≢◌, ◌⊎◌}
+use Rattle.std.proofs.Common.{◌≡◌, ℕ, suc, ◌+◌, ◌<◌, ◌≤◌, Bool, true, false, List, [], ◌∷◌, ◌++◌, length, get_or, take, set, replicate, zero, refl, sym, ◌∙◌, ap, arith, length-append, inl, inr, ◌≢◌, ◌⊎◌}
 use Rattle.std.specs.Prelude.{◌||◌, ◌&&◌, ◌==◌, nat_lt}
 use Rattle.std.specs.List.{list_any}
 use Rattle.std.proofs.lemmas.List.Folds.{list_any-append, list_any_more, list_any_at}
@@ -47,38 +47,6 @@ marks_one marks found place h below clear = record {
       let other : k ≢ place = λ e. t.1 (sym e) in
       get_or-set_other marks place k true false other ∙ h.same k
       ∙ sym (found_more found place k ∙ ap (λ b. is_found found k || b) t.0 ∙ or_false (is_found found k))
-
--- ---- steps of a procedure one after the other
-
--- a test of two lists, at the places that there are
-any_in : (n k : ℕ) (a b c : Bool) → ((a || (nat_lt k n && b)) || (nat_lt k n && c)) ≡ (a || (nat_lt k n && (b || c)))
-any_in n k a b c = by (nat_lt k n) a b c where
-  by : (t a b c : Bool) → ((a || (t && b)) || (t && c)) ≡ (a || (t && (b || c)))
-  by t true b c = refl
-  by true false b c = refl
-  by false false b c = refl
-
--- before the first step, and after one more
-pub finds_none : (n : ℕ) (found : List ℕ) → Finds n (λ k. false) found found
-finds_none n found = record { all = λ k. by (nat_lt k n) (is_found found k); more = []; front = sym (append-nil found) } where
-  by : (t a : Bool) → a ≡ (a || (t && false))
-  by t true = refl
-  by true false = refl
-  by false false = refl
-
-pub finds_more : (n : ℕ) (steps : List Step) (i : ℕ) (s : Step) (a b c : List ℕ) → i < length steps → s ≡ get_or steps i s
-    → Finds n (λ k. list_any (calls_proc k) (take i steps)) a b → Finds n (λ k. calls_proc k s) b c
-    → Finds n (λ k. list_any (calls_proc k) (take (i + 1) steps)) a c
-finds_more n steps i s a b c below at f g = record {
-  all = λ k.
-      g.all k
-      ∙ ap (λ t. t || (nat_lt k n && calls_proc k s)) (f.all k)
-      ∙ any_in n k (is_found a k) (list_any (calls_proc k) (take i steps)) (calls_proc k s)
-      ∙ ap (λ t. is_found a k || (nat_lt k n && t))
-      (ap (λ x. list_any (calls_proc k) (take i steps) || calls_proc k x) at ∙ sym (list_any_more (calls_proc k) steps i s below));
-  more = f.more ++ g.more;
-  front = g.front ∙ ap (λ x. x ++ g.more) f.front ∙ append_assoc a f.more g.more;
-}
 
 -- ---- a search from one procedure
 
@@ -187,11 +155,6 @@ module _ (procs : List Proc) (from : ℕ) (marks new_marks : List Bool) (found n
     closed i j (inr f) b e =
         let same = is ∙ eqb-true (get_or found next place) i f in
         comes j b (sym (calls_are j) ∙ ap (λ x. calls (with_main procs 0) x j) same ∙ e)
-
--- at the end
-pub search_back : (procs : List Proc) (from : ℕ) (marks : List Bool) (found : List ℕ) (next : ℕ) → IsSearch procs from marks found next
-    → get_or marks from false ≡ true → Reaches (with_main procs 0) from from
-search_back procs from marks found next h e = h.sound from (sym (h.marked.same from) ∙ e)
 
 pub search_no : (procs : List Proc) (from : ℕ) (marks : List Bool) (found : List ℕ) (next : ℕ) → IsSearch procs from marks found next
     → from < length procs → length found ≤ next → get_or marks from false ≡ false → Reaches (with_main procs 0) from from → ⊥

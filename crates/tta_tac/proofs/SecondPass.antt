@@ -53,43 +53,42 @@ module _ (d : Draft) (labels : Declared ℕ) (steps : List NamedStep) (lines : L
       at_drop_more (λ ss. link_steps d labels (steps_seen ss) (drop k lines)) steps k s below
       ∙ at_drop_more (λ ls. link_steps d labels (step_seen (get_or steps k s) ∷ steps_seen (drop (k + 1) steps)) ls) lines k 0 (subst (λ n. k < n) (sym same) below)
 
+  -- the next step is made or refused
+  step_next : (k : ℕ) (s : NamedStep) (done : List Step) (r : Result Step Refusal) → k < length steps → length lines ≡ length steps → s ≡ get_or steps k s
+      → r ≡ link_step d labels (step_seen s)
+      → behind done (steps_from k) ≡ behind done (at_line (get_or lines k 0) r >>= λ first. steps_from (k + 1) >>= λ rest. Ok (first ∷ rest))
+  step_next k s done r below same is made =
+      ap (λ r. behind done r) (step_from k s below same
+      ∙ ap (λ r. at_line (get_or lines k 0) r >>= λ first. steps_from (k + 1) >>= λ rest. Ok (first ∷ rest))
+      (ap (λ y. link_step d labels (step_seen y)) (sym is) ∙ sym made))
+
   pub steps_more : (k : ℕ) (s : NamedStep) (done : List Step) (x : Step) → k < length steps → length lines ≡ length steps → s ≡ get_or steps k s
       → Ok x ≡ link_step d labels (step_seen s)
       → behind done (steps_from k) ≡ behind (done ++ x ∷ []) (steps_from (k + 1))
-  steps_more k s done x below same is made =
-      ap (λ r. behind done r) (step_from k s below same
-      ∙ ap (λ r. at_line (get_or lines k 0) r >>= λ first. steps_from (k + 1) >>= λ rest. Ok (first ∷ rest))
-      (ap (λ y. link_step d labels (step_seen y)) (sym is) ∙ sym made))
-      ∙ behind_one done x (steps_from (k + 1))
-
-  pub steps_refused : (k : ℕ) (s : NamedStep) (done : List Step) (e : Refusal) → k < length steps → length lines ≡ length steps → s ≡ get_or steps k s
-      → Err e ≡ link_step d labels (step_seen s)
-      → behind done (steps_from k) ≡ Err (get_or lines k 0, e)
-  steps_refused k s done e below same is made =
-      ap (λ r. behind done r) (step_from k s below same
-      ∙ ap (λ r. at_line (get_or lines k 0) r >>= λ first. steps_from (k + 1) >>= λ rest. Ok (first ∷ rest))
-      (ap (λ y. link_step d labels (step_seen y)) (sym is) ∙ sym made))
+  steps_more k s done x below same is made = step_next k s done (Ok x) below same is made ∙ behind_one done x (steps_from (k + 1))
 
 module _ (d : Draft) (procs : List DraftProc) where
   abbrev pub procs_from : ℕ → Result (List Proc) Refused
   procs_from k = link_procs d (procs_seen (drop k procs))
 
-  pub procs_more : (k : ℕ) (q : DraftProc) (done : List Proc) (x : Proc) → k < length procs → q ≡ get_or procs k q
-      → link_proc d (proc_seen q) ≡ Ok x
-      → behind done (procs_from k) ≡ behind (done ++ x ∷ []) (procs_from (k + 1))
-  procs_more k q done x below is made =
+  -- the next procedure is made or refused
+  proc_next : (k : ℕ) (q : DraftProc) (done : List Proc) (r : Result Proc Refused) → k < length procs → q ≡ get_or procs k q
+      → link_proc d (proc_seen q) ≡ r
+      → behind done (procs_from k) ≡ behind done (r >>= λ first. procs_from (k + 1) >>= λ rest. Ok (first ∷ rest))
+  proc_next k q done r below is made =
       ap (λ r. behind done r) (at_drop_more (λ qs. link_procs d (procs_seen qs)) procs k q below
       ∙ ap (λ r. r >>= λ first. procs_from (k + 1) >>= λ rest. Ok (first ∷ rest))
       (ap (λ y. link_proc d (proc_seen y)) (sym is) ∙ made))
-      ∙ behind_one done x (procs_from (k + 1))
+
+  pub procs_more : (k : ℕ) (q : DraftProc) (done : List Proc) (x : Proc) → k < length procs → q ≡ get_or procs k q
+      → link_proc d (proc_seen q) ≡ Ok x
+      → behind done (procs_from k) ≡ behind (done ++ x ∷ []) (procs_from (k + 1))
+  procs_more k q done x below is made = proc_next k q done (Ok x) below is made ∙ behind_one done x (procs_from (k + 1))
 
   pub procs_refused : (k : ℕ) (q : DraftProc) (done : List Proc) (e : Refused) → k < length procs → q ≡ get_or procs k q
       → link_proc d (proc_seen q) ≡ Err e
       → behind done (procs_from k) ≡ Err e
-  procs_refused k q done e below is made =
-      ap (λ r. behind done r) (at_drop_more (λ qs. link_procs d (procs_seen qs)) procs k q below
-      ∙ ap (λ r. r >>= λ first. procs_from (k + 1) >>= λ rest. Ok (first ∷ rest))
-      (ap (λ y. link_proc d (proc_seen y)) (sym is) ∙ made))
+  procs_refused k q done e below is made = proc_next k q done (Err e) below is made
 
 -- each of the code's procedures keeps what all of them keep
 pub ended_at : (procs : List DraftProc) (k : ℕ) (q : DraftProc) → AllByRecursion IsEnded (procs_seen procs) → k < length procs

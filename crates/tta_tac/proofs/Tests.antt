@@ -1,5 +1,5 @@
--- What a test made of two says of each of them.
-use Rattle.std.proofs.Common.{◌≡◌, Bool, true, false, refl}
+-- What tests say: one made of two, and one for something that may be missing.
+use Rattle.std.proofs.Common.{◌≡◌, Bool, true, false, Option, Some, None, is_some, refl}
 use Rattle.std.specs.Prelude.{◌&&◌, ◌||◌}
 use Rattle.std.proofs.lemmas.Bool.{and_parts, and_from, or_right}
 
@@ -20,3 +20,8 @@ or_false false = refl
 -- two tests hold where two others do from which they follow
 pub and_map : {a b c d : Bool} → (a ≡ true → c ≡ true) → (b ≡ true → d ≡ true) → (a && b) ≡ true → (c && d) ≡ true
 and_map {a} {b} {c} {d} left right h = and_from c d (left (and_left a b h)) (right (and_right a b h))
+
+-- nothing is there where the test for something fails
+pub none_from_is_some : {A : Type 0} (o : Option A) → is_some o ≡ false → o ≡ None
+none_from_is_some None e = refl
+none_from_is_some (Some x) e = absurd cc

@@ -74,13 +74,6 @@ module _ {P : Type 0} where
       ∙ is_twice_more ds name place names
       ∙ ap (λ b. b || is_twice_after (ds ++ (name, place) ∷ []) names) fresh)
 
-  -- a name that was declared before
-  pub is_twice_found : (ds : Declared P) (words : List Word) (i : ℕ) (d : Word) → i < length words
-      → is_some (named_in ds (get_or words i d).text.now) ≡ true → is_twice_after ds (texts (drop i words)) ≡ true
-  is_twice_found ds words i d below found =
-      at_drop_more (λ ws. is_twice_after ds (texts ws)) words i d below
-      ∙ ap (λ b. (b || list_any (λ m. is_some (named_in ds m)) (texts (drop (i + 1) words))) || has_twice (texts (get_or words i d ∷ drop (i + 1) words))) found
-
   -- where no name stands twice, the next one was not declared
   pub is_twice_fresh : (ds : Declared P) (words : List Word) (i : ℕ) (d : Word) → i < length words
       → is_twice_after ds (texts (drop i words)) ≡ false → is_some (named_in ds (get_or words i d).text.now) ≡ false

@@ -1,16 +1,17 @@
 -- Variables get their numbers, and operands are among them.
-use Rattle.std.proofs.Common.{◌≡◌, ℕ, suc, ◌+◌, ◌<◌, ◌≤◌, ◌^◌, Bool, true, false, List, [], ◌∷◌, ◌++◌, length, Option, Some, None, refl, ap, arith, length-append, inl, inr, ◌⊎◌}
+use Rattle.std.proofs.Common.{◌≡◌, ℕ, suc, ◌+◌, ◌<◌, ◌≤◌, ◌^◌, Bool, true, false, List, [], ◌∷◌, ◌++◌, length, Option, Some, None, refl, ap, ◌∙◌, arith, length-append, inl, inr, ◌⊎◌}
 use Rattle.std.specs.Prelude.{nat_lt, if◌then◌else◌, is_some}
 use Rattle.std.specs.Option.{option_map_or}
 use Rattle.std.specs.Str.{bytes_eq}
 use Rattle.std.specs.List.{list_all}
-use Rattle.std.proofs.lemmas.Bool.{lt-ltb}
+use Rattle.std.proofs.lemmas.Bool.{lt-ltb, or_left, or_right}
 use Rattle.std.specs.Cmp.Lexicographic.{nat_list_eq_equiv}
 use Rattle.tta_reading.specs.Names.{Declared, named_in}
 use Rattle.tta_tac.specs.Rules.{is_src}
 use Rattle.tta_tac.specs.Forms.{Operand, Named, Constant}
 use Rattle.tta_tac.specs.FirstPass.{with_var, var_number, with_operand, with_operands, src_of, srcs_of, numbered}
 use Rattle.tta_tac.proofs.Tests.{and_map}
+use Rattle.tta_tac.proofs.Twice.{declared-more}
 
 -- ---- names
 
@@ -30,24 +31,13 @@ module _ {P : Type 0} where
     by rest true e = inl e
     by rest false e = rest e
 
-  -- a name goes on naming, and the new one does
+  -- a name goes on naming, and the new one names something
   named_stays : (ds : Declared P) (name : List ℕ) (place : P) (m : List ℕ) → is_some (named_in ds m) ≡ true
       → is_some (named_in (ds ++ (name, place) ∷ []) m) ≡ true
-  named_stays [] name place m e = absurd cc
-  named_stays (d ∷ ds) name place m e = by (named_stays ds name place m) (bytes_eq d.0 m) e where
-    by : (is_some (named_in ds m) ≡ true → is_some (named_in (ds ++ (name, place) ∷ []) m) ≡ true)
-        → (t : Bool) → is_some (if t then Some d.1 else named_in ds m) ≡ true
-        → is_some (if t then Some d.1 else named_in (ds ++ (name, place) ∷ []) m) ≡ true
-    by rest true e = refl
-    by rest false e = rest e
+  named_stays ds name place m e = declared-more ds name place m ∙ or_left (is_some (named_in ds m)) (bytes_eq m name) e
 
   named_last : (ds : Declared P) (name : List ℕ) (place : P) → is_some (named_in (ds ++ (name, place) ∷ []) name) ≡ true
-  named_last [] name place = ap (λ t. is_some (if t then Some place else None)) (nat_list_eq_equiv.refl name)
-  named_last (d ∷ ds) name place = by (bytes_eq d.0 name) (named_last ds name place) where
-    by : (t : Bool) → is_some (named_in (ds ++ (name, place) ∷ []) name) ≡ true
-        → is_some (if t then Some d.1 else named_in (ds ++ (name, place) ∷ []) name) ≡ true
-    by true e = refl
-    by false e = e
+  named_last ds name place = declared-more ds name place name ∙ or_right (is_some (named_in ds name)) (bytes_eq name name) (nat_list_eq_equiv.refl name)
 
 -- ---- variables
 
