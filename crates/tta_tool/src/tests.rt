@@ -3,6 +3,7 @@
 mod assembly;
 mod dot_product;
 mod exec;
+mod failing;
 mod moves;
 mod operations;
 mod programs;
