@@ -1,4 +1,4 @@
-//! The commands over files in memory: a program is compiled or run, and each fault is told.
+//! The commands over files in memory: a program is compiled or run, and each refusal is told.
 
 mod assembly;
 mod dot_product;
@@ -27,9 +27,9 @@ const PROGRAM: &str = "proc main\nout 7\nhalt\nend\n";
 /// Code of three words, which two addresses do not hold.
 const LONG: &str = "proc main\nout 7\nout 7\nhalt\nend\n";
 
-/// The machines `M` and `S`, the programs `P` and `Q`, and the calls that fail.
-fn files_of(alloc: Global, failing: Vec<u64>) -> Result<MemFiles, Fail> {
-    let mut files = MemFiles::new(alloc, failing);
+/// The machines `M` and `S`, and the programs `P` and `Q`.
+fn files_of(alloc: Global) -> Result<MemFiles, Fail> {
+    let mut files = MemFiles::new(alloc, Vec::new(alloc));
     files.add("M", MACHINE.as_bytes())?;
     files.add("S", SMALL.as_bytes())?;
     files.add("P", PROGRAM.as_bytes())?;
@@ -50,7 +50,7 @@ fn ends(alloc: Global, files: &mut MemFiles, words: &[&str]) -> Result<Status, F
 #[test]
 fn constant_is_compiled(rt: HostRuntime) -> Result<(), Fail> {
     let alloc = rt.alloc();
-    let mut files = files_of(alloc, Vec::new(alloc))?;
+    let mut files = files_of(alloc)?;
     let status = ends(alloc, &mut files, &["build", "M", "P", "OUT"])?;
     assert_eq!(rt; status, Status::Ok);
     let image = files.get("OUT").ok_or("no image")?;
@@ -62,7 +62,7 @@ fn constant_is_compiled(rt: HostRuntime) -> Result<(), Fail> {
 #[test]
 fn refusals_write_nothing(rt: HostRuntime) -> Result<(), Fail> {
     let alloc = rt.alloc();
-    let mut files = files_of(alloc, Vec::new(alloc))?;
+    let mut files = files_of(alloc)?;
     assert_eq!(rt; ends(alloc, &mut files, &[])?, Status::Usage);
     let refusals = [
         ("M", "M", Status::BadProgram { line: 1, code: 20 }),
@@ -74,43 +74,6 @@ fn refusals_write_nothing(rt: HostRuntime) -> Result<(), Fail> {
         let status = ends(alloc, &mut files, &["build", machine, program, "OUT"])?;
         assert_eq!(rt; status, refusal, "of {machine} and {program}");
         assert_eq!(rt; files.get("OUT"), None);
-    }
-    Ok(())
-}
-
-/// The bytes of the image that a good run writes.
-fn good_image(alloc: Global) -> Result<Vec<u8>, Fail> {
-    let mut files = files_of(alloc, Vec::new(alloc))?;
-    let status = ends(alloc, &mut files, &["build", "M", "P", "OUT"])?;
-    if status != Status::Ok {
-        return Err(Fail::new("a good run fails"));
-    }
-    let image = files.get("OUT").ok_or("no image")?;
-    Ok(Vec::from_slice(alloc, image)?)
-}
-
-/// Whether the machine and the program are as they were.
-fn are_inputs_kept(files: &MemFiles) -> bool {
-    files.get("M") == Some(MACHINE.as_bytes()) && files.get("P") == Some(PROGRAM.as_bytes())
-}
-
-#[test]
-fn faults_of_each_call_are_told(rt: HostRuntime) -> Result<(), Fail> {
-    let alloc = rt.alloc();
-    let image = good_image(alloc)?;
-    let first_half = image.get(..image.len() / 2).ok_or("no half")?;
-    let faults = [
-        (1, Status::ReadFault { word: 1 }, b"before".as_slice()),
-        (2, Status::ReadFault { word: 2 }, b"before".as_slice()),
-        (3, Status::WriteFault, first_half),
-    ];
-    for (call, fault, left) in faults {
-        let mut files = files_of(alloc, vec![in alloc; call]?)?;
-        files.add("OUT", b"before")?;
-        let status = ends(alloc, &mut files, &["build", "M", "P", "OUT"])?;
-        assert_eq!(rt; status, fault, "at call {call}");
-        assert_eq!(rt; files.get("OUT"), Some(left), "after call {call}");
-        assert!(rt; are_inputs_kept(&files), "after call {call}");
     }
     Ok(())
 }

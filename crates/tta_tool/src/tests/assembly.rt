@@ -16,8 +16,8 @@ const ASSEMBLY: &str = "# for ever\nagain: 7\n -> OUT.t.out ;\nagain -> gcu.t.ju
 const CANONICAL: &str = "7 -> OUT.t.out ;\n0 -> gcu.t.jump ;\n";
 
 /// The machine `M`, its assembly `A`, and another, `BAD`, with a refusal in line 2.
-fn files_of(alloc: Global, failing: Vec<u64>) -> Result<MemFiles, Fail> {
-    let mut files = MemFiles::new(alloc, failing);
+fn files_of(alloc: Global) -> Result<MemFiles, Fail> {
+    let mut files = MemFiles::new(alloc, Vec::new(alloc));
     files.add("M", MACHINE.as_bytes())?;
     files.add("A", ASSEMBLY.as_bytes())?;
     files.add("BAD", b"7 -> OUT.t.out ;\n256 -> OUT.t.out ;\n")?;
@@ -37,7 +37,7 @@ fn ends(alloc: Global, files: &mut MemFiles, words: &[&str]) -> Result<Status, F
 #[test]
 fn image_is_shown_as_it_was_read(rt: HostRuntime) -> Result<(), Fail> {
     let alloc = rt.alloc();
-    let mut files = files_of(alloc, Vec::new(alloc))?;
+    let mut files = files_of(alloc)?;
     assert_eq!(rt;
         ends(alloc, &mut files, &["asm", "M", "A", "IMG"])?,
         Status::Ok
@@ -59,7 +59,7 @@ fn image_is_shown_as_it_was_read(rt: HostRuntime) -> Result<(), Fail> {
 #[test]
 fn assembly_refusals_write_nothing(rt: HostRuntime) -> Result<(), Fail> {
     let alloc = rt.alloc();
-    let mut files = files_of(alloc, Vec::new(alloc))?;
+    let mut files = files_of(alloc)?;
     let refused = Status::BadAsm { line: 2, code: 56 };
     assert_eq!(rt;
         ends(alloc, &mut files, &["asm", "M", "BAD", "OUT"])?,
@@ -78,27 +78,5 @@ fn assembly_refusals_write_nothing(rt: HostRuntime) -> Result<(), Fail> {
     );
     assert_eq!(rt; files.get("OUT"), None);
     assert_eq!(rt; files.get("A"), Some(ASSEMBLY.as_bytes()));
-    Ok(())
-}
-
-#[test]
-fn assembly_calls_may_fail(rt: HostRuntime) -> Result<(), Fail> {
-    let alloc = rt.alloc();
-    let failures = [
-        Status::ReadFault { word: 1 },
-        Status::ReadFault { word: 2 },
-        Status::WriteFault,
-    ];
-    for (k, status) in failures.iter().enumerate() {
-        let mut failing = Vec::new(alloc);
-        failing.push(k as u64 + 1)?;
-        let mut files = files_of(alloc, failing)?;
-        assert_eq!(rt;
-            ends(alloc, &mut files, &["asm", "M", "A", "OUT"])?,
-            *status,
-            "call {k}"
-        );
-        assert_eq!(rt; files.get("A"), Some(ASSEMBLY.as_bytes()));
-    }
     Ok(())
 }

@@ -159,7 +159,11 @@ fn printing_commands_fail_at_each_put(rt: HostRuntime) -> Result<(), Fail> {
             let mut files = files_of(alloc, &image, Vec::new(alloc))?;
             let mut sink = MemSink::new(alloc, 100, vec![in alloc; put as u64]?)?;
             let status = run(alloc, &words_of(alloc, &words)?, &mut files, &mut sink)?;
-            let ending = if put < 6 { Status::WriteFault } else { Status::Ok };
+            let ending = if put < 6 {
+                Status::WriteFault
+            } else {
+                Status::Ok
+            };
             assert_eq!(rt; status, ending, "put {put}");
             let taken = taken_until(alloc, &lines, put)?;
             assert_eq!(rt; sink.bytes(), taken.as_slice(), "put {put}");
