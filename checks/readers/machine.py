@@ -139,25 +139,40 @@ def bits(count):
     return max(count - 1, 0).bit_length()
 
 
+def joined(m, socket, bus):
+    return socket is not None and bus in m.sockets[socket][1]
+
+
 def sources_on(m, bus):
-    def joined(socket):
-        return socket is not None and bus in m.sockets[socket][1]
-    count = sum(size for _, size, _, _, out, _ in m.files.values() if joined(out))
-    count += sum(size for size, out in m.imms.values() if joined(out))
-    return count + sum(joined(unit["r"]) for unit in m.units.values()) + joined(m.control[3])
+    """The sources of a bus as assembly names them, in the order of their codes from 0."""
+    found = [f"{name}.{i}" for name, file in m.files.items() if joined(m, file[4], bus) for i in range(file[1])]
+    found += [f"{name}.{i}" for name, (size, out) in m.imms.items() if joined(m, out, bus) for i in range(size)]
+    found += [f"{name}.r" for name, unit in m.units.items() if joined(m, unit["r"], bus)]
+    return found + ["gcu.ra"] * joined(m, m.control[3], bus)
 
 
 def dests_on(m, bus):
-    def joined(socket):
-        return socket is not None and bus in m.sockets[socket][1]
-    count = sum(size for _, size, _, _, _, into in m.files.values() if joined(into))
-    count += sum(joined(unit["o"]) + joined(unit["t"]) * len(unit["ops"]) for unit in m.units.values())
-    return count + 3 * joined(m.control[2])
+    """The destinations of a bus, in the order of their codes from 1."""
+    found = [f"{name}.{i}" for name, file in m.files.items() if joined(m, file[5], bus) for i in range(file[1])]
+    for name, unit in m.units.items():
+        found += [f"{name}.o"] * joined(m, unit["o"], bus)
+        found += [f"{name}.t.{op}" for op in unit["ops"] if joined(m, unit["t"], bus)]
+    return found + [f"gcu.t.{op}" for op in ("jump", "call", "halt") if joined(m, m.control[2], bus)]
+
+
+def guards_on(m, bus):
+    """The guards of a bus as assembly writes them, in the order of their codes from 1."""
+    return [f"{'?' if way == 'plain' else '!'}{file}.{index}" for on, file, index, way in m.guards if on == bus]
+
+
+def widths(m, bus):
+    """The bits of the guard, source and destination fields of a bus."""
+    short = m.buses[bus][0]
+    return bits(1 + len(guards_on(m, bus))), 1 + max(short, bits(len(sources_on(m, bus)))), bits(1 + len(dests_on(m, bus)))
 
 
 def slot_bits(m, bus):
-    guards = bits(1 + sum(guard[0] == bus for guard in m.guards))
-    return guards + 1 + max(m.buses[bus][0], bits(sources_on(m, bus))) + bits(1 + dests_on(m, bus))
+    return sum(widths(m, bus))
 
 
 def machine(text):
