@@ -1,5 +1,6 @@
-//! Each call of the files and each put of a line fails in turn, for each command. The status tells the first fault, no file
-//! changes but the front of the one that is written, and the output has the lines before the fault and half of the next.
+//! Each call of the files and each put of a line fails in turn, for each command. The status tells
+//! the first fault, no file changes but the front of the one that is written, and the output has
+//! the lines before the fault and half of the next.
 
 use crate::run;
 use crate::status::Status;
