@@ -1,0 +1,71 @@
+"""What a command of the built program takes: seconds of the processor, which other work on the machine touches less than
+those of the clock, and memory."""
+import os
+import subprocess
+import time
+
+PROGRAM = os.path.join(os.path.dirname(os.path.abspath(__file__)), "..", "crates", "tta_tool", "out", "tta_tool")
+FEWEST, MOST, ENOUGH = 3, 30, 1.5
+
+
+class Failed(Exception):
+    """A command ended with another status than the one that is right."""
+
+
+class Folder:
+    """A folder with the files that commands are measured on."""
+
+    def __init__(self, path):
+        self.path = path
+
+    def write(self, name, text):
+        with open(os.path.join(self.path, name), "w") as f:
+            f.write(text)
+
+    def start(self, words):
+        return subprocess.Popen([PROGRAM, *words], cwd=self.path, stdout=subprocess.DEVNULL, stderr=subprocess.PIPE)
+
+    def run(self, words, status=0):
+        """The seconds of the processor that a command takes, which ends with this status."""
+        return end(self.start(words), words, status)
+
+    def seconds(self, words, status):
+        """The least of some runs: three at least, and more of a command that is short."""
+        taken = []
+        while len(taken) < FEWEST or (len(taken) < MOST and sum(taken) < ENOUGH):
+            taken.append(self.run(words, status))
+        return min(taken)
+
+    def memory(self, words, status):
+        """The most bytes that three runs were seen to hold, which is looked at a few thousand times a second."""
+        return max(self.memory_of_run(words, status) for _ in range(3))
+
+    def memory_of_run(self, words, status):
+        process, most, now = self.start(words), 0, 1
+        while now:
+            now = held(process)
+            most = max(most, now)
+            time.sleep(0.0001)
+        end(process, words, status)
+        return most
+
+
+def end(process, words, status):
+    """Waits for the end of a process, looks at its status, and tells the seconds of the processor that it took."""
+    said = process.stderr.read().decode().strip()
+    _, ended, used = os.wait4(process.pid, 0)
+    process.returncode = os.waitstatus_to_exitcode(ended)
+    process.stderr.close()
+    if process.returncode != status:
+        raise Failed(f"tta {' '.join(words)} ended with {process.returncode} and not with {status}: {said}")
+    return used.ru_utime + used.ru_stime
+
+
+def held(process):
+    """The most bytes that a process has held up to now; 0 once it has ended."""
+    try:
+        with open(f"/proc/{process.pid}/status") as lines:
+            peaks = [line.split()[1] for line in lines if line.startswith("VmHWM")]
+    except OSError:
+        return 0
+    return 1024 * int(peaks[0]) if peaks else 0
