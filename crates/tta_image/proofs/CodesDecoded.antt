@@ -15,9 +15,10 @@ use Rattle.tta_machine.specs.Fields.{guards_on, sources_on, dests_on, same_sourc
 use Rattle.tta_machine.specs.Layout.{fields_of, has_source_socket}
 use Rattle.tta_machine.specs.Rules.{IsMachine, same_guard, are_different}
 use Rattle.tta_image.specs.Decoding.{decoded_guard, decoded_dest}
+use Rattle.tta_image.specs.Ranks.{source_rank, dest_rank}
 use Rattle.tta_image.proofs.Places.{place_inside}
 use Rattle.tta_image.proofs.Rising.{rising-position, rising-rank}
-use Rattle.tta_image.proofs.EndRanks.{source_rank, dest_rank, sources_on-rise, dests_on-rise}
+use Rattle.tta_image.proofs.EndRanks.{sources_on-rise, dests_on-rise}
 use Rattle.tta_image.proofs.EndsLemmas.{same_source_true, same_source_itself, same_dest_true, same_dest_itself, same_guard_true, source_kept, dest_kept, guard_kept}
 
 -- ---- sources and destinations

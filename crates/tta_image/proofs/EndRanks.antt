@@ -16,24 +16,8 @@ use Rattle.tta_machine.specs.Fields.{numbers, all_sources, all_dests, sources_on
 use Rattle.tta_machine.specs.Joins.{is_source_on, is_dest_on}
 use Rattle.tta_machine.specs.Rules.{IsMachine, is_file, is_imm, is_unit}
 use Rattle.tta_machine.proofs.Sizes.{small_file, small_imm, small_unit}
-use Rattle.tta_image.proofs.Rising.{Rising, rising_lower, rising_raise, rising-append, rising-filter, rising-range, rising-pieces}
-
--- ---- ranks
-
-abbrev pub source_rank : Source → ℕ
-source_rank (source.Reg f i) = f * 256 + i
-source_rank (source.Imm u i) = 4096 + u * 256 + i
-source_rank (source.Shown u) = 8192 + u
-source_rank source.Ra = 16384
-source_rank (source.Value w) = 16385
-
-abbrev pub dest_rank : Dest → ℕ
-dest_rank (dest.Reg f i) = f * 256 + i
-dest_rank (dest.Operand u) = 4096 + u * 256
-dest_rank (dest.Trigger u i) = 4096 + u * 256 + 1 + i
-dest_rank dest.Jump = 16384
-dest_rank dest.Call = 16385
-dest_rank dest.Halt = 16386
+use Rattle.tta_image.specs.Ranks.{source_rank, dest_rank, Rising}
+use Rattle.tta_image.proofs.Rising.{rising_lower, rising_raise, rising-append, rising-filter, rising-range, rising-pieces}
 
 -- ---- what the rules say of sizes
 

@@ -12,9 +12,10 @@ use Rattle.tta_machine.specs.Rules.{IsMachine, is_bus}
 use Rattle.tta_machine.specs.Fields.{width_from, width_for, short_width, guards_on, sources_on, dests_on, template_width}
 use Rattle.tta_machine.specs.Layout.{fields_of, layout_of}
 use Rattle.tta_image.specs.Narrow.{IsNarrow, AreNarrow}
+use Rattle.tta_image.specs.Ranks.{source_rank, dest_rank}
 use Rattle.tta_image.proofs.Rising.{rising-length}
 use Rattle.tta_image.proofs.ShortWords.{item_passes}
-use Rattle.tta_image.proofs.EndRanks.{source_rank, dest_rank, sources_on-rise, dests_on-rise}
+use Rattle.tta_image.proofs.EndRanks.{sources_on-rise, dests_on-rise}
 
 width_from-most : (tries v codes width : ℕ) → v ≤ width → width ≤ v + tries → codes ≤ 2 ^ width → width_from tries v codes ≤ width
 width_from-most zero v codes width low high fits = omega arith

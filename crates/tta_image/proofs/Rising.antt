@@ -3,11 +3,7 @@ use Rattle.std.proofs.Common.{◌≡◌, ℕ, zero, suc, ◌+◌, ◌*◌, ◌<�
 use Rattle.std.specs.List.{flat_map, enumerate_from, range_with_len, position_or_len, AllByRecursion}
 use Rattle.std.proofs.lemmas.Bool.{false_from_ne_true}
 use Rattle.std.proofs.lemmas.Option.{none-some, same_Some}
-
--- the ranks rise, from a least one on and below a bound
-abbrev pub Rising : {X : Type 0} → (X → ℕ) → (low : ℕ) → List X → (high : ℕ) → Type 0
-Rising rank low [] high = low ≤ high
-Rising rank low (x ∷ xs) high = (low ≤ rank x) × Rising rank (rank x + 1) xs high
+use Rattle.tta_image.specs.Ranks.{Rising}
 
 pub rising_lower : {X : Type 0} (rank : X → ℕ) (low low' : ℕ) (xs : List X) (high : ℕ) → low' ≤ low → Rising rank low xs high → Rising rank low' xs high
 rising_lower rank low low' [] high h r = omega arith

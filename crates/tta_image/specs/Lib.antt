@@ -6,4 +6,5 @@ pub mod Laws
 pub mod Refusals
 pub mod Decoding
 pub mod Narrow
+pub mod Ranks
 pub mod Reading

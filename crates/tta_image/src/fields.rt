@@ -4,40 +4,15 @@ ghost use Rattle.std.specs.Prelude.{◌≡◌, ◌+◌, ◌≤◌, ◌<◌, ◌%
 ghost use Rattle.std.specs.List.{position, position_or_len};
 ghost use Rattle.tta_machine.specs.Joins.{is_same_guard};
 ghost use Rattle.tta_machine.specs.Fields.{same_source, same_dest};
+ghost use Rattle.tta_image.specs.Ranks.{IsInOrder};
 ghost use Rattle.tta_image.specs.Fields.{guard_number, dest_number, source_field, slot_field};
 ghost use Rattle.tta_image.specs.Fields.{bus_field, left_after};
 
+use crate::search::{place_of_dest, place_of_source};
 use crate::sink::{BitSink, without_low};
 use std::alloc::AllocError;
 use tta_code::Move;
 use tta_machine::{BusFields, Dest, Guard, GuardRef, Source};
-
-/// Whether two sources are one.
-fn same_source(a: Source, b: Source) -> bool
-    ensures { result ≡ same_source a b }
-{
-    match (a, b) {
-        (Source::Reg { file: f, index: i }, Source::Reg { file: g, index: j }) => f == g && i == j,
-        (Source::Imm { unit: f, index: i }, Source::Imm { unit: g, index: j }) => f == g && i == j,
-        (Source::Shown { unit: u }, Source::Shown { unit: v }) => u == v,
-        (Source::Ra, Source::Ra) => true,
-        (Source::Value(x), Source::Value(y)) => x == y,
-        _ => false,
-    }
-}
-
-/// Whether two destinations are one.
-fn same_dest(a: Dest, b: Dest) -> bool
-    ensures { result ≡ same_dest a b }
-{
-    match (a, b) {
-        (Dest::Reg { file: f, index: i }, Dest::Reg { file: g, index: j }) => f == g && i == j,
-        (Dest::Operand { unit: u }, Dest::Operand { unit: v }) => u == v,
-        (Dest::Trigger { unit: u, op: i }, Dest::Trigger { unit: v, op: j }) => u == v && i == j,
-        (Dest::Jump, Dest::Jump) | (Dest::Call, Dest::Call) | (Dest::Halt, Dest::Halt) => true,
-        _ => false,
-    }
-}
 
 /// Whether two guards are of one register and one sense.
 fn same_guard(a: GuardRef, b: GuardRef) -> bool
@@ -57,13 +32,6 @@ fn low_bits(number: u64, count: u32) -> u64
     }
 }
 
-/// Where a source stands first in a list.
-fn place_of_source(sources: &[Source], src: Source) -> Option<usize>
-    ensures { result ≡ position (same_source src) sources.now }
-{
-    sources.iter().position(|s| same_source(src, *s))
-}
-
 /// Where a guard stands first in a list.
 fn place_of_guard(guards: &[Guard], on: GuardRef) -> Option<usize>
     ensures { result ≡ position (λ g. is_same_guard g.on on) guards.now }
@@ -71,15 +39,9 @@ fn place_of_guard(guards: &[Guard], on: GuardRef) -> Option<usize>
     guards.iter().position(|g| same_guard(g.on, on))
 }
 
-/// Where a destination stands first in a list.
-fn place_of_dest(dests: &[Dest], dst: Dest) -> Option<usize>
-    ensures { result ≡ position (same_dest dst) dests.now }
-{
-    dests.iter().position(|d| same_dest(dst, *d))
-}
-
 /// The code of a source.
 fn source_code(fields: &BusFields, src: Source) -> usize
+    requires order { IsInOrder fields.now }
     ensures { result ≡ position_or_len (same_source src) fields.now.sources }
 {
     let sources = fields.sources.as_slice();
@@ -99,6 +61,7 @@ fn guard_code(fields: &BusFields, guard: Option<GuardRef>) -> usize
 
 /// The code of a destination.
 fn dest_code(fields: &BusFields, dst: Dest) -> usize
+    requires order { IsInOrder fields.now }
     ensures { result ≡ dest_number fields.now dst }
 {
     let dests = fields.dests.as_slice();
@@ -107,6 +70,7 @@ fn dest_code(fields: &BusFields, dst: Dest) -> usize
 
 /// Puts a source field at the end.
 fn push_source(fields: &BusFields, sink: &mut BitSink, src: Source) -> Result<(), AllocError>
+    requires order { IsInOrder fields.now }
     ensures ok { OnOk result (sink.new ≡ sink.old ++ source_field fields.now src) }
 {
     if let Source::Value(word) = src {
@@ -124,6 +88,7 @@ fn push_source(fields: &BusFields, sink: &mut BitSink, src: Source) -> Result<()
 
 /// Puts the three fields of a slot at the end.
 fn push_slot(fields: &BusFields, sink: &mut BitSink, slot: Option<Move>) -> Result<(), AllocError>
+    requires order { IsInOrder fields.now }
     ensures ok { OnOk result (sink.new ≡ sink.old ++ slot_field fields.now slot) }
 {
     if let Some(v) = slot {
@@ -146,7 +111,8 @@ pub fn push_bus(
     value: u32,
     slot: Option<Move>,
 ) -> Result<u32, AllocError>
-    requires { is_taken ≡ true → fields.now.width ≤ left }
+    requires order { IsInOrder fields.now }
+    requires taken { is_taken ≡ true → fields.now.width ≤ left }
     ensures bits { OnOk result
         (sink.new ≡ sink.old ++ bus_field fields.now is_taken left value slot) }
     ensures left { IfOk result (λ n. n ≡ left_after fields.now is_taken left) }

@@ -7,6 +7,7 @@ mod header;
 mod laws;
 mod read;
 mod refusal;
+mod search;
 mod sink;
 mod slots;
 mod words;

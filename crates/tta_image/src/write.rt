@@ -10,6 +10,7 @@ ghost use Rattle.tta_machine.specs.Layout.{layout_of};
 ghost use Rattle.tta_code.specs.Legal.{IsLegalCode};
 ghost use Rattle.tta_image.specs.Bits.{bits_of, template_code, slots_bits, instruction_bits};
 ghost use Rattle.tta_image.specs.Image.{Image};
+ghost use Rattle.tta_image.specs.Ranks.{AreInOrder};
 ghost use Rattle.tta_image.specs.Fields.{buses_of, value_of};
 
 use crate::fields::push_bus;
@@ -62,6 +63,7 @@ fn push_slots(
     moves: &[Option<Move>],
 ) -> Result<(), AllocError>
     requires layout { layout.now ≡ layout_of m.now }
+    requires order { AreInOrder layout.now.buses }
     requires fits { word_width m.now < 2 ^ 32 }
     requires slots { length moves.now ≡ length m.now.buses }
     ensures ok { OnOk result
@@ -84,6 +86,7 @@ fn push_instruction(
     i: &Instruction,
 ) -> Result<(), AllocError>
     requires layout { layout.now ≡ layout_of m.now }
+    requires order { AreInOrder layout.now.buses }
     requires fits { word_width m.now < 2 ^ 32 }
     requires slots { length i.now.moves ≡ length m.now.buses }
     ensures ok { OnOk result (sink.new ≡ sink.old ++ instruction_bits m.now i.now) }
@@ -102,6 +105,7 @@ fn push_words(
     words: &[Instruction],
 ) -> Result<(), AllocError>
     requires layout { layout.now ≡ layout_of m.now }
+    requires order { AreInOrder layout.now.buses }
     requires fits { word_width m.now < 2 ^ 32 }
     requires slots { All (λ i. length i.moves ≡ length m.now.buses) words.now }
     ensures ok { OnOk result (sink.new ≡ sink.old ++ flat_map (instruction_bits m.now) words.now) }
@@ -150,6 +154,8 @@ pub fn write_image(
     requires { IsLegalCode m.now code.now }
     ensures { IfOk result (λ v. Image m.now digest.now code.now v.items) }
 {
+    // The sources and destinations of a bus are in order by the rules of a machine.
+    let _control = &m.control;
     let layout = Layout::of(alloc, m)?;
     let mut sink = BitSink::new(alloc);
     push_words(&layout, m, &mut sink, code.words.as_slice())?;

@@ -10,5 +10,5 @@ returns-in_ok-push_number-clause-bits c =
     let number = c.without_low.ensures ∙ ap (λ (n : ℕ). n / 2 ^ (left - f.width)) c.from.ensures in
     c.in_ok-push_number.ensures.ok
     ∙ ap (λ (n : ℕ). c.args.sink.now ++ bits_of f.width n) number
-    ∙ ap (λ l. c.args.sink.now ++ l) (sym (take_left f.width left c.args.value (c.requires c.if-is_taken.true)))
+    ∙ ap (λ l. c.args.sink.now ++ l) (sym (take_left f.width left c.args.value (c.requires.taken c.if-is_taken.true)))
     ∙ ap (λ (b : Bool). c.args.sink.now ++ bus_field f b left c.args.value c.args.slot) (sym c.if-is_taken.true)

@@ -1,7 +1,9 @@
-use Rattle.std.proofs.Common.{◌≡◌, ℕ, ◌-◌, ◌<◌, ◌∙◌, ◌++◌, length, refl, sym, ap, arith}
+use Rattle.std.proofs.Common.{◌≡◌, ℕ, ◌-◌, ◌<◌, ◌∙◌, ◌++◌, List, length, get_or, refl, sym, ap, arith}
+use Rattle.tta_machine.specs.declared.layout.BusFields.{BusFields}
 use Rattle.std.specs.List.{sum_by, range_with_len}
 use Rattle.tta_image.specs.Bits.{bits_of, slots_bits}
 use Rattle.tta_machine.proofs.Layouts.{set_width_at, set_width, layout_bus_read, layout_buses}
+use Rattle.tta_image.proofs.Orders.{in_order_at}
 use Rattle.tta_image.proofs.LayoutLemmas.{slots_more, left_more, left_enough}
 use Rattle.tta_image.proofs.write.push_slots.Goals as goal
 
@@ -28,12 +30,18 @@ offset_bounds-as_slice-bus c =
     let within : c.loop-bus.bus < length c.as_slice.result.now = omega arith in
     omega (arith, c.as_slice.type_inv.1)
 
-pub push_bus-requires : goal.push_bus-requires
-push_bus-requires c =
+pub push_bus-requires-clause-taken : goal.push_bus-requires-clause-taken
+push_bus-requires-clause-taken c =
     let m = c.args.m.now in
     let is = layout_bus_read m c.args.layout.now c.as_slice.result.now c.loop-bus.bus c.index-as_slice-bus.result c.requires.layout c.as_slice.ensures (omega arith) c.index-as_slice-bus.is in
     λ h. left_enough m c.args.taken c.loop-bus.bus (length c.args.moves.now) c.loop-bus.left c.index-as_slice-bus.result c.loop-bus-test.true is c.loop-bus.invariant.left
     (sym c.has_bus.ensures ∙ h)
+
+pub push_bus-requires-clause-order : goal.push_bus-requires-clause-order
+push_bus-requires-clause-order c =
+    let many = layout_buses c.args.m.now c.args.layout.now c.requires.layout in
+    in_order_at c.args.layout.now.buses c.loop-bus.bus c.index-as_slice-bus.result c.requires.order (omega arith)
+    (c.index-as_slice-bus.is ∙ ap (λ (fs : List BusFields). get_or fs c.loop-bus.bus c.index-as_slice-bus.result) c.as_slice.ensures)
 
 pub loop-bus-preserved : goal.loop-bus-preserved
 loop-bus-preserved c =

@@ -1,8 +1,11 @@
-use Rattle.std.proofs.Common.{◌≡◌, ◌++◌, List, ap, ◌∙◌, length}
+use Rattle.std.proofs.Common.{◌≡◌, ◌++◌, List, ap, ◌∙◌, length, subst}
 use Rattle.std.specs.List.{flat_map}
 use Rattle.std.proofs.lemmas.List.Elements.{All-same}
 use Rattle.tta_code.specs.declared.code.Instruction.{Instruction}
 use Rattle.tta_machine.specs.declared.layout.Layout.{Layout}
+use Rattle.tta_machine.specs.Machine.{Machine}
+use Rattle.tta_machine.specs.Rules.{IsMachine}
+use Rattle.tta_image.proofs.Orders.{layout_in_order}
 use Rattle.tta_image.specs.Bits.{instruction_bits}
 use Rattle.tta_image.proofs.ImageLemmas.{parts_from, are_bytes_of_same, legal_slots}
 use Rattle.tta_image.proofs.write.write_image.Goals as goal
@@ -10,6 +13,11 @@ use Rattle.tta_image.proofs.write.write_image.Goals as goal
 pub push_words-requires-clause-slots : goal.push_words-requires-clause-slots
 push_words-requires-clause-slots c =
     All-same (λ (i : Instruction). length i.moves ≡ length c.args.m.now.buses) _ _ c.as_slice.ensures (legal_slots c.args.m.now c.args.code.now.words c.requires.words)
+
+pub push_words-requires-clause-order : goal.push_words-requires-clause-order
+push_words-requires-clause-order c =
+    let rules = subst (λ (m : Machine). IsMachine m) c.m.view_is c.m.invariant in
+    layout_in_order c.args.m.now c.in_ok-layout.layout rules c.in_ok-layout.ensures
 
 pub returns : goal.returns
 returns c = record {
