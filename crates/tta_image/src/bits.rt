@@ -1,28 +1,29 @@
 //! The bits of bytes.
 
-ghost use Rattle.std.specs.Prelude.{◌≡◌, ◌+◌, ◌*◌, ◌<◌, ◌≤◌, ◌^◌, false, length, slice_index_or};
-ghost use Rattle.tta_image.specs.Sink.{bit_value};
+ghost use Rattle.std.specs.Prelude.{◌≡◌, ◌+◌, ◌-◌, ◌*◌, ◌/◌, ◌%◌, ◌<◌, ◌≤◌, ◌^◌, length, min};
 ghost use Rattle.tta_image.specs.Decoding.{bits_in, field};
 
-use crate::sink::without_low;
-
-/// A bit, counted from the highest of the first byte.
-fn bit_at(bytes: &[u8], at: usize) -> bool
-    requires { at < 8 * length bytes.now }
-    ensures { result ≡ slice_index_or (bits_in bytes.now) at false }
+/// So many bits of a byte, after so many others, as a number.
+fn part_of(byte: u8, after: usize, count: u32) -> u64
+    requires { after + count ≤ 8 }
+    ensures value { result ≡ byte / 2 ^ (8 - after - count) % 2 ^ count }
+    ensures small { result < 2 ^ count }
 {
-    without_low(u64::from(bytes[at / 8]), 7 - (at % 8) as u32) % 2 == 1
+    let shifted = u32::from(byte) >> (8 - after as u32 - count);
+    u64::from(shifted % (1 << count))
 }
 
-/// A number with one more bit after its bits.
-fn with_bit(number: u64, bit: bool) -> u64
-    requires { number < 2 ^ 63 }
-    ensures { result ≡ 2 * number + bit_value bit }
+/// The number with the bits of a part behind those of a number.
+fn joined(number: u64, part: u64, count: u32) -> u64
+    requires fits { number * 2 ^ count + part < 2 ^ 64 }
+    requires few { count ≤ 8 }
+    ensures { result ≡ number * 2 ^ count + part }
 {
-    if bit { 2 * number + 1 } else { 2 * number }
+    (number << count) + part
 }
 
-/// The number in so many bits, after so many others.
+/// The number in so many bits, after so many others. It is put together from bytes and parts of
+/// bytes.
 pub fn number_at(bytes: &[u8], at: usize, width: u32) -> u64
     requires few { 8 * length bytes.now < 2 ^ 64 }
     requires small { width ≤ 64 }
@@ -30,8 +31,13 @@ pub fn number_at(bytes: &[u8], at: usize, width: u32) -> u64
     ensures { result ≡ field at width (bits_in bytes.now) }
 {
     let mut number: u64 = 0;
-    for bit in 0..width {
-        number = with_bit(number, bit_at(bytes, at + bit as usize));
+    let mut done: u32 = 0;
+    while done < width {
+        let place = at + done as usize;
+        let after = place % 8;
+        let count = (8 - after as u32).min(width - done);
+        number = joined(number, part_of(bytes[place / 8], after, count), count);
+        done += count;
     }
     number
 }

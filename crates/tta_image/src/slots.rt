@@ -1,7 +1,8 @@
 //! The fields of a slot, read bus by bus.
 
-ghost use Rattle.std.specs.Prelude.{◌≡◌, ◌+◌, ◌*◌, ◌<◌, ◌≤◌, ◌^◌, length, drop, slice_get};
-ghost use Rattle.tta_image.specs.Decoding.{bits_in, slot_numbers, decoded_guard, short_word};
+ghost use Rattle.std.specs.Prelude.{◌≡◌, ◌+◌, ◌*◌, ◌/◌, ◌%◌, ◌<◌, ◌≤◌, ◌^◌, Bool, List, length};
+ghost use Rattle.std.specs.Prelude.{drop, slice_get};
+ghost use Rattle.tta_image.specs.Decoding.{bits_in, field, slot_numbers, decoded_guard, short_word};
 ghost use Rattle.tta_image.specs.Decoding.{decoded_source, decoded_dest, decoded_move};
 ghost use Rattle.tta_image.specs.Decoding.{decoded_slot};
 ghost use Rattle.tta_image.specs.Narrow.{IsNarrow};
@@ -20,6 +21,32 @@ pub struct SlotNumbers {
     pub dest: u64,
 }
 
+/// A number without its `count` low bits, and these.
+fn split_low(number: u64, count: u32) -> (u64, u64)
+    requires { count < 64 }
+    ensures high { result.0 ≡ number / 2 ^ count }
+    ensures low { result.1 ≡ number % 2 ^ count }
+{
+    (number >> count, number % (1 << count))
+}
+
+/// The numbers in the fields of a slot whose bits are all in one number.
+fn numbers_in(fields: &BusFields, whole: u64) -> SlotNumbers
+    requires narrow { IsNarrow fields.now }
+    ensures { (bits : List Bool) → fields.now.width ≤ length bits
+        → whole ≡ field 0 fields.now.width bits → result ≡ slot_numbers fields.now bits }
+{
+    let (above, dest) = split_low(whole, fields.dest_width);
+    let (high, payload) = split_low(above, fields.payload_width);
+    let (guard, tag) = split_low(high, 1);
+    SlotNumbers {
+        guard,
+        is_short: tag == 1,
+        payload,
+        dest,
+    }
+}
+
 /// The numbers in the fields of the slot that begins after so many bits.
 fn numbers_at(fields: &BusFields, bytes: &[u8], at: usize) -> SlotNumbers
     requires narrow { IsNarrow fields.now }
@@ -27,14 +54,7 @@ fn numbers_at(fields: &BusFields, bytes: &[u8], at: usize) -> SlotNumbers
     requires room { at + fields.now.width ≤ 8 * length bytes.now }
     ensures { result ≡ slot_numbers fields.now (drop at (bits_in bytes.now)) }
 {
-    let source = at + fields.guard_width as usize;
-    let dest = source + 1 + fields.payload_width as usize;
-    SlotNumbers {
-        guard: number_at(bytes, at, fields.guard_width),
-        is_short: number_at(bytes, source, 1) == 1,
-        payload: number_at(bytes, source + 1, fields.payload_width),
-        dest: number_at(bytes, dest, fields.dest_width),
-    }
+    numbers_in(fields, number_at(bytes, at, fields.width))
 }
 
 /// The guard of a code: 0 is no guard.
