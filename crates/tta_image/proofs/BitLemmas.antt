@@ -29,11 +29,6 @@ bits_of-with_bit zero n b = ap (λ c. c ∷ []) (odd n b)
 bits_of-with_bit (suc k) n b =
     ap (λ m. (m % 2 == 1) ∷ bits_of (suc k) (2 * n + bit_value b)) (halves n k b) ∙ ap (λ l. (n / 2 ^ k % 2 == 1) ∷ l) (bits_of-with_bit k n b)
 
--- the highest bit and the others
-pub bits_of-step : (w n : ℕ) → 0 < w → bits_of w n ≡ (n / 2 ^ (w - 1) % 2 == 1) ∷ bits_of (w - 1) n
-bits_of-step zero n h = absurd (omega arith)
-bits_of-step (suc w) n h = let e : suc w - 1 ≡ w = omega arith in rw e
-
 -- ---- what a sink shows
 
 -- a bit that makes the last byte full
@@ -55,18 +50,6 @@ shows_more bytes filled last last' shown b twice was =
     ap (λ l. flat_map (bits_of 8) bytes ++ l) (ap (λ n. bits_of (filled + 1) n) twice ∙ ap (λ w. bits_of w (2 * last + bit_value b)) (add-one filled) ∙ bits_of-with_bit filled last b)
     ∙ sym (append_assoc (flat_map (bits_of 8) bytes) (bits_of filled last) (b ∷ []))
     ∙ ap (λ l. l ++ b ∷ []) was
-
--- one step of a number's bits
-pub number_more : (shown all : List Bool) (left n : ℕ) (b : Bool) → 0 < left → b ≡ (n / 2 ^ (left - 1) % 2 == 1)
-    → shown ++ bits_of left n ≡ all → (shown ++ b ∷ []) ++ bits_of (left - 1) n ≡ all
-number_more shown all left n b some is was =
-    append_assoc shown (b ∷ []) (bits_of (left - 1) n)
-    ∙ ap (λ c. shown ++ (c ∷ bits_of (left - 1) n)) is ∙ ap (λ l. shown ++ l) (sym (bits_of-step left n some)) ∙ was
-
--- one step of a run of zeros
-pub zeros_more : (shown start : List Bool) (k : ℕ) → shown ≡ start ++ replicate k false → shown ++ false ∷ [] ≡ start ++ replicate (k + 1) false
-zeros_more shown start k was =
-    ap (λ l. l ++ false ∷ []) was ∙ append_assoc start (replicate k false) (false ∷ []) ∙ ap (λ l. start ++ l) (replicate_more k false)
 
 -- a number's bits with zeros after them
 pub bits_of-shifted : (f z n : ℕ) → bits_of (f + z) (n * 2 ^ z) ≡ bits_of f n ++ replicate z false

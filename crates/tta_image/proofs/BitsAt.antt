@@ -1,13 +1,12 @@
 -- Bits and fields at their places in bytes.
-use Rattle.std.proofs.Common.{◌≡◌, ℕ, ◌+◌, ◌*◌, ◌^◌, ◌<◌, ◌≤◌, Bool, true, false, List, length, take, drop, sym, ap, ◌∙◌, arith}
-use Rattle.std.proofs.lemmas.List.{length-drop, length-take-le, drop-drop}
+use Rattle.std.proofs.Common.{◌≡◌, ℕ, ◌+◌, ◌^◌, ◌<◌, ◌≤◌, Bool, true, false, List, length, take, drop, sym, ap, ◌∙◌, arith}
+use Rattle.std.proofs.lemmas.List.{length-drop, length-take-le}
 use Rattle.std.specs.List.{position_or_len}
 use Rattle.std.proofs.lemmas.List.FromFn.{length-range_with_len, get_or-range_with_len}
 use Rattle.std.proofs.lemmas.List.Sums.{position_or_len_is}
 use Rattle.tta_machine.specs.Joins.{has_bit}
 use Rattle.tta_machine.specs.Fields.{numbers}
-use Rattle.tta_image.specs.Decoding.{bits_in, number_of, field}
-use Rattle.tta_image.proofs.Unique.{length-bytes}
+use Rattle.tta_image.specs.Decoding.{field}
 use Rattle.tta_image.proofs.Numbers.{number_of-below}
 
 -- a field of so many bits is below so much
@@ -17,14 +16,6 @@ field_below bits at width inside =
     let small = number_of-below (take width (drop at bits)) in
     let e : 2 ^ length (take width (drop at bits)) ≡ 2 ^ width = ap (λ (n : ℕ). 2 ^ n) (length-take-le width (drop at bits) (omega arith)) in
     omega arith
-
--- a field of the bits after some others
-pub field_after : (bits : List Bool) (at offset place width : ℕ) → at + offset ≡ place → field place width bits ≡ field offset width (drop at bits)
-field_after bits at offset place width e =
-    ap (λ (k : ℕ). field k width bits) (sym e) ∙ ap (λ (l : List Bool). number_of (take width l)) (sym (drop-drop offset at bits))
-
-pub bits_there : (bytes : List ℕ) (n : ℕ) → n ≤ 8 * length bytes → n ≤ length (bits_in bytes)
-bits_there bytes n h = let e = length-bytes bytes in omega arith
 
 -- the least number whose bit is set, or how many numbers there are
 pub least_is : (taken n bus : ℕ) → bus ≤ n → ((k : ℕ) → k < bus → has_bit taken k ≡ false) → (bus < n → has_bit taken bus ≡ true)

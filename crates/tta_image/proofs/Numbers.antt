@@ -25,11 +25,6 @@ number_of-append (true ∷ xs) ys =
     grind arith
 number_of-append (false ∷ xs) ys = let more = number_of-append xs ys in omega arith
 
--- one bit more
-pub number_of-with_bit : (bits : List Bool) (b : Bool) → number_of (bits ++ b ∷ []) ≡ 2 * number_of bits + bit_value b
-number_of-with_bit bits true = let e = number_of-append bits (true ∷ []) in omega arith
-number_of-with_bit bits false = let e = number_of-append bits (false ∷ []) in omega arith
-
 bit_value-odd : (n : ℕ) → bit_value (n % 2 == 1) ≡ n % 2
 bit_value-odd n = elim (cases_eq (n % 2) 1) [
   | inl odd ↦ ap bit_value (eq-eqb (n % 2) 1 odd) ∙ sym odd

@@ -1,7 +1,7 @@
 //! A sink of bits, which packs them into bytes.
 
-ghost use Rattle.std.specs.Prelude.{◌≡◌, ◌+◌, ◌-◌, ◌*◌, ◌<◌, ◌/◌, ◌%◌, ◌^◌, ◌==◌, [], ◌∷◌, ◌++◌};
-ghost use Rattle.std.specs.Prelude.{false, replicate, IfOk, OnOk};
+ghost use Rattle.std.specs.Prelude.{◌≡◌, ◌+◌, ◌-◌, ◌*◌, ◌<◌, ◌≤◌, ◌/◌, ◌%◌, ◌^◌, ◌==◌, [], ◌∷◌};
+ghost use Rattle.std.specs.Prelude.{◌++◌, false, replicate, IfOk, OnOk};
 ghost use Rattle.tta_image.specs.Bits.{bits_of};
 ghost use Rattle.tta_image.specs.Image.{AreBytesOf};
 ghost use Rattle.tta_image.specs.Sink.{bit_value};
@@ -53,6 +53,15 @@ fn with_bit(bits: u8, bit: bool) -> u8
     if bit { 2 * bits + 1 } else { 2 * bits }
 }
 
+/// A byte's bits with the low bits of a number after them, so many of them.
+fn with_bits(bits: u8, number: u64, count: u32) -> u8
+    requires few { count ≤ 8 }
+    requires room { bits * 2 ^ count + number % 2 ^ count < 256 }
+    ensures { result ≡ bits * 2 ^ count + number % 2 ^ count }
+{
+    ((u64::from(bits) << count) + number % (1 << count)) as u8
+}
+
 /// The byte that begins with `filled` bits, filled up with zeros.
 fn filled_up(bits: u8, filled: u8) -> u8
     requires some { 0 < filled }
@@ -91,6 +100,28 @@ impl BitSink {
         Ok(())
     }
 
+    /// Puts the highest of the `left` low bits of a number at the end, as many as the last byte has
+    /// room for. Tells how many are left after them.
+    fn push_front(&mut self, number: u64, left: u32) -> Result<u32, AllocError>
+        requires { 0 < left }
+        ensures less { IfOk result (λ n. n < left) }
+        ensures ok { IfOk result
+            (λ n. self.new ++ bits_of n number ≡ self.old ++ bits_of left number) }
+    {
+        let room = u32::from(8 - self.filled);
+        let count = room.min(left);
+        let last = with_bits(self.last, without_low(number, left - count), count);
+        if count == room {
+            self.bytes.push(last)?;
+            self.last = 0;
+            self.filled = 0;
+        } else {
+            self.last = last;
+            self.filled += count as u8;
+        }
+        Ok(left - count)
+    }
+
     /// Puts a number in so many bits at the end, the highest first. Bits of the number above these
     /// are left out.
     pub fn push_number(&mut self, number: u64, width: u32) -> Result<(), AllocError>
@@ -98,8 +129,7 @@ impl BitSink {
     {
         let mut left = width;
         while left > 0 {
-            left -= 1;
-            self.push(without_low(number, left) % 2 == 1)?;
+            left = self.push_front(number, left)?;
         }
         Ok(())
     }
@@ -108,10 +138,7 @@ impl BitSink {
     pub fn push_zeros(&mut self, count: u32) -> Result<(), AllocError>
         ensures ok { OnOk result (self.new ≡ self.old ++ replicate count false) }
     {
-        for _ in 0..count {
-            self.push(false)?;
-        }
-        Ok(())
+        self.push_number(0, count)
     }
 
     /// The bytes of the bits, the last of them filled up with zero bits.
