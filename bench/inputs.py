@@ -46,6 +46,11 @@ def procedures(lines):
     return "".join(parts) + "proc main\nhalt\nend\n"
 
 
+def constants(lines):
+    """A program of so many lines that puts a word out in each line but three."""
+    return "proc main\n" + "".join(f"out {k % 256}\n" for k in range(lines - 3)) + "halt\nend\n"
+
+
 STEPS = """proc main
 a = 1
 b = 2
