@@ -1,15 +1,16 @@
 -- Procedures that others lead to by calls.
-use Rattle.std.proofs.Common.{◌≡◌, ℕ, ◌<◌, Bool, true, false, List, [], ◌∷◌, length, get_or, Option, Some, None, refl, sym, ap, arith}
+use Rattle.std.proofs.Common.{◌≡◌, ℕ, ◌<◌, ◌≤◌, Bool, true, false, List, [], ◌∷◌, length, get_or, Option, Some, None, nat_le, nat_lt, refl, sym, ap, ◌∙◌, arith}
 use Rattle.std.specs.Prelude.{◌||◌, slice_get}
 use Rattle.std.specs.List.{list_all, list_any}
 use Rattle.std.specs.Option.{option_map_or}
+use Rattle.std.proofs.lemmas.Bool.{leb-true, ltb-true}
 use Rattle.std.proofs.lemmas.Option.{slice_get_read, slice_get_within, slice_get-get_or, get_or_from_slice_get}
 use Rattle.tta_tac.specs.declared.step.Step.{Step}
 use Rattle.tta_tac.specs.declared.step.Step.TheVariants.{Invoke}
 use Rattle.tta_tac.specs.declared.program.Proc.{Proc}
 use Rattle.tta_tac.specs.Rules.{calls, calls_proc, Reaches, ByCall, ByMore}
 use Rattle.tta_tac.specs.Text.{with_main}
-use Rattle.tta_tac.specs.Cycles.{IsAcyclic, goes_down, is_found}
+use Rattle.tta_tac.specs.Cycles.{AreLevel, passes, is_found}
 use Rattle.tta_tac.proofs.Tests.{and_left, and_right}
 
 -- what a procedure calls, by its steps
@@ -38,39 +39,55 @@ pub reaches_within : (procs : List Proc) (i j : ℕ) → Reaches (with_main proc
 reaches_within procs i j (ByCall _ _ e) = calls_within procs i j e
 reaches_within procs i j (ByMore _ via _ e r) = calls_within procs i via e
 
--- ---- numbers that fall
+-- ---- numbers that never rise
 
-module _ (numbers : List ℕ) (own j : ℕ) (below : j < length numbers) where
-  down_one : (s : Step) → goes_down numbers own s ≡ true → calls_proc j s ≡ true → get_or numbers j 0 < own
-  down_one (Invoke d k args) down call = grind (arith, slice_get-get_or numbers j 0 below)
-  down_one s down call = absurd cc
+module _ (test : ℕ → Bool) (numbers : List ℕ) (j : ℕ) (below : j < length numbers) where
+  pass_one : (s : Step) → passes test numbers s ≡ true → calls_proc j s ≡ true → test (get_or numbers j 0) ≡ true
+  pass_one (Invoke d k args) pass call = grind (arith, slice_get-get_or numbers j 0 below)
+  pass_one s pass call = absurd cc
 
-  pub down_all : (ss : List Step) → list_all (goes_down numbers own) ss ≡ true → list_any (calls_proc j) ss ≡ true
-      → get_or numbers j 0 < own
-  down_all [] down call = absurd cc
-  down_all (s ∷ ss) down call = by (down_all ss (and_right (goes_down numbers own s) _ down)) (calls_proc j s) refl call where
-    by : (list_any (calls_proc j) ss ≡ true → get_or numbers j 0 < own)
-        → (t : Bool) → calls_proc j s ≡ t → (t || list_any (calls_proc j) ss) ≡ true → get_or numbers j 0 < own
-    by rest true at e = down_one s (and_left (goes_down numbers own s) (list_all (goes_down numbers own) ss) down) at
+  pub pass_all : (ss : List Step) → list_all (passes test numbers) ss ≡ true → list_any (calls_proc j) ss ≡ true
+      → test (get_or numbers j 0) ≡ true
+  pass_all [] pass call = absurd cc
+  pass_all (s ∷ ss) pass call = by (pass_all ss (and_right (passes test numbers s) _ pass)) (calls_proc j s) refl call where
+    by : (list_any (calls_proc j) ss ≡ true → test (get_or numbers j 0) ≡ true)
+        → (t : Bool) → calls_proc j s ≡ t → (t || list_any (calls_proc j) ss) ≡ true → test (get_or numbers j 0) ≡ true
+    by rest true at e = pass_one s (and_left (passes test numbers s) (list_all (passes test numbers) ss) pass) at
     by rest false at e = rest e
 
-module _ (procs : List Proc) (numbers : List ℕ) (size : length numbers ≡ length procs)
-    (down : (i : ℕ) (q : Proc) → i < length procs → q ≡ get_or procs i q → list_all (goes_down numbers (get_or numbers i 0)) q.steps ≡ true) where
-  call_falls : (i j : ℕ) → calls (with_main procs 0) i j ≡ true → j < length procs → get_or numbers j 0 < get_or numbers i 0
-  call_falls i j e below =
-      let found = caller procs i j e in
-      let within : j < length numbers = omega arith in
-      down_all numbers (get_or numbers i 0) j within found.0.steps (down i found.0 (calls_within procs i j e) found.1) found.2
+module _ (procs : List Proc) (numbers : List ℕ) (size : length numbers ≡ length procs) (level : AreLevel procs numbers) where
+  -- the numbers that a procedure calls pass what its steps pass
+  call_passes : (test : ℕ → Bool) (i j : ℕ) (q : Proc) → i < length procs → q ≡ get_or procs i q → list_all (passes test numbers) q.steps ≡ true
+      → calls (with_main procs 0) i j ≡ true → j < length procs → test (get_or numbers j 0) ≡ true
+  call_passes test i j q within at pass e below =
+      let there : j < length numbers = omega arith in
+      pass_all test numbers j there q.steps pass (sym (calls_of procs i j q within at) ∙ e)
 
-  reach_falls : (i j : ℕ) → Reaches (with_main procs 0) i j → j < length procs → get_or numbers j 0 < get_or numbers i 0
-  reach_falls i j (ByCall _ _ e) below = call_falls i j e below
-  reach_falls i j (ByMore _ via _ e r) below =
-      let first = call_falls i via e (reaches_within procs via j r) in
-      let rest = reach_falls via j r below in
+  call_level : (i j : ℕ) → calls (with_main procs 0) i j ≡ true → j < length procs → get_or numbers j 0 ≤ get_or numbers i 0
+  call_level i j e below =
+      let found = caller procs i j e in
+      let within = calls_within procs i j e in
+      leb-true (get_or numbers j 0) (get_or numbers i 0)
+      (call_passes (λ n. nat_le n (get_or numbers i 0)) i j found.0 within found.1 (level i found.0 within found.1) e below)
+
+  reach_level : (i j : ℕ) → Reaches (with_main procs 0) i j → j < length procs → get_or numbers j 0 ≤ get_or numbers i 0
+  reach_level i j (ByCall _ _ e) below = call_level i j e below
+  reach_level i j (ByMore _ via _ e r) below =
+      let first = call_level i via e (reaches_within procs via j r) in
+      let rest = reach_level via j r below in
       omega arith
 
-  pub none_back : IsAcyclic procs
-  none_back k r = let falls = reach_falls k k r (reaches_within procs k k r) in omega arith
+  -- a procedure all of whose calls go to smaller numbers does not lead back to itself
+  pub not_back : (k : ℕ) (q : Proc) → k < length procs → q ≡ get_or procs k q → list_all (passes (λ n. nat_lt n (get_or numbers k 0)) numbers) q.steps ≡ true
+      → Reaches (with_main procs 0) k k → ⊥
+  not_back k q within at falls (ByCall _ _ e) =
+      let less = ltb-true (get_or numbers k 0) (get_or numbers k 0) (call_passes (λ n. nat_lt n (get_or numbers k 0)) k k q within at falls e within) in
+      absurd (omega arith)
+  not_back k q within at falls (ByMore _ via _ e r) =
+      let less = ltb-true (get_or numbers via 0) (get_or numbers k 0)
+      (call_passes (λ n. nat_lt n (get_or numbers k 0)) k via q within at falls e (reaches_within procs via k r)) in
+      let back = reach_level via k r within in
+      absurd (omega arith)
 
 -- ---- what is closed under calls
 

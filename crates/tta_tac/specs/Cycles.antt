@@ -1,7 +1,7 @@
 -- How it is found out whether a procedure leads back to itself by calls.
-use Rattle.std.specs.Prelude.{◌≡◌, ℕ, ◌+◌, ◌==◌, nat_lt, Bool, true, false, ◌&&◌, ◌||◌, if◌then◌else◌, List, [], ◌∷◌, ◌++◌, length, slice_get, slice_index_or}
+use Rattle.std.specs.Prelude.{◌≡◌, ℕ, ◌+◌, ◌<◌, ◌==◌, nat_le, nat_lt, Bool, true, false, ◌&&◌, ◌||◌, if◌then◌else◌, List, [], ◌∷◌, ◌++◌, length, slice_get, slice_index_or}
 use Rattle.std.specs.Option.{option_map_or}
-use Rattle.std.specs.List.{list_any}
+use Rattle.std.specs.List.{list_all, list_any}
 use Rattle.tta_tac.specs.declared.step.Step.{Step}
 use Rattle.tta_tac.specs.declared.step.Step.TheVariants.{Invoke}
 use Rattle.tta_tac.specs.declared.program.Proc.{Proc}
@@ -12,12 +12,18 @@ use Rattle.tta_tac.specs.Text.{with_main}
 abbrev pub IsAcyclic : List Proc → Type 0
 IsAcyclic procs = (k : ℕ) → Reaches (with_main procs 0) k k → ⊥
 
--- ---- numbers that fall along calls
+-- ---- numbers that never rise along calls
 
--- whether a step of a procedure with its own number calls only procedures with smaller ones
-abbrev pub goes_down : (numbers : List ℕ) (own : ℕ) → Step → Bool
-goes_down numbers own (Invoke d callee args) = option_map_or (λ n. nat_lt n own) (slice_get numbers callee) true
-goes_down numbers own step = true
+-- whether a step calls only procedures whose number passes a test
+abbrev pub passes : (test : ℕ → Bool) (numbers : List ℕ) → Step → Bool
+passes test numbers (Invoke d callee args) = option_map_or test (slice_get numbers callee) true
+passes test numbers step = true
+
+-- each procedure calls only procedures whose number is no greater than its own
+abbrev pub AreLevel : List Proc → (numbers : List ℕ) → Type 0
+AreLevel procs numbers =
+    (i : ℕ) (q : Proc) → i < length procs → q ≡ slice_index_or procs i q
+    → list_all (passes (λ n. nat_le n (slice_index_or numbers i 0)) numbers) q.steps ≡ true
 
 -- ---- a search along calls
 

@@ -1,16 +1,17 @@
 //! Which procedure leads back to itself by calls.
 //!
-//! Where no procedure does, the order in which a walk along the calls leaves the procedures shows
-//! it: each is left after those that it calls. That takes time in proportion to the calls. Only
-//! where this fails, a search from one procedure after the other finds the first that leads back.
+//! A walk along the calls gives numbers that never rise along them, by which all procedures are
+//! passed over that do not lead back to themselves: where a procedure calls only smaller numbers,
+//! no way leads back. So a search, which takes as long as there are calls, is made of the procedure
+//! that is told, and of no other.
 
 ghost use Rattle.std.specs.Prelude.{◌≡◌, ◌<◌, ◌==◌, true, false, length, IfOk, OnOk, MatchOption};
 ghost use Rattle.std.specs.List.{list_any};
-ghost use Rattle.tta_tac.specs.Cycles.{IsAcyclic, IsMarked, Finds};
+ghost use Rattle.tta_tac.specs.Cycles.{AreLevel, IsAcyclic, IsMarked, Finds};
 ghost use Rattle.tta_tac.specs.Rules.{Reaches, calls_proc};
 ghost use Rattle.tta_tac.specs.Text.{with_main, IsFirstRecursive};
 
-use super::order::{are_ordered, ends_of};
+use super::order::{are_below, are_level, numbers_of};
 use crate::program::Proc;
 use crate::step::Step;
 use std::alloc::{AllocError, Global};
@@ -21,16 +22,32 @@ pub fn first_recursive(alloc: Global, procs: &[Proc]) -> Result<Option<usize>, A
     ensures { IfOk result (λ first.
         MatchOption first (IsAcyclic procs.now) (IsFirstRecursive procs.now)) }
 {
-    let ends = ends_of(alloc, procs)?;
-    if are_ordered(procs, ends.as_slice()) {
-        return Ok(None);
-    }
+    let numbers = numbers_of(alloc, procs)?;
+    let level = are_level(procs, numbers.as_slice());
     for place in 0..procs.len() {
+        if falls(procs, numbers.as_slice(), level, place) {
+            continue;
+        }
         if leads_back(alloc, procs, place)? {
             return Ok(Some(place));
         }
     }
     Ok(None)
+}
+
+/// Whether numbers never rise along calls, and fall along those of a procedure; then it does not
+/// lead back to itself.
+fn falls(procs: &[Proc], numbers: &[u64], level: bool, place: usize) -> bool
+    requires size { length numbers.now ≡ length procs.now }
+    requires level { level ≡ true → AreLevel procs.now numbers.now }
+    requires within { place < length procs.now }
+    ensures { result ≡ true → Reaches (with_main procs.now 0) place place → ⊥ }
+{
+    if level {
+        are_below(procs[place].steps.as_slice(), numbers, numbers[place])
+    } else {
+        false
+    }
 }
 
 /// Whether a procedure leads back to itself.

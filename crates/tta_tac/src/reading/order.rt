@@ -1,12 +1,16 @@
-//! The order in which a walk along the calls leaves the procedures.
+//! Numbers of procedures that never rise along calls. Procedures that lead to one another have the
+//! same number, and all others have different ones; but nothing hangs on that but time.
 
-ghost use Rattle.std.specs.Prelude.{◌≡◌, true, length, IfOk};
+ghost use Rattle.std.specs.Prelude.{◌≡◌, true, nat_le, nat_lt, length, slice_index_or, IfOk};
 ghost use Rattle.std.specs.List.{list_all};
-ghost use Rattle.tta_tac.specs.Cycles.{IsAcyclic, goes_down};
+ghost use Rattle.tta_tac.specs.Cycles.{AreLevel, passes};
 
 use crate::program::Proc;
 use crate::step::Step;
 use std::alloc::{AllocError, Global};
+
+/// A time that does not come.
+const NEVER: u64 = u64::MAX;
 
 /// What is left to do on a walk along the calls, the next at the end.
 #[derive(Drop)]
@@ -15,36 +19,69 @@ enum Visit {
     Leave(usize),
 }
 
-/// For each procedure the time at which a walk along the calls leaves it.
-pub fn ends_of(alloc: Global, procs: &[Proc]) -> Result<Vec<u64>, AllocError>
-    ensures { IfOk result (λ ends. length ends.items ≡ length procs.now) }
-{
-    let mut seen = vec![in alloc; false; procs.len()]?;
-    let mut ends = vec![in alloc; 0u64; procs.len()]?;
-    let mut visits: Vec<Visit> = (0..procs.len()).map(Visit::Enter).collect(alloc)?;
-    for time in 0..u64::MAX {
-        match visits.pop() {
-            None => break,
-            Some(Visit::Enter(place)) => enter(procs, place, &mut seen, &mut visits)?,
-            Some(Visit::Leave(place)) => write_end(&mut ends, place, time),
-        }
-    }
-    Ok(ends)
+/// A walk along the calls, which leaves a procedure after all that it calls.
+#[derive(Drop)]
+struct Walk {
+    visits: Vec<Visit>,
+    /// When each procedure was entered.
+    entered: Vec<u64>,
+    /// When the first of those that a procedure was seen to lead to, and that have no number, was
+    /// entered.
+    firsts: Vec<u64>,
+    /// The procedures that were entered and have no number, in the order of their entry.
+    open: Vec<usize>,
+    numbers: Vec<u64>,
 }
 
-/// Enters a procedure where it was not seen: it is left after all that it calls.
-fn enter(
-    procs: &[Proc],
-    place: usize,
-    seen: &mut Vec<bool>,
-    visits: &mut Vec<Visit>,
-) -> Result<(), AllocError> {
-    if place >= procs.len() || place >= seen.len() || seen[place] {
+/// For each procedure the time at which the walk left the first one of those that lead to it and
+/// to which it leads.
+pub fn numbers_of(alloc: Global, procs: &[Proc]) -> Result<Vec<u64>, AllocError>
+    ensures { IfOk result (λ numbers. length numbers.items ≡ length procs.now) }
+{
+    let mut walk = start(alloc, procs)?;
+    for time in 0..NEVER {
+        match walk.visits.pop() {
+            None => break,
+            Some(Visit::Enter(place)) => enter(&mut walk, procs, place, time)?,
+            Some(Visit::Leave(place)) => leave(&mut walk, procs, place, time),
+        }
+    }
+    Ok(walk.numbers)
+}
+
+/// A walk that is to enter each procedure.
+fn start(alloc: Global, procs: &[Proc]) -> Result<Walk, AllocError>
+    ensures { IfOk result (λ walk. length walk.numbers.items ≡ length procs.now) }
+{
+    Ok(Walk {
+        visits: (0..procs.len()).map(Visit::Enter).collect(alloc)?,
+        entered: vec![in alloc; NEVER; procs.len()]?,
+        firsts: vec![in alloc; NEVER; procs.len()]?,
+        open: Vec::new(alloc),
+        numbers: vec![in alloc; NEVER; procs.len()]?,
+    })
+}
+
+/// Enters a procedure where it was not entered before.
+fn enter(walk: &mut Walk, procs: &[Proc], place: usize, time: u64) -> Result<(), AllocError>
+    ensures { length walk.new.numbers.items ≡ length walk.old.numbers.items }
+{
+    let Some(proc) = procs.get(place) else {
+        return Ok(());
+    };
+    if read(&walk.entered, place) != NEVER {
         return Ok(());
     }
-    seen[place] = true;
-    visits.push(Visit::Leave(place))?;
-    for step in procs[place].steps.as_slice() {
+    write(&mut walk.entered, place, time);
+    write(&mut walk.firsts, place, time);
+    walk.open.push(place)?;
+    walk.visits.push(Visit::Leave(place))?;
+    push_callees(proc.steps.as_slice(), &mut walk.visits)
+}
+
+/// Makes the walk enter the procedures that steps call.
+fn push_callees(steps: &[Step], visits: &mut Vec<Visit>) -> Result<(), AllocError> {
+    for step in steps {
         if let Step::Invoke { callee, .. } = step {
             visits.push(Visit::Enter(*callee as usize))?;
         }
@@ -52,42 +89,110 @@ fn enter(
     Ok(())
 }
 
-/// Keeps the time at which a procedure was left.
-fn write_end(ends: &mut Vec<u64>, place: usize, time: u64)
-    ensures { length ends.new.items ≡ length ends.old.items }
+/// Leaves a procedure. Where it leads to none that was entered before it and has no number, those
+/// that were entered since have their number now.
+fn leave(walk: &mut Walk, procs: &[Proc], place: usize, time: u64)
+    ensures { length walk.new.numbers.items ≡ length walk.old.numbers.items }
 {
-    if place < ends.len() {
-        ends[place] = time;
+    let Some(proc) = procs.get(place) else {
+        return;
+    };
+    let own = read(&walk.entered, place);
+    let first = first_of(proc.steps.as_slice(), &walk.firsts, &walk.numbers, own);
+    write(&mut walk.firsts, place, first);
+    if first == own {
+        close(&mut walk.open, &mut walk.numbers, place, time);
     }
 }
 
-/// Whether each call goes to a procedure that was left earlier; then no procedure leads back to
-/// itself.
-pub fn are_ordered(procs: &[Proc], ends: &[u64]) -> bool
-    requires { length ends.now ≡ length procs.now }
-    ensures { result ≡ true → IsAcyclic procs.now }
+/// The earliest of this time and those of the procedures that steps call and that have no number.
+fn first_of(steps: &[Step], firsts: &Vec<u64>, numbers: &Vec<u64>, own: u64) -> u64 {
+    let mut first = own;
+    for step in steps {
+        if let Step::Invoke { callee, .. } = step {
+            if read(numbers, *callee as usize) == NEVER {
+                first = first.min(read(firsts, *callee as usize));
+            }
+        }
+    }
+    first
+}
+
+/// Gives a number to the open procedures from the last one down to this one.
+fn close(open: &mut Vec<usize>, numbers: &mut Vec<u64>, place: usize, number: u64)
+    ensures { length numbers.new.items ≡ length numbers.old.items }
+{
+    for _ in 0..open.len() {
+        let Some(last) = open.pop() else {
+            return;
+        };
+        write(numbers, last, number);
+        if last == place {
+            return;
+        }
+    }
+}
+
+fn read(times: &Vec<u64>, place: usize) -> u64 {
+    match times.get(place) {
+        Some(time) => *time,
+        None => NEVER,
+    }
+}
+
+fn write(times: &mut Vec<u64>, place: usize, time: u64)
+    ensures { length times.new.items ≡ length times.old.items }
+{
+    if place < times.len() {
+        times[place] = time;
+    }
+}
+
+/// Whether numbers never rise along calls.
+pub fn are_level(procs: &[Proc], numbers: &[u64]) -> bool
+    requires { length numbers.now ≡ length procs.now }
+    ensures { result ≡ true → AreLevel procs.now numbers.now }
 {
     for (place, proc) in procs.iter().enumerate() {
-        if !are_below(proc.steps.as_slice(), ends, ends[place]) {
+        if !are_at_most(proc.steps.as_slice(), numbers, numbers[place]) {
             return false;
         }
     }
     true
 }
 
-/// Whether all calls among steps go to procedures that were left before this time.
-fn are_below(steps: &[Step], ends: &[u64], own: u64) -> bool
-    ensures { result ≡ list_all (goes_down ends.now own) steps.now }
+/// Whether all calls among steps go to procedures whose number is no greater than this one.
+fn are_at_most(steps: &[Step], numbers: &[u64], own: u64) -> bool
+    ensures { result ≡ list_all (passes (λ n. nat_le n own) numbers.now) steps.now }
 {
-    steps.iter().all(|step| is_below(step, ends, own))
+    steps.iter().all(|step| is_at_most(step, numbers, own))
 }
 
-fn is_below(step: &Step, ends: &[u64], own: u64) -> bool
-    ensures { result ≡ goes_down ends.now own step.now }
+fn is_at_most(step: &Step, numbers: &[u64], own: u64) -> bool
+    ensures { result ≡ passes (λ n. nat_le n own) numbers.now step.now }
 {
     match step {
-        Step::Invoke { callee, .. } => match ends.get(*callee as usize) {
-            Some(end) => *end < own,
+        Step::Invoke { callee, .. } => match numbers.get(*callee as usize) {
+            Some(number) => *number <= own,
+            None => true,
+        },
+        _ => true,
+    }
+}
+
+/// Whether all calls among steps go to procedures whose number is smaller than this one.
+pub fn are_below(steps: &[Step], numbers: &[u64], own: u64) -> bool
+    ensures { result ≡ list_all (passes (λ n. nat_lt n own) numbers.now) steps.now }
+{
+    steps.iter().all(|step| is_below(step, numbers, own))
+}
+
+fn is_below(step: &Step, numbers: &[u64], own: u64) -> bool
+    ensures { result ≡ passes (λ n. nat_lt n own) numbers.now step.now }
+{
+    match step {
+        Step::Invoke { callee, .. } => match numbers.get(*callee as usize) {
+            Some(number) => *number < own,
             None => true,
         },
         _ => true,

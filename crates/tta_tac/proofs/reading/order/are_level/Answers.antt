@@ -1,0 +1,6 @@
+-- All procedures were looked at.
+use Rattle.std.proofs.Common.{arith}
+use Rattle.tta_tac.proofs.reading.order.are_level.Goals as goal
+
+pub returns : goal.returns
+returns c e = λ i q below at. c.loop-place.invariant i q (omega arith) at
