@@ -1,5 +1,5 @@
 -- How large the parts of a machine can be.
-use Rattle.std.proofs.Common.{◌≡◌, ℕ, ◌≤◌, ◌==◌, Bool, true, ◌&&◌, ◌||◌, nat_le, List, length}
+use Rattle.std.proofs.Common.{◌≡◌, ◌≤◌, ◌==◌, true, false, ◌&&◌, ◌||◌, nat_le, List, length}
 use Rattle.std.specs.List.{list_all}
 use Rattle.std.proofs.lemmas.Bool.{and_parts, leb-true}
 use Rattle.tta_machine.specs.declared.parts.File.{File}
