@@ -15,6 +15,7 @@ use Rattle.tta_sim.specs.declared.control.Control.{Control}
 use Rattle.tta_sim.specs.declared.control.Pending.{Pending}
 use Rattle.tta_sim.specs.declared.control.Phase.{Phase}
 use Rattle.tta_sim.specs.declared.control.Phase.TheVariants as phase
+use Rattle.tta_sim.specs.declared.decoded.Line.{Line}
 use Rattle.tta_sim.specs.declared.store.Store.{Store}
 use Rattle.tta_sim.specs.Places.{HasWritten, is_place}
 use Rattle.tta_sim.specs.Results.{AreResultsOf}
@@ -64,8 +65,8 @@ lands_runs s (Some p) running = elim (p.time == s.cycle) as (λ b. is_fault (if 
 
 -- ---- a cycle
 
-module _ (u : Units) (m : Machine) (rules : IsMachine m) (i : Instruction) (legal : is_legal m i ≡ true) (store : Store) (control : Control) (s : State)
-    (size : length store.results.shown ≡ length m.units) (same : Stands (held_of store control) s) where
+module _ (u : Units) (m : Machine) (rules : IsMachine m) (i : Instruction) (legal : is_legal m i ≡ true) (lines : List Line) (store : Store) (control : Control) (s : State)
+    (size : length store.results.shown ≡ length m.units) (same : Stands (held_of lines store control) s) where
   abbrev reads : Reads
   reads = reads_of store.places store.results.shown
 
@@ -108,11 +109,11 @@ module _ (u : Units) (m : Machine) (rules : IsMachine m) (i : Instruction) (lega
 
   -- a cycle that faults
   pub carried_fault : (number : ℕ) → fault_in m store.places store.results (is_some control.pending) i.moves ≡ Some number
-      → IsCarried (held_of store (record control { phase = phase.Fault number })) s (carry_out u m s (Some i)) (Faults number)
+      → IsCarried (held_of lines store (record control { phase = phase.Fault number })) s (carry_out u m s (Some i)) (Faults number)
   carried_fault number faults =
       let next : carry_out u m s (Some i) ≡ record s { outcome = Fault number s.cycle } =
       ap (λ o. or_fault s o (acts u m s bs ts written)) (sym fault_is ∙ faults) in
-      subst (λ after. IsCarried (held_of store (record control { phase = phase.Fault number })) s after (Faults number)) (sym next) (record {
+      subst (λ after. IsCarried (held_of lines store (record control { phase = phase.Fault number })) s after (Faults number)) (sym next) (record {
         stands = record {
           places = same.places;
           results = same.results;
@@ -164,7 +165,7 @@ module _ (u : Units) (m : Machine) (rules : IsMachine m) (i : Instruction) (lega
         → ((t : State) → t.cycle ≡ after.results.cycle
         → let p = pending_with after.results.cycle m.control.delay (option_map underway control.pending) told in
         controlled t control' ≡ lands (record t { pc = control.pc + 1; pending = p; outcome = outcome_of after.results.cycle control.phase }) p)
-        → IsCarried (held_of after control') s (carry_out u m s (Some i)) (Ran word)
+        → IsCarried (held_of lines after control') s (carry_out u m s (Some i)) (Ran word)
     carried has_written have_results cycle memory frame puts_it tells advances =
         let now : after.results.cycle ≡ s.cycle + 1 = cycle ∙ ap (λ n. n + 1) same.cycle in
         let p = pending_with after.results.cycle m.control.delay (option_map underway control.pending) told in
@@ -195,7 +196,7 @@ module _ (u : Units) (m : Machine) (rules : IsMachine m) (i : Instruction) (lega
         ∙ ap (λ list. s.output ++ option_to_list (option_map (λ t. t.word) (find puts list))) (sym starting ∙ sym starts_ts)
         ∙ ap (λ o. s.output ++ option_to_list o) (sym puts_it) in
         let runs : is_fault (controlled next control').outcome ≡ false = ap (λ t. is_fault t.outcome) (sym lands_is) ∙ lands_runs next pending refl in
-        subst (λ t. IsCarried (held_of after control') s t (Ran word)) (sym total) (record {
+        subst (λ t. IsCarried (held_of lines after control') s t (Ran word)) (sym total) (record {
           stands = record {
             places = subst (HasWritten after.places) writes (has_written s.written same.places);
             results = subst (λ list. AreResultsOf (list ++ s.started) after.results) begins (have_results s.started same.results);
@@ -223,7 +224,7 @@ module _ (u : Units) (m : Machine) (rules : IsMachine m) (i : Instruction) (lega
         → ((t : State) → t.cycle ≡ now
         → let p = pending_with now delay (option_map underway control.pending) told in
         controlled t control' ≡ lands (record t { pc = control.pc + 1; pending = p; outcome = outcome_of now control.phase }) p)
-        → IsCarried (held_of after control') s (carry_out u m s (Some i)) (Ran word)
+        → IsCarried (held_of lines after control') s (carry_out u m s (Some i)) (Ran word)
     carried_at back' delay now back_is delay_is now_is has_written have_results cycle memory frame puts_it tells advances =
         let address : back' ≡ control.pc + 1 + m.control.delay = back_is ∙ ap (λ n. control.pc + 1 + n) delay_is in
         carried

@@ -1,5 +1,5 @@
 -- Runs that begin, go on or are over.
-use Rattle.std.proofs.Common.{◌≡◌, ℕ, zero, suc, ◌≤◌, ◌^◌, IsTrue, List, [], ◌∷◌, length, replicate, Option, Some, None, refl, sym, ap, ◌∙◌, subst, arith}
+use Rattle.std.proofs.Common.{◌≡◌, ℕ, zero, suc, ◌+◌, ◌<◌, ◌≤◌, get_or, ◌^◌, IsTrue, List, [], ◌∷◌, length, replicate, Option, Some, None, refl, sym, ap, ◌∙◌, subst, arith}
 use Rattle.std.specs.Prelude.{slice_get}
 use Rattle.std.specs.List.{AllByRecursion}
 use Rattle.tta_ops.specs.Units.{Units}
@@ -16,7 +16,9 @@ use Rattle.tta_sim.specs.declared.answer.CycleStep.{CycleStep}
 use Rattle.tta_sim.specs.declared.answer.CycleStep.TheVariants.{Ran, Halted as HadHalted, Fault as Faults}
 use Rattle.tta_sim.specs.declared.control.Control.{Control}
 use Rattle.tta_sim.specs.declared.control.Phase.TheVariants as phase
+use Rattle.tta_sim.specs.declared.decoded.Line.{Line}
 use Rattle.tta_sim.specs.declared.store.Store.{Store}
+use Rattle.tta_sim.specs.Decoded.{line_of, lines_from}
 use Rattle.tta_sim.specs.Places.{HasWritten}
 use Rattle.tta_sim.specs.Results.{AreResultsOf}
 use Rattle.tta_sim.specs.Held.{Held, Stands, IsAnswer, IsRunOf, is_fault}
@@ -52,7 +54,7 @@ module _ (u : Units) (m : Machine) (code : Code) (h : Held) (s : State) (same : 
 
 -- ---- going on
 
-module _ (u : Units) (m : Machine) (code : Code) (store : Store) (control : Control) (s : State) (same : Stands (held_of store control) s)
+module _ (u : Units) (m : Machine) (code : Code) (lines : List Line) (store : Store) (control : Control) (s : State) (same : Stands (held_of lines store control) s)
     (running : control.phase ≡ phase.Running) where
   runs : s.outcome ≡ Running
   runs = sym same.outcome ∙ ap (outcome_of store.results.cycle) running
@@ -67,8 +69,8 @@ module _ (u : Units) (m : Machine) (code : Code) (store : Store) (control : Cont
   past : slice_get code.words control.pc ≡ None → next u m code s ≡ record s { outcome = Fault 65 s.cycle }
   past none = next_is None none
 
-  pub past_stands : slice_get code.words control.pc ≡ None → Stands (held_of store (record control { phase = phase.Fault 65 })) (next u m code s)
-  past_stands none = subst (Stands (held_of store (record control { phase = phase.Fault 65 }))) (sym (past none)) (record {
+  pub past_stands : slice_get code.words control.pc ≡ None → Stands (held_of lines store (record control { phase = phase.Fault 65 })) (next u m code s)
+  past_stands none = subst (Stands (held_of lines store (record control { phase = phase.Fault 65 }))) (sym (past none)) (record {
     places = same.places;
     results = same.results;
     memory = same.memory;
@@ -102,6 +104,17 @@ legal_at m [] k i all at = cc
 legal_at m (j ∷ words) zero i all at = let here : j ≡ i = cc in subst (λ x. IsTrue (is_legal m x)) here all.0
 legal_at m (j ∷ words) (suc k) i all at = legal_at m words k i all.1 at
 
+-- each instruction is decoded at its address
+pub line_at : (m : Machine) (back : ℕ) (words : List Instruction) (k : ℕ) (i : Instruction) (d : Line) → slice_get words k ≡ Some i
+    → get_or (lines_from m back words) k d ≡ line_of m (back + k) i
+line_at m back [] k i d at = cc
+line_at m back (j ∷ words) zero i d at = let here : j ≡ i = cc in ap (line_of m back) here ∙ ap (λ n. line_of m n i) (omega arith)
+line_at m back (j ∷ words) (suc k) i d at = line_at m (back + 1) words k i d at ∙ ap (λ n. line_of m n i) (omega arith)
+
+pub length-lines : (m : Machine) (back : ℕ) (words : List Instruction) → length (lines_from m back words) ≡ length words
+length-lines m back [] = refl
+length-lines m back (i ∷ words) = ap suc (length-lines m (back + 1) words)
+
 -- addresses of 16 bits reach all instructions
 pub all_reached : (m : Machine) (code : Code) → IsMachine m → IsLegalCode m code → length code.words ≤ 65536
 all_reached m code rules legal =
@@ -110,11 +123,11 @@ all_reached m code rules legal =
 
 -- ---- the start
 
-pub first_stands : (m : Machine) (memory : List ℕ) (store : Store) (control : Control) (units : ℕ) → HasWritten store.places []
+pub first_stands : (m : Machine) (memory : List ℕ) (lines : List Line) (store : Store) (control : Control) (units : ℕ) → HasWritten store.places []
     → store.results ≡ record { cycle = 0; shown = replicate units None; coming = [] }
     → store.memory.items ≡ memory → store.frame.items ≡ replicate m.frame_words 0
-    → control ≡ record { pc = 0; pending = None; phase = phase.Running } → Stands (held_of store control) (start m memory)
-first_stands m memory store control units written results words frame first = rw first (record {
+    → control ≡ record { pc = 0; pending = None; phase = phase.Running } → Stands (held_of lines store control) (start m memory)
+first_stands m memory lines store control units written results words frame first = rw first (record {
   places = written;
   results = subst (AreResultsOf []) (sym results) (record { shown = λ unit there. sym (nothing_at units unit); coming = λ unit due less. refl });
   memory = words;
@@ -125,13 +138,14 @@ first_stands m memory store control units written results words frame first = rw
   outcome = refl;
 })
 
-pub first_run : (m : Machine) (code : Code) (store : Store) (control : Control) (units words : ℕ) → IsMachine m → IsLegalCode m code
+pub first_run : (m : Machine) (code : Code) (lines : List Line) (store : Store) (control : Control) (units words : ℕ) → IsMachine m → IsLegalCode m code → lines ≡ lines_from m (1 + m.control.delay) code.words
     → store.results ≡ record { cycle = 0; shown = replicate units None; coming = [] } → units ≡ length m.units
     → length store.memory.items ≡ m.data_words → store.frame.items ≡ replicate words 0 → words ≡ m.frame_words
-    → IsRunOf m code (held_of store control)
-first_run m code store control units words rules legal results many size frame all = record {
+    → IsRunOf m code (held_of lines store control)
+first_run m code lines store control units words rules legal decoded results many size frame all = record {
   legal = legal;
   reached = all_reached m code rules legal;
+  decoded = decoded;
   units = ap (λ r. length r.shown) results ∙ length-replicate {A = Option Result'} units None ∙ many;
   memory = size;
   frame = ap length frame ∙ length-replicate {A = ℕ} words 0 ∙ all;

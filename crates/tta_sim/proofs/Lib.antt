@@ -1,7 +1,9 @@
 pub mod Agreeing
+pub mod Decoding
 pub mod Beginning
 pub mod Gathering
 pub mod Landed
+pub mod Lining
 pub mod Lists
 pub mod Possible
 pub mod Room
@@ -12,4 +14,8 @@ pub mod Writes
 pub mod Wrote
 pub mod Faulting
 pub mod Acting
+pub mod Fitting
+pub mod Noting
+pub mod Facing
+pub mod Readying
 pub mod Going

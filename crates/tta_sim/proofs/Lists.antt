@@ -1,8 +1,8 @@
 -- Lists that grow by what a function gives of each element.
-use Rattle.std.proofs.Common.{◌≡◌, ◌<◌, ◌≤◌, ◌+◌, ℕ, zero, suc, Bool, true, false, List, [], ◌∷◌, ◌++◌, length, take, get_or, Option, None, Some, refl, ap, sym, ◌∙◌, arith}
+use Rattle.std.proofs.Common.{◌≡◌, ◌<◌, ◌≤◌, ◌+◌, ℕ, zero, suc, Bool, true, false, List, [], ◌∷◌, ◌++◌, length, take, drop, get_or, Option, None, Some, refl, ap, sym, ◌∙◌, arith}
 use Rattle.std.specs.Prelude.{◌||◌, option_to_list}
 use Rattle.std.specs.List.{filter_map, cons_option, list_any}
-use Rattle.std.proofs.lemmas.List.{take_more}
+use Rattle.std.proofs.lemmas.List.{take_more, drop_more, length-take-le}
 use Rattle.std.proofs.lemmas.List.Elements.{filter_map-append}
 use Rattle.std.proofs.lemmas.List.Folds.{list_any-append}
 
@@ -51,3 +51,13 @@ pub any_more : {A : Type 0} (p : A → Bool) (xs : List A) (i : ℕ) (d : A) (ol
     → one ≡ p (get_or xs i d) → new ≡ (one || old) → new ≡ list_any p (take (i + 1) xs)
 any_more p xs i d old one new within before here joined =
     any_grown p (take i xs) (get_or xs i d ∷ []) (take (i + 1) xs) old one new before (here ∙ or_false (p (get_or xs i d))) joined (take_more xs i d within)
+
+-- a test that the next element does not pass is one of those behind it
+pub any_left : {A : Type 0} (p : A → Bool) (xs : List A) (i : ℕ) (d : A) (all : Bool) → i < length xs → all ≡ list_any p (drop i xs)
+    → p (get_or xs i d) ≡ false → all ≡ list_any p (drop (i + 1) xs)
+any_left p xs i d all within before here =
+    before ∙ ap (list_any p) (drop_more xs i d within) ∙ ap (λ b. b || list_any p (drop (i + 1) xs)) here
+
+-- no more elements come of a function than it is given
+pub length-so_far : {A B : Type 0} (f : A → Option B) (xs : List A) (i : ℕ) (ys : List B) → i < length xs → ys ≡ filter_map f (take i xs) → length ys ≤ i
+length-so_far f xs i ys within are = omega (arith, ap length are, length-filter_map f (take i xs), length-take-le i xs (omega arith))

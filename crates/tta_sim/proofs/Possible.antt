@@ -1,9 +1,9 @@
 -- What is known of the instructions that a machine can carry out.
-use Rattle.std.proofs.Common.{◌≡◌, ℕ, zero, suc, ◌+◌, ◌<◌, ◌≤◌, ◌==◌, Bool, true, false, ◌&&◌, ◌||◌, nat_lt, IsTrue, List, [], ◌∷◌, length, map, Option, Some, None, refl, subst, arith}
+use Rattle.std.proofs.Common.{◌≡◌, ℕ, zero, suc, ◌+◌, ◌<◌, ◌≤◌, ◌==◌, Bool, true, false, ◌&&◌, ◌||◌, nat_lt, IsTrue, List, [], ◌∷◌, length, map, Option, Some, None, refl, ap, ◌∙◌, subst, arith}
 use Rattle.std.specs.Prelude.{is_some, slice_get, option_map, option_and_then, if◌then◌else◌}
 use Rattle.std.specs.Option.{option_map_or}
-use Rattle.std.specs.List.{list_any, list_all, AllByRecursion}
-use Rattle.std.proofs.lemmas.Bool.{and_parts, eqb-true}
+use Rattle.std.specs.List.{list_any, list_all, filter_map, AllByRecursion}
+use Rattle.std.proofs.lemmas.Bool.{and_parts, eqb-true, ltb-true}
 use Rattle.tta_machine.specs.declared.parts.File.{File}
 use Rattle.tta_machine.specs.declared.parts.ImmUnit.{ImmUnit}
 use Rattle.tta_machine.specs.declared.parts.Guard.{Guard}
@@ -22,10 +22,12 @@ use Rattle.tta_machine.proofs.Lists.{list_all_one}
 use Rattle.tta_code.specs.declared.code.Move.{Move}
 use Rattle.tta_code.specs.declared.code.Long.{Long}
 use Rattle.tta_code.specs.declared.code.Instruction.{Instruction}
+use Rattle.tta_code.specs.Cycle.{moves_of}
 use Rattle.tta_code.specs.Legal.{ends_of, slots_of, taken, is_long, is_instruction, is_legal}
 use Rattle.tta_sim.specs.Places.{is_place}
 use Rattle.tta_sim.specs.Moves.{is_askable, is_readable, is_reachable, is_possible, is_possible_slot, IsPossible}
 use Rattle.tta_sim.specs.Writing.{is_long_place}
+use Rattle.tta_sim.specs.Decoded.{has_operation}
 
 -- ---- parts
 
@@ -56,6 +58,11 @@ index_within index size socket some = by (nat_lt index size) some where
 socket_there : (m : Machine) (input : Bool) (o : Option ℕ) (bus : ℕ) → has_socket m input o bus ≡ true → is_some o ≡ true
 socket_there m input None bus has = cc
 socket_there m input (Some k) bus has = refl
+
+some_within : {A : Type 0} (xs : List A) (k : ℕ) → k < length xs → is_some (slice_get xs k) ≡ true
+some_within [] k within = absurd (omega (arith, within))
+some_within (x ∷ xs) zero within = refl
+some_within (x ∷ xs) (suc k) within = some_within xs k (omega (arith, within))
 
 module _ (m : Machine) (rules : IsMachine m) where
   -- a register of a file
@@ -102,6 +109,20 @@ module _ (m : Machine) (rules : IsMachine m) where
   dest_there bus dest.Jump on = refl
   dest_there bus dest.Call on = refl
   dest_there bus dest.Halt on = refl
+
+  -- a move to a trigger port starts an operation that there is
+  operation_there : (bus : ℕ) (v : Move) → is_dest_on m bus v.dst ≡ true → has_operation m v ≡ true
+  operation_there bus v on = by v.dst on where
+    by : (d : Dest) → is_dest_on m bus d ≡ true → has_operation m (record v { dst = d }) ≡ true
+    by (dest.Reg file index) on = refl
+    by (dest.Operand unit) on = refl
+    by (dest.Trigger unit op) on =
+        let f = found (λ u. within op (length u.ops) u.trigger) m.units unit (socket_there m true (dest_socket m (dest.Trigger unit op)) bus on) in
+        let inside = ltb-true op (length f.item.ops) (index_within op (length f.item.ops) f.item.trigger f.passes) in
+        ap (λ o. is_some (option_and_then (λ u. slice_get u.ops op) o)) f.at ∙ some_within f.item.ops op inside
+    by dest.Jump on = refl
+    by dest.Call on = refl
+    by dest.Halt on = refl
 
   -- ---- guards
 
@@ -187,3 +208,17 @@ module _ (m : Machine) (rules : IsMachine m) where
         slots = slots_possible 0 i.moves parts.joined;
         units = rules.limits.units;
       }
+
+  slots_operate : (bus : ℕ) (slots : List (Option Move)) → all_slots (λ bus o. option_map_or (λ v. joins m bus v.src v.dst v.guard) o true) bus (map (option_map ends_of) slots) ≡ true
+      → AllByRecursion (λ v. has_operation m v ≡ true) (filter_map (λ o. o) slots)
+  slots_operate bus [] all = tt
+  slots_operate bus (None ∷ slots) all = slots_operate (bus + 1) slots all
+  slots_operate bus (Some v ∷ slots) all =
+      let both = and_parts (joins m bus v.src v.dst v.guard) (all_slots (λ bus o. option_map_or (λ v. joins m bus v.src v.dst v.guard) o true) (bus + 1) (map (option_map ends_of) slots)) all in
+      let two = and_parts (is_source_on m bus v.src && is_dest_on m bus v.dst) (has_guard m bus v.guard) both.0 in
+      let one = and_parts (is_source_on m bus v.src) (is_dest_on m bus v.dst) two.0 in
+      (operation_there bus v one.1, slots_operate (bus + 1) slots both.1)
+
+  -- the moves of a legal instruction start operations that there are
+  pub operations_there : (i : Instruction) → is_legal m i ≡ true → AllByRecursion (λ v. has_operation m v ≡ true) (moves_of i)
+  operations_there i h = slots_operate 0 i.moves (legal_parts i h).joined

@@ -1,47 +1,17 @@
 -- Words that are written one by one.
-use Rattle.std.proofs.Common.{◌≡◌, ◌<◌, ◌≤◌, ◌+◌, ◌-◌, ℕ, Bool, true, false, List, [], ◌∷◌, ◌++◌, length, drop, map, get_or, Option, None, Some, refl, ap, sym, ◌∙◌, subst, arith, append_assoc}
+use Rattle.std.proofs.Common.{◌≡◌, ◌<◌, ◌≤◌, ◌+◌, ◌-◌, ℕ, zero, suc, Bool, true, false, List, [], ◌∷◌, ◌++◌, length, drop, map, get_or, Option, None, Some, refl, ap, sym, ◌∙◌, subst, arith, append_assoc}
 use Rattle.std.specs.Prelude.{◌||◌, not, if◌then◌else◌, option_to_list, fold}
 use Rattle.std.specs.List.{filter_map, cons_option, find, list_any}
 use Rattle.std.proofs.lemmas.List.{drop_more, length-set}
 use Rattle.tta_machine.specs.declared.parts.Op.{Op}
 use Rattle.tta_machine.specs.declared.parts.Op.TheVariants.{Ldw, Stw, Ldf, Stf, Out, Set}
-use Rattle.tta_machine.specs.Effects.{Brought, Place, Written, Start, Kind, operand_word, store_data, store_frame, has_result, or_else, control_of}
+use Rattle.tta_machine.specs.Effects.{Brought, Place, KeptRa, Written, Start, Kind, operand_word, store_data, store_frame, has_result, or_else, control_of}
 use Rattle.tta_sim.specs.declared.arrivals.Arrival.{Arrival}
-use Rattle.tta_sim.specs.Places.{HasWritten}
+use Rattle.tta_sim.specs.declared.lines.Write.{Write}
+use Rattle.tta_sim.specs.Places.{HasWritten, is_place, number_of}
 use Rattle.tta_sim.specs.Moves.{brought_of}
-use Rattle.tta_sim.specs.Starts.{is_resultless, puts, told_in}
-
-cons_is : {A : Type 0} (o : Option A) (xs : List A) → cons_option o xs ≡ option_to_list o ++ xs
-cons_is None xs = refl
-cons_is (Some x) xs = refl
-
--- what an arrival writes comes before what those behind it have written
-pub written_before : (f : Brought → Option (Place × ℕ)) (arrivals : List Arrival) (i : ℕ) (d : Arrival) (rows now : List (Option ℕ)) (written : Written)
-    → 0 < i → i ≤ length arrivals
-    → ((ws : Written) → HasWritten rows ws → HasWritten now (option_to_list (f (brought_of (get_or arrivals (i - 1) d))) ++ ws))
-    → HasWritten rows (filter_map f (map brought_of (drop i arrivals)) ++ written)
-    → HasWritten now (filter_map f (map brought_of (drop (i - 1) arrivals)) ++ written)
-written_before f arrivals i d rows now written some within writes had =
-    let x = get_or arrivals (i - 1) d in
-    let next : i - 1 + 1 ≡ i = omega (arith, some) in
-    let rest = filter_map f (map brought_of (drop i arrivals)) in
-    let parts : drop (i - 1) arrivals ≡ x ∷ drop i arrivals =
-    drop_more arrivals (i - 1) d (omega (arith, some, within)) ∙ ap (λ n. x ∷ drop n arrivals) next in
-    let all : filter_map f (map brought_of (drop (i - 1) arrivals)) ++ written ≡ option_to_list (f (brought_of x)) ++ (rest ++ written) =
-    ap (λ xs. filter_map f (map brought_of xs) ++ written) parts ∙ ap (λ ws. ws ++ written) (cons_is (f (brought_of x)) rest)
-    ∙ append_assoc (option_to_list (f (brought_of x))) rest written in
-    subst (HasWritten now) (sym all) (writes (rest ++ written) had)
-
--- what an arrival tells control comes before what those behind it tell
-pub told_before : (arrivals : List Arrival) (i : ℕ) (d : Arrival) (one old now : Option (Kind × ℕ)) → 0 < i → i ≤ length arrivals
-    → one ≡ control_of (brought_of (get_or arrivals (i - 1) d)) → old ≡ told_in (drop i arrivals) → now ≡ or_else one old
-    → now ≡ told_in (drop (i - 1) arrivals)
-told_before arrivals i d one old now some within here before joined =
-    let x = get_or arrivals (i - 1) d in
-    let next : i - 1 + 1 ≡ i = omega (arith, some) in
-    let parts : drop (i - 1) arrivals ≡ x ∷ drop i arrivals =
-    drop_more arrivals (i - 1) d (omega (arith, some, within)) ∙ ap (λ n. x ∷ drop n arrivals) next in
-    joined ∙ ap (λ o. or_else o old) here ∙ ap (or_else (control_of (brought_of x))) before ∙ sym (ap told_in parts)
+use Rattle.tta_sim.specs.Starts.{is_resultless, puts}
+use Rattle.tta_sim.specs.Writing.{numbered, numbered_one, ArePlaces}
 
 -- ---- spaces
 
@@ -136,3 +106,33 @@ none_put (t ∷ starts) none =
     let here = first_of (is_resultless t) (list_any is_resultless starts) none in
     let rest = rest_of (is_resultless t) (list_any is_resultless starts) none in
     ap (λ b. if b then Some t else find puts starts) (kept_in t here) ∙ none_put starts rest
+
+-- ---- writes by number
+
+get_or-numbered : (new : Written) (k : ℕ) (d : Write) (e : Place × ℕ) → k < length new → get_or (numbered new) k d ≡ numbered_one (get_or new k e)
+get_or-numbered [] k d e within = absurd (omega (arith, within))
+get_or-numbered (w ∷ new) zero d e within = refl
+get_or-numbered (w ∷ new) (suc k) d e within = get_or-numbered new k d e (omega (arith, within))
+
+place_at : (new : Written) (k : ℕ) (e : Place × ℕ) → ArePlaces new → k < length new → is_place (get_or new k e).0 ≡ true
+place_at [] k e there within = absurd (omega (arith, within))
+place_at (w ∷ new) zero e there within = there.0
+place_at (w ∷ new) (suc k) e there within = place_at new k e there.1 (omega (arith, within))
+
+length-numbered : (new : Written) → length (numbered new) ≡ length new
+length-numbered [] = refl
+length-numbered (w ∷ new) = ap suc (length-numbered new)
+
+-- a write comes before those behind it
+pub written_next : (writes : List Write) (i : ℕ) (d : Write) (rows now : List (Option ℕ)) (new old : Written) → 0 < i → i ≤ length writes → writes ≡ numbered new → ArePlaces new
+    → ((p : Place) (ws : Written) → is_place p ≡ true → number_of p ≡ (get_or writes (i - 1) d).place → HasWritten rows ws → HasWritten now ((p, (get_or writes (i - 1) d).word) ∷ ws))
+    → HasWritten rows (drop i new ++ old) → HasWritten now (drop (i - 1) new ++ old)
+written_next writes i d rows now new old some within are there sets had =
+    let e : Place × ℕ = (KeptRa, 0) in
+    let x = get_or new (i - 1) e in
+    let inside : i - 1 < length new = omega (arith, some, within, ap length are, length-numbered new) in
+    let next : i - 1 + 1 ≡ i = omega (arith, some) in
+    let parts : drop (i - 1) new ≡ x ∷ drop i new = drop_more new (i - 1) e inside ∙ ap (λ n. x ∷ drop n new) next in
+    let w : get_or writes (i - 1) d ≡ numbered_one x = ap (λ ws. get_or ws (i - 1) d) are ∙ get_or-numbered new (i - 1) d e inside in
+    let puts = sets x.0 (drop i new ++ old) (place_at new (i - 1) e there inside) (sym (ap (λ w. w.place) w)) had in
+    subst (λ ws. HasWritten now (ws ++ old)) (sym parts) (subst (λ n. HasWritten now ((x.0, n) ∷ (drop i new ++ old))) (ap (λ w. w.word) w) puts)

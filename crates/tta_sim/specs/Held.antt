@@ -1,5 +1,5 @@
 -- What a simulator holds, and which state it stands for.
-use Rattle.std.specs.Prelude.{◌≡◌, ℕ, ◌≤◌, Bool, true, false, List, ◌++◌, length, Option, None, Some, option_to_list}
+use Rattle.std.specs.Prelude.{◌≡◌, ℕ, ◌+◌, ◌≤◌, Bool, true, false, List, ◌++◌, length, Option, None, Some, option_to_list}
 use Rattle.tta_ops.specs.Units.{Units}
 use Rattle.tta_machine.specs.Machine.{Machine}
 use Rattle.tta_code.specs.declared.code.Code.{Code}
@@ -7,15 +7,18 @@ use Rattle.tta_code.specs.Legal.{IsLegalCode}
 use Rattle.tta_code.specs.Cycle.{Result', Pending, Outcome, Running, Halted, Fault, State, next}
 use Rattle.tta_sim.specs.declared.answer.CycleStep.{CycleStep}
 use Rattle.tta_sim.specs.declared.answer.CycleStep.TheVariants.{Ran, Halted as HadHalted, Fault as Faults}
+use Rattle.tta_sim.specs.declared.decoded.Line.{Line}
 use Rattle.tta_sim.specs.declared.told.Ending.{Ending}
 use Rattle.tta_sim.specs.declared.told.Ending.TheVariants as ending
+use Rattle.tta_sim.specs.Decoded.{lines_from}
 use Rattle.tta_sim.specs.Places.{HasWritten}
 use Rattle.tta_sim.specs.Results.{Results, AreResultsOf}
 
--- The words of registers and operand ports in a row; what each unit's result port shows, and the results due later; the
+-- The code, decoded; the words of registers and operand ports in a row; what each unit's result port shows, and the results due later; the
 -- spaces; the address of the next instruction, how many cycles were made, the control move under way, and how the run
 -- stands. What was put out, and every result that no port can show any more, is not held.
 pub record Held : Type 0 where
+  pub lines : List Line
   pub places : List (Option ℕ)
   pub shown : List (Option Result')
   pub coming : List Result'
@@ -78,11 +81,12 @@ ending_told ending.Running = Running
 ending_told ending.Halted = Halted
 ending_told (ending.Fault number cycle) = Fault number cycle
 
--- The run of a machine on code that it can carry out, which addresses of 16 bits reach: it has each unit's port and each
--- word of the spaces.
+-- The run of a machine on code that it can carry out, which addresses of 16 bits reach: it has the code decoded, each
+-- unit's port and each word of the spaces.
 pub record IsRunOf (m : Machine) (code : Code) (h : Held) : Type 0 where
   pub legal : IsLegalCode m code
   pub reached : length code.words ≤ 65536
+  pub decoded : h.lines ≡ lines_from m (1 + m.control.delay) code.words
   pub units : length h.shown ≡ length m.units
   pub memory : length h.memory ≡ m.data_words
   pub frame : length h.frame ≡ m.frame_words

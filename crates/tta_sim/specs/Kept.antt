@@ -1,16 +1,18 @@
 -- How a run is kept, and what a cycle of it comes to.
-use Rattle.std.specs.Prelude.{◌≡◌, ◌++◌, false, option_map, option_to_list}
+use Rattle.std.specs.Prelude.{◌≡◌, ◌++◌, List, false, option_map, option_to_list}
 use Rattle.tta_code.specs.Cycle.{State, Fault}
 use Rattle.tta_sim.specs.declared.answer.CycleStep.{CycleStep}
 use Rattle.tta_sim.specs.declared.answer.CycleStep.TheVariants.{Ran, Halted as HadHalted, Fault as Faults}
+use Rattle.tta_sim.specs.declared.decoded.Line.{Line}
 use Rattle.tta_sim.specs.declared.store.Store.{Store}
 use Rattle.tta_sim.specs.declared.control.Control.{Control}
 use Rattle.tta_sim.specs.Held.{Held, Stands, is_fault}
 use Rattle.tta_sim.specs.Controls.{underway, outcome_of}
 
 -- what is held where these are kept
-abbrev pub held_of : Store → Control → Held
-held_of store control = record {
+abbrev pub held_of : List Line → Store → Control → Held
+held_of lines store control = record {
+  lines = lines;
   places = store.places;
   shown = store.results.shown;
   coming = store.results.coming;

@@ -1,7 +1,9 @@
 pub mod Controls
+pub mod Decoded
 pub mod Held
 pub mod Kept
 pub mod Landing
+pub mod Lines
 pub mod Moves
 pub mod Places
 pub mod Results

@@ -1,10 +1,12 @@
--- What a long immediate writes.
-use Rattle.std.specs.Prelude.{Bool, true, [], ◌∷◌, Option, slice_get}
+-- What a cycle writes.
+use Rattle.std.specs.Prelude.{ℕ, Bool, true, List, [], ◌∷◌, map, Option, slice_get, IsTrue}
 use Rattle.std.specs.Option.{option_map_or}
+use Rattle.std.specs.List.{AllByRecursion}
 use Rattle.tta_machine.specs.Machine.{Machine}
-use Rattle.tta_machine.specs.Effects.{KeptImm, Written}
+use Rattle.tta_machine.specs.Effects.{Place, KeptImm, Written}
 use Rattle.tta_code.specs.declared.code.Long.{Long}
-use Rattle.tta_sim.specs.Places.{is_place}
+use Rattle.tta_sim.specs.declared.lines.Write.{Write}
+use Rattle.tta_sim.specs.Places.{is_place, number_of}
 
 -- the register that a long immediate's template writes, with its word
 abbrev pub long_write : Machine → Long → Written
@@ -17,3 +19,15 @@ long_writes m long = option_map_or (long_write m) long []
 abbrev pub is_long_place : Machine → Option Long → Bool
 is_long_place m long =
     option_map_or (λ l. option_map_or (λ t. is_place (KeptImm t.imm t.reg)) (slice_get m.templates l.template) true) long true
+
+-- a write into a place by the place's number
+abbrev pub numbered_one : Place × ℕ → Write
+numbered_one w = record { place = number_of w.0; word = w.1 }
+
+-- writes into places by their numbers
+abbrev pub numbered : Written → List Write
+numbered written = map numbered_one written
+
+-- writes into places that are there
+abbrev pub ArePlaces : Written → Type 0
+ArePlaces written = AllByRecursion (λ w. IsTrue (is_place w.0)) written

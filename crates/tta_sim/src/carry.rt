@@ -1,37 +1,84 @@
 //! One instruction.
 
-ghost use Rattle.std.specs.Prelude.{◌≡◌, ◌+◌, ◌<◌, ◌^◌, ◌++◌, None, Some, List, fold, length, map};
-ghost use Rattle.std.specs.Prelude.{is_some, option_map, IsTrue};
-ghost use Rattle.std.specs.List.{find, filter_map};
+ghost use Rattle.std.specs.Prelude.{◌≡◌, ◌+◌, ◌<◌, ◌^◌, ◌++◌, ◌&&◌, None, Some, List, fold, length, map};
+ghost use Rattle.std.specs.Prelude.{true, not, is_some, option_map, IsTrue};
+ghost use Rattle.std.specs.List.{find, filter_map, list_any, AllByRecursion};
 ghost use Rattle.tta_ops.specs.Set.{stated};
-ghost use Rattle.tta_machine.specs.Effects.{Written, write_of, store_data, store_frame};
+ghost use Rattle.tta_machine.specs.Effects.{Written, write_of, store_data, store_frame, first_some};
+ghost use Rattle.tta_machine.specs.Rules.{IsMachine};
 ghost use Rattle.tta_code.specs.Cycle.{State, Result', carry_out};
 ghost use Rattle.tta_code.specs.Legal.{is_legal};
 ghost use Rattle.tta_sim.specs.Places.{HasWritten};
 ghost use Rattle.tta_sim.specs.Results.{AreResultsOf};
 ghost use Rattle.tta_sim.specs.Moves.{reads_of, arrivals_of, brought_of, IsPossible};
-ghost use Rattle.tta_sim.specs.Starts.{starts_of, fault_in, begun, puts, told_in, told_of};
-ghost use Rattle.tta_sim.specs.Starts.{CanStart, AreReachable};
-ghost use Rattle.tta_sim.specs.Writing.{long_writes, is_long_place};
+ghost use Rattle.tta_sim.specs.Starts.{starts_of, fault_in, begun, puts, CanStart};
+ghost use Rattle.tta_sim.specs.Writing.{long_writes, numbered, ArePlaces};
+ghost use Rattle.tta_sim.specs.Decoded.{line_of};
+ghost use Rattle.tta_sim.specs.Lines.{is_unread, write_brought, start_brought, tell_brought};
+ghost use Rattle.tta_sim.specs.Lines.{operand_in, is_ready, is_tell_there, IsLineThere};
 ghost use Rattle.tta_sim.specs.Held.{Stands, cycles_of};
 ghost use Rattle.tta_sim.specs.Kept.{held_of, IsCarried};
 
 use crate::answer::CycleStep;
 use crate::arrivals::{any_tells, gather};
 use crate::begin::begin_all;
-use crate::control::{Control, Phase, Told};
+use crate::control::{Control, Phase};
+use crate::decoded::{DecodedTell, Line};
+use crate::lines::{any_unset, note_starts, note_writes, told_by};
+use crate::places::Places;
+use crate::results::Results;
 use crate::spaces::finish;
 use crate::starts::collect;
 use crate::store::{Doings, Store};
-use crate::writing::{write_all, write_long};
+use crate::writing::write_all;
 use crate::{arrivals, starts};
 use tta_code::Instruction;
 use tta_machine::Machine;
 use tta_ops::UnitSet;
 
-/// Collects what the moves of an instruction bring and start, and answers the fault of its cycle.
+/// Whether control can be told what these moves tell it: all of them can be read, and no earlier
+/// control move is under way.
+fn can_tell(places: &Places, results: &Results, control: &Control, moves: &[DecodedTell]) -> bool
+    requires { AllByRecursion
+        (λ t. IsTrue (is_tell_there (length results.now.shown) t)) moves.now }
+    ensures { let unread = is_unread places.now results.now.shown in
+        let told = first_some (tell_brought places.now results.now.shown) moves.now in
+        result ≡ (not (list_any (λ t. unread t.reading) moves.now)
+        && not (is_some control.now.pending && is_some told)) }
+{
+    !any_unset(places, results, moves)
+        && (control.pending.is_none() || told_by(places, results, moves).is_none())
+}
+
+/// Collects what the moves of an instruction write and start, and answers whether they can all be
+/// carried out.
+fn is_ready(doings: &mut Doings, store: &Store, control: &Control, line: &Line) -> bool
+    requires there { IsLineThere (length store.now.results.shown) line.now }
+    requires few { store.now.results.cycle + 256 < 2 ^ 64 }
+    ensures ready { let is_pending = is_some control.now.pending in
+        result ≡ is_ready store.now.places store.now.results is_pending line.now }
+    ensures writes { let brought = write_brought store.now.places store.now.results.shown in
+        result ≡ true → doings.new.writes ≡ filter_map brought line.now.writes }
+    ensures starts { let writes = write_brought store.now.places store.now.results.shown in
+        let operand = operand_in store.now.places (filter_map writes line.now.writes) in
+        let brought = start_brought store.now.places store.now.results.shown operand in
+        result ≡ true → doings.new.starts ≡ filter_map brought line.now.starts }
+{
+    let places = &store.places;
+    let results = &store.results;
+    if !note_writes(&mut doings.writes, places, results, line.writes.as_slice()) {
+        return false;
+    }
+    let writes = doings.writes.as_slice();
+    if !note_starts(&mut doings.starts, writes, places, results, line.starts.as_slice()) {
+        return false;
+    }
+    line.tells.is_empty() || can_tell(places, results, control, line.tells.as_slice())
+}
+
+/// The fault of a cycle, move by move.
 #[tactic(auto, using(crate::proofs::Faulting::stopped_by))]
-fn find_fault(
+fn fault_of(
     doings: &mut Doings,
     store: &Store,
     control: &Control,
@@ -41,11 +88,7 @@ fn find_fault(
     requires possible { IsPossible m.now i.now }
     requires units { length store.now.results.shown ≡ length m.now.units }
     requires few { store.now.results.cycle + 256 < 2 ^ 64 }
-    ensures arrivals { let reads = reads_of store.now.places store.now.results.shown in
-        doings.new.arrivals ≡ arrivals_of reads i.now.moves }
-    ensures starts { result ≡ None
-        → doings.new.starts ≡ starts_of m.now store.now.places doings.new.arrivals }
-    ensures fault { let is_pending = is_some control.now.pending in
+    ensures { let is_pending = is_some control.now.pending in
         result ≡ fault_in m.now store.now.places store.now.results is_pending i.now.moves }
 {
     let moves = i.moves.as_slice();
@@ -64,31 +107,49 @@ fn find_fault(
     None
 }
 
-/// What a cycle puts out, and what it tells control.
-#[derive(Drop)]
-pub struct Deed {
-    pub word: Option<u32>,
-    pub told: Option<Told>,
-}
-
-/// Does what the moves of an instruction bring and start, and goes on to the next cycle.
-fn act(
-    store: &mut Store,
-    doings: &Doings,
+/// Collects what an instruction writes and starts, and answers the fault of its cycle. Which fault it
+/// is is found in the instruction itself, where it is at one at all.
+fn find_fault(
+    doings: &mut Doings,
+    store: &Store,
+    control: &Control,
     m: &Machine,
     i: &Instruction,
-    units: &UnitSet,
-    back: u32,
-) -> Deed
-    requires arrivals { AreReachable (length m.now.units) doings.now.arrivals }
-    requires starts { CanStart store.old.results (length m.now.units) doings.now.starts }
-    requires long { IsTrue (is_long_place m.now i.now.long) }
-    requires units { length store.old.results.shown ≡ length m.now.units }
+    line: &Line,
+) -> Option<u8>
+    requires rules { IsMachine m.now }
+    requires legal { IsTrue (is_legal m.now i.now) }
+    requires line { let back = control.now.pc + 1 + m.now.control.delay in
+        line.now ≡ line_of m.now back i.now }
+    requires units { length store.now.results.shown ≡ length m.now.units }
+    requires few { store.now.results.cycle + 256 < 2 ^ 64 }
+    ensures fault { let is_pending = is_some control.now.pending in
+        result ≡ fault_in m.now store.now.places store.now.results is_pending i.now.moves }
+    ensures writes { let reads = reads_of store.now.places store.now.results.shown in
+        let back = control.now.pc + 1 + m.now.control.delay in
+        let brought = map brought_of (arrivals_of reads i.now.moves) in
+        result ≡ None → doings.new.writes
+        ≡ numbered (filter_map (write_of m.now back) brought ++ long_writes m.now i.now.long) }
+    ensures starts { let reads = reads_of store.now.places store.now.results.shown in
+        let arrivals = arrivals_of reads i.now.moves in
+        result ≡ None → doings.new.starts ≡ starts_of m.now store.now.places arrivals }
+{
+    if is_ready(doings, store, control, line) {
+        return None;
+    }
+    fault_of(doings, store, control, m, i)
+}
+
+/// Writes what was collected, starts the operations, and goes on to the next cycle. It answers the
+/// word that is put out, if any.
+#[inline(always)]
+fn act(store: &mut Store, doings: &Doings, units: &UnitSet) -> Option<u32>
+    requires writes { AllByRecursion (λ w. w.place < 609) doings.now.writes }
+    requires starts { let units = length store.old.results.shown in
+        CanStart store.old.results units doings.now.starts }
     requires few { store.old.results.cycle + 256 < 2 ^ 64 }
-    ensures written { (written : Written) → HasWritten store.old.places written
-        → HasWritten store.new.places
-        (filter_map (write_of m.now back) (map brought_of doings.now.arrivals)
-        ++ (long_writes m.now i.now.long ++ written)) }
+    ensures written { (new old : Written) → doings.now.writes ≡ numbered new → ArePlaces new
+        → HasWritten store.old.places old → HasWritten store.new.places (new ++ old) }
     ensures results { let U = stated unit_meaning units.now in
         let old = store.old in
         let more = filter_map (begun U old.results.cycle old.memory.items old.frame.items)
@@ -100,11 +161,9 @@ fn act(
         ≡ fold store_data store.old.memory.items doings.now.starts }
     ensures frame { store.new.frame.items
         ≡ fold store_frame store.old.frame.items doings.now.starts }
-    ensures word { result.word ≡ option_map (λ t. t.word) (find puts doings.now.starts) }
-    ensures told { option_map told_of result.told ≡ told_in doings.now.arrivals }
+    ensures word { result ≡ option_map (λ t. t.word) (find puts doings.now.starts) }
 {
-    write_long(&mut store.places, m, i.long);
-    let told = write_all(&mut store.places, m, back, doings.arrivals.as_slice());
+    write_all(&mut store.places, doings.writes.as_slice());
     let starts = doings.starts.as_slice();
     let none = begin_all(
         &mut store.results,
@@ -115,7 +174,7 @@ fn act(
     );
     let word = finish(&mut store.memory, &mut store.frame, starts, none);
     store.results.advance();
-    Deed { word, told }
+    word
 }
 
 /// Carries out a cycle of a run that goes on, with the instruction at its address.
@@ -125,10 +184,13 @@ pub fn carry(
     doings: &mut Doings,
     m: &Machine,
     i: &Instruction,
+    line: &Line,
     units: &UnitSet,
 ) -> CycleStep
     requires running { control.old.phase ≡ Phase.Running }
     requires legal { IsTrue (is_legal m.now i.now) }
+    requires line { let back = control.old.pc + 1 + m.now.control.delay in
+        line.now ≡ line_of m.now back i.now }
     requires units { length store.old.results.shown ≡ length m.now.units }
     requires few { store.old.results.cycle < 2 ^ 62 }
     requires within { control.old.pc < 65536 }
@@ -136,17 +198,22 @@ pub fn carry(
     ensures data { length store.new.memory.items ≡ length store.old.memory.items }
     ensures frame { length store.new.frame.items ≡ length store.old.frame.items }
     ensures counted { store.new.results.cycle ≡ store.old.results.cycle + cycles_of result }
-    ensures carried { let U = stated unit_meaning units.now in
-        (s : State) → Stands (held_of store.old control.old) s
-        → IsCarried (held_of store.new control.new) s (carry_out U m.now s (Some i.now)) result }
+    ensures carried { let U = stated unit_meaning units.now in (lines : List Line)
+        → (s : State) → Stands (held_of lines store.old control.old) s
+        → IsCarried (held_of lines store.new control.new) s (carry_out U m.now s (Some i.now)) result }
 {
     let delay = m.control.delay;
-    if let Some(number) = find_fault(doings, store, control, m, i) {
+    if let Some(number) = find_fault(doings, store, control, m, i, line) {
         control.phase = Phase::Fault(number);
         return CycleStep::Fault(number);
     }
-    let back = control.pc + 1 + u32::from(delay);
-    let deed = act(store, doings, m, i, units, back);
-    control.advance(deed.told, store.results.cycle(), delay);
-    CycleStep::Ran(deed.word)
+    if line.tells.is_empty() {
+        let word = act(store, doings, units);
+        control.advance(None, store.results.cycle(), delay);
+        return CycleStep::Ran(word);
+    }
+    let told = told_by(&store.places, &store.results, line.tells.as_slice());
+    let word = act(store, doings, units);
+    control.advance(told, store.results.cycle(), delay);
+    CycleStep::Ran(word)
 }

@@ -1,8 +1,8 @@
 //! The words of registers and operand ports.
 
-ghost use Rattle.std.specs.Prelude.{◌≡◌, [], ◌∷◌, IfOk, IsTrue};
-ghost use Rattle.tta_machine.specs.Effects.{KeptReg, KeptImm, KeptOperand, KeptRa, Written};
-ghost use Rattle.tta_sim.specs.Places.{is_place, word_at, HasWritten};
+ghost use Rattle.std.specs.Prelude.{◌≡◌, ◌<◌, [], ◌∷◌, None, slice_index_or, IfOk, IsTrue};
+ghost use Rattle.tta_machine.specs.Effects.{KeptReg, KeptImm, KeptOperand, KeptRa, Place, Written};
+ghost use Rattle.tta_sim.specs.Places.{is_place, number_of, word_at, HasWritten};
 
 use std::alloc::{AllocError, Global};
 use std::marker::Model;
@@ -34,6 +34,14 @@ impl Places {
         })
     }
 
+    /// The word of the place with this number in the row.
+    pub fn at(&self, number: u32) -> Option<u32>
+        requires { number < 609 }
+        ensures { result ≡ slice_index_or self.now number None }
+    {
+        self.words[number as usize]
+    }
+
     pub fn register(&self, file: u8, index: u8) -> Option<u32>
         requires { IsTrue (is_place (KeptReg file index)) }
         ensures { result ≡ word_at self.now (KeptReg file index) }
@@ -61,34 +69,12 @@ impl Places {
         self.words[608]
     }
 
-    pub fn set_register(&mut self, file: u8, index: u8, word: u32)
-        requires { IsTrue (is_place (KeptReg file index)) }
-        ensures { (written : Written) → HasWritten self.old written
-            → HasWritten self.new ((KeptReg file index, word) ∷ written) }
+    /// Puts a word into the place with this number in the row.
+    pub fn set(&mut self, number: usize, word: u32)
+        requires { number < 609 }
+        ensures { (p : Place) → (written : Written) → IsTrue (is_place p) → number_of p ≡ number
+            → HasWritten self.old written → HasWritten self.new ((p, word) ∷ written) }
     {
-        self.words[usize::from(file) * 64 + usize::from(index)] = Some(word);
-    }
-
-    pub fn set_immediate(&mut self, unit: u8, index: u8, word: u32)
-        requires { IsTrue (is_place (KeptImm unit index)) }
-        ensures { (written : Written) → HasWritten self.old written
-            → HasWritten self.new ((KeptImm unit index, word) ∷ written) }
-    {
-        self.words[512 + usize::from(unit) * 16 + usize::from(index)] = Some(word);
-    }
-
-    pub fn set_operand(&mut self, unit: u8, word: u32)
-        requires { IsTrue (is_place (KeptOperand unit)) }
-        ensures { (written : Written) → HasWritten self.old written
-            → HasWritten self.new ((KeptOperand unit, word) ∷ written) }
-    {
-        self.words[576 + usize::from(unit)] = Some(word);
-    }
-
-    pub fn set_return_address(&mut self, word: u32)
-        ensures { (written : Written) → HasWritten self.old written
-            → HasWritten self.new ((KeptRa, word) ∷ written) }
-    {
-        self.words[608] = Some(word);
+        self.words[number] = Some(word);
     }
 }

@@ -5,7 +5,7 @@ ghost use Rattle.std.specs.Prelude.{◌≡◌, ◌<◌, [], ◌∷◌, ◌++◌,
 use std::alloc::{AllocError, Global};
 use std::marker::Model;
 
-/// A list of at most 16 values, for which there is room from the start.
+/// A list of at most 32 values, for which there is room from the start.
 #[derive(Drop)]
 pub struct Short<T: Drop> {
     values: Vec<T>,
@@ -19,7 +19,7 @@ impl<T: Drop> Model for Short<T> {
 
     ghost view = { λ s. s.values.items };
 
-    ghost invariant = { λ s. 16 ≤ vec_capacity s.values };
+    ghost invariant = { λ s. 32 ≤ vec_capacity s.values };
 }
 
 impl<T: Drop> Short<T> {
@@ -27,7 +27,7 @@ impl<T: Drop> Short<T> {
         ensures { IfOk result (λ s. s ≡ []) }
     {
         Ok(Short {
-            values: Vec::with_capacity(alloc, 16)?,
+            values: Vec::with_capacity(alloc, 32)?,
         })
     }
 
@@ -44,7 +44,7 @@ impl<T: Drop> Short<T> {
     }
 
     pub fn push(&mut self, value: T)
-        requires { length self.old < 16 }
+        requires { length self.old < 32 }
         ensures { self.new ≡ self.old ++ value ∷ [] }
     {
         self.values.push_reserved(value);

@@ -14,6 +14,8 @@ ghost use Rattle.tta_sim.specs.Held.{Stands, IsAnswer, IsRunOf, cycles_of, is_ha
 use crate::answer::CycleStep;
 use crate::carry::carry;
 use crate::control::{Control, Phase};
+use crate::decode::decode;
+use crate::decoded::Line;
 use crate::places::Places;
 use crate::results::Results;
 use crate::short::Short;
@@ -22,6 +24,7 @@ use crate::store::{Doings, Store};
 use std::alloc::{AllocError, Global};
 use std::marker::Model;
 use tta_code::{Code, Instruction};
+use tta_list::Items;
 use tta_machine::Machine;
 use tta_ops::UnitSet;
 
@@ -32,6 +35,8 @@ pub struct Sim {
     pub(crate) store: Store,
     pub(crate) control: Control,
     doings: Doings,
+    /// The code that is run, decoded.
+    lines: Items<Line>,
 }
 
 impl Model for Sim {
@@ -40,7 +45,7 @@ impl Model for Sim {
 
     ghost Value = { Held };
 
-    ghost view = { λ s. held_of s.store s.control };
+    ghost view = { λ s. held_of s.lines s.store s.control };
 }
 
 /// The instruction at an address, if there is one.
@@ -54,8 +59,8 @@ impl Sim {
     /// The start of a run: the first instruction comes, nothing was ever written, every frame word is
     /// 0, and the data words are these.
     ///
-    /// It takes all memory that the run needs: room for each register and port, and for 16 results
-    /// of each unit that are to come.
+    /// It takes all memory that the run needs: room for each register and port, for 16 results of each
+    /// unit that are to come, and for the code once more, decoded.
     pub fn load(
         alloc: Global,
         m: &Machine,
@@ -67,14 +72,15 @@ impl Sim {
         ensures start { IfOk result (λ r. Stands r (start m.now memory.items)) }
         ensures loaded { IfOk result (λ r. IsRunOf m.now code.now r) }
     {
-        let _ = code;
         let store = Store {
             places: Places::unset(alloc)?,
             results: Results::none(alloc, m.units.len())?,
             memory,
             frame: zeros(alloc, m.frame_words as usize)?,
         };
+        let lines = decode(alloc, m, code)?;
         let doings = Doings {
+            writes: Short::new(alloc)?,
             arrivals: Short::new(alloc)?,
             starts: Short::new(alloc)?,
         };
@@ -82,6 +88,7 @@ impl Sim {
             store,
             control: Control::first(),
             doings,
+            lines,
         })
     }
 
@@ -108,12 +115,14 @@ impl Sim {
             self.control.phase = Phase::Fault(65);
             return CycleStep::Fault(65);
         };
+        let line = &self.lines.as_slice()[self.control.pc as usize];
         carry(
             &mut self.store,
             &mut self.control,
             &mut self.doings,
             m,
             i,
+            line,
             units,
         )
     }

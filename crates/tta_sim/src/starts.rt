@@ -10,6 +10,7 @@ ghost use Rattle.tta_sim.specs.Starts.{operand_with, start_by, starts_of, starte
 ghost use Rattle.tta_sim.specs.Starts.{is_stopped};
 
 use crate::arrivals::Arrival;
+use crate::decode::op_of;
 use crate::places::Places;
 use crate::results::Results;
 use crate::short::Short;
@@ -85,22 +86,11 @@ fn operand_of(arrivals: &[Arrival], places: &Places, unit: u8, does: &UnitOp) ->
 }
 
 /// Whether a unit's result of an operation would be due at the time of another one.
-fn clashes(results: &Results, unit: u8, does: &UnitOp) -> bool
+pub fn clashes(results: &Results, unit: u8, does: &UnitOp) -> bool
     requires { results.now.cycle + 256 < 2 ^ 64 }
     ensures { result ≡ clashes_at results.now unit does.now }
 {
     has_result(does.op) && results.clashes(unit, does.latency)
-}
-
-/// The operation of a unit with this number, if there is one.
-fn op_of(m: &Machine, unit: u8, op: u8) -> Option<&UnitOp>
-    ensures op { option_copied result ≡ op_at m.now unit op }
-    ensures unit { is_some result ≡ true → unit < length m.now.units }
-{
-    match m.units.as_slice().get(usize::from(unit)) {
-        Some(u) => u.ops.as_slice().get(usize::from(op)),
-        None => None,
-    }
 }
 
 /// Notes an operation that a word starts, and answers whether it cannot start.

@@ -1,6 +1,7 @@
 //! What a run holds but for control, and what its moves are about.
 
 use crate::arrivals::Arrival;
+use crate::lines::Write;
 use crate::places::Places;
 use crate::results::Results;
 use crate::short::Short;
@@ -17,10 +18,11 @@ pub struct Store {
     pub frame: Vec<u32>,
 }
 
-/// What the moves of a cycle bring and start. It is of no use behind the cycle, and kept only for
+/// What the moves of a cycle write, bring and start. It is of no use behind the cycle, and kept only for
 /// its room.
 #[derive(Drop)]
 pub struct Doings {
+    pub writes: Short<Write>,
     pub arrivals: Short<Arrival>,
     pub starts: Short<Start>,
 }

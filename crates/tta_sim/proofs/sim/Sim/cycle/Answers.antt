@@ -1,10 +1,11 @@
-use Rattle.std.proofs.Common.{sym, ap, ◌∙◌, arith}
+use Rattle.std.proofs.Common.{◌≡◌, ◌+◌, length, get_or, sym, ap, ◌∙◌, arith}
 use Rattle.std.specs.Prelude.{option_copied}
 use Rattle.std.proofs.lemmas.Option.{slice_get_within}
 use Rattle.tta_ops.specs.Set.{stated}
 use Rattle.tta_code.specs.Cycle.{Fault}
 use Rattle.tta_sim.specs.Controls.{outcome_of}
-use Rattle.tta_sim.proofs.Going.{halted_stands, fault_stands, fault_answer, past_stands, past_answer, goes_stands, goes_answer, legal_at}
+use Rattle.tta_sim.specs.Decoded.{line_of}
+use Rattle.tta_sim.proofs.Going.{halted_stands, fault_stands, fault_answer, past_stands, past_answer, goes_stands, goes_answer, legal_at, line_at, length-lines}
 use Rattle.tta_sim.proofs.sim.Sim.cycle.Goals as goal
 
 pub returns-in-Halted-clause-next : goal.returns-in-Halted-clause-next
@@ -30,13 +31,13 @@ pub returns-in_default-clause-next : goal.returns-in_default-clause-next
 returns-in_default-clause-next g c = λ s same.
     let U = stated (λ v. (goal.OpUnit-dyn g v).unit_meaning v.1) c.args.units.now in
     let none = sym c.instruction_at.ensures ∙ ap option_copied c.in_default.is in
-    past_stands U c.args.m.now c.args.code.now c.self.inside.store c.self.inside.control s (rw (← c.self.view_is) at same) c.in-Running.is none
+    past_stands U c.args.m.now c.args.code.now c.self.inside.lines c.self.inside.store c.self.inside.control s (rw (← c.self.view_is) at same) c.in-Running.is none
 
 pub returns-in_default-clause-answer : goal.returns-in_default-clause-answer
 returns-in_default-clause-answer g c = λ s same.
     let U = stated (λ v. (goal.OpUnit-dyn g v).unit_meaning v.1) c.args.units.now in
     let none = sym c.instruction_at.ensures ∙ ap option_copied c.in_default.is in
-    past_answer U c.args.m.now c.args.code.now c.self.inside.store c.self.inside.control s (rw (← c.self.view_is) at same) c.in-Running.is none
+    past_answer U c.args.m.now c.args.code.now c.self.inside.lines c.self.inside.store c.self.inside.control s (rw (← c.self.view_is) at same) c.in-Running.is none
 
 pub carry-requires-clause-legal : goal.carry-requires-clause-legal
 carry-requires-clause-legal g c =
@@ -54,13 +55,33 @@ returns-clause-next g c = λ s same.
     let U = stated (λ v. (goal.OpUnit-dyn g v).unit_meaning v.1) c.args.units.now in
     let here = sym c.instruction_at.ensures ∙ ap option_copied c.in-Some.is in
     let held = rw (← c.self.view_is) at same in
-    goes_stands U c.args.m.now c.args.code.now c.self.inside.store c.self.inside.control s held c.in-Running.is c.in-Some.i.now _ c.carry.result here
-    (c.carry.ensures.carried s held)
+    goes_stands U c.args.m.now c.args.code.now c.self.inside.lines c.self.inside.store c.self.inside.control s held c.in-Running.is c.in-Some.i.now _ c.carry.result here
+    (c.carry.ensures.carried c.self.inside.lines s held)
 
 pub returns-clause-answer : goal.returns-clause-answer
 returns-clause-answer g c = λ s same.
     let U = stated (λ v. (goal.OpUnit-dyn g v).unit_meaning v.1) c.args.units.now in
     let here = sym c.instruction_at.ensures ∙ ap option_copied c.in-Some.is in
     let held = rw (← c.self.view_is) at same in
-    goes_answer U c.args.m.now c.args.code.now c.self.inside.store c.self.inside.control s held c.in-Running.is c.in-Some.i.now _ c.carry.result here
-    (c.carry.ensures.carried s held)
+    goes_answer U c.args.m.now c.args.code.now c.self.inside.lines c.self.inside.store c.self.inside.control s held c.in-Running.is c.in-Some.i.now _ c.carry.result here
+    (c.carry.ensures.carried c.self.inside.lines s held)
+
+pub bounds-as_slice-self-inside : goal.bounds-as_slice-self-inside
+bounds-as_slice-self-inside g c =
+    let words = c.args.code.now.words in
+    let here = sym c.instruction_at.ensures ∙ ap option_copied c.in-Some.is in
+    let within = slice_get_within words c.self.inside.control.pc c.in-Some.i.now here in
+    let lines = c.as_slice.ensures ∙ ap (λ h. h.lines) c.self.view_is ∙ c.requires.loaded.decoded in
+    let many = ap length lines ∙ length-lines c.args.m.now (1 + c.args.m.now.control.delay) words in
+    omega (arith, within, many)
+
+pub carry-requires-clause-line : goal.carry-requires-clause-line
+carry-requires-clause-line g c =
+    let m = c.args.m.now in
+    let pc = c.self.inside.control.pc in
+    let i = c.in-Some.i.now in
+    let here = sym c.instruction_at.ensures ∙ ap option_copied c.in-Some.is in
+    let lines = c.as_slice.ensures ∙ ap (λ h. h.lines) c.self.view_is ∙ c.requires.loaded.decoded in
+    let back : 1 + m.control.delay + pc ≡ pc + 1 + m.control.delay = omega arith in
+    let line = c.index-as_slice-self.result in
+    c.index-as_slice-self.is ∙ ap (λ xs. get_or xs pc line) lines ∙ line_at m (1 + m.control.delay) c.args.code.now.words pc i line here ∙ ap (λ n. line_of m n i) back

@@ -1,0 +1,110 @@
+-- Instructions in the form in which they are carried out.
+use Rattle.std.specs.Prelude.{ℕ, ◌+◌, ◌==◌, Bool, true, false, List, [], ◌∷◌, ◌++◌, Option, None, Some, is_some, option_map, option_to_list, option_and_then, slice_get}
+use Rattle.std.specs.List.{filter_map}
+use Rattle.tta_machine.specs.declared.ends.GuardRef.{GuardRef}
+use Rattle.tta_machine.specs.declared.ends.Source.{Source}
+use Rattle.tta_machine.specs.declared.ends.Source.TheVariants as source
+use Rattle.tta_machine.specs.declared.ends.Dest.{Dest}
+use Rattle.tta_machine.specs.declared.ends.Dest.TheVariants as dest
+use Rattle.tta_machine.specs.Machine.{Machine}
+use Rattle.tta_machine.specs.Effects.{KeptReg, KeptImm, KeptOperand, KeptRa, width_of, op_at}
+use Rattle.tta_code.specs.declared.code.Move.{Move}
+use Rattle.tta_code.specs.declared.code.Long.{Long}
+use Rattle.tta_code.specs.declared.code.Instruction.{Instruction}
+use Rattle.tta_code.specs.Cycle.{moves_of}
+use Rattle.tta_sim.specs.declared.control.Kind.{Kind}
+use Rattle.tta_sim.specs.declared.control.Kind.TheVariants as told
+use Rattle.tta_sim.specs.declared.decoded.DecodedSource.{DecodedSource}
+use Rattle.tta_sim.specs.declared.decoded.DecodedSource.TheVariants as decoded
+use Rattle.tta_sim.specs.declared.decoded.DecodedGuard.{DecodedGuard}
+use Rattle.tta_sim.specs.declared.decoded.Reading.{Reading}
+use Rattle.tta_sim.specs.declared.decoded.DecodedWrite.{DecodedWrite}
+use Rattle.tta_sim.specs.declared.decoded.DecodedStart.{DecodedStart}
+use Rattle.tta_sim.specs.declared.decoded.DecodedTell.{DecodedTell}
+use Rattle.tta_sim.specs.declared.decoded.Line.{Line}
+use Rattle.tta_sim.specs.Places.{number_of}
+
+-- ---- what a move reads
+
+-- a source by the number of its place
+abbrev pub source_decoded : Source → DecodedSource
+source_decoded (source.Reg file index) = decoded.Place (number_of (KeptReg file index))
+source_decoded (source.Imm unit index) = decoded.Place (number_of (KeptImm unit index))
+source_decoded (source.Shown unit) = decoded.Port unit
+source_decoded source.Ra = decoded.Place (number_of KeptRa)
+source_decoded (source.Value word) = decoded.Word word
+
+-- a guard by the number of its register's place
+abbrev pub guard_decoded : GuardRef → DecodedGuard
+guard_decoded g = record { place = number_of (KeptReg g.file g.index); inverted = g.inverted }
+
+-- what a move reads
+abbrev pub reading_of : Move → Reading
+reading_of v = record { guard = option_map guard_decoded v.guard; src = source_decoded v.src }
+
+-- ---- what a move does
+
+-- the write of a move to a register or an operand port; a call writes the address to come back to
+abbrev pub write_decoded : Machine → (back : ℕ) → Move → Option DecodedWrite
+write_decoded m back v = on v.dst where
+  on : Dest → Option DecodedWrite
+  on (dest.Reg file index) = Some (record { reading = reading_of v; place = number_of (KeptReg file index); narrow = width_of m file == 1 })
+  on (dest.Operand unit) = Some (record { reading = reading_of v; place = number_of (KeptOperand unit); narrow = false })
+  on (dest.Trigger unit op) = None
+  on dest.Jump = None
+  on dest.Call = Some (record { reading = record (reading_of v) { src = decoded.Word back }; place = number_of KeptRa; narrow = false })
+  on dest.Halt = None
+
+-- the start of a move to a trigger port
+abbrev pub start_decoded : Machine → Move → Option DecodedStart
+start_decoded m v = on v.dst where
+  on : Dest → Option DecodedStart
+  on (dest.Reg file index) = None
+  on (dest.Operand unit) = None
+  on (dest.Trigger unit op) = option_map (λ o. record { reading = reading_of v; unit = unit; does = o }) (op_at m unit op)
+  on dest.Jump = None
+  on dest.Call = None
+  on dest.Halt = None
+
+-- whether a move to a trigger port finds its operation
+abbrev pub has_operation : Machine → Move → Bool
+has_operation m v = on v.dst where
+  on : Dest → Bool
+  on (dest.Reg file index) = true
+  on (dest.Operand unit) = true
+  on (dest.Trigger unit op) = is_some (op_at m unit op)
+  on dest.Jump = true
+  on dest.Call = true
+  on dest.Halt = true
+
+-- what a move to control's trigger port tells
+abbrev pub tell_decoded : Move → Option DecodedTell
+tell_decoded v = on v.dst where
+  on : Dest → Option DecodedTell
+  on (dest.Reg file index) = None
+  on (dest.Operand unit) = None
+  on (dest.Trigger unit op) = None
+  on dest.Jump = Some (record { reading = reading_of v; kind = told.Jump })
+  on dest.Call = Some (record { reading = reading_of v; kind = told.Call })
+  on dest.Halt = Some (record { reading = reading_of v; kind = told.Halt })
+
+-- the write of a long immediate into the register that its template writes
+abbrev pub long_decoded : Machine → Option Long → Option DecodedWrite
+long_decoded m long = option_and_then (λ l.
+    option_map (λ t. record { reading = record { guard = None; src = decoded.Word l.value }; place = number_of (KeptImm t.imm t.reg); narrow = false })
+    (slice_get m.templates l.template)) long
+
+-- ---- instructions
+
+-- an instruction, where a call in it comes back to this address
+abbrev pub line_of : Machine → (back : ℕ) → Instruction → Line
+line_of m back i = record {
+  writes = filter_map (write_decoded m back) (moves_of i) ++ option_to_list (long_decoded m i.long);
+  starts = filter_map (start_decoded m) (moves_of i);
+  tells = filter_map tell_decoded (moves_of i);
+}
+
+-- the instructions of some code, where a call in the first comes back to this address
+abbrev pub lines_from : Machine → (back : ℕ) → List Instruction → List Line
+lines_from m back [] = []
+lines_from m back (i ∷ is) = line_of m back i ∷ lines_from m (back + 1) is

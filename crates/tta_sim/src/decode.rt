@@ -1,0 +1,246 @@
+//! How instructions are decoded.
+
+ghost use Rattle.std.specs.Prelude.{◌≡◌, ◌<◌, ◌≤◌, ◌+◌, ◌==◌, ◌++◌, ℕ, true, length, slice_get};
+ghost use Rattle.std.specs.Prelude.{is_some, option_and_then, option_copied, option_map, option_to_list};
+ghost use Rattle.std.specs.Prelude.{IfOk, OnOk, IsTrue};
+ghost use Rattle.std.specs.List.{filter_map, AllByRecursion};
+ghost use Rattle.tta_machine.specs.Effects.{KeptReg, KeptImm, KeptOperand, op_at, width_of};
+ghost use Rattle.tta_code.specs.Cycle.{moves_of};
+ghost use Rattle.tta_sim.specs.Places.{number_of};
+ghost use Rattle.tta_sim.specs.Decoded.{source_decoded, guard_decoded, reading_of, write_decoded};
+ghost use Rattle.tta_sim.specs.Decoded.{start_decoded, tell_decoded, long_decoded, line_of, lines_from};
+
+use crate::control::Kind;
+use crate::decoded::{DecodedGuard, DecodedSource, DecodedStart, DecodedTell, DecodedWrite};
+use crate::decoded::{Line, Reading};
+use std::alloc::{AllocError, Global};
+use tta_code::{Code, Instruction, Long, Move};
+use tta_list::Items;
+use tta_machine::{Dest, GuardRef, Machine, Source, UnitOp};
+
+/// The number of a register's place.
+fn register(file: u8, index: u8) -> u32
+    ensures { result ≡ number_of (KeptReg file index) }
+{
+    u32::from(file) * 64 + u32::from(index)
+}
+
+/// The number of an immediate register's place.
+fn immediate(unit: u8, index: u8) -> u32
+    ensures { result ≡ number_of (KeptImm unit index) }
+{
+    512 + u32::from(unit) * 16 + u32::from(index)
+}
+
+fn source(src: Source) -> DecodedSource
+    ensures { result ≡ source_decoded src }
+{
+    match src {
+        Source::Reg { file, index } => DecodedSource::Place(register(file, index)),
+        Source::Imm { unit, index } => DecodedSource::Place(immediate(unit, index)),
+        Source::Shown { unit } => DecodedSource::Port(unit),
+        Source::Ra => DecodedSource::Place(608),
+        Source::Value(word) => DecodedSource::Word(word),
+    }
+}
+
+fn guard(g: Option<GuardRef>) -> Option<DecodedGuard>
+    ensures { result ≡ option_map guard_decoded g }
+{
+    match g {
+        None => None,
+        Some(g) => Some(DecodedGuard {
+            place: register(g.file, g.index),
+            inverted: g.inverted,
+        }),
+    }
+}
+
+fn reading(v: &Move) -> Reading
+    ensures { result ≡ reading_of v.now }
+{
+    Reading {
+        guard: guard(v.guard),
+        src: source(v.src),
+    }
+}
+
+/// Whether a file has registers of one bit.
+fn is_narrow(m: &Machine, file: u8) -> bool
+    ensures { result ≡ (width_of m.now file == 1) }
+{
+    match m.files.as_slice().get(usize::from(file)) {
+        Some(f) => f.width == 1,
+        None => false,
+    }
+}
+
+/// The operation of a unit with this number, if there is one.
+pub fn op_of(m: &Machine, unit: u8, op: u8) -> Option<&UnitOp>
+    ensures op { option_copied result ≡ op_at m.now unit op }
+    ensures unit { is_some result ≡ true → unit < length m.now.units }
+{
+    match m.units.as_slice().get(usize::from(unit)) {
+        Some(u) => u.ops.as_slice().get(usize::from(op)),
+        None => None,
+    }
+}
+
+/// The write of a move, if it writes. A call writes the address to come back to.
+fn write_in(m: &Machine, back: u32, slot: &Option<Move>) -> Option<DecodedWrite>
+    ensures { result ≡ option_and_then (write_decoded m.now back) slot.now }
+{
+    let Some(v) = slot else {
+        return None;
+    };
+    let reading = reading(v);
+    match v.dst {
+        Dest::Reg { file, index } => Some(DecodedWrite {
+            reading,
+            place: register(file, index),
+            narrow: is_narrow(m, file),
+        }),
+        Dest::Operand { unit } => Some(DecodedWrite {
+            reading,
+            place: 576 + u32::from(unit),
+            narrow: false,
+        }),
+        Dest::Call => Some(DecodedWrite {
+            reading: Reading {
+                guard: reading.guard,
+                src: DecodedSource::Word(back),
+            },
+            place: 608,
+            narrow: false,
+        }),
+        Dest::Trigger { .. } | Dest::Jump | Dest::Halt => None,
+    }
+}
+
+/// The start of a move, if it starts an operation.
+fn start_in(m: &Machine, slot: &Option<Move>) -> Option<DecodedStart>
+    ensures { result ≡ option_and_then (start_decoded m.now) slot.now }
+{
+    let Some(v) = slot else {
+        return None;
+    };
+    let Dest::Trigger { unit, op } = v.dst else {
+        return None;
+    };
+    match op_of(m, unit, op) {
+        Some(does) => Some(DecodedStart {
+            reading: reading(v),
+            unit,
+            does: *does,
+        }),
+        None => None,
+    }
+}
+
+/// What a move tells control, if anything.
+fn tell_in(slot: &Option<Move>) -> Option<DecodedTell>
+    ensures { result ≡ option_and_then tell_decoded slot.now }
+{
+    let Some(v) = slot else {
+        return None;
+    };
+    let kind = match v.dst {
+        Dest::Jump => Kind::Jump,
+        Dest::Call => Kind::Call,
+        Dest::Halt => Kind::Halt,
+        Dest::Reg { .. } | Dest::Operand { .. } | Dest::Trigger { .. } => return None,
+    };
+    Some(DecodedTell {
+        reading: reading(v),
+        kind,
+    })
+}
+
+/// The write of a long immediate, if there is one.
+fn write_long(m: &Machine, long: Option<Long>) -> Option<DecodedWrite>
+    ensures { result ≡ long_decoded m.now long }
+{
+    let Some(l) = long else {
+        return None;
+    };
+    match m.templates.as_slice().get(usize::from(l.template)) {
+        Some(t) => Some(DecodedWrite {
+            reading: Reading {
+                guard: None,
+                src: DecodedSource::Word(l.value),
+            },
+            place: immediate(t.imm, t.reg),
+            narrow: false,
+        }),
+        None => None,
+    }
+}
+
+/// Adds a value, if there is one.
+fn add<T: Drop>(list: &mut Items<T>, value: Option<T>) -> Result<(), AllocError>
+    ensures { OnOk result (list.new ≡ list.old ++ option_to_list value) }
+{
+    if let Some(value) = value {
+        list.push(value)?;
+    }
+    Ok(())
+}
+
+/// The writes of an instruction.
+fn writes_in(alloc: Global, m: &Machine, back: u32, i: &Instruction) -> Result<Items<DecodedWrite>, AllocError>
+    ensures { IfOk result (λ list. list ≡ (line_of m.now back i.now).writes) }
+{
+    let mut list = Items::new(alloc);
+    for slot in i.moves.as_slice() {
+        add(&mut list, write_in(m, back, slot))?;
+    }
+    add(&mut list, write_long(m, i.long))?;
+    Ok(list)
+}
+
+/// The starts of an instruction.
+fn starts_in(alloc: Global, m: &Machine, i: &Instruction) -> Result<Items<DecodedStart>, AllocError>
+    ensures { IfOk result (λ list. list ≡ filter_map (start_decoded m.now) (moves_of i.now)) }
+{
+    let mut list = Items::new(alloc);
+    for slot in i.moves.as_slice() {
+        add(&mut list, start_in(m, slot))?;
+    }
+    Ok(list)
+}
+
+/// What an instruction tells control.
+fn tells_in(alloc: Global, m: &Machine, i: &Instruction) -> Result<Items<DecodedTell>, AllocError>
+    ensures { IfOk result (λ list. list ≡ filter_map tell_decoded (moves_of i.now)) }
+{
+    let mut list = Items::new(alloc);
+    for slot in i.moves.as_slice() {
+        add(&mut list, tell_in(slot))?;
+    }
+    Ok(list)
+}
+
+/// An instruction, decoded. Where it calls, `back` is the address to come back to.
+fn line(alloc: Global, m: &Machine, back: u32, i: &Instruction) -> Result<Line, AllocError>
+    ensures { IfOk result (λ l. l ≡ line_of m.now back i.now) }
+{
+    Ok(Line {
+        writes: writes_in(alloc, m, back, i)?,
+        starts: starts_in(alloc, m, i)?,
+        tells: tells_in(alloc, m, i)?,
+    })
+}
+
+/// The instructions of code, decoded.
+pub fn decode(alloc: Global, m: &Machine, code: &Code) -> Result<Items<Line>, AllocError>
+    requires { length code.now.words ≤ 65536 }
+    ensures { IfOk result (λ lines. lines ≡ lines_from m.now (1 + m.now.control.delay) code.now.words) }
+{
+    let mut lines = Items::new(alloc);
+    let mut back = 1 + u32::from(m.control.delay);
+    for i in code.words.as_slice() {
+        lines.push(line(alloc, m, back, i)?)?;
+        back += 1;
+    }
+    Ok(lines)
+}

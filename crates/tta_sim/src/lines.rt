@@ -1,0 +1,269 @@
+//! What the moves of a decoded instruction bring.
+
+ghost use Rattle.std.specs.Prelude.{◌≡◌, ◌<◌, ◌≤◌, ◌+◌, ◌^◌, ◌++◌, ◌||◌, not, true, false, is_none};
+ghost use Rattle.std.specs.Prelude.{if◌then◌else◌, length, option_map, option_to_list, IsTrue, ◌==◌, Some};
+ghost use Rattle.std.specs.List.{filter_map, list_any, AllByRecursion};
+ghost use Rattle.tta_machine.specs.Effects.{KeptOperand, first_some};
+ghost use Rattle.tta_sim.specs.Places.{is_place};
+ghost use Rattle.tta_sim.specs.Starts.{told_of};
+ghost use Rattle.tta_sim.specs.Lines.{source_word, word_read, is_unread, word_of, is_unset};
+ghost use Rattle.tta_sim.specs.Lines.{is_source_there, is_reading_there, is_write_there, is_start_there};
+ghost use Rattle.tta_sim.specs.Lines.{is_tell_there, write_brought, start_brought, tell_brought};
+ghost use Rattle.tta_sim.specs.Lines.{operand_in, cannot_start};
+
+use crate::control::Told;
+use crate::decoded::{DecodedSource, DecodedStart, DecodedTell, DecodedWrite, Reading};
+use crate::places::Places;
+use crate::results::Results;
+use crate::short::Short;
+use crate::starts::{Start, clashes};
+use tta_machine::UnitOp;
+
+/// A word that is brought to a place.
+#[derive(Clone, Copy, Debug)]
+pub struct Write {
+    pub place: usize,
+    pub word: u32,
+}
+
+/// What is read for a move.
+#[derive(Clone, Copy, Debug)]
+pub enum Read {
+    /// The move does not act.
+    Nothing,
+    Word(u32),
+    /// Its guard or its source has no word.
+    Unset,
+}
+
+/// The word of a source.
+fn word(places: &Places, results: &Results, src: DecodedSource) -> Option<u32>
+    requires { IsTrue (is_source_there (length results.now.shown) src) }
+    ensures { result ≡ source_word places.now results.now.shown src }
+{
+    match src {
+        DecodedSource::Word(word) => Some(word),
+        DecodedSource::Place(number) => places.at(number),
+        DecodedSource::Port(unit) => results.port(unit),
+    }
+}
+
+/// What is read for a move that acts.
+fn read_source(places: &Places, results: &Results, src: DecodedSource) -> Read
+    requires { IsTrue (is_source_there (length results.now.shown) src) }
+    ensures word { word_of result ≡ source_word places.now results.now.shown src }
+    ensures unset { is_unset result ≡ is_none (source_word places.now results.now.shown src) }
+{
+    match word(places, results, src) {
+        Some(word) => Read::Word(word),
+        None => Read::Unset,
+    }
+}
+
+/// What is read for a move at the start of a cycle.
+fn read_move(places: &Places, results: &Results, r: &Reading) -> Read
+    requires { IsTrue (is_reading_there (length results.now.shown) r.now) }
+    ensures word { word_of result ≡ word_read places.now results.now.shown r.now }
+    ensures unset { is_unset result ≡ is_unread places.now results.now.shown r.now }
+{
+    let Some(g) = r.guard else {
+        return read_source(places, results, r.src);
+    };
+    match places.at(g.place) {
+        None => Read::Unset,
+        Some(word) => {
+            if (word == 0) == g.inverted {
+                read_source(places, results, r.src)
+            } else {
+                Read::Nothing
+            }
+        }
+    }
+}
+
+/// Notes the word that a move writes, if it acts, and answers whether it could not be read.
+fn note_write(
+    writes: &mut Short<Write>,
+    places: &Places,
+    results: &Results,
+    w: &DecodedWrite,
+) -> bool
+    requires room { length writes.old < 32 }
+    requires there { IsTrue (is_write_there (length results.now.shown) w.now) }
+    ensures writes { let brought = write_brought places.now results.now.shown in
+        writes.new ≡ writes.old ++ option_to_list (brought w.now) }
+    ensures unset { result ≡ is_unread places.now results.now.shown w.now.reading }
+{
+    match read_move(places, results, &w.reading) {
+        Read::Nothing => false,
+        Read::Word(word) => {
+            writes.push(Write {
+                place: w.place as usize,
+                word: if w.narrow { word % 2 } else { word },
+            });
+            false
+        }
+        Read::Unset => true,
+    }
+}
+
+/// Collects what the moves write, and answers whether all of them could be read.
+pub fn note_writes(
+    writes: &mut Short<Write>,
+    places: &Places,
+    results: &Results,
+    moves: &[DecodedWrite],
+) -> bool
+    requires few { length moves.now ≤ 17 }
+    requires there { AllByRecursion
+        (λ w. IsTrue (is_write_there (length results.now.shown) w)) moves.now }
+    ensures read { let unread = is_unread places.now results.now.shown in
+        result ≡ not (list_any (λ w. unread w.reading) moves.now) }
+    ensures writes { let brought = write_brought places.now results.now.shown in
+        result ≡ true → writes.new ≡ filter_map brought moves.now }
+{
+    writes.clear();
+    for w in moves {
+        if note_write(writes, places, results, w) {
+            return false;
+        }
+    }
+    true
+}
+
+/// The word in a unit's operand port once this cycle's words are written.
+fn operand_after(writes: &[Write], places: &Places, unit: u8) -> Option<u32>
+    requires { IsTrue (is_place (KeptOperand unit)) }
+    ensures { result ≡ operand_in places.now writes.now unit }
+{
+    let place = 576 + usize::from(unit);
+    for w in writes {
+        if w.place == place {
+            return Some(w.word);
+        }
+    }
+    places.operand(unit)
+}
+
+/// The operand that an operation starts with, 0 where it takes none.
+fn operand_of(writes: &[Write], places: &Places, unit: u8, does: &UnitOp) -> Option<u32>
+    requires { IsTrue (is_place (KeptOperand unit)) }
+    ensures { let operand = operand_in places.now writes.now in
+        result ≡ (if does.now.arity == 2 then operand unit else Some 0) }
+{
+    if does.arity == 2 {
+        operand_after(writes, places, unit)
+    } else {
+        Some(0)
+    }
+}
+
+/// Notes the operation that a move starts, if it acts, and answers whether it cannot start.
+fn note_start(
+    starts: &mut Short<Start>,
+    writes: &[Write],
+    places: &Places,
+    results: &Results,
+    s: &DecodedStart,
+) -> bool
+    requires room { length starts.old < 32 }
+    requires there { IsTrue (is_start_there (length results.now.shown) s.now) }
+    requires few { results.now.cycle + 256 < 2 ^ 64 }
+    ensures starts { let operand = operand_in places.now writes.now in
+        let brought = start_brought places.now results.now.shown operand in
+        starts.new ≡ starts.old ++ option_to_list (brought s.now) }
+    ensures stopped { let operand = operand_in places.now writes.now in
+        result ≡ cannot_start places.now results.now operand s.now }
+{
+    match read_move(places, results, &s.reading) {
+        Read::Nothing => false,
+        Read::Word(word) => {
+            let operand = operand_of(writes, places, s.unit, &s.does);
+            let stopped = operand.is_none() || clashes(results, s.unit, &s.does);
+            starts.push(Start {
+                unit: u32::from(s.unit),
+                does: s.does,
+                operand,
+                word,
+            });
+            stopped
+        }
+        Read::Unset => true,
+    }
+}
+
+/// Collects the operations that the moves start, and answers whether all of them can start.
+pub fn note_starts(
+    starts: &mut Short<Start>,
+    writes: &[Write],
+    places: &Places,
+    results: &Results,
+    moves: &[DecodedStart],
+) -> bool
+    requires few { length moves.now ≤ 16 }
+    requires there { AllByRecursion
+        (λ s. IsTrue (is_start_there (length results.now.shown) s)) moves.now }
+    requires cycle { results.now.cycle + 256 < 2 ^ 64 }
+    ensures can { let operand = operand_in places.now writes.now in
+        result ≡ not (list_any (cannot_start places.now results.now operand) moves.now) }
+    ensures starts { let operand = operand_in places.now writes.now in
+        let brought = start_brought places.now results.now.shown operand in
+        result ≡ true → starts.new ≡ filter_map brought moves.now }
+{
+    starts.clear();
+    for s in moves {
+        if note_start(starts, writes, places, results, s) {
+            return false;
+        }
+    }
+    true
+}
+
+/// Whether a move could not be read.
+fn is_unset(places: &Places, results: &Results, r: &Reading) -> bool
+    requires { IsTrue (is_reading_there (length results.now.shown) r.now) }
+    ensures { result ≡ is_unread places.now results.now.shown r.now }
+{
+    matches!(read_move(places, results, r), Read::Unset)
+}
+
+/// Whether some of the moves could not be read.
+pub fn any_unset(places: &Places, results: &Results, moves: &[DecodedTell]) -> bool
+    requires { AllByRecursion
+        (λ t. IsTrue (is_tell_there (length results.now.shown) t)) moves.now }
+    ensures { let unread = is_unread places.now results.now.shown in
+        result ≡ list_any (λ t. unread t.reading) moves.now }
+{
+    for t in moves {
+        if is_unset(places, results, &t.reading) {
+            return true;
+        }
+    }
+    false
+}
+
+/// What a move tells control, if it acts.
+fn tell(places: &Places, results: &Results, t: &DecodedTell) -> Option<Told>
+    requires { IsTrue (is_tell_there (length results.now.shown) t.now) }
+    ensures { option_map told_of result ≡ tell_brought places.now results.now.shown t.now }
+{
+    match read_move(places, results, &t.reading) {
+        Read::Word(word) => Some(Told { kind: t.kind, word }),
+        Read::Nothing | Read::Unset => None,
+    }
+}
+
+/// What the moves tell control.
+pub fn told_by(places: &Places, results: &Results, moves: &[DecodedTell]) -> Option<Told>
+    requires { AllByRecursion
+        (λ t. IsTrue (is_tell_there (length results.now.shown) t)) moves.now }
+    ensures { let tells = tell_brought places.now results.now.shown in
+        option_map told_of result ≡ first_some tells moves.now }
+{
+    for t in moves {
+        if let Some(told) = tell(places, results, t) {
+            return Some(told);
+        }
+    }
+    None
+}
