@@ -48,6 +48,7 @@ fn begin(results: &mut Results, start: &Start, value: Option<u32>) -> bool
 }
 
 /// Starts the result of each operation, and answers whether some operation has none.
+#[inline(always)]
 pub fn begin_all(
     results: &mut Results,
     starts: &[Start],
