@@ -1,27 +1,57 @@
 -- Results that begin one by one.
-use Rattle.std.proofs.Common.{◌≡◌, ◌<◌, ◌+◌, ◌==◌, ◌&&◌, ℕ, zero, suc, Bool, true, false, List, [], ◌∷◌, ◌++◌, length, take, get_or, Option, None, Some, refl, ap, sym, ◌∙◌, subst, arith, IsTrue, append_assoc}
+use Rattle.std.proofs.Common.{◌≡◌, ◌<◌, ◌+◌, ◌==◌, ◌&&◌, ◌||◌, ℕ, zero, suc, Bool, true, false, List, [], ◌∷◌, ◌++◌, length, take, get_or, Option, None, Some, refl, ap, sym, ◌∙◌, subst, arith, IsTrue, append_assoc}
 use Rattle.std.specs.Prelude.{option_to_list, is_some, if◌then◌else◌}
 use Rattle.std.specs.Option.{option_or}
 use Rattle.std.specs.List.{filter_map, cons_option, list_any, AllByRecursion}
+use Rattle.std.proofs.lemmas.List.Elements.{filter_map-append}
 use Rattle.std.proofs.lemmas.List.Folds.{find-append}
 use Rattle.tta_machine.specs.Rules.{are_different}
-use Rattle.tta_machine.specs.Effects.{Start, has_result, result_word}
+use Rattle.tta_machine.specs.Effects.{Start, has_result, result_word, lacks_operand}
 use Rattle.tta_ops.specs.Units.{Units}
 use Rattle.tta_code.specs.Cycle.{Result'}
 use Rattle.tta_sim.specs.Results.{Results, AreResultsOf, due_at, is_due}
-use Rattle.tta_sim.specs.Starts.{begun, due_of, clashes_with, is_fitting, CanStart}
+use Rattle.tta_sim.specs.declared.decoded.DecodedStart.{DecodedStart}
+use Rattle.tta_sim.specs.Starts.{begun, due_of, clashes_with, is_stopped, is_fitting, CanStart}
+use Rattle.tta_sim.specs.Lines.{is_unread, start_brought, cannot_start}
 use Rattle.tta_sim.proofs.Showing.{results_more}
-use Rattle.tta_sim.proofs.Lists.{filter_map-more, any_at}
+use Rattle.tta_sim.proofs.Lists.{filter_map-more}
 
--- the elements before one that differs from all
-pub apart_before : {A : Type 0} (same : A → A → Bool) (xs : List A) (i : ℕ) (d : A) → are_different same xs ≡ true → i < length xs
-    → AllByRecursion (λ a. same a (get_or xs i d) ≡ false) (take i xs)
-apart_before same xs zero d apart within = tt
-apart_before same [] (suc i) d apart within = tt
-apart_before same (x ∷ xs) (suc i) d apart within = (
-  any_at (same x) xs i d (grind arith) (omega (arith, within)),
-  apart_before same xs i d (grind arith) (omega (arith, within)),
-)
+-- ---- lists of what a function gives
+
+any_in : {A B : Type 0} (p : B → Bool) (f : A → Option B) (xs : List A) (k : ℕ) (d : A) (y : B) → list_any p (filter_map f xs) ≡ false → k < length xs
+    → f (get_or xs k d) ≡ Some y → p y ≡ false
+any_in p f [] k d y none within is = absurd (omega (arith, within))
+any_in p f (x ∷ xs) zero d y none within is =
+    let here : list_any p (y ∷ filter_map f xs) ≡ false = ap (λ o. list_any p (cons_option o (filter_map f xs))) (sym is) ∙ none in
+    grind (arith, here)
+any_in p f (x ∷ xs) (suc k) d y none within is = any_in p f xs k d y (elim (f x) as (λ o. list_any p (cons_option o (filter_map f xs)) ≡ false → list_any p (filter_map f xs) ≡ false) [
+  | None ↦ λ none. none
+  | Some z ↦ λ none. grind (arith, none)
+] none) (omega (arith, within)) is
+
+-- what came of the elements before one differs from what comes of it
+pub apart_next : {A B : Type 0} (same : B → B → Bool) (f : A → Option B) (xs : List A) (k : ℕ) (d : A) (y : B) → are_different same (filter_map f xs) ≡ true → k < length xs
+    → f (get_or xs k d) ≡ Some y → AllByRecursion (λ a. same a y ≡ false) (filter_map f (take k xs))
+apart_next same f xs zero d y apart within is = tt
+apart_next same f [] (suc k) d y apart within is = tt
+apart_next same f (x ∷ xs) (suc k) d y apart within is =
+    elim (f x) as (λ o. are_different same (cons_option o (filter_map f xs)) ≡ true → AllByRecursion (λ a. same a y ≡ false) (cons_option o (filter_map f (take k xs)))) [
+      | None ↦ λ apart. apart_next same f xs k d y apart (omega (arith, within)) is
+      | Some z ↦ λ apart. (any_in (same z) f xs k d y (grind (arith, apart)) (omega (arith, within)) is, apart_next same f xs k d y (grind (arith, apart)) (omega (arith, within)) is)
+    ] apart
+
+-- what comes of an element is as all that comes
+pub given_next : {A B : Type 0} (P : B → Type 0) (f : A → Option B) (xs : List A) (k : ℕ) (d : A) → AllByRecursion P (filter_map f xs) → k < length xs
+    → AllByRecursion P (option_to_list (f (get_or xs k d)))
+given_next P f [] k d all within = absurd (omega (arith, within))
+given_next P f (x ∷ xs) zero d all within = elim (f x) as (λ o. AllByRecursion P (cons_option o (filter_map f xs)) → AllByRecursion P (option_to_list o)) [
+  | None ↦ λ all. tt
+  | Some y ↦ λ all. (all.0, tt)
+] all
+given_next P f (x ∷ xs) (suc k) d all within = given_next P f xs k d (elim (f x) as (λ o. AllByRecursion P (cons_option o (filter_map f xs)) → AllByRecursion P (filter_map f xs)) [
+  | None ↦ λ all. all
+  | Some y ↦ λ all. all.1
+] all) (omega (arith, within))
 
 module _ (u : Units) (now : ℕ) (memory frame : List ℕ) where
   -- other units' results are none of this one's
@@ -36,37 +66,63 @@ module _ (u : Units) (now : ℕ) (memory frame : List ℕ) where
         | false ↦ rest
       ]
 
-  -- no result that has begun meets that of the next operation
-  pub free_next : (r before : Results) (units : ℕ) (starts : List Start) (i : ℕ) (d : Start) → CanStart r units starts → i < length starts → r.cycle ≡ now
-      → before ≡ record r { coming = r.coming ++ filter_map (begun u now memory frame) (take i starts) }
-      → clashes_with before (get_or starts i d) ≡ false
-  free_next r before units starts i d can within same so_far =
-      let t = get_or starts i d in
+  -- results that have begun are none of another unit's
+  clash_next : (r : Results) (starts : List Start) (t : Start) → AllByRecursion (λ a. (a.unit == t.unit) ≡ false) starts
+      → clashes_with (record r { coming = r.coming ++ filter_map (begun u now memory frame) starts }) t ≡ clashes_with r t
+  clash_next r starts t others =
       let due = r.cycle + t.does.latency in
-      let more = filter_map (begun u now memory frame) (take i starts) in
-      let others = no_result t.unit due (take i starts) (apart_before (λ a b. a.unit == b.unit) starts i d can.apart within) in
+      let more = filter_map (begun u now memory frame) starts in
       let all : due_at t.unit due (r.coming ++ more) ≡ option_or (due_at t.unit due r.coming) None =
-      find-append (is_due t.unit due) r.coming more ∙ ap (option_or (due_at t.unit due r.coming)) others in
-      let free : clashes_with r t ≡ false = any_at (clashes_with r) starts i d can.free within in
-      let as_before : clashes_with before t ≡ (has_result t.does.op && is_some (due_at t.unit due (r.coming ++ more))) = ap (λ q. clashes_with q t) so_far in
-      as_before ∙ ap (λ o. has_result t.does.op && is_some o) all ∙ ap (λ o. has_result t.does.op && is_some o) (or_none (due_at t.unit due r.coming)) ∙ free
+      find-append (is_due t.unit due) r.coming more ∙ ap (option_or (due_at t.unit due r.coming)) (no_result t.unit due starts others) in
+      ap (λ o. has_result t.does.op && is_some o) (all ∙ or_none (due_at t.unit due r.coming))
     where
       or_none : (o : Option Result') → option_or o None ≡ o
       or_none None = refl
       or_none (Some q) = refl
 
-  -- one more operation has begun
-  pub begun_more : (r before after : Results) (starts : List Start) (i : ℕ) (d : Start) (q : Option Result') → i < length starts
-      → before ≡ record r { coming = r.coming ++ filter_map (begun u now memory frame) (take i starts) }
-      → q ≡ begun u now memory frame (get_or starts i d)
-      → after ≡ record before { coming = before.coming ++ option_to_list q }
-      → after ≡ record r { coming = r.coming ++ filter_map (begun u now memory frame) (take (i + 1) starts) }
-  begun_more r before after starts i d q within so_far is added =
-      let f = begun u now memory frame in
-      let more : filter_map f (take i starts) ++ option_to_list q ≡ filter_map f (take (i + 1) starts) =
-      filter_map-more f starts i d (filter_map f (take i starts)) (filter_map f (take i starts) ++ option_to_list q) within refl (ap (λ o. filter_map f (take i starts) ++ option_to_list o) is) in
-      added ∙ ap {A = Results} (λ b. record b { coming = b.coming ++ option_to_list q }) so_far
-      ∙ ap {A = List Result'} (λ xs. record r { coming = xs }) (append_assoc r.coming (filter_map f (take i starts)) (option_to_list q) ∙ ap (λ xs. r.coming ++ xs) more)
+  module _ (places : List (Option ℕ)) (operand : ℕ → Option ℕ) (r before : Results) (moves : List DecodedStart) (k : ℕ) (d : DecodedStart) (within : k < length moves)
+      (so_far : before ≡ record r { coming = r.coming ++ filter_map (begun u now memory frame) (filter_map (start_brought places r.shown operand) (take k moves)) }) where
+    abbrev brought : DecodedStart → Option Start
+    brought = start_brought places r.shown operand
+
+    abbrev s : DecodedStart
+    s = get_or moves k d
+
+    abbrev grown : List Start → Results
+    grown starts = record r { coming = r.coming ++ filter_map (begun u now memory frame) starts }
+
+    -- whether the next operation can start does not depend on those that have begun
+    pub cannot_next : are_different (λ a b. a.unit == b.unit) (filter_map brought moves) ≡ true → cannot_start places before operand s ≡ cannot_start places r operand s
+    cannot_next apart =
+        ap (λ q. cannot_start places q operand s) so_far
+        ∙ ap (λ b. is_unread places r.shown s.reading || b) (by (brought s) refl)
+      where
+        by : (o : Option Start) → brought s ≡ o → list_any (is_stopped (grown (filter_map brought (take k moves)))) (option_to_list o) ≡ list_any (is_stopped r) (option_to_list o)
+        by None is = refl
+        by (Some t) is =
+            ap (λ b. (lacks_operand t || b) || false) (clash_next r (filter_map brought (take k moves)) t (apart_next (λ a b. a.unit == b.unit) brought moves k d t apart within is))
+
+    -- the next operation fits
+    pub fits_next : AllByRecursion (λ t. IsTrue (is_fitting (length r.shown) t)) (filter_map brought moves)
+        → AllByRecursion (λ t. IsTrue (is_fitting (length before.shown) t)) (option_to_list (start_brought places before.shown operand s))
+    fits_next fits =
+        subst (λ q. AllByRecursion (λ t. IsTrue (is_fitting (length q.shown) t)) (option_to_list (start_brought places q.shown operand s))) (sym so_far)
+        (given_next (λ t. IsTrue (is_fitting (length r.shown) t)) brought moves k d fits within)
+
+    -- one more operation has begun
+    pub begun_next : (after : Results) → r.cycle ≡ now
+        → after ≡ record before { coming = before.coming ++ filter_map (begun u before.cycle memory frame) (option_to_list (start_brought places before.shown operand s)) }
+        → after ≡ grown (filter_map brought (take (k + 1) moves))
+    begun_next after cycle added =
+        let f = begun u now memory frame in
+        let starts = filter_map brought (take k moves) in
+        let one = option_to_list (brought s) in
+        let more : filter_map f starts ++ filter_map f one ≡ filter_map f (filter_map brought (take (k + 1) moves)) =
+        sym (filter_map-append f starts one) ∙ ap (filter_map f) (filter_map-more brought moves k d starts (starts ++ one) within refl refl) in
+        added
+        ∙ ap {A = Results} (λ b. record b { coming = b.coming ++ filter_map (begun u b.cycle memory frame) (option_to_list (start_brought places b.shown operand s)) }) so_far
+        ∙ ap (λ n. record r { coming = (r.coming ++ filter_map f starts) ++ filter_map (begun u n memory frame) one }) cycle
+        ∙ ap {A = List Result'} (λ xs. record r { coming = xs }) (append_assoc r.coming (filter_map f starts) (filter_map f one) ∙ ap (λ xs. r.coming ++ xs) more)
 
 -- ---- all at once
 

@@ -1,5 +1,5 @@
 -- What a decoded instruction reads and brings is what its moves do.
-use Rattle.std.proofs.Common.{◌≡◌, ℕ, ◌<◌, ◌+◌, ◌%◌, ◌==◌, Bool, true, false, not, ◌&&◌, ◌||◌, IsTrue, List, [], ◌∷◌, ◌++◌, length, map, Option, Some, None, refl, sym, ap, ◌∙◌, arith}
+use Rattle.std.proofs.Common.{◌≡◌, ℕ, ◌%◌, ◌==◌, Bool, true, false, ◌&&◌, ◌||◌, List, [], ◌∷◌, map, Option, Some, None, refl, sym, ap, ◌∙◌}
 use Rattle.std.specs.Prelude.{is_none, is_some, option_map, option_and_then, slice_index_or, if◌then◌else◌}
 use Rattle.std.specs.Option.{option_map_or}
 use Rattle.std.specs.List.{list_any, filter_map, cons_option, AllByRecursion}
@@ -10,12 +10,11 @@ use Rattle.tta_machine.specs.declared.ends.Dest.{Dest}
 use Rattle.tta_machine.specs.declared.ends.Dest.TheVariants as dest
 use Rattle.tta_machine.specs.declared.parts.UnitOp.{UnitOp}
 use Rattle.tta_machine.specs.Machine.{Machine}
-use Rattle.tta_machine.specs.Effects.{Kind, Jumps, Calls, Halts, Reads, Place, KeptReg, KeptOperand, KeptRa, Start, width_of, write_of, op_at, or_else, first_some, control_of, moved, is_active, is_port, has_unset_guard, has_unset}
+use Rattle.tta_machine.specs.Effects.{Kind, Jumps, Calls, Halts, Reads, KeptReg, KeptOperand, KeptRa, Start, width_of, write_of, op_at, or_else, first_some, control_of, moved, is_active, is_port, has_unset_guard, has_unset}
 use Rattle.tta_code.specs.declared.code.Move.{Move}
 use Rattle.tta_code.specs.Cycle.{Result', effect_of}
 use Rattle.tta_sim.specs.declared.arrivals.Arrival.{Arrival}
 use Rattle.tta_sim.specs.declared.decoded.DecodedStart.{DecodedStart}
-use Rattle.tta_sim.specs.declared.decoded.DecodedTell.{DecodedTell}
 use Rattle.tta_sim.specs.declared.lines.Write.{Write}
 use Rattle.tta_sim.specs.Moves.{reads_of, lacks_register, arrival_of, brought_of}
 use Rattle.tta_sim.specs.Places.{number_of}

@@ -61,3 +61,8 @@ any_left p xs i d all within before here =
 -- no more elements come of a function than it is given
 pub length-so_far : {A B : Type 0} (f : A → Option B) (xs : List A) (i : ℕ) (ys : List B) → i < length xs → ys ≡ filter_map f (take i xs) → length ys ≤ i
 length-so_far f xs i ys within are = omega (arith, ap length are, length-filter_map f (take i xs), length-take-le i xs (omega arith))
+
+-- a test that the next element passes
+pub any_here : {A : Type 0} (p : A → Bool) (xs : List A) (i : ℕ) (d : A) (all : Bool) → i < length xs → all ≡ list_any p (drop i xs)
+    → p (get_or xs i d) ≡ true → all ≡ true
+any_here p xs i d all within before here = before ∙ ap (list_any p) (drop_more xs i d within) ∙ ap (λ b. b || list_any p (drop (i + 1) xs)) here

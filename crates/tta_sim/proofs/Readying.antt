@@ -1,6 +1,6 @@
 -- A decoded instruction can be carried out where its moves give no fault, and brings what they bring.
-use Rattle.std.proofs.Common.{◌≡◌, ℕ, ◌<◌, ◌≤◌, ◌+◌, ◌%◌, ◌==◌, Bool, true, false, not, ◌&&◌, ◌||◌, IsTrue, List, [], ◌∷◌, ◌++◌, length, map, Option, Some, None, refl, sym, ap, ◌∙◌, subst, arith}
-use Rattle.std.specs.Prelude.{is_none, is_some, option_map, option_and_then, option_to_list, slice_get, slice_index_or, if◌then◌else◌}
+use Rattle.std.proofs.Common.{◌≡◌, ℕ, ◌<◌, ◌≤◌, ◌%◌, ◌==◌, Bool, true, false, not, ◌&&◌, ◌||◌, List, [], ◌∷◌, ◌++◌, length, map, Option, Some, None, refl, sym, ap, ◌∙◌, arith}
+use Rattle.std.specs.Prelude.{is_none, is_some, option_map, option_and_then, option_to_list, slice_get, if◌then◌else◌}
 use Rattle.std.specs.Option.{option_map_or, option_or}
 use Rattle.std.specs.List.{list_any, filter_map, cons_option, find, AllByRecursion}
 use Rattle.std.proofs.lemmas.Bool.{ltb-true}
@@ -15,7 +15,7 @@ use Rattle.tta_machine.specs.Effects.{KeptReg, KeptImm, KeptOperand, KeptRa, Rea
 use Rattle.tta_code.specs.declared.code.Move.{Move}
 use Rattle.tta_code.specs.declared.code.Long.{Long}
 use Rattle.tta_code.specs.declared.code.Instruction.{Instruction}
-use Rattle.tta_code.specs.Cycle.{Result', effect_of, moves_of, first_fault}
+use Rattle.tta_code.specs.Cycle.{effect_of, moves_of, first_fault}
 use Rattle.tta_sim.specs.declared.arrivals.Arrival.{Arrival}
 use Rattle.tta_sim.specs.declared.decoded.DecodedStart.{DecodedStart}
 use Rattle.tta_sim.specs.declared.decoded.DecodedWrite.{DecodedWrite}
@@ -24,7 +24,7 @@ use Rattle.tta_sim.specs.declared.decoded.Line.{Line}
 use Rattle.tta_sim.specs.declared.lines.Write.{Write}
 use Rattle.tta_sim.specs.Places.{number_of, word_at, is_place}
 use Rattle.tta_sim.specs.Results.{Results}
-use Rattle.tta_sim.specs.Moves.{reads_of, lacks_register, is_reachable, is_possible_slot, arrival_of, arrivals_of, brought_of}
+use Rattle.tta_sim.specs.Moves.{reads_of, lacks_register, is_reachable, arrival_of, arrivals_of, brought_of}
 use Rattle.tta_sim.specs.Starts.{is_operand_of, operand_with, start_by, starts_of, triggered, is_stopped, clashes_with, fault_in, told_in, AreReachable}
 use Rattle.tta_sim.specs.Writing.{long_writes, is_long_place, numbered, numbered_one}
 use Rattle.tta_sim.specs.Decoded.{reading_of, write_decoded, start_decoded, tell_decoded, long_decoded, has_operation, line_of}
@@ -135,7 +135,7 @@ module _ (m : Machine) (back : ℕ) (places : List (Option ℕ)) (r : Results) w
     by None = refl
     by (Some t) = refl
 
-  starts_in : (operand : ℕ → Option ℕ) (ms : List Move) → filter_map (start_brought places r.shown operand) (filter_map (start_decoded m) ms) ≡ filter_map (start_by m operand) (filter_map (arrival_of reads) ms)
+  pub starts_in : (operand : ℕ → Option ℕ) (ms : List Move) → filter_map (start_brought places r.shown operand) (filter_map (start_decoded m) ms) ≡ filter_map (start_by m operand) (filter_map (arrival_of reads) ms)
   starts_in operand ms =
       filter_map-twice (start_brought places r.shown operand) (start_decoded m) ms
       ∙ filter_map-same (λ v. option_and_then (start_brought places r.shown operand) (start_decoded m v)) (λ v. option_and_then (start_by m operand) (arrival_of reads v)) ms (each ms)

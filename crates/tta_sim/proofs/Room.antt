@@ -1,5 +1,5 @@
 -- Room for the results that are to come.
-use Rattle.std.proofs.Common.{◌≡◌, ◌<◌, ◌≤◌, ◌+◌, ◌*◌, ◌-◌, ◌==◌, ℕ, suc, Bool, true, false, not, eqb, List, [], ◌∷◌, ◌++◌, length, map, Option, None, refl, ◌∙◌, arith}
+use Rattle.std.proofs.Common.{◌≡◌, ◌<◌, ◌≤◌, ◌+◌, ◌*◌, ◌-◌, ◌==◌, ℕ, zero, suc, Bool, true, false, not, eqb, List, [], ◌∷◌, ◌++◌, length, take, map, Option, None, refl, sym, ◌∙◌, subst, arith}
 use Rattle.std.specs.Prelude.{filter, if◌then◌else◌}
 use Rattle.std.specs.List.{AllByRecursion, list_any, IsDistinct}
 use Rattle.std.proofs.lemmas.List.{length-append, length-map}
@@ -135,3 +135,32 @@ module _ (capacity : ℕ) (r : Results) (room : HaveRoom capacity r) where
     where
       later : (q : Result') → not (q.due == r.cycle + 1) ≡ true → r.cycle < q.due → q.due ≤ r.cycle + 16 → (r.cycle + 1 < q.due) × (q.due ≤ r.cycle + 1 + 16)
       later q is after most = (grind arith, omega arith)
+
+-- ---- the first results
+
+all_take : {A : Type 0} (P : A → Type 0) (n : ℕ) (xs : List A) → AllByRecursion P xs → AllByRecursion P (take n xs)
+all_take P zero xs all = tt
+all_take P (suc n) [] all = tt
+all_take P (suc n) (x ∷ xs) all = (all.0, all_take P n xs all.1)
+
+any_take : {A : Type 0} (p : A → Bool) (n : ℕ) (xs : List A) → list_any p xs ≡ false → list_any p (take n xs) ≡ false
+any_take p zero xs none = refl
+any_take p (suc n) [] none = refl
+any_take p (suc n) (x ∷ xs) none = let rest = any_take p n xs (grind (arith, none)) in grind (arith, none, rest)
+
+apart_take : {A : Type 0} (same : A → A → Bool) (n : ℕ) (xs : List A) → are_different same xs ≡ true → are_different same (take n xs) ≡ true
+apart_take same zero xs apart = refl
+apart_take same (suc n) [] apart = refl
+apart_take same (suc n) (x ∷ xs) apart =
+    let rest = apart_take same n xs (grind (arith, apart)) in
+    let alone = any_take (same x) n xs (grind (arith, apart)) in
+    grind (arith, rest, alone)
+
+-- there is room for the first of the results that there was room for
+pub room_kept : (old new : ℕ) (r : Results) (kept : List Result') (n : ℕ) → HaveRoom old r → kept ≡ take n r.coming → new ≡ old → HaveRoom new (record r { coming = kept })
+room_kept old new r kept n room is same = subst (λ c. HaveRoom c (record r { coming = kept })) (sym same) (subst (λ xs. HaveRoom old (record r { coming = xs })) (sym is) (record {
+  soon = all_take (λ q. (r.cycle < q.due) × (q.due ≤ r.cycle + 16)) n r.coming room.soon;
+  units = all_take (λ q. q.unit < length r.shown) n r.coming room.units;
+  apart = apart_take meet n r.coming room.apart;
+  room = room.room;
+}))

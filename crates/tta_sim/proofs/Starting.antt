@@ -24,7 +24,7 @@ use Rattle.tta_code.specs.Legal.{ends_of, is_legal}
 use Rattle.tta_sim.specs.declared.arrivals.Arrival.{Arrival}
 use Rattle.tta_sim.specs.Results.{Results}
 use Rattle.tta_sim.specs.Moves.{is_possible_slot, is_askable, is_readable, is_reachable, arrival_of, arrivals_of}
-use Rattle.tta_sim.specs.Starts.{triggered, start_by, is_fitting, puts, clashes_with, CanStart, AreReachable}
+use Rattle.tta_sim.specs.Starts.{triggered, start_by, is_fitting, puts, clashes_with, AreFitting, CanStart, AreReachable}
 use Rattle.tta_sim.proofs.Possible.{legal_parts}
 
 -- ---- lists whose elements differ
@@ -172,6 +172,14 @@ module _ (m : Machine) (rules : IsMachine m) where
     fitting = all_fitting operand (arrivals_of reads i.moves);
     apart = starts_apart m operand (arrivals_of reads i.moves) (arrivals_apart reads i.moves (legal_parts m rules i legal).apart);
     free = free;
+  }
+
+  -- the operations that a legal instruction starts fit
+  pub are_fitting : (i : Instruction) → is_legal m i ≡ true → (reads : Reads) (operand : ℕ → Option ℕ)
+      → AreFitting (length m.units) (filter_map (start_by m operand) (arrivals_of reads i.moves))
+  are_fitting i legal reads operand = record {
+    fitting = all_fitting operand (arrivals_of reads i.moves);
+    apart = starts_apart m operand (arrivals_of reads i.moves) (arrivals_apart reads i.moves (legal_parts m rules i legal).apart);
   }
 
 -- arrivals of moves whose ends are there

@@ -1,15 +1,13 @@
 -- Words that are written one by one.
-use Rattle.std.proofs.Common.{◌≡◌, ◌<◌, ◌≤◌, ◌+◌, ◌-◌, ℕ, zero, suc, Bool, true, false, List, [], ◌∷◌, ◌++◌, length, drop, map, get_or, Option, None, Some, refl, ap, sym, ◌∙◌, subst, arith, append_assoc}
-use Rattle.std.specs.Prelude.{◌||◌, not, if◌then◌else◌, option_to_list, fold}
-use Rattle.std.specs.List.{filter_map, cons_option, find, list_any}
+use Rattle.std.proofs.Common.{◌≡◌, ◌<◌, ◌≤◌, ◌+◌, ◌-◌, ℕ, zero, suc, Bool, true, false, List, [], ◌∷◌, ◌++◌, length, drop, get_or, Option, Some, refl, ap, sym, ◌∙◌, subst, arith}
+use Rattle.std.specs.Prelude.{◌||◌, not, if◌then◌else◌, filter, fold}
+use Rattle.std.specs.List.{find}
 use Rattle.std.proofs.lemmas.List.{drop_more, length-set}
 use Rattle.tta_machine.specs.declared.parts.Op.{Op}
 use Rattle.tta_machine.specs.declared.parts.Op.TheVariants.{Ldw, Stw, Ldf, Stf, Out, Set}
-use Rattle.tta_machine.specs.Effects.{Brought, Place, KeptRa, Written, Start, Kind, operand_word, store_data, store_frame, has_result, or_else, control_of}
-use Rattle.tta_sim.specs.declared.arrivals.Arrival.{Arrival}
+use Rattle.tta_machine.specs.Effects.{Place, KeptRa, Written, Start, operand_word, store_data, store_frame, has_result}
 use Rattle.tta_sim.specs.declared.lines.Write.{Write}
 use Rattle.tta_sim.specs.Places.{HasWritten, is_place, number_of}
-use Rattle.tta_sim.specs.Moves.{brought_of}
 use Rattle.tta_sim.specs.Starts.{is_resultless, puts}
 use Rattle.tta_sim.specs.Writing.{numbered, numbered_one, ArePlaces}
 
@@ -74,21 +72,6 @@ first_of : (a b : Bool) → (a || b) ≡ false → a ≡ false
 first_of true b is = cc
 first_of false b is = refl
 
--- operations that all have results store nothing
-pub none_stored : (words : List ℕ) (starts : List Start) → list_any is_resultless starts ≡ false → fold store_data words starts ≡ words
-none_stored words [] none = refl
-none_stored words (t ∷ starts) none =
-    let here = first_of (is_resultless t) (list_any is_resultless starts) none in
-    let rest = rest_of (is_resultless t) (list_any is_resultless starts) none in
-    ap (λ ws. fold store_data ws starts) (kept_data words t here) ∙ none_stored words starts rest
-
-pub none_stored_frame : (words : List ℕ) (starts : List Start) → list_any is_resultless starts ≡ false → fold store_frame words starts ≡ words
-none_stored_frame words [] none = refl
-none_stored_frame words (t ∷ starts) none =
-    let here = first_of (is_resultless t) (list_any is_resultless starts) none in
-    let rest = rest_of (is_resultless t) (list_any is_resultless starts) none in
-    ap (λ ws. fold store_frame ws starts) (kept_frame words t here) ∙ none_stored_frame words starts rest
-
 kept_in : (t : Start) → is_resultless t ≡ false → puts t ≡ false
 kept_in t shows = by t.does.op shows where
   by : (o : Op) → not (has_result o) ≡ false → puts (record t { does = record t.does { op = o } }) ≡ false
@@ -98,14 +81,6 @@ kept_in t shows = by t.does.op shows where
   by Stf shows = refl
   by Out shows = cc
   by (Set id) shows = refl
-
--- they put nothing out
-pub none_put : (starts : List Start) → list_any is_resultless starts ≡ false → find puts starts ≡ None
-none_put [] none = refl
-none_put (t ∷ starts) none =
-    let here = first_of (is_resultless t) (list_any is_resultless starts) none in
-    let rest = rest_of (is_resultless t) (list_any is_resultless starts) none in
-    ap (λ b. if b then Some t else find puts starts) (kept_in t here) ∙ none_put starts rest
 
 -- ---- writes by number
 
@@ -136,3 +111,31 @@ written_next writes i d rows now new old some within are there sets had =
     let w : get_or writes (i - 1) d ≡ numbered_one x = ap (λ ws. get_or ws (i - 1) d) are ∙ get_or-numbered new (i - 1) d e inside in
     let puts = sets x.0 (drop i new ++ old) (place_at new (i - 1) e there inside) (sym (ap (λ w. w.place) w)) had in
     subst (λ ws. HasWritten now (ws ++ old)) (sym parts) (subst (λ n. HasWritten now ((x.0, n) ∷ (drop i new ++ old))) (ap (λ w. w.word) w) puts)
+
+-- ---- operations among which some have results
+
+-- only those without a result store
+pub stores_alone : (words : List ℕ) (starts : List Start) → fold store_data words (filter is_resultless starts) ≡ fold store_data words starts
+stores_alone words [] = refl
+stores_alone words (t ∷ starts) = elim (is_resultless t) as (λ b. is_resultless t ≡ b
+    → fold store_data words (if b then t ∷ filter is_resultless starts else filter is_resultless starts) ≡ fold store_data (store_data words t) starts) [
+      | true ↦ λ is. stores_alone (store_data words t) starts
+      | false ↦ λ is. stores_alone words starts ∙ ap (λ ws. fold store_data ws starts) (sym (kept_data words t is))
+    ] refl
+
+pub stores_alone_frame : (words : List ℕ) (starts : List Start) → fold store_frame words (filter is_resultless starts) ≡ fold store_frame words starts
+stores_alone_frame words [] = refl
+stores_alone_frame words (t ∷ starts) = elim (is_resultless t) as (λ b. is_resultless t ≡ b
+    → fold store_frame words (if b then t ∷ filter is_resultless starts else filter is_resultless starts) ≡ fold store_frame (store_frame words t) starts) [
+      | true ↦ λ is. stores_alone_frame (store_frame words t) starts
+      | false ↦ λ is. stores_alone_frame words starts ∙ ap (λ ws. fold store_frame ws starts) (sym (kept_frame words t is))
+    ] refl
+
+-- only those put out
+pub puts_alone : (starts : List Start) → find puts (filter is_resultless starts) ≡ find puts starts
+puts_alone [] = refl
+puts_alone (t ∷ starts) = elim (is_resultless t) as (λ b. is_resultless t ≡ b
+    → find puts (if b then t ∷ filter is_resultless starts else filter is_resultless starts) ≡ (if puts t then Some t else find puts starts)) [
+      | true ↦ λ is. ap (λ o. if puts t then Some t else o) (puts_alone starts)
+      | false ↦ λ is. puts_alone starts ∙ ap (λ b. if b then Some t else find puts starts) (sym (kept_in t is))
+    ] refl

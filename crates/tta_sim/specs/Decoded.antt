@@ -1,5 +1,5 @@
 -- Instructions in the form in which they are carried out.
-use Rattle.std.specs.Prelude.{ℕ, ◌+◌, ◌==◌, Bool, true, false, List, [], ◌∷◌, ◌++◌, Option, None, Some, is_some, option_map, option_to_list, option_and_then, slice_get}
+use Rattle.std.specs.Prelude.{ℕ, ◌+◌, ◌==◌, Bool, true, false, ◌&&◌, if◌then◌else◌, List, [], ◌∷◌, ◌++◌, Option, None, Some, is_some, option_map, option_to_list, option_and_then, length, slice_get}
 use Rattle.std.specs.List.{filter_map}
 use Rattle.tta_machine.specs.declared.ends.GuardRef.{GuardRef}
 use Rattle.tta_machine.specs.declared.ends.Source.{Source}
@@ -7,12 +7,11 @@ use Rattle.tta_machine.specs.declared.ends.Source.TheVariants as source
 use Rattle.tta_machine.specs.declared.ends.Dest.{Dest}
 use Rattle.tta_machine.specs.declared.ends.Dest.TheVariants as dest
 use Rattle.tta_machine.specs.Machine.{Machine}
-use Rattle.tta_machine.specs.Effects.{KeptReg, KeptImm, KeptOperand, KeptRa, width_of, op_at}
+use Rattle.tta_machine.specs.Effects.{KeptReg, KeptImm, KeptOperand, KeptRa, width_of, op_at, has_result}
 use Rattle.tta_code.specs.declared.code.Move.{Move}
 use Rattle.tta_code.specs.declared.code.Long.{Long}
 use Rattle.tta_code.specs.declared.code.Instruction.{Instruction}
 use Rattle.tta_code.specs.Cycle.{moves_of}
-use Rattle.tta_sim.specs.declared.control.Kind.{Kind}
 use Rattle.tta_sim.specs.declared.control.Kind.TheVariants as told
 use Rattle.tta_sim.specs.declared.decoded.DecodedSource.{DecodedSource}
 use Rattle.tta_sim.specs.declared.decoded.DecodedSource.TheVariants as decoded
@@ -66,6 +65,10 @@ start_decoded m v = on v.dst where
   on dest.Call = None
   on dest.Halt = None
 
+-- the start of an operation that shows no result
+abbrev pub store_decoded : Machine → Move → Option DecodedStart
+store_decoded m v = option_and_then (λ s. if has_result s.does.op then None else Some s) (start_decoded m v)
+
 -- whether a move to a trigger port finds its operation
 abbrev pub has_operation : Machine → Move → Bool
 has_operation m v = on v.dst where
@@ -96,12 +99,18 @@ long_decoded m long = option_and_then (λ l.
 
 -- ---- instructions
 
+-- whether a list has no elements
+abbrev pub is_nil : {A : Type 0} → List A → Bool
+is_nil xs = length xs == 0
+
 -- an instruction, where a call in it comes back to this address
 abbrev pub line_of : Machine → (back : ℕ) → Instruction → Line
 line_of m back i = record {
   writes = filter_map (write_decoded m back) (moves_of i) ++ option_to_list (long_decoded m i.long);
   starts = filter_map (start_decoded m) (moves_of i);
+  stores = filter_map (store_decoded m) (moves_of i);
   tells = filter_map tell_decoded (moves_of i);
+  quiet = is_nil (filter_map (store_decoded m) (moves_of i)) && is_nil (filter_map tell_decoded (moves_of i));
 }
 
 -- the instructions of some code, where a call in the first comes back to this address

@@ -1,8 +1,8 @@
 -- What a decoded instruction reads and brings.
-use Rattle.std.specs.Prelude.{ℕ, ◌≤◌, ◌%◌, ◌==◌, Bool, true, false, not, ◌&&◌, ◌||◌, nat_lt, if◌then◌else◌, List, Option, None, Some, is_none, is_some, option_map, option_to_list, length, slice_index_or, IsTrue}
+use Rattle.std.specs.Prelude.{◌≡◌, ℕ, ◌≤◌, ◌%◌, ◌==◌, Bool, true, false, not, ◌&&◌, ◌||◌, nat_lt, if◌then◌else◌, List, Option, None, Some, is_none, is_some, option_map, option_to_list, filter, length, slice_index_or, IsTrue}
 use Rattle.std.specs.Option.{option_map_or, option_or}
 use Rattle.std.specs.List.{list_any, filter_map, find, AllByRecursion}
-use Rattle.tta_machine.specs.Effects.{Kind, KeptOperand, Start, first_some}
+use Rattle.tta_machine.specs.Effects.{Kind, KeptOperand, Start, first_some, has_result}
 use Rattle.tta_code.specs.Cycle.{Result'}
 use Rattle.tta_sim.specs.declared.decoded.DecodedSource.{DecodedSource}
 use Rattle.tta_sim.specs.declared.decoded.DecodedSource.TheVariants as decoded
@@ -15,6 +15,7 @@ use Rattle.tta_sim.specs.declared.decoded.Line.{Line}
 use Rattle.tta_sim.specs.declared.lines.Read.{Read}
 use Rattle.tta_sim.specs.declared.lines.Read.TheVariants.{Nothing, Word, Unset}
 use Rattle.tta_sim.specs.declared.lines.Write.{Write}
+use Rattle.tta_sim.specs.Decoded.{is_nil}
 use Rattle.tta_sim.specs.Places.{is_place, number_of}
 use Rattle.tta_sim.specs.Results.{Results}
 use Rattle.tta_sim.specs.Starts.{started, is_stopped, kind_of}
@@ -40,12 +41,20 @@ is_start_there units s = is_reading_there units s.reading && is_place (KeptOpera
 abbrev pub is_tell_there : (units : ℕ) → DecodedTell → Bool
 is_tell_there units t = is_reading_there units t.reading
 
--- A line whose moves have ends that are there, no more of them than a machine can have buses.
+-- whether a move starts an operation that shows no result
+abbrev pub is_store : DecodedStart → Bool
+is_store s = not (has_result s.does.op)
+
+-- A line whose moves have ends that are there, no more of them than a machine can have buses. It knows which of its starts
+-- are stores, and whether it has stores or tells.
 pub record IsLineThere (units : ℕ) (l : Line) : Type 0 where
   pub few_writes : length l.writes ≤ 17
-  pub few_starts : length l.starts ≤ 16
+  pub few_stores : length l.stores ≤ 16
+  pub stored : l.stores ≡ filter is_store l.starts
+  pub quiet : l.quiet ≡ (is_nil l.stores && is_nil l.tells)
   pub writes : AllByRecursion (λ w. IsTrue (is_write_there units w)) l.writes
   pub starts : AllByRecursion (λ s. IsTrue (is_start_there units s)) l.starts
+  pub stores : AllByRecursion (λ s. IsTrue (is_start_there units s)) l.stores
   pub tells : AllByRecursion (λ t. IsTrue (is_tell_there units t)) l.tells
 
 -- ---- what they read
@@ -111,6 +120,11 @@ cannot_start places r operand s =
 abbrev pub tell_brought : (places : List (Option ℕ)) → (shown : List (Option Result')) → DecodedTell → Option (Kind × ℕ)
 tell_brought places shown t = option_map (λ word. (kind_of t.kind, word)) (word_read places shown t.reading)
 
+-- whether control can be told what some moves tell it: all can be read, and no earlier control move is under way
+abbrev pub tells_well : (places : List (Option ℕ)) → (shown : List (Option Result')) → (is_pending : Bool) → List DecodedTell → Bool
+tells_well places shown is_pending tells =
+    not (list_any (λ t. is_unread places shown t.reading) tells) && not (is_pending && is_some (first_some (tell_brought places shown) tells))
+
 -- whether a line can be carried out: all of its moves can be read and all operations start, and no move tells control
 -- something while an earlier one is under way
 abbrev pub is_ready : (places : List (Option ℕ)) → Results → (is_pending : Bool) → Line → Bool
@@ -118,6 +132,4 @@ is_ready places r is_pending l =
     let unread = is_unread places r.shown in
     let operand = operand_in places (filter_map (write_brought places r.shown) l.writes) in
     not (list_any (λ w. unread w.reading) l.writes)
-    && (not (list_any (cannot_start places r operand) l.starts)
-    && (not (list_any (λ t. unread t.reading) l.tells)
-    && not (is_pending && is_some (first_some (tell_brought places r.shown) l.tells))))
+    && (not (list_any (cannot_start places r operand) l.starts) && tells_well places r.shown is_pending l.tells)

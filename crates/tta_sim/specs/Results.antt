@@ -1,5 +1,5 @@
 -- The results of units: those that show, and those that are still to come.
-use Rattle.std.specs.Prelude.{◌≡◌, ℕ, ◌+◌, ◌*◌, ◌<◌, ◌≤◌, ◌==◌, Bool, true, ◌&&◌, List, length, fold, if◌then◌else◌, Option, None, Some, slice_index_or}
+use Rattle.std.specs.Prelude.{◌≡◌, ℕ, ◌+◌, ◌*◌, ◌<◌, ◌≤◌, ◌==◌, Bool, true, ◌&&◌, List, length, take, fold, if◌then◌else◌, Option, None, Some, slice_index_or}
 use Rattle.std.specs.List.{AllByRecursion, find}
 use Rattle.tta_machine.specs.Rules.{are_different}
 use Rattle.tta_code.specs.Cycle.{Result', later}
@@ -35,6 +35,12 @@ pub record AreResultsOf (started : List Result') (r : Results) : Type 0 where
 abbrev pub shown_first : (now : ℕ) → Option Result' → Option Result'
 shown_first now None = None
 shown_first now (Some r) = if r.due == now then Some r else None
+
+-- results beside which more are to come
+pub record IsGrown (old new : Results) : Type 0 where
+  pub cycle : new.cycle ≡ old.cycle
+  pub shown : new.shown ≡ old.shown
+  pub first : take (length old.coming) new.coming ≡ old.coming
 
 -- ---- room
 

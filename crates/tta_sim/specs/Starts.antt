@@ -119,6 +119,11 @@ pub record CanStart (r : Results) (units : ℕ) (starts : List Start) : Type 0 w
   pub apart : are_different (λ a b. a.unit == b.unit) starts ≡ true
   pub free : list_any (clashes_with r) starts ≡ false
 
+-- Operations that fit, no two of them of one unit.
+pub record AreFitting (units : ℕ) (starts : List Start) : Type 0 where
+  pub fitting : AllByRecursion (λ t. IsTrue (is_fitting units t)) starts
+  pub apart : are_different (λ a b. a.unit == b.unit) starts ≡ true
+
 -- arrivals at destinations that are there
 abbrev pub AreReachable : (units : ℕ) → List Arrival → Type 0
 AreReachable units arrivals = AllByRecursion (λ a. IsTrue (is_reachable units a.dst)) arrivals

@@ -1,17 +1,21 @@
 //! The results of the operations that start.
 
-ghost use Rattle.std.specs.Prelude.{◌≡◌, ℕ, ◌+◌, ◌<◌, ◌^◌, ◌++◌, false, length};
+ghost use Rattle.std.specs.Prelude.{◌≡◌, ℕ, ◌+◌, ◌<◌, ◌^◌, ◌++◌, ◌==◌, true, false, not, length};
 ghost use Rattle.std.specs.Prelude.{is_some, option_map, option_to_list, IsTrue};
-ghost use Rattle.std.specs.List.{filter_map, list_any};
+ghost use Rattle.std.specs.List.{filter_map, list_any, AllByRecursion};
 ghost use Rattle.tta_ops.specs.Set.{stated};
 ghost use Rattle.tta_machine.specs.Effects.{has_result};
+ghost use Rattle.tta_machine.specs.Rules.{are_different};
 ghost use Rattle.tta_sim.specs.Starts.{begun, due_of, clashes_with, is_fitting, is_resultless};
-ghost use Rattle.tta_sim.specs.Starts.{CanStart};
+ghost use Rattle.tta_sim.specs.Results.{IsGrown};
+ghost use Rattle.tta_sim.specs.Lines.{is_start_there, start_brought, operand_in, cannot_start};
 
+use crate::decoded::DecodedStart;
+use crate::lines::{Read, Write, operand_of, read_move};
+use crate::places::Places;
 use crate::results::Results;
 use crate::spaces::load;
-use crate::starts::Start;
-use crate::truth::either;
+use crate::starts::{Start, clashes};
 use tta_machine::Op;
 use tta_ops::UnitSet;
 
@@ -47,27 +51,91 @@ fn begin(results: &mut Results, start: &Start, value: Option<u32>) -> bool
     false
 }
 
-/// Starts the result of each operation, and answers whether some operation has none.
-#[inline(always)]
-pub fn begin_all(
+/// Starts the result of the operation that a move starts, if it acts and the operation has one. It
+/// answers whether the operation cannot start, and then starts nothing.
+fn begin_one(
     results: &mut Results,
-    starts: &[Start],
+    writes: &[Write],
+    places: &Places,
     units: &UnitSet,
     memory: &[u32],
     frame: &[u32],
+    s: &DecodedStart,
 ) -> bool
-    requires can { CanStart results.old (length results.old.shown) starts.now }
+    requires there { IsTrue (is_start_there (length results.old.shown) s.now) }
+    requires fitting { let operand = operand_in places.now writes.now in
+        let brought = start_brought places.now results.old.shown operand in
+        AllByRecursion (λ t. IsTrue (is_fitting (length results.old.shown) t))
+        (option_to_list (brought s.now)) }
     requires few { results.old.cycle + 256 < 2 ^ 64 }
+    ensures stopped { let operand = operand_in places.now writes.now in
+        result ≡ cannot_start places.now results.old operand s.now }
     ensures begun { let U = stated unit_meaning units.now in
-        let more = filter_map (begun U results.old.cycle memory.now frame.now) starts.now in
-        results.new ≡ record results.old { coming = results.old.coming ++ more } }
-    ensures none { result ≡ list_any is_resultless starts.now }
+        let operand = operand_in places.now writes.now in
+        let brought = start_brought places.now results.old.shown operand in
+        let begins = begun U results.old.cycle memory.now frame.now in
+        result ≡ false → results.new ≡ record results.old {
+          coming = results.old.coming ++ filter_map begins (option_to_list (brought s.now));
+        } }
+    ensures kept { result ≡ true → results.new ≡ results.old }
 {
-    let mut none = false;
-    for start in starts {
-        let value = result_of(units, memory, frame, start);
-        let by_this = begin(results, start, value);
-        none = either(by_this, none);
+    match read_move(places, results, &s.reading) {
+        Read::Nothing => false,
+        Read::Unset => true,
+        Read::Word(word) => {
+            let operand = operand_of(writes, places, s.unit, &s.does);
+            if operand.is_none() || clashes(results, s.unit, &s.does) {
+                return true;
+            }
+            let start = Start {
+                unit: u32::from(s.unit),
+                does: s.does,
+                operand,
+                word,
+            };
+            let value = result_of(units, memory, frame, &start);
+            begin(results, &start, value);
+            false
+        }
     }
-    none
+}
+
+/// Starts the result of each operation that the moves start, and answers whether all of them can
+/// start. Where they cannot, the results of some may have been started.
+pub fn begin_each(
+    results: &mut Results,
+    writes: &[Write],
+    places: &Places,
+    units: &UnitSet,
+    memory: &[u32],
+    frame: &[u32],
+    moves: &[DecodedStart],
+) -> bool
+    requires there { AllByRecursion
+        (λ s. IsTrue (is_start_there (length results.old.shown) s)) moves.now }
+    requires fitting { let operand = operand_in places.now writes.now in
+        let brought = start_brought places.now results.old.shown operand in
+        AllByRecursion (λ t. IsTrue (is_fitting (length results.old.shown) t))
+        (filter_map brought moves.now) }
+    requires apart { let operand = operand_in places.now writes.now in
+        let brought = start_brought places.now results.old.shown operand in
+        are_different (λ a b. a.unit == b.unit) (filter_map brought moves.now) ≡ true }
+    requires few { results.old.cycle + 256 < 2 ^ 64 }
+    ensures can { let operand = operand_in places.now writes.now in
+        result ≡ not (list_any (cannot_start places.now results.old operand) moves.now) }
+    ensures begun { let U = stated unit_meaning units.now in
+        let operand = operand_in places.now writes.now in
+        let brought = start_brought places.now results.old.shown operand in
+        let begins = begun U results.old.cycle memory.now frame.now in
+        result ≡ true → results.new ≡ record results.old {
+          coming = results.old.coming ++ filter_map begins (filter_map brought moves.now);
+        } }
+    ensures kept { IsGrown results.old results.new }
+{
+    for s in moves {
+        if begin_one(results, writes, places, units, memory, frame, s) {
+            return false;
+        }
+    }
+    true
 }

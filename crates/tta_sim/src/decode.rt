@@ -1,6 +1,6 @@
 //! How instructions are decoded.
 
-ghost use Rattle.std.specs.Prelude.{◌≡◌, ◌<◌, ◌≤◌, ◌+◌, ◌==◌, ◌++◌, ℕ, true, length, slice_get};
+ghost use Rattle.std.specs.Prelude.{◌≡◌, ◌<◌, ◌≤◌, ◌+◌, ◌==◌, ◌++◌, ◌&&◌, ℕ, true, length, slice_get};
 ghost use Rattle.std.specs.Prelude.{is_some, option_and_then, option_copied, option_map, option_to_list};
 ghost use Rattle.std.specs.Prelude.{IfOk, OnOk, IsTrue};
 ghost use Rattle.std.specs.List.{filter_map, AllByRecursion};
@@ -8,11 +8,13 @@ ghost use Rattle.tta_machine.specs.Effects.{KeptReg, KeptImm, KeptOperand, op_at
 ghost use Rattle.tta_code.specs.Cycle.{moves_of};
 ghost use Rattle.tta_sim.specs.Places.{number_of};
 ghost use Rattle.tta_sim.specs.Decoded.{source_decoded, guard_decoded, reading_of, write_decoded};
-ghost use Rattle.tta_sim.specs.Decoded.{start_decoded, tell_decoded, long_decoded, line_of, lines_from};
+ghost use Rattle.tta_sim.specs.Decoded.{start_decoded, store_decoded, tell_decoded, is_nil, long_decoded, line_of, lines_from};
 
 use crate::control::Kind;
-use crate::decoded::{DecodedGuard, DecodedSource, DecodedStart, DecodedTell, DecodedWrite};
-use crate::decoded::{Line, Reading};
+use crate::decoded::{
+    DecodedGuard, DecodedSource, DecodedStart, DecodedTell, DecodedWrite, Line, Reading,
+};
+use crate::starts::has_result;
 use std::alloc::{AllocError, Global};
 use tta_code::{Code, Instruction, Long, Move};
 use tta_list::Items;
@@ -187,7 +189,12 @@ fn add<T: Drop>(list: &mut Items<T>, value: Option<T>) -> Result<(), AllocError>
 }
 
 /// The writes of an instruction.
-fn writes_in(alloc: Global, m: &Machine, back: u32, i: &Instruction) -> Result<Items<DecodedWrite>, AllocError>
+fn writes_in(
+    alloc: Global,
+    m: &Machine,
+    back: u32,
+    i: &Instruction,
+) -> Result<Items<DecodedWrite>, AllocError>
     ensures { IfOk result (λ list. list ≡ (line_of m.now back i.now).writes) }
 {
     let mut list = Items::new(alloc);
@@ -209,6 +216,27 @@ fn starts_in(alloc: Global, m: &Machine, i: &Instruction) -> Result<Items<Decode
     Ok(list)
 }
 
+/// The start of a move, if it starts an operation that shows no result.
+fn store_in(m: &Machine, slot: &Option<Move>) -> Option<DecodedStart>
+    ensures { result ≡ option_and_then (store_decoded m.now) slot.now }
+{
+    match start_in(m, slot) {
+        Some(s) if !has_result(s.does.op) => Some(s),
+        _ => None,
+    }
+}
+
+/// The starts of an instruction whose operations show no result.
+fn stores_in(alloc: Global, m: &Machine, i: &Instruction) -> Result<Items<DecodedStart>, AllocError>
+    ensures { IfOk result (λ list. list ≡ filter_map (store_decoded m.now) (moves_of i.now)) }
+{
+    let mut list = Items::new(alloc);
+    for slot in i.moves.as_slice() {
+        add(&mut list, store_in(m, slot))?;
+    }
+    Ok(list)
+}
+
 /// What an instruction tells control.
 fn tells_in(alloc: Global, m: &Machine, i: &Instruction) -> Result<Items<DecodedTell>, AllocError>
     ensures { IfOk result (λ list. list ≡ filter_map tell_decoded (moves_of i.now)) }
@@ -220,14 +248,28 @@ fn tells_in(alloc: Global, m: &Machine, i: &Instruction) -> Result<Items<Decoded
     Ok(list)
 }
 
+/// Whether there are neither stores nor tells.
+fn are_none(stores: &Items<DecodedStart>, tells: &Items<DecodedTell>) -> bool
+    ensures { result ≡ (is_nil stores.now && is_nil tells.now) }
+{
+    stores.is_empty() && tells.is_empty()
+}
+
 /// An instruction, decoded. Where it calls, `back` is the address to come back to.
 fn line(alloc: Global, m: &Machine, back: u32, i: &Instruction) -> Result<Line, AllocError>
     ensures { IfOk result (λ l. l ≡ line_of m.now back i.now) }
 {
+    let writes = writes_in(alloc, m, back, i)?;
+    let starts = starts_in(alloc, m, i)?;
+    let stores = stores_in(alloc, m, i)?;
+    let tells = tells_in(alloc, m, i)?;
+    let quiet = are_none(&stores, &tells);
     Ok(Line {
-        writes: writes_in(alloc, m, back, i)?,
-        starts: starts_in(alloc, m, i)?,
-        tells: tells_in(alloc, m, i)?,
+        writes,
+        starts,
+        stores,
+        tells,
+        quiet,
     })
 }
 

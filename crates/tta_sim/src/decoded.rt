@@ -59,5 +59,9 @@ pub struct DecodedTell {
 pub struct Line {
     pub writes: Items<DecodedWrite>,
     pub starts: Items<DecodedStart>,
+    /// Those of the starts whose operations show no result, but store a word or put it out.
+    pub stores: Items<DecodedStart>,
     pub tells: Items<DecodedTell>,
+    /// Whether there are neither stores nor tells, as in most instructions.
+    pub quiet: bool,
 }

@@ -9,10 +9,10 @@ ghost use Rattle.tta_sim.specs.Starts.{told_of};
 ghost use Rattle.tta_sim.specs.Lines.{source_word, word_read, is_unread, word_of, is_unset};
 ghost use Rattle.tta_sim.specs.Lines.{is_source_there, is_reading_there, is_write_there, is_start_there};
 ghost use Rattle.tta_sim.specs.Lines.{is_tell_there, write_brought, start_brought, tell_brought};
-ghost use Rattle.tta_sim.specs.Lines.{operand_in, cannot_start};
+ghost use Rattle.tta_sim.specs.Lines.{operand_in, cannot_start, tells_well, IsLineThere};
 
 use crate::control::Told;
-use crate::decoded::{DecodedSource, DecodedStart, DecodedTell, DecodedWrite, Reading};
+use crate::decoded::{DecodedSource, DecodedStart, DecodedTell, DecodedWrite, Line, Reading};
 use crate::places::Places;
 use crate::results::Results;
 use crate::short::Short;
@@ -61,7 +61,7 @@ fn read_source(places: &Places, results: &Results, src: DecodedSource) -> Read
 }
 
 /// What is read for a move at the start of a cycle.
-fn read_move(places: &Places, results: &Results, r: &Reading) -> Read
+pub fn read_move(places: &Places, results: &Results, r: &Reading) -> Read
     requires { IsTrue (is_reading_there (length results.now.shown) r.now) }
     ensures word { word_of result ≡ word_read places.now results.now.shown r.now }
     ensures unset { is_unset result ≡ is_unread places.now results.now.shown r.now }
@@ -146,7 +146,7 @@ fn operand_after(writes: &[Write], places: &Places, unit: u8) -> Option<u32>
 }
 
 /// The operand that an operation starts with, 0 where it takes none.
-fn operand_of(writes: &[Write], places: &Places, unit: u8, does: &UnitOp) -> Option<u32>
+pub fn operand_of(writes: &[Write], places: &Places, unit: u8, does: &UnitOp) -> Option<u32>
     requires { IsTrue (is_place (KeptOperand unit)) }
     ensures { let operand = operand_in places.now writes.now in
         result ≡ (if does.now.arity == 2 then operand unit else Some 0) }
@@ -193,7 +193,7 @@ fn note_start(
 }
 
 /// Collects the operations that the moves start, and answers whether all of them can start.
-pub fn note_starts(
+fn note_starts(
     starts: &mut Short<Start>,
     writes: &[Write],
     places: &Places,
@@ -219,6 +219,27 @@ pub fn note_starts(
     true
 }
 
+/// Collects the operations of a line that show no result, and answers whether all of them can start.
+/// Where the line is quiet, it has none, and nothing is collected.
+pub fn note_stores(
+    starts: &mut Short<Start>,
+    writes: &[Write],
+    places: &Places,
+    results: &Results,
+    line: &Line,
+) -> bool
+    requires there { IsLineThere (length results.now.shown) line.now }
+    requires cycle { results.now.cycle + 256 < 2 ^ 64 }
+    ensures can { let operand = operand_in places.now writes.now in
+        result ≡ not (list_any (cannot_start places.now results.now operand) line.now.stores) }
+    ensures stores { let operand = operand_in places.now writes.now in
+        let brought = start_brought places.now results.now.shown operand in
+        result ≡ true → line.now.quiet ≡ false
+        → starts.new ≡ filter_map brought line.now.stores }
+{
+    line.quiet || note_starts(starts, writes, places, results, line.stores.as_slice())
+}
+
 /// Whether a move could not be read.
 fn is_unset(places: &Places, results: &Results, r: &Reading) -> bool
     requires { IsTrue (is_reading_there (length results.now.shown) r.now) }
@@ -228,7 +249,7 @@ fn is_unset(places: &Places, results: &Results, r: &Reading) -> bool
 }
 
 /// Whether some of the moves could not be read.
-pub fn any_unset(places: &Places, results: &Results, moves: &[DecodedTell]) -> bool
+fn any_unset(places: &Places, results: &Results, moves: &[DecodedTell]) -> bool
     requires { AllByRecursion
         (λ t. IsTrue (is_tell_there (length results.now.shown) t)) moves.now }
     ensures { let unread = is_unread places.now results.now.shown in
@@ -266,4 +287,22 @@ pub fn told_by(places: &Places, results: &Results, moves: &[DecodedTell]) -> Opt
         }
     }
     None
+}
+
+/// Whether control can be told what the moves tell it: all of them can be read, and no earlier
+/// control move is under way.
+fn can_tell(places: &Places, results: &Results, pending: bool, moves: &[DecodedTell]) -> bool
+    requires { AllByRecursion
+        (λ t. IsTrue (is_tell_there (length results.now.shown) t)) moves.now }
+    ensures { result ≡ tells_well places.now results.now.shown pending moves.now }
+{
+    !any_unset(places, results, moves) && (!pending || told_by(places, results, moves).is_none())
+}
+
+/// Whether control can be told what a line tells it.
+pub fn tells_well(places: &Places, results: &Results, pending: bool, line: &Line) -> bool
+    requires { IsLineThere (length results.now.shown) line.now }
+    ensures { result ≡ tells_well places.now results.now.shown pending line.now.tells }
+{
+    line.quiet || can_tell(places, results, pending, line.tells.as_slice())
 }

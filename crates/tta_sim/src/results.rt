@@ -1,7 +1,7 @@
 //! The results of units.
 
 ghost use Rattle.std.specs.Prelude.{◌≡◌, ◌<◌, ◌≤◌, ◌+◌, ◌*◌, ◌^◌, ◌∷◌, ◌++◌, [], None, Some};
-ghost use Rattle.std.specs.Prelude.{length, option_map, is_some, slice_index_or, replicate, IfOk};
+ghost use Rattle.std.specs.Prelude.{length, take, option_map, is_some, slice_index_or, replicate, IfOk};
 ghost use Rattle.tta_code.specs.Cycle.{Result'};
 ghost use Rattle.tta_sim.specs.Results.{AreResultsOf, due_at, due_after, shown_first};
 
@@ -128,6 +128,20 @@ impl Results {
     {
         let due = self.cycle + u64::from(latency);
         self.coming.push_reserved(Due { due, value, unit });
+    }
+
+    /// How many results are to come.
+    pub fn count(&self) -> usize
+        ensures { result ≡ length self.now.coming }
+    {
+        self.coming.len()
+    }
+
+    /// Keeps so many of the results that are to come.
+    pub fn keep(&mut self, count: usize)
+        ensures { self.new ≡ record self.old { coming = take count self.old.coming } }
+    {
+        self.coming.truncate(count);
     }
 
     /// Goes on to the next cycle.

@@ -1,9 +1,9 @@
 //! The data space, the frame space and the output.
 
 ghost use Rattle.std.specs.Prelude.{◌≡◌, fold, length, option_map, replicate, slice_index, slice_set, IfOk};
-ghost use Rattle.std.specs.List.{find, list_any};
+ghost use Rattle.std.specs.List.{find};
 ghost use Rattle.tta_machine.specs.Effects.{store_data, store_frame};
-ghost use Rattle.tta_sim.specs.Starts.{is_resultless, puts};
+ghost use Rattle.tta_sim.specs.Starts.{puts};
 
 use crate::starts::Start;
 use std::alloc::{AllocError, Global};
@@ -69,24 +69,4 @@ pub fn put_out(starts: &[Start]) -> Option<u32>
         }
     }
     None
-}
-
-/// Stores the words of all operations that store, and answers the word that is put out, if any.
-/// `none` is whether some operation has no result: no other stores or puts out.
-pub fn finish(
-    memory: &mut Vec<u32>,
-    frame: &mut Vec<u32>,
-    starts: &[Start],
-    none: bool,
-) -> Option<u32>
-    requires { none ≡ list_any is_resultless starts.now }
-    ensures data { memory.new.items ≡ fold store_data memory.old.items starts.now }
-    ensures frame { frame.new.items ≡ fold store_frame frame.old.items starts.now }
-    ensures word { result ≡ option_map (λ t. t.word) (find puts starts.now) }
-{
-    if !none {
-        return None;
-    }
-    store_all(memory, frame, starts);
-    put_out(starts)
 }

@@ -1,36 +1,35 @@
-use Rattle.std.proofs.Common.{◌&&◌, sym, ap, ◌∙◌}
+use Rattle.std.proofs.Common.{◌++◌, sym, ap, ◌∙◌}
 use Rattle.std.specs.Prelude.{is_some}
-use Rattle.tta_sim.proofs.Noting.{tells_well, ready_with, starts_noted, told_nothing, nothing_in}
+use Rattle.std.specs.List.{filter_map}
+use Rattle.tta_ops.specs.Set.{stated}
+use Rattle.tta_sim.specs.Starts.{begun}
+use Rattle.tta_sim.specs.Lines.{start_brought, operand_in}
+use Rattle.tta_sim.proofs.Noting.{noted_are, ready_with, not_ready}
 use Rattle.tta_sim.proofs.carry.is_ready.Goals as goal
 
-pub returns-then-not-note_starts-clause-ready : goal.returns-then-not-note_starts-clause-ready
-returns-then-not-note_starts-clause-ready c =
-    let ready = ready_with c.args.store.now.places c.args.store.now.results (is_some c.args.control.now.pending) c.args.line.now _ _ _ _ c.as_slice.ensures c.as_slice-2.ensures
-    c.as_slice-writes.ensures _ c.note_writes.ensures.read c.if-not-note_writes.false c.note_writes.ensures.writes _ c.note_starts.ensures.can in
-    sym (ready ∙ ap (λ b. b && tells_well c.args.store.now.places c.args.store.now.results (is_some c.args.control.now.pending) c.args.line.now.tells) c.if-not-note_starts.true)
+pub returns-then-not-note_stores-clause-ready : goal.returns-then-not-note_stores-clause-ready
+returns-then-not-note_stores-clause-ready g c =
+    sym (not_ready c.args.store.now.places c.args.store.now.results (is_some c.args.control.now.pending) c.args.line.now _ _ _ c.as_slice.ensures
+    c.as_slice-writes.ensures _ c.note_writes.ensures.read c.if-not-note_writes.false c.note_writes.ensures.writes c.requires.there.stored _ c.note_stores.ensures.can c.if-not-note_stores.true)
 
-pub returns-then-is_empty-clause-ready : goal.returns-then-is_empty-clause-ready
-returns-then-is_empty-clause-ready c =
-    let p = is_some c.args.control.now.pending in
-    let ready = ready_with c.args.store.now.places c.args.store.now.results (is_some c.args.control.now.pending) c.args.line.now _ _ _ _ c.as_slice.ensures c.as_slice-2.ensures
-    c.as_slice-writes.ensures _ c.note_writes.ensures.read c.if-not-note_writes.false c.note_writes.ensures.writes _ c.note_starts.ensures.can in
-    let nothing = told_nothing c.args.store.now.places c.args.store.now.results p c.args.line.now.tells (nothing_in c.args.line.now.tells c.if-is_empty.ensures) in
-    c.if-is_empty.true ∙ sym (ready ∙ ap (λ b. b && tells_well c.args.store.now.places c.args.store.now.results p c.args.line.now.tells) c.if-not-note_starts.false ∙ nothing)
+pub returns-clause-ready : goal.returns-clause-ready
+returns-clause-ready g c = c.begin_line.ensures.ready ∙ sym (ready_with c.args.store.now.places c.args.store.now.results (is_some c.args.control.now.pending) c.args.line.now _ _ _ c.as_slice.ensures
+    c.as_slice-writes.ensures _ c.note_writes.ensures.read c.if-not-note_writes.false c.note_writes.ensures.writes)
 
-pub returns-then-is_empty-clause-starts : goal.returns-then-is_empty-clause-starts
-returns-then-is_empty-clause-starts c = λ ready.
-    starts_noted c.args.store.now.places c.args.store.now.results (is_some c.args.control.now.pending) c.args.line.now _ _ _ _ c.as_slice.ensures c.as_slice-2.ensures
-    c.as_slice-writes.ensures _ c.note_writes.ensures.read c.if-not-note_writes.false c.note_writes.ensures.writes _ _ c.if-not-note_starts.false c.note_starts.ensures.starts
+pub returns-clause-stores : goal.returns-clause-stores
+returns-clause-stores g c = λ ready loud.
+    let brought = start_brought c.args.store.now.places c.args.store.now.results.shown in
+    let noted = noted_are c.args.store.now.places c.args.store.now.results (is_some c.args.control.now.pending) c.args.line.now _ _ _ c.as_slice.ensures
+    c.as_slice-writes.ensures _ c.note_writes.ensures.read c.if-not-note_writes.false c.note_writes.ensures.writes in
+    c.note_stores.ensures.stores c.if-not-note_stores.false loud ∙ ap (λ xs. filter_map (brought (operand_in c.args.store.now.places xs)) c.args.line.now.stores) noted
 
-pub returns-else-is_empty-clause-ready : goal.returns-else-is_empty-clause-ready
-returns-else-is_empty-clause-ready c =
-    let p = is_some c.args.control.now.pending in
-    let well = tells_well c.args.store.now.places c.args.store.now.results p in
-    let ready = ready_with c.args.store.now.places c.args.store.now.results (is_some c.args.control.now.pending) c.args.line.now _ _ _ _ c.as_slice.ensures c.as_slice-2.ensures
-    c.as_slice-writes.ensures _ c.note_writes.ensures.read c.if-not-note_writes.false c.note_writes.ensures.writes _ c.note_starts.ensures.can in
-    c.can_tell.ensures ∙ ap well c.as_slice-else-is_empty.ensures ∙ sym (ready ∙ ap (λ b. b && well c.args.line.now.tells) c.if-not-note_starts.false)
-
-pub returns-else-is_empty-clause-starts : goal.returns-else-is_empty-clause-starts
-returns-else-is_empty-clause-starts c = λ ready.
-    starts_noted c.args.store.now.places c.args.store.now.results (is_some c.args.control.now.pending) c.args.line.now _ _ _ _ c.as_slice.ensures c.as_slice-2.ensures
-    c.as_slice-writes.ensures _ c.note_writes.ensures.read c.if-not-note_writes.false c.note_writes.ensures.writes _ _ c.if-not-note_starts.false c.note_starts.ensures.starts
+pub returns-clause-begun : goal.returns-clause-begun
+returns-clause-begun g c = λ ready.
+    let U = stated (λ v. (goal.OpUnit-dyn g v).unit_meaning v.1) c.args.units.now in
+    let store = c.args.store.now in
+    let brought = start_brought store.places store.results.shown in
+    let begins = begun U store.results.cycle store.memory.items store.frame.items in
+    let noted = noted_are c.args.store.now.places c.args.store.now.results (is_some c.args.control.now.pending) c.args.line.now _ _ _ c.as_slice.ensures
+    c.as_slice-writes.ensures _ c.note_writes.ensures.read c.if-not-note_writes.false c.note_writes.ensures.writes in
+    c.begin_line.ensures.begun ready
+    ∙ ap (λ xs. record store.results { coming = store.results.coming ++ filter_map begins (filter_map (brought (operand_in store.places xs)) c.args.line.now.starts) }) noted
