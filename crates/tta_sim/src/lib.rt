@@ -19,6 +19,7 @@ mod sim;
 mod spaces;
 mod starts;
 mod store;
+mod telling;
 mod told;
 mod truth;
 mod writing;

@@ -90,7 +90,7 @@ pub fn clashes(results: &Results, unit: u8, does: &UnitOp) -> bool
     requires { results.now.cycle + 256 < 2 ^ 64 }
     ensures { result ≡ clashes_at results.now unit does.now }
 {
-    has_result(does.op) && results.clashes(unit, does.latency)
+    results.clashes(unit, does.latency) && has_result(does.op)
 }
 
 /// Notes an operation that a word starts, and answers whether it cannot start.

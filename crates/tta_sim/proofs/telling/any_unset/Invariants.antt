@@ -1,7 +1,7 @@
 use Rattle.std.proofs.Common.{◌≡◌, drop}
 use Rattle.std.specs.List.{list_any}
 use Rattle.tta_sim.specs.Lines.{is_unread}
-use Rattle.tta_sim.proofs.lines.any_unset.Given as goal
+use Rattle.tta_sim.proofs.telling.any_unset.Given as goal
 
 abbrev pub invariant-loop-t : goal.invariant-loop-t
 invariant-loop-t l =

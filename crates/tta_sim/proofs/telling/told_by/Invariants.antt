@@ -1,7 +1,7 @@
 use Rattle.std.proofs.Common.{◌≡◌, drop}
 use Rattle.tta_machine.specs.Effects.{first_some}
 use Rattle.tta_sim.specs.Lines.{tell_brought}
-use Rattle.tta_sim.proofs.lines.told_by.Given as goal
+use Rattle.tta_sim.proofs.telling.told_by.Given as goal
 
 abbrev pub invariant-loop-t : goal.invariant-loop-t
 invariant-loop-t l =
