@@ -9,6 +9,7 @@ use crate::due::Due;
 
 /// A result shows where it is due now. Any other is kept behind those that were kept, and the answer
 /// is how many are.
+#[inline(always)]
 fn settle(
     shown: &mut Vec<Option<Due>>,
     coming: &mut Vec<Due>,
@@ -33,6 +34,7 @@ fn settle(
 }
 
 /// Shows the results that are due now, and keeps the others.
+#[inline(always)]
 pub fn land(shown: &mut Vec<Option<Due>>, coming: &mut Vec<Due>, now: u64)
     requires { AllByRecursion (λ q. q.unit < length shown.old.items) coming.old.items }
     ensures shown { shown.new.items ≡ fold (shows now) shown.old.items coming.old.items }

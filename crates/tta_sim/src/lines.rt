@@ -46,6 +46,7 @@ fn word(places: &Places, results: &Results, src: DecodedSource) -> Option<u32>
 }
 
 /// What is read for a move that acts.
+#[inline(always)]
 fn read_source(places: &Places, results: &Results, src: DecodedSource) -> Read
     requires { IsTrue (is_source_there (length results.now.shown) src) }
     ensures word { word_of result ≡ source_word places.now results.now.shown src }
@@ -58,6 +59,7 @@ fn read_source(places: &Places, results: &Results, src: DecodedSource) -> Read
 }
 
 /// What is read for a move at the start of a cycle.
+#[inline(always)]
 pub fn read_move(places: &Places, results: &Results, r: &Reading) -> Read
     requires { IsTrue (is_reading_there (length results.now.shown) r.now) }
     ensures word { word_of result ≡ word_read places.now results.now.shown r.now }

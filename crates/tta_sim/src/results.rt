@@ -145,6 +145,7 @@ impl Results {
     }
 
     /// Goes on to the next cycle.
+    #[inline(always)]
     pub fn advance(&mut self)
         requires few { self.old.cycle + 256 < 2 ^ 64 }
         ensures cycle { self.new.cycle ≡ self.old.cycle + 1 }

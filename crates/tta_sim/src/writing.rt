@@ -10,6 +10,7 @@ use crate::lines::Write;
 use crate::places::Places;
 
 /// Writes the words, the last first.
+#[inline(always)]
 pub fn write_all(places: &mut Places, writes: &[Write])
     requires { AllByRecursion (λ w. w.place < 609) writes.now }
     ensures { (new old : Written) → writes.now ≡ numbered new → ArePlaces new
