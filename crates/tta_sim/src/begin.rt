@@ -6,7 +6,7 @@ ghost use Rattle.std.specs.List.{filter_map, list_any, AllByRecursion};
 ghost use Rattle.tta_ops.specs.Set.{stated};
 ghost use Rattle.tta_machine.specs.Effects.{has_result};
 ghost use Rattle.tta_machine.specs.Rules.{are_different};
-ghost use Rattle.tta_sim.specs.Starts.{begun, due_of, clashes_with, is_fitting, is_resultless};
+ghost use Rattle.tta_sim.specs.Starts.{begun, due_of, clashes_with, is_fitting};
 ghost use Rattle.tta_sim.specs.Results.{IsGrown};
 ghost use Rattle.tta_sim.specs.Lines.{is_start_there, start_brought, operand_in, cannot_start};
 
@@ -33,22 +33,19 @@ fn result_of(units: &UnitSet, memory: &[u32], frame: &[u32], start: &Start) -> O
     }
 }
 
-/// Starts an operation's result, if it has one, and answers whether it has none.
-fn begin(results: &mut Results, start: &Start, value: Option<u32>) -> bool
+/// Starts an operation's result, if it has one.
+fn begin(results: &mut Results, start: &Start, value: Option<u32>)
     requires some { is_some value ≡ has_result start.now.does.op }
     requires fitting { IsTrue (is_fitting (length results.old.shown) start.now) }
     requires free { clashes_with results.old start.now ≡ false }
     requires few { results.old.cycle + 256 < 2 ^ 64 }
-    ensures begun { let due = due_of results.old.cycle start.now in
+    ensures { let due = due_of results.old.cycle start.now in
         let more = option_to_list (option_map due value) in
         results.new ≡ record results.old { coming = results.old.coming ++ more } }
-    ensures none { result ≡ is_resultless start.now }
 {
-    let Some(value) = value else {
-        return true;
-    };
-    results.start(start.unit, start.does.latency, value);
-    false
+    if let Some(value) = value {
+        results.start(start.unit, start.does.latency, value);
+    }
 }
 
 /// Starts the result of the operation that a move starts, if it acts and the operation has one. It
