@@ -15,7 +15,7 @@ use Rattle.tta_machine.specs.declared.ends.Dest.{Dest}
 use Rattle.tta_machine.specs.declared.ends.Dest.TheVariants as dest
 use Rattle.tta_machine.specs.Machine.{Machine}
 use Rattle.tta_machine.specs.Joins.{within, source_socket, dest_socket, has_socket, is_source_on, is_dest_on, has_guard, joins, is_same_guard}
-use Rattle.tta_machine.specs.Legal.{Slots, all_slots, keeps_taken, is_joined, has_reads, has_writes, are_apart, can_move, ends_of as ends_in}
+use Rattle.tta_machine.specs.Legal.{all_slots}
 use Rattle.tta_machine.specs.Rules.{IsMachine, is_file, is_imm, is_guard, is_template}
 use Rattle.tta_machine.specs.Effects.{KeptReg, KeptImm}
 use Rattle.tta_machine.proofs.Lists.{list_all_one}
@@ -23,7 +23,8 @@ use Rattle.tta_code.specs.declared.code.Move.{Move}
 use Rattle.tta_code.specs.declared.code.Long.{Long}
 use Rattle.tta_code.specs.declared.code.Instruction.{Instruction}
 use Rattle.tta_code.specs.Cycle.{moves_of}
-use Rattle.tta_code.specs.Legal.{ends_of, slots_of, taken, is_long, is_instruction, is_legal}
+use Rattle.tta_code.specs.Legal.{ends_of, is_legal}
+use Rattle.tta_code.proofs.LegalParts.{legal_parts}
 use Rattle.tta_sim.specs.Places.{is_place}
 use Rattle.tta_sim.specs.Moves.{is_askable, is_readable, is_reachable, is_possible, is_possible_slot, IsPossible}
 use Rattle.tta_sim.specs.Writing.{is_long_place}
@@ -181,30 +182,12 @@ module _ (m : Machine) (rules : IsMachine m) where
     by None at = refl
     by (Some t) at = template_there t (list_all_one (is_template m.imms) m.templates l.template t rules.templates at)
 
-  -- what is known of a legal instruction
-  pub record LegalParts (i : Instruction) : Type 0 where
-    pub count : length i.moves ≡ length m.buses
-    pub joined : is_joined m (slots_of i) ≡ true
-    pub apart : are_apart (ends_in (slots_of i)) ≡ true
-
-  pub legal_parts : (i : Instruction) → is_legal m i ≡ true → LegalParts i
-  unfolding is_legal can_move
-  legal_parts i h =
-      let t : ℕ = taken m i in let s : Slots = slots_of i in
-      let both = and_parts (is_instruction m i) (keeps_taken t s && is_joined m s && has_reads m s && has_writes m s && are_apart (ends_in s)) h in
-      let first = and_parts (length i.moves == length m.buses) (option_map_or (is_long m) i.long true) both.0 in
-      let four = and_parts (keeps_taken t s && is_joined m s && has_reads m s && has_writes m s) (are_apart (ends_in s)) both.1 in
-      let three = and_parts (keeps_taken t s && is_joined m s && has_reads m s) (has_writes m s) four.0 in
-      let two = and_parts (keeps_taken t s && is_joined m s) (has_reads m s) three.0 in
-      let one = and_parts (keeps_taken t s) (is_joined m s) two.0 in
-      record { count = eqb-true (length i.moves) (length m.buses) first.0; joined = one.1; apart = four.1 }
-
   -- a legal instruction is one that a run can carry out
   pub possible : (i : Instruction) → is_legal m i ≡ true → IsPossible m i
   possible i h =
-      let parts = legal_parts i h in
+      let parts = legal_parts m i h in
       record {
-        few = omega (arith, parts.count, rules.limits.buses);
+        few = omega (arith, eqb-true (length i.moves) (length m.buses) parts.count, rules.limits.buses);
         slots = slots_possible 0 i.moves parts.joined;
         units = rules.limits.units;
       }
@@ -221,4 +204,4 @@ module _ (m : Machine) (rules : IsMachine m) where
 
   -- the moves of a legal instruction start operations that there are
   pub operations_there : (i : Instruction) → is_legal m i ≡ true → AllByRecursion (λ v. has_operation m v ≡ true) (moves_of i)
-  operations_there i h = slots_operate 0 i.moves (legal_parts i h).joined
+  operations_there i h = slots_operate 0 i.moves (legal_parts m i h).joined

@@ -25,7 +25,7 @@ use Rattle.tta_sim.specs.declared.arrivals.Arrival.{Arrival}
 use Rattle.tta_sim.specs.Results.{Results}
 use Rattle.tta_sim.specs.Moves.{is_possible_slot, is_askable, is_readable, is_reachable, arrival_of, arrivals_of}
 use Rattle.tta_sim.specs.Starts.{triggered, start_by, is_fitting, puts, clashes_with, AreFitting, CanStart, AreReachable}
-use Rattle.tta_sim.proofs.Possible.{legal_parts}
+use Rattle.tta_code.proofs.LegalParts.{legal_parts}
 
 -- ---- lists whose elements differ
 
@@ -170,7 +170,7 @@ module _ (m : Machine) (rules : IsMachine m) where
       → CanStart r (length m.units) (filter_map (start_by m operand) (arrivals_of reads i.moves))
   can_start i legal reads operand r free = record {
     fitting = all_fitting operand (arrivals_of reads i.moves);
-    apart = starts_apart m operand (arrivals_of reads i.moves) (arrivals_apart reads i.moves (legal_parts m rules i legal).apart);
+    apart = starts_apart m operand (arrivals_of reads i.moves) (arrivals_apart reads i.moves (legal_parts m i legal).apart);
     free = free;
   }
 
@@ -179,7 +179,7 @@ module _ (m : Machine) (rules : IsMachine m) where
       → AreFitting (length m.units) (filter_map (start_by m operand) (arrivals_of reads i.moves))
   are_fitting i legal reads operand = record {
     fitting = all_fitting operand (arrivals_of reads i.moves);
-    apart = starts_apart m operand (arrivals_of reads i.moves) (arrivals_apart reads i.moves (legal_parts m rules i legal).apart);
+    apart = starts_apart m operand (arrivals_of reads i.moves) (arrivals_apart reads i.moves (legal_parts m i legal).apart);
   }
 
 -- arrivals of moves whose ends are there
@@ -254,7 +254,7 @@ pub outputs_apart : (m : Machine) → IsMachine m → (i : Instruction) → is_l
     → are_different (λ p q. puts p && puts q) (filter_map (start_by m operand) (arrivals_of reads i.moves)) ≡ true
 outputs_apart m rules i legal reads operand =
     apart_filter_map meet_arrivals (λ p q. puts p && puts q) (start_by m operand) (put_by_one m rules operand)
-    (arrivals_of reads i.moves) (arrivals_apart reads i.moves (legal_parts m rules i legal).apart)
+    (arrivals_of reads i.moves) (arrivals_apart reads i.moves (legal_parts m i legal).apart)
 
 puts_word : (output : List ℕ) (t : Start) → puts t ≡ true → put_out output t ≡ output ++ t.word ∷ []
 puts_word output t = by t.does.op where

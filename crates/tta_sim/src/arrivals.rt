@@ -65,8 +65,8 @@ fn fault_at(places: &Places, results: &Results, slot: &Option<Move>) -> Option<u
     }
 }
 
-/// The fault of what the moves read, if any: 60 where a register is read that was never written, and
-/// else 61 where a result port is that shows nothing yet.
+/// The fault of what the moves read, if any: 60 where a register is read that was never written,
+/// and else 61 where a result port is that shows nothing yet.
 pub fn fault_of(places: &Places, results: &Results, moves: &[Option<Move>]) -> Option<u8>
     requires { AllByRecursion
         (λ slot. IsTrue (is_possible_slot (length results.now.shown) slot)) moves.now }
@@ -92,8 +92,8 @@ fn first(one: Option<u8>, other: Option<u8>) -> Option<u8>
     }
 }
 
-/// Collects what the moves bring, all of which are read at the start of the cycle. It answers whether
-/// all of them could be read.
+/// Collects what the moves bring, all of which are read at the start of the cycle. It answers
+/// whether all of them could be read.
 pub fn gather(
     arrivals: &mut Short<Arrival>,
     places: &Places,

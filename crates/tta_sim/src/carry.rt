@@ -1,6 +1,7 @@
 //! One instruction.
 
-ghost use Rattle.std.specs.Prelude.{◌≡◌, ◌+◌, ◌<◌, ◌^◌, ◌++◌, ◌&&◌, None, Some, Option, List, length, map};
+ghost use Rattle.std.specs.Prelude.{◌≡◌, ◌+◌, ◌<◌, ◌^◌, ◌++◌, ◌&&◌, None, Some, Option, List};
+ghost use Rattle.std.specs.Prelude.{length, map};
 ghost use Rattle.std.specs.Prelude.{ℕ, true, false, not, filter, is_some, IsTrue};
 ghost use Rattle.std.specs.List.{filter_map, list_any, AllByRecursion};
 ghost use Rattle.tta_ops.specs.Set.{stated};
@@ -35,8 +36,8 @@ use tta_code::Instruction;
 use tta_machine::Machine;
 use tta_ops::UnitSet;
 
-/// Starts the results of a line's operations, and answers whether all of them can start, and control
-/// can be told what the line tells it. Else no result is started.
+/// Starts the results of a line's operations, and answers whether all of them can start, and
+/// control can be told what the line tells it. Else no result is started.
 fn begin_line(
     store: &mut Store,
     writes: &[Write],
@@ -166,8 +167,8 @@ fn fault_of(
 }
 
 /// Collects what an instruction writes and stores, and starts the results of its operations, or
-/// answers the fault of its cycle. Which fault it is is found in the instruction itself, where it is
-/// at one at all.
+/// answers the fault of its cycle. Which fault it is is found in the instruction itself, where it
+/// is at one at all.
 fn find_fault(
     doings: &mut Doings,
     store: &mut Store,
@@ -252,7 +253,8 @@ pub fn carry(
     ensures counted { store.new.results.cycle ≡ store.old.results.cycle + cycles_of result }
     ensures carried { let U = stated unit_meaning units.now in (lines : List Line)
         → (s : State) → Stands (held_of lines store.old control.old) s
-        → IsCarried (held_of lines store.new control.new) s (carry_out U m.now s (Some i.now)) result }
+        → IsCarried (held_of lines store.new control.new) s
+        (carry_out U m.now s (Some i.now)) result }
 {
     let delay = m.control.delay;
     if let Some(number) = find_fault(doings, store, control, m, i, line, units) {

@@ -1,14 +1,17 @@
 //! How instructions are decoded.
 
-ghost use Rattle.std.specs.Prelude.{◌≡◌, ◌<◌, ◌≤◌, ◌+◌, ◌==◌, ◌++◌, ◌&&◌, ℕ, true, length, slice_get};
-ghost use Rattle.std.specs.Prelude.{is_some, option_and_then, option_copied, option_map, option_to_list};
+ghost use Rattle.std.specs.Prelude.{◌≡◌, ◌<◌, ◌≤◌, ◌+◌, ◌==◌, ◌++◌, ◌&&◌, ℕ, true, length};
+ghost use Rattle.std.specs.Prelude.{slice_get};
+ghost use Rattle.std.specs.Prelude.{is_some, option_and_then, option_copied, option_map};
+ghost use Rattle.std.specs.Prelude.{option_to_list};
 ghost use Rattle.std.specs.Prelude.{IfOk, OnOk, IsTrue};
 ghost use Rattle.std.specs.List.{filter_map, AllByRecursion};
 ghost use Rattle.tta_machine.specs.Effects.{KeptReg, KeptImm, KeptOperand, op_at, width_of};
 ghost use Rattle.tta_code.specs.Cycle.{moves_of};
 ghost use Rattle.tta_sim.specs.Places.{number_of};
 ghost use Rattle.tta_sim.specs.Decoded.{source_decoded, guard_decoded, reading_of, write_decoded};
-ghost use Rattle.tta_sim.specs.Decoded.{start_decoded, store_decoded, tell_decoded, is_nil, long_decoded, line_of, lines_from};
+ghost use Rattle.tta_sim.specs.Decoded.{start_decoded, store_decoded, tell_decoded, is_nil};
+ghost use Rattle.tta_sim.specs.Decoded.{long_decoded, line_of, lines_from};
 
 use crate::control::Kind;
 use crate::decoded::{
@@ -276,7 +279,8 @@ fn line(alloc: Global, m: &Machine, back: u32, i: &Instruction) -> Result<Line, 
 /// The instructions of code, decoded.
 pub fn decode(alloc: Global, m: &Machine, code: &Code) -> Result<Items<Line>, AllocError>
     requires { length code.now.words ≤ 65536 }
-    ensures { IfOk result (λ lines. lines ≡ lines_from m.now (1 + m.now.control.delay) code.now.words) }
+    ensures { IfOk result (λ lines.
+        lines ≡ lines_from m.now (1 + m.now.control.delay) code.now.words) }
 {
     let mut lines = Items::new(alloc);
     let mut back = 1 + u32::from(m.control.delay);

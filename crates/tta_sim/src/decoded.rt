@@ -1,7 +1,7 @@
 //! Instructions in the form in which they are carried out.
 //!
-//! A run carries out one instruction again and again. So its moves are sorted once, by what they do,
-//! and each end is looked up in the machine once.
+//! A run carries out one instruction again and again. So its moves are sorted once, by what they
+//! do, and each end is looked up in the machine once.
 
 use crate::control::Kind;
 use tta_list::Items;

@@ -1,14 +1,15 @@
 //! Results that become due.
 
-ghost use Rattle.std.specs.Prelude.{◌≡◌, ◌<◌, ◌≤◌, ◌+◌, ◌==◌, not, if◌then◌else◌, length, filter, fold, slice_set, Some};
+ghost use Rattle.std.specs.Prelude.{◌≡◌, ◌<◌, ◌≤◌, ◌+◌, ◌==◌, not, if◌then◌else◌, length, filter};
+ghost use Rattle.std.specs.Prelude.{fold, slice_set, Some};
 ghost use Rattle.std.specs.List.{AllByRecursion};
 ghost use Rattle.std.specs.Vec.{vec_capacity};
 ghost use Rattle.tta_sim.specs.Landing.{shows};
 
 use crate::due::Due;
 
-/// A result shows where it is due now. Any other is kept behind those that were kept, and the answer
-/// is how many are.
+/// A result shows where it is due now. Any other is kept behind those that were kept, and the
+/// answer is how many are.
 #[inline(always)]
 fn settle(
     shown: &mut Vec<Option<Due>>,

@@ -6,8 +6,10 @@ ghost use Rattle.std.specs.List.{filter_map, list_any, AllByRecursion};
 ghost use Rattle.tta_machine.specs.Effects.{KeptOperand};
 ghost use Rattle.tta_sim.specs.Places.{is_place};
 ghost use Rattle.tta_sim.specs.Lines.{source_word, word_read, is_unread, word_of, is_unset};
-ghost use Rattle.tta_sim.specs.Lines.{is_source_there, is_reading_there, is_write_there, is_start_there};
-ghost use Rattle.tta_sim.specs.Lines.{write_brought, start_brought, operand_in, cannot_start, IsLineThere};
+ghost use Rattle.tta_sim.specs.Lines.{is_source_there, is_reading_there, is_write_there};
+ghost use Rattle.tta_sim.specs.Lines.{is_start_there};
+ghost use Rattle.tta_sim.specs.Lines.{write_brought, start_brought, operand_in, cannot_start};
+ghost use Rattle.tta_sim.specs.Lines.{IsLineThere};
 
 use crate::decoded::{DecodedSource, DecodedStart, DecodedWrite, Line, Reading};
 use crate::places::Places;
@@ -218,8 +220,8 @@ fn note_starts(
     true
 }
 
-/// Collects the operations of a line that show no result, and answers whether all of them can start.
-/// Where the line is quiet, it has none, and nothing is collected.
+/// Collects the operations of a line that show no result, and answers whether all of them can
+/// start. Where the line is quiet, it has none, and nothing is collected.
 pub fn note_stores(
     starts: &mut Short<Start>,
     writes: &[Write],

@@ -1,12 +1,14 @@
 //! What a move reads at the start of a cycle.
 
-ghost use Rattle.std.specs.Prelude.{◌≡◌, ◌<◌, [], ◌∷◌, None, false, true, is_none, if◌then◌else◌, length, IsTrue};
+ghost use Rattle.std.specs.Prelude.{◌≡◌, ◌<◌, [], ◌∷◌, None, false, true, is_none, if◌then◌else◌};
+ghost use Rattle.std.specs.Prelude.{length, IsTrue};
 ghost use Rattle.std.specs.Option.{option_map_or};
 ghost use Rattle.tta_machine.specs.Effects.{KeptReg, moved, passes, is_port};
 ghost use Rattle.tta_code.specs.Cycle.{effect_of};
 ghost use Rattle.tta_sim.specs.Places.{word_at};
 ghost use Rattle.tta_sim.specs.Moves.{is_readable, is_askable, is_possible, is_acting, is_unset};
-ghost use Rattle.tta_sim.specs.Moves.{reads_of, word_taken, fault_taken, fault_missing, fault_reading};
+ghost use Rattle.tta_sim.specs.Moves.{reads_of, word_taken, fault_taken, fault_missing};
+ghost use Rattle.tta_sim.specs.Moves.{fault_reading};
 
 use crate::places::Places;
 use crate::results::Results;

@@ -1,7 +1,8 @@
 //! The results of units.
 
 ghost use Rattle.std.specs.Prelude.{◌≡◌, ◌<◌, ◌≤◌, ◌+◌, ◌*◌, ◌^◌, ◌∷◌, ◌++◌, [], None, Some};
-ghost use Rattle.std.specs.Prelude.{length, take, option_map, is_some, slice_index_or, replicate, IfOk};
+ghost use Rattle.std.specs.Prelude.{length, take, option_map, is_some, slice_index_or, replicate};
+ghost use Rattle.std.specs.Prelude.{IfOk};
 ghost use Rattle.tta_code.specs.Cycle.{Result'};
 ghost use Rattle.tta_sim.specs.Results.{AreResultsOf, due_at, due_after, shown_first};
 
@@ -29,7 +30,11 @@ impl Model for Results {
 
     ghost Value = { Results };
 
-    ghost view = { λ r. record { cycle = r.cycle; shown = r.shown.items; coming = r.coming.items } };
+    ghost view = { λ r. record {
+      cycle = r.cycle;
+      shown = r.shown.items;
+      coming = r.coming.items;
+    } };
 
     ghost invariant = { λ r.
         HaveRoom (vec_capacity r.coming)

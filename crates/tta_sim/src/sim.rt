@@ -28,8 +28,8 @@ use tta_list::Items;
 use tta_machine::Machine;
 use tta_ops::UnitSet;
 
-/// The run of a machine's code, cycle by cycle: the words of registers, ports and spaces, the results
-/// that are still to come, and control. What was put out is not kept.
+/// The run of a machine's code, cycle by cycle: the words of registers, ports and spaces, the
+/// results that are still to come, and control. What was put out is not kept.
 #[derive(Drop)]
 pub struct Sim {
     pub(crate) store: Store,
@@ -56,11 +56,11 @@ fn instruction_at(code: &Code, address: u32) -> Option<&Instruction>
 }
 
 impl Sim {
-    /// The start of a run: the first instruction comes, nothing was ever written, every frame word is
-    /// 0, and the data words are these.
+    /// The start of a run: the first instruction comes, nothing was ever written, every frame word
+    /// is 0, and the data words are these.
     ///
-    /// It takes all memory that the run needs: room for each register and port, for 16 results of each
-    /// unit that are to come, and for the code once more, decoded.
+    /// It takes all memory that the run needs: room for each register and port, for 16 results of
+    /// each unit that are to come, and for the code once more, decoded.
     pub fn load(
         alloc: Global,
         m: &Machine,
@@ -92,10 +92,10 @@ impl Sim {
         })
     }
 
-    /// Carries out one cycle of the code that was loaded, and answers `Ran` with the word that it put
-    /// out, if any. It answers `Halted` exactly where the run has halted before, and `Fault` exactly
-    /// where this cycle faults or an earlier one did; the run then stays as it is. It takes no
-    /// memory.
+    /// Carries out one cycle of the code that was loaded, and answers `Ran` with the word that it
+    /// put out, if any. It answers `Halted` exactly where the run has halted before, and `Fault`
+    /// exactly where this cycle faults or an earlier one did; the run then stays as it is. It takes
+    /// no memory.
     pub fn cycle(&mut self, m: &Machine, code: &Code, units: &UnitSet) -> CycleStep
         requires loaded { IsRunOf m.now code.now self.old }
         requires few { self.old.cycle < 2 ^ 62 }

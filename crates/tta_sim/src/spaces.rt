@@ -1,6 +1,7 @@
 //! The data space, the frame space and the output.
 
-ghost use Rattle.std.specs.Prelude.{◌≡◌, fold, length, option_map, replicate, slice_index, slice_set, IfOk};
+ghost use Rattle.std.specs.Prelude.{◌≡◌, fold, length, option_map, replicate, slice_index};
+ghost use Rattle.std.specs.Prelude.{slice_set, IfOk};
 ghost use Rattle.std.specs.List.{find};
 ghost use Rattle.tta_machine.specs.Effects.{store_data, store_frame};
 ghost use Rattle.tta_sim.specs.Starts.{puts};

@@ -18,8 +18,8 @@ pub struct Store {
     pub frame: Vec<u32>,
 }
 
-/// What the moves of a cycle write, bring and start. It is of no use behind the cycle, and kept only for
-/// its room.
+/// What the moves of a cycle write, bring and start. It is of no use behind the cycle, and kept
+/// only for its room.
 #[derive(Drop)]
 pub struct Doings {
     pub writes: Short<Write>,
