@@ -81,18 +81,15 @@ fn step(sim: &mut Sim, m: &Machine, code: &Code, units: &UnitSet) -> Option<u32>
     }
 }
 
-/// How 20 cycles of an assembly text end.
-fn outcome_of(alloc: Global, text: &str) -> Result<Outcome, Fail> {
-    let units = units_of(alloc)?;
-    let m = read_machine(alloc, MACHINE.as_bytes(), &units)
-        .ok()
-        .ok_or("no machine")?;
-    let code = code_of(alloc, text, &m, &units)?;
+/// How 20 cycles of code end.
+fn run(alloc: Global, m: &Machine, code: &Code, units: &UnitSet) -> Result<Outcome, Fail>
+    requires { IsLegalCode m.now code.now }
+{
     let memory = vec![in alloc; 0; m.data_words as usize]?;
-    let mut sim = Sim::load(alloc, &m, &code, memory)?;
+    let mut sim = Sim::load(alloc, m, code, memory)?;
     let mut output = Vec::new(alloc);
     for _ in 0..20u64 {
-        if let Some(word) = step(&mut sim, &m, &code, &units) {
+        if let Some(word) = step(&mut sim, m, code, units) {
             output.push(word)?;
         }
     }
@@ -102,6 +99,16 @@ fn outcome_of(alloc: Global, text: &str) -> Result<Outcome, Fail> {
         fault: sim.fault(),
         cycles: sim.cycles(),
     })
+}
+
+/// How 20 cycles of an assembly text end.
+fn outcome_of(alloc: Global, text: &str) -> Result<Outcome, Fail> {
+    let units = units_of(alloc)?;
+    let m = read_machine(alloc, MACHINE.as_bytes(), &units)
+        .ok()
+        .ok_or("no machine")?;
+    let code = code_of(alloc, text, &m, &units)?;
+    run(alloc, &m, &code, &units)
 }
 
 #[test]
