@@ -9,31 +9,111 @@ use std::test::Fail;
 use tta_asm::assemble;
 use tta_code::Code;
 use tta_machine::{Machine, read_machine};
-use tta_ops::{Arith, OpUnit, UnitSet};
+use tta_ops::{Arith, Compare, Logic, OpUnit, Shift, UnitSet};
 use tta_sim::{CycleStep, Sim};
 
-/// A machine of two buses with two delay slots, whose products show after three cycles.
-const MACHINE: &str =
-    "bus A short 8 signed\nbus B short 8 signed\nsocket I in A B\nsocket O out A B\nfile R width 32 size 4 read 2 write 2 out O in I\nfile G width 1 size 1 read 1 write 1 out O in I\nunit MUL o I t I r O\nop MUL mul 3\nunit IO t I\nop IO out\nguard A G.0 plain\ncontrol delay 2 address 4 t I\n";
+/// A machine of three buses with two delay slots, whose products show after three cycles.
+const MACHINE: &str = "bus B0 short 8 signed\n\
+     bus B1 short 8 signed\n\
+     bus B2 short 8 signed\n\
+     socket RI in B0 B1 B2\n\
+     socket RO out B0 B1 B2\n\
+     socket UI in B0 B1 B2\n\
+     socket UO out B0 B1 B2\n\
+     file R width 32 size 8 read 2 write 2 out RO in RI\n\
+     file S width 32 size 8 read 1 write 1 out RO in RI\n\
+     file G width 1 size 2 read 1 write 1 out RO in RI\n\
+     imm I size 1 out RO\n\
+     unit ALU o UI t UI r UO\n\
+     op ALU add 1\n\
+     op ALU sub 1\n\
+     op ALU and 1\n\
+     op ALU or 1\n\
+     op ALU xor 1\n\
+     op ALU not 1\n\
+     op ALU shl 1\n\
+     op ALU shr 1\n\
+     op ALU shru 1\n\
+     op ALU eq 1\n\
+     op ALU lt 1\n\
+     op ALU ltu 1\n\
+     unit MUL o UI t UI r UO\n\
+     op MUL mul 3\n\
+     op MUL add 1\n\
+     unit LSU o UI t UI r UO\n\
+     op LSU ldw 2\n\
+     op LSU stw\n\
+     op LSU ldf 2\n\
+     op LSU stf\n\
+     unit IO t UI\n\
+     op IO out\n\
+     guard B0 G.0 plain\n\
+     guard B0 G.0 inverted\n\
+     guard B1 G.0 plain\n\
+     guard B1 G.0 inverted\n\
+     template L I.0 B1 B2\n\
+     control delay 2 address 12 t UI ra UO\n\
+     space data 1024\n\
+     space frame 64\n";
 
 /// Two registers change places.
-const SWAP: &str =
-    "1 -> R.1 , 2 -> R.2 ; R.1 -> R.2 , R.2 -> R.1 ; R.1 -> IO.t.out , ... ; R.2 -> IO.t.out , ... ; 0 -> gcu.t.halt , ... ; ... , ... ; ... , ... ;";
+const SWAP: &str = "1 -> R.1 , ... , ... ;\n\
+     2 -> R.2 , ... , ... ;\n\
+     R.1 -> R.2 , R.2 -> R.1 , ... ;\n\
+     R.1 -> IO.t.out , ... , ... ;\n\
+     R.2 -> IO.t.out , ... , ... ;\n\
+     0 -> gcu.t.halt , ... , ... ;\n\
+     ... , ... , ... ;\n\
+     ... , ... , ... ;\n";
 
 /// A product is read as soon as it shows.
-const PRODUCT: &str =
-    "5 -> MUL.o , 6 -> MUL.t.mul ; ... , ... ; ... , ... ; MUL.r -> IO.t.out , ... ; 0 -> gcu.t.halt , ... ; ... , ... ; ... , ... ;";
+const PRODUCT: &str = "5 -> MUL.o , 6 -> MUL.t.mul , ... ;\n\
+     ... , ... , ... ;\n\
+     ... , ... , ... ;\n\
+     MUL.r -> IO.t.out , ... , ... ;\n\
+     0 -> gcu.t.halt , ... , ... ;\n\
+     ... , ... , ... ;\n\
+     ... , ... , ... ;\n";
 
 /// A product is read one cycle before it shows.
-const EARLY: &str =
-    "5 -> MUL.o , 6 -> MUL.t.mul ; ... , ... ; MUL.r -> IO.t.out , ... ; 0 -> gcu.t.halt , ... ; ... , ... ; ... , ... ;";
+const EARLY: &str = "5 -> MUL.o , 6 -> MUL.t.mul , ... ;\n\
+     ... , ... , ... ;\n\
+     MUL.r -> IO.t.out , ... , ... ;\n\
+     0 -> gcu.t.halt , ... , ... ;\n\
+     ... , ... , ... ;\n\
+     ... , ... , ... ;\n";
 
 /// A guarded jump over a word, behind two words that are put out in any case.
-const JUMP: &str =
-    "1 -> G.0 , ... ; ?G.0 7 -> gcu.t.jump , ... ; 10 -> IO.t.out , ... ; 11 -> IO.t.out , ... ; 12 -> IO.t.out , ... ; ... , ... ; ... , ... ; 13 -> IO.t.out , ... ; 0 -> gcu.t.halt , ... ; ... , ... ; ... , ... ;";
+const JUMP: &str = "1 -> G.0 , ... , ... ;\n\
+     ?G.0 8 -> gcu.t.jump , ... , ... ;\n\
+     10 -> IO.t.out , ... , ... ;\n\
+     11 -> IO.t.out , ... , ... ;\n\
+     12 -> IO.t.out , ... , ... ;\n\
+     0 -> gcu.t.halt , ... , ... ;\n\
+     ... , ... , ... ;\n\
+     ... , ... , ... ;\n\
+     13 -> IO.t.out , ... , ... ;\n\
+     0 -> gcu.t.halt , ... , ... ;\n\
+     ... , ... , ... ;\n\
+     ... , ... , ... ;\n";
 
-/// Nothing ends the code.
-const UNENDED: &str = "7 -> R.1 , ... ;";
+/// The same, where the guard does not let it act.
+const NO_JUMP: &str = "0 -> G.0 , ... , ... ;\n\
+     ?G.0 8 -> gcu.t.jump , ... , ... ;\n\
+     10 -> IO.t.out , ... , ... ;\n\
+     11 -> IO.t.out , ... , ... ;\n\
+     12 -> IO.t.out , ... , ... ;\n\
+     0 -> gcu.t.halt , ... , ... ;\n\
+     ... , ... , ... ;\n\
+     ... , ... , ... ;\n\
+     13 -> IO.t.out , ... , ... ;\n\
+     0 -> gcu.t.halt , ... , ... ;\n\
+     ... , ... , ... ;\n\
+     ... , ... , ... ;\n";
+
+/// A long word, after which nothing ends the code.
+const UNENDED: &str = "4294967295 -> R.1 , ... , ... ;\n\
+     ... , ... , ... [L=2147483648] ;\n";
 
 /// What a run put out, and how it ended.
 #[derive(Drop)]
@@ -44,11 +124,16 @@ struct Outcome {
     cycles: u64,
 }
 
-/// The machine's two operation units.
+/// The standard units.
 fn units_of(alloc: Global) -> Result<UnitSet, Fail> {
     let mut boxes: Vec<Box<dyn OpUnit>> = Vec::new(alloc);
-    let unit = Box::new(alloc, Arith)?;
-    boxes.push(unit).ok().ok_or("no memory")?;
+    boxes.push(Box::new(alloc, Arith)?).ok().ok_or("no memory")?;
+    boxes.push(Box::new(alloc, Logic)?).ok().ok_or("no memory")?;
+    boxes.push(Box::new(alloc, Shift)?).ok().ok_or("no memory")?;
+    boxes
+        .push(Box::new(alloc, Compare)?)
+        .ok()
+        .ok_or("no memory")?;
     if !UnitSet::fits(boxes.as_slice()) {
         return Err(Fail::new("too many operations"));
     }
@@ -59,7 +144,7 @@ fn units_of(alloc: Global) -> Result<UnitSet, Fail> {
 fn code_of(alloc: Global, text: &str, m: &Machine, units: &UnitSet) -> Result<Code, Fail>
     ensures { IfOk result (λ code. IsLegalCode m.now code) }
 {
-    if text.len() > 1000 {
+    if text.len() > 10_000 {
         return Err(Fail::new("too long"));
     }
     match assemble(alloc, text.as_bytes(), m, units) {
@@ -115,11 +200,12 @@ fn outcome_of(alloc: Global, text: &str) -> Result<Outcome, Fail> {
 fn programs_of_moves_run(rt: HostRuntime) -> Result<(), Fail> {
     let alloc = rt.alloc();
     let runs = [
-        (SWAP, [2, 1, 0], 2, None, 7),
+        (SWAP, [2, 1, 0], 2, None, 8),
         (PRODUCT, [30, 0, 0], 1, None, 7),
         (EARLY, [0, 0, 0], 0, Some(61), 2),
         (JUMP, [10, 11, 13], 3, None, 8),
-        (UNENDED, [0, 0, 0], 0, Some(65), 1),
+        (NO_JUMP, [10, 11, 12], 3, None, 8),
+        (UNENDED, [0, 0, 0], 0, Some(65), 2),
     ];
     for (text, words, count, fault, cycles) in runs {
         let outcome = outcome_of(alloc, text)?;
