@@ -11,7 +11,8 @@ use Rattle.tta_tac.specs.Draft.{ProcDraft, Draft}
 use Rattle.tta_tac.specs.Kept.{IsOpen, all_procs, IsKept}
 use Rattle.tta_tac.proofs.Variables.{named_more, numbered_length, numbered_below}
 use Rattle.tta_tac.proofs.Tests.{none_from_is_some}
-use Rattle.tta_tac.proofs.Taken.{fresh, with_fresh, ProcTaken}
+use Rattle.tta_tac.specs.FirstPass.{fresh, with_fresh}
+use Rattle.tta_tac.proofs.Taken.{ProcTaken}
 use Rattle.tta_tac.proofs.Growing.{sum_last, get_last}
 
 none_over : (n : ℕ) → nat_lt 0 n ≡ false → n ≡ 0

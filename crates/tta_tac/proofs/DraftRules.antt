@@ -10,9 +10,9 @@ use Rattle.tta_tac.specs.Seen.{Says}
 use Rattle.tta_tac.specs.Forms.{Form}
 use Rattle.tta_tac.specs.Draft.{ProcDraft, Draft, proc_seen}
 use Rattle.tta_tac.specs.DraftRules.{IsBegun, IsDraft}
-use Rattle.tta_tac.specs.FirstPass.{vars_after, is_end, close_if, with_step, take_step, take_form}
+use Rattle.tta_tac.specs.FirstPass.{vars_after, is_end, close_if, with_step, take_step, take_form, with_fresh}
 use Rattle.tta_tac.proofs.Variables.{numbered_length}
-use Rattle.tta_tac.proofs.Taken.{with_fresh, with_label, StepTaken, step_taken, Taken, ProcBegins, LabelIsPut, StepIsMade, form_taken}
+use Rattle.tta_tac.proofs.Taken.{with_label, StepTaken, step_taken, Taken, ProcBegins, LabelIsPut, StepIsMade, form_taken}
 
 -- a step of a begun procedure, which may have been moved out of the draft
 step_kept : (u : Units) (d e : Draft) (q : ProcDraft) (line : ℕ) (f : Form) → IsDraft d → IsBegun d.lines q → StepTaken u d e q line f → IsDraft e

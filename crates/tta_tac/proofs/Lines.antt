@@ -14,9 +14,8 @@ use Rattle.tta_tac.specs.declared.reading.draft.NamedStep.{NamedStep}
 use Rattle.tta_tac.specs.declared.reading.draft.Draft.{Draft as CodeDraft}
 use Rattle.tta_tac.specs.Draft.{Unlinked, ProcDraft, Draft, proc_seen, procs_seen, step_seen, draft_seen}
 use Rattle.tta_tac.proofs.Steps.{passed}
-use Rattle.tta_tac.proofs.Taken.{with_fresh}
 use Rattle.tta_tac.proofs.Seen.{steps_seen_append, procs_seen_length}
-use Rattle.tta_tac.specs.FirstPass.{vars_after, lacks_op, has_wrong_arity, has_many_args, is_full, step_of, is_end, close_if, with_step, take_step, take_proc, has_twice}
+use Rattle.tta_tac.specs.FirstPass.{vars_after, lacks_op, has_wrong_arity, has_many_args, is_full, step_of, is_end, close_if, with_step, take_step, take_proc, with_fresh, has_twice, stepped}
 
 last_or : (a b : Bool) → (a || b || true) ≡ true
 last_or true b = refl
@@ -44,12 +43,12 @@ module _ (u : Units) (d : Draft) (q : ProcDraft) (line : ℕ) (f : Form) (x : Un
       let second = passed (has_wrong_arity u f) Arity (Ok x) x first.1 in
       rw (← e) (rw (first.0, second.0, full, args, many, ← step) refl)
 
--- a step that is taken, of the code's values: its procedure goes on
-pub goes_on : (d : CodeDraft) (q : DraftProc) (line : ℕ) (ends : Bool) (vars : Declared ℕ) (step : NamedStep)
-    (steps : List NamedStep) (lines : List ℕ) (test : Bool) → test ≡ ends → test ≡ false → steps ≡ q.steps ++ step ∷ [] → lines ≡ q.lines ++ line ∷ []
-    → close_if ends (record (draft_seen d) { lines = d.lines + 1 }) (with_step (proc_seen q) vars (step_seen step) line)
-    ≡ draft_seen (record d { begun = Some (record q { vars = vars; steps = steps; lines = lines }); lines = d.lines + 1 })
-goes_on d q line ends vars step steps lines test is e e1 e2 = rw (← is, e, e1, e2, steps_seen_append q.steps step) refl
+-- a step that is taken, of the code's values
+pub step_added : (d : Draft) (f : Form) (q : DraftProc) (line : ℕ) (vars : Declared ℕ) (step : NamedStep)
+    (steps : List NamedStep) (lines : List ℕ) → steps ≡ q.steps ++ step ∷ [] → lines ≡ q.lines ++ line ∷ []
+    → stepped d f (with_step (proc_seen q) vars (step_seen step) line)
+    ≡ stepped d f (proc_seen (record q { vars = vars; steps = steps; lines = lines }))
+step_added d f q line vars step steps lines e1 e2 = rw (e1, e2, steps_seen_append q.steps step) refl
 
 -- a procedure that begins, of the code's values
 pub begins : (d : CodeDraft) (q : DraftProc) (seen : ProcDraft) (name : List ℕ) (names : Declared ℕ) (number : ℕ)
@@ -62,6 +61,16 @@ begins d q seen name names number e1 e2 e3 = rw (e1, e2, ← e3, procs_seen_leng
 pub none_begun : (o : Option DraftProc) (test : Bool) → test ≡ is_some o → test ≡ false → is_some (option_map_or (λ q. Some (proc_seen q)) o None) ≡ false
 none_begun None test is e = refl
 none_begun (Some q) test is e = cc
+
+pub not_begun : (o : Option DraftProc) (test : Bool) → test ≡ is_some o → test ≡ false → option_map_or (λ q. Some (proc_seen q)) o None ≡ None
+not_begun None test is e = refl
+not_begun (Some q) test is e = cc
+
+-- a procedure has begun
+pub some_begun : (o : Option DraftProc) (test : Bool) → test ≡ is_some o → test ≡ true
+    → (q : ProcDraft) × option_map_or (λ q. Some (proc_seen q)) o None ≡ Some q
+some_begun None test is e = cc
+some_begun (Some q) test is e = (proc_seen q, refl)
 
 pub take_proc_taken : (d : Draft) (line : ℕ) (name : List ℕ) (params : List (List ℕ)) → is_some d.begun ≡ false
     → (bytes_eq name (codes "main") && nat_lt 0 (length params)) ≡ false

@@ -8,19 +8,10 @@ use Rattle.tta_ops.specs.Units.{Units}
 use Rattle.tta_tac.specs.declared.reading.refusal.Refusal.TheVariants.{Syntax, UnknownOp, Arity, Twice, TooMany}
 use Rattle.tta_tac.specs.Forms.{Form, ProcForm, LabelForm}
 use Rattle.tta_tac.specs.Draft.{Unlinked, ProcDraft, Draft}
-use Rattle.tta_tac.specs.FirstPass.{vars_after, lacks_op, has_wrong_arity, has_many_args, has_twice, is_full, step_of, is_end, close_if, with_step, numbered, take_proc, take_label, take_step, take_inside, take_form}
+use Rattle.tta_tac.specs.FirstPass.{vars_after, lacks_op, has_wrong_arity, has_many_args, has_twice, is_full, step_of, is_end, close_if, with_step, take_proc, with_fresh, take_label, take_step, take_inside, take_form}
 use Rattle.tta_tac.proofs.Steps.{same_ok, passed, some_ok}
 
 -- ---- procedures
-
--- a procedure of which only the first line was read
-abbrev pub fresh : (line : ℕ) → (params : List (List ℕ)) → ProcDraft
-fresh line params = record { line = line; params = length params; vars = numbered 0 params; labels = []; steps = []; lines = [] }
-
--- a draft in which it begins
-abbrev pub with_fresh : Draft → (line : ℕ) → (name : List ℕ) → (params : List (List ℕ)) → Draft
-with_fresh d line name params =
-    record d { names = d.names ++ (name, length d.procs) ∷ []; begun = Some (fresh line params); lines = d.lines + 1 }
 
 -- what the tests of such a line have found
 pub record ProcTaken (d e : Draft) (line : ℕ) (name : List ℕ) (params : List (List ℕ)) : Type 0 where

@@ -32,17 +32,17 @@ line_refused u text k d line before rest refusal left e refused =
     refused_text u text k refusal (sym left ∙ stops)
 
 -- no line is left, and no procedure is open
-pub text_ended : (u : Units) (text : List ℕ) (k : ℕ) (d : Draft) (before : List Line)
-    → take_lines u k d before ≡ take_lines u 1 nothing (lines_of text) → before ≡ [] → d.begun ≡ None → TakesAll u text d
-text_ended u text k d before left e none =
-    let taken : take_lines u 1 nothing (lines_of text) ≡ Ok d = sym left ∙ (rw (e, none) refl) in
+pub text_ended : (u : Units) (text : List ℕ) (k : ℕ) (d : Draft)
+    → take_lines u k d [] ≡ take_lines u 1 nothing (lines_of text) → d.begun ≡ None → TakesAll u text d
+text_ended u text k d left none =
+    let taken : take_lines u 1 nothing (lines_of text) ≡ Ok d = sym left ∙ (rw none refl) in
     let kept = text_kept u text d taken in
     record { taken = taken; kept = kept.0; ended = none }
 
 -- no line is left, and a procedure is open
-pub text_open : (u : Units) (text : List ℕ) (k : ℕ) (d : Draft) (q : ProcDraft) (before : List Line)
-    → take_lines u k d before ≡ take_lines u 1 nothing (lines_of text) → before ≡ [] → d.begun ≡ Some q
+pub text_open : (u : Units) (text : List ℕ) (k : ℕ) (d : Draft) (q : ProcDraft)
+    → take_lines u k d [] ≡ take_lines u 1 nothing (lines_of text) → d.begun ≡ Some q
     → HasCause u text (tac_error.Refused k (code_of Syntax))
-text_open u text k d q before left e some =
-    let stops : take_lines u k d before ≡ Err (k, Syntax) = rw (e, some) refl in
+text_open u text k d q left some =
+    let stops : take_lines u k d [] ≡ Err (k, Syntax) = rw some refl in
     refused_text u text k Syntax (sym left ∙ stops)

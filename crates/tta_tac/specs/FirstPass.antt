@@ -148,6 +148,14 @@ with_step q vars s line = record q { vars = vars; steps = q.steps ++ s ∷ []; l
 abbrev pub close_if : Bool → Draft → ProcDraft → Draft
 close_if ends d q = if ends then record d { procs = d.procs ++ q ∷ []; begun = None } else record d { begun = Some q }
 
+-- a draft after a step of its begun procedure, which then is this one
+abbrev pub stepped : Draft → Form → ProcDraft → Draft
+stepped d form q = close_if (is_end form) (record d { lines = d.lines + 1 }) q
+
+-- a draft after a label of its begun procedure, which then is this one
+abbrev pub labelled : Draft → ProcDraft → Draft
+labelled d q = record d { begun = Some q; lines = d.lines + 1 }
+
 -- ---- lines
 
 -- more lines than a text may have: this one would be the 65,537th that is not blank
@@ -164,6 +172,15 @@ abbrev pub numbered : ℕ → List (List ℕ) → Declared ℕ
 numbered k [] = []
 numbered k (name ∷ names) = (name, k) ∷ numbered (k + 1) names
 
+-- a procedure of which only the first line was read
+abbrev pub fresh : (line : ℕ) → (params : List (List ℕ)) → ProcDraft
+fresh line params = record { line = line; params = length params; vars = numbered 0 params; labels = []; steps = []; lines = [] }
+
+-- a draft in which a procedure begins
+abbrev pub with_fresh : Draft → (line : ℕ) → (name : List ℕ) → (params : List (List ℕ)) → Draft
+with_fresh d line name params =
+    record d { names = d.names ++ (name, length d.procs) ∷ []; begun = Some (fresh line params); lines = d.lines + 1 }
+
 -- a procedure begins, where none is begun; `main` has no parameters
 abbrev pub take_proc : Draft → (line : ℕ) (name : List ℕ) (params : List (List ℕ)) → Result Draft Refusal
 take_proc d line name params =
@@ -171,18 +188,14 @@ take_proc d line name params =
     refuse_if (bytes_eq name (codes "main") && nat_lt 0 (length params)) Arity (
     refuse_if (is_some (named_in d.names name) || has_twice params) Twice (
     refuse_if (is_full d || nat_lt 8 (length params)) TooMany (
-    Ok (record d {
-      names = d.names ++ (name, length d.procs) ∷ [];
-      begun = Some (record { line = line; params = length params; vars = numbered 0 params; labels = []; steps = []; lines = [] });
-      lines = d.lines + 1;
-    })))))
+    Ok (with_fresh d line name params)))))
 
 -- a label names the next step of the begun procedure
 abbrev pub take_label : Draft → ProcDraft → (name : List ℕ) → Result Draft Refusal
 take_label d q name =
     refuse_if (is_some (named_in q.labels name)) Twice (
     refuse_if (is_full d) TooMany (
-    Ok (record d { begun = Some (record q { labels = q.labels ++ (name, length q.steps) ∷ [] }); lines = d.lines + 1 })))
+    Ok (labelled d (record q { labels = q.labels ++ (name, length q.steps) ∷ [] }))))
 
 -- a step of the begun procedure
 abbrev pub take_step : Units → Draft → ProcDraft → (line : ℕ) → Form → Result Draft Refusal
@@ -192,7 +205,7 @@ take_step u d q line form =
     refuse_if (has_wrong_arity u form) Arity (
     refuse_if (is_full d || has_many_args form || nat_lt 4096 (length vars)) TooMany (
     or_refuse Syntax (step_of u vars form) >>= λ s.
-    Ok (close_if (is_end form) (record d { lines = d.lines + 1 }) (with_step q vars s line)))))
+    Ok (stepped d form (with_step q vars s line)))))
 
 -- what stands in a procedure, where one is begun
 abbrev pub take_inside : Units → Draft → ProcDraft → (line : ℕ) → Form → Result Draft Refusal

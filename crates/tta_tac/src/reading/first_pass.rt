@@ -1,6 +1,6 @@
 //! What each line of a program's text does to the draft.
 
-ghost use Rattle.std.specs.Prelude.{◌≡◌, ◌≤◌, ◌&&◌, ◌||◌, nat_lt, false, [], None};
+ghost use Rattle.std.specs.Prelude.{◌≡◌, ◌≤◌, ◌+◌, ◌&&◌, ◌||◌, nat_lt, false, [], None};
 ghost use Rattle.std.specs.Prelude.{is_some, codes, bytes_eq, length, map, IfOk, OnOk};
 ghost use Rattle.tta_reading.specs.Lines.{plain};
 ghost use Rattle.tta_reading.specs.Names.{named_in};
@@ -8,7 +8,7 @@ ghost use Rattle.tta_ops.specs.Set.{stated};
 ghost use Rattle.tta_tac.specs.Draft.{draft_seen, proc_seen, nothing};
 ghost use Rattle.tta_tac.specs.DraftRules.{IsDraft, IsBegun};
 ghost use Rattle.tta_tac.specs.FirstPass.{take_line, take_form, take_proc, take_label, take_step};
-ghost use Rattle.tta_tac.specs.FirstPass.{has_twice, numbered};
+ghost use Rattle.tta_tac.specs.FirstPass.{has_twice, numbered, with_fresh, labelled, stepped};
 ghost use Rattle.tta_tac.specs.Seen.{Says, form_seen, texts};
 
 use crate::reading::declarations::declare_names;
@@ -116,9 +116,31 @@ impl<'t> Draft<'t> {
         if self.lines >= 65536 || params.len() > 8 {
             return Err(LineError::Refused(Refusal::TooMany));
         }
+        self.begin(alloc, line, name, params)?;
+        Ok(())
+    }
+
+    // begins a procedure that is not refused
+    #[tactic(auto, using(crate::proofs::Seen::procs_seen_length))]
+    fn begin(
+        &mut self,
+        alloc: Global,
+        line: u32,
+        name: &'t [u8],
+        params: &[Word<'t>],
+    ) -> Result<(), AllocError>
+        requires lines { self.old.lines ≤ 65535 }
+        requires procs { length self.old.procs ≤ 65535 }
+        requires fresh { named_in self.old.names name.now ≡ None }
+        requires few { length params.now ≤ 8 }
+        requires once { has_twice (texts params.now) ≡ false }
+        ensures { OnOk result (draft_seen self.new ≡
+            with_fresh (draft_seen self.old) line name.now (texts params.now)) }
+    {
         let number = self.procs.len() as u32;
+        let proc = new_proc(alloc, line, params)?;
         self.names.add(alloc, name, number)?;
-        self.begun = Some(new_proc(alloc, line, params)?);
+        self.begun = Some(proc);
         self.lines += 1;
         Ok(())
     }
@@ -137,7 +159,6 @@ impl<'t> Draft<'t> {
 
     /// Declares a label of a begun procedure that was moved out of the draft. It is refused as
     /// `Twice` where the procedure has it already, and as `TooMany` where 65,536 lines were read.
-    #[tactic(auto, using(crate::proofs::Seen::steps_seen_length))]
     fn take_label(
         &mut self,
         alloc: Global,
@@ -148,6 +169,25 @@ impl<'t> Draft<'t> {
         ensures { Says (draft_seen self.new) result
             (take_label (draft_seen self.old) (proc_seen proc.entry) name.now) }
     {
+        self.add_label(alloc, &mut proc, name)?;
+        self.begun = Some(proc);
+        self.lines += 1;
+        Ok(())
+    }
+
+    // the label of a line in a procedure that was moved out of the draft
+    #[tactic(auto, using(crate::proofs::Seen::steps_seen_length))]
+    fn add_label(
+        &self,
+        alloc: Global,
+        proc: &mut DraftProc<'t>,
+        name: &'t [u8],
+    ) -> Result<(), LineError>
+        requires { IsBegun self.now.lines (proc_seen proc.old) }
+        ensures says { Says (labelled (draft_seen self.now) (proc_seen proc.new)) result
+            (take_label (draft_seen self.now) (proc_seen proc.old) name.now) }
+        ensures room { OnOk result (self.now.lines + 1 ≤ 65536) }
+    {
         if proc.labels.get(name).is_some() {
             return Err(LineError::Refused(Refusal::Twice));
         }
@@ -156,15 +196,13 @@ impl<'t> Draft<'t> {
         }
         let step = proc.steps.len() as u32;
         proc.labels.add(alloc, name, step)?;
-        self.begun = Some(proc);
-        self.lines += 1;
         Ok(())
     }
 
     /// Takes a step of a begun procedure that was moved out of the draft. It is refused as
     /// `UnknownOp` or `Arity` by its operation, and as `TooMany` where it has more than eight
     /// arguments, brings the procedure's 4,097th variable, or 65,536 lines were read.
-    #[tactic(auto, using(crate::proofs::Seen::steps_seen_append, crate::proofs::Seen::procs_seen_append))]
+    #[tactic(auto, using(crate::proofs::Seen::procs_seen_append))]
     fn take_step(
         &mut self,
         alloc: Global,
@@ -177,6 +215,32 @@ impl<'t> Draft<'t> {
         requires begun { IsBegun self.old.lines (proc_seen proc) }
         ensures { Says (draft_seen self.new) result (take_step (stated unit_meaning units.now)
             (draft_seen self.old) (proc_seen proc.entry) line (form_seen form.now)) }
+    {
+        self.add_step(alloc, units, &mut proc, line, form)?;
+        self.lines += 1;
+        if is_end(form) {
+            self.procs.push(proc)?;
+        } else {
+            self.begun = Some(proc);
+        }
+        Ok(())
+    }
+
+    // the step of a line at the end of a procedure that was moved out of the draft
+    #[tactic(auto, using(crate::proofs::Seen::steps_seen_append))]
+    fn add_step(
+        &self,
+        alloc: Global,
+        units: &UnitSet,
+        proc: &mut DraftProc<'t>,
+        line: u32,
+        form: &Form<'_, 't>,
+    ) -> Result<(), LineError>
+        requires { IsBegun self.now.lines (proc_seen proc.old) }
+        ensures says { let next = stepped (draft_seen self.now) (form_seen form.now) in
+            Says (next (proc_seen proc.new)) result (take_step (stated unit_meaning units.now)
+            (draft_seen self.now) (proc_seen proc.old) line (form_seen form.now)) }
+        ensures room { OnOk result (self.now.lines + 1 ≤ 65536) }
     {
         check_op(units, form)?;
         if self.lines >= 65536 || has_many_args(form) {
@@ -191,12 +255,6 @@ impl<'t> Draft<'t> {
         };
         proc.steps.push(step)?;
         proc.lines.push(line)?;
-        self.lines += 1;
-        if is_end(form) {
-            self.procs.push(proc)?;
-        } else {
-            self.begun = Some(proc);
-        }
         Ok(())
     }
 }

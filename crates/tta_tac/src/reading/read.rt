@@ -1,9 +1,10 @@
 //! The program of a text.
 
-ghost use Rattle.std.specs.Prelude.{◌≤◌, ◌^◌, length, IfOk, IfErr};
+ghost use Rattle.std.specs.Prelude.{◌≡◌, ◌≤◌, ◌+◌, ◌^◌, [], length, IfOk, IfErr};
+ghost use Rattle.tta_reading.specs.Lines.{lines_of};
 ghost use Rattle.tta_ops.specs.Set.{stated};
-ghost use Rattle.tta_tac.specs.Draft.{draft_seen};
-ghost use Rattle.tta_tac.specs.Text.{ProgramText, HasCause};
+ghost use Rattle.tta_tac.specs.Draft.{draft_seen, nothing};
+ghost use Rattle.tta_tac.specs.Text.{ProgramText, HasCause, take_lines};
 ghost use Rattle.tta_tac.specs.Whole.{DraftEnds};
 
 use crate::program::Program;
@@ -16,14 +17,40 @@ use tta_reading::Lines;
 
 // What all lines of a text say. A text that ends inside a procedure is refused at the line behind
 // it.
-#[tactic(auto, using(crate::proofs::Whole::line_refused, crate::proofs::Whole::text_ended, crate::proofs::Whole::text_open))]
+#[tactic(auto, using(crate::proofs::Whole::text_ended, crate::proofs::Whole::text_open))]
 fn read_draft<'t>(alloc: Global, text: &'t [u8], units: &UnitSet) -> Result<Draft<'t>, TacError>
     requires { length text.now ≤ 2 ^ 24 }
     ensures { DraftEnds (stated unit_meaning units.now) text.now (λ d. draft_seen d) result }
 {
+    let mut draft = Draft::new(alloc);
+    let line = read_lines(alloc, text, units, &mut draft)?;
+    if draft.begun.is_some() {
+        return Err(TacError::Refused {
+            line: line + 1,
+            code: Refusal::Syntax.code(),
+        });
+    }
+    Ok(draft)
+}
+
+// Takes all lines of a text into an empty draft, and tells how many there are.
+#[tactic(auto, using(crate::proofs::Whole::line_refused))]
+fn read_lines<'t>(
+    alloc: Global,
+    text: &'t [u8],
+    units: &UnitSet,
+    draft: &mut Draft<'t>,
+) -> Result<u32, TacError>
+    requires short { length text.now ≤ 2 ^ 24 }
+    requires empty { draft_seen draft.old ≡ nothing }
+    ensures taken { IfOk result (λ line. take_lines (stated unit_meaning units.now) (line + 1)
+        (draft_seen draft.new) [] ≡
+        take_lines (stated unit_meaning units.now) 1 nothing (lines_of text.now)) }
+    ensures room { IfOk result (λ line. line ≤ 2 ^ 24 + 1) }
+    ensures refused { IfErr result (HasCause (stated unit_meaning units.now) text.now) }
+{
     let mut lines = Lines::new(text);
     let mut words = Vec::new(alloc);
-    let mut draft = Draft::new(alloc);
     let mut line: u32 = 0;
     while lines.next_line(&mut words)? {
         line += 1;
@@ -38,13 +65,7 @@ fn read_draft<'t>(alloc: Global, text: &'t [u8], units: &UnitSet) -> Result<Draf
             Err(LineError::NoMemory) => return Err(TacError::NoMemory),
         }
     }
-    match draft.begun {
-        Some(_) => Err(TacError::Refused {
-            line: line + 1,
-            code: Refusal::Syntax.code(),
-        }),
-        None => Ok(draft),
-    }
+    Ok(line)
 }
 
 /// The program of a text, over these operation units. The text has at most 2^24 bytes.

@@ -3,7 +3,7 @@ use Rattle.std.specs.Prelude.{nat_lt, nat_le, Ok}
 use Rattle.std.proofs.lemmas.Bool.Decides.{nat_tests}
 use Rattle.tta_tac.specs.Draft.{draft_seen}
 use Rattle.tta_tac.specs.Seen.{texts}
-use Rattle.tta_tac.proofs.Lines.{take_proc_taken, none_begun, begins}
+use Rattle.tta_tac.proofs.Lines.{take_proc_taken, none_begun}
 use Rattle.tta_tac.proofs.Seen.{texts_length}
 use Rattle.tta_tac.proofs.reading.draft.Draft.take_proc.Goals as goal
 
@@ -18,5 +18,4 @@ returns c =
     let main = sym c.is_main_with_params.ensures ∙ c.if-is_main_with_params.false in
     let twice = sym c.in_ok-is_taken.ensures ∙ c.if-branch.false in
     take_proc_taken d c.args.line c.args.name.now params none main twice full many
-    ∙ ap Ok (begins c.args.self.now c.in_ok-new_proc.field-0 _ c.args.name.now c.add.new.self c.len-number.result
-    c.in_ok-add.ensures.ok c.len-number.ensures c.in_ok-new_proc.ensures)
+    ∙ ap Ok (sym c.in_ok-begin.ensures)
