@@ -9,8 +9,6 @@ mod error;
 mod law;
 mod lines;
 mod read;
-#[cfg(test)]
-mod tests;
 
 pub use error::InputError;
 pub use law::lines_are_words;

@@ -10,8 +10,6 @@ mod place;
 mod reserved;
 mod set;
 mod table;
-#[cfg(test)]
-mod tests;
 mod unit;
 mod value;
 

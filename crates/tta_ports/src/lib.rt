@@ -19,6 +19,3 @@ pub use mem_sink::MemSink;
 pub use real_files::RealFiles;
 pub use real_sink::RealSink;
 pub use sink_port::Sink;
-
-#[cfg(test)]
-mod tests;

@@ -10,6 +10,3 @@ mod wording;
 pub use lines::Lines;
 pub use names::Names;
 pub use word::Word;
-
-#[cfg(test)]
-mod tests;

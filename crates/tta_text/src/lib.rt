@@ -16,6 +16,3 @@ pub use law::{digits_count_by_place, tokens_cover};
 pub use lexeme::{Kind, Token};
 pub use numbers::{negative, number};
 pub use scanning::Scanner;
-
-#[cfg(test)]
-mod tests;

@@ -4,6 +4,7 @@ mod assembly;
 mod dot_product;
 mod exec;
 mod failing;
+mod handed_in;
 mod moves;
 mod operations;
 mod programs;

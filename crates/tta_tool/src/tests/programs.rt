@@ -1,58 +1,19 @@
-//! Worked programs are run, and what each prints is compared; and an operation of a unit that is
-//! handed in is run.
+//! Worked programs are run, and what each prints is compared.
 
-use crate::command::tool;
 use crate::run;
 use crate::status::Status;
 use std::alloc::Global;
 use std::test::Fail;
-use tta_ops::{Arith, OpUnit, UnitSet};
 use tta_ports::{MemFiles, MemSink};
 
-/// A machine of 1024 data words, and of the operation that is handed in on its last line.
+/// A machine of 1024 data words.
 const MACHINE: &str =
     "bus B short 8 unsigned\nsocket I in B\nsocket O out B\nunit OUT t I\nop OUT out\ncontrol delay 0 address 8 t I\nspace data 1024\n";
 
-const REVERSING: &str =
-    "bus B short 8 unsigned\nsocket I in B\nsocket O out B\nunit OUT t I r O\nop OUT out\nop OUT bitrev 1\ncontrol delay 0 address 8 t I\n";
-
-/// One operation, which reverses the bits of a word.
-#[derive(Clone, Copy)]
-struct Bitrev;
-
-impl OpUnit for Bitrev {
-    ghost use Rattle.std.specs.Prelude.{codes};
-    ghost use Rattle.std.specs.Int.{reverse_bits, w32};
-
-    ghost unit_size = { λ _. 1 };
-
-    ghost unit_name = { λ _ _. codes "bitrev" };
-
-    ghost unit_arity = { λ _ _. 1 };
-
-    ghost unit_meaning = { λ _ _ a b. reverse_bits w32 b };
-
-    fn count(&self) -> usize {
-        1
-    }
-
-    fn name(&self, _i: usize) -> &str {
-        "bitrev"
-    }
-
-    fn arity(&self, _i: usize) -> u8 {
-        1
-    }
-
-    fn apply(&self, _i: usize, _a: u32, b: u32) -> u32 {
-        b.reverse_bits()
-    }
-}
-
 /// The machine `M`, a program `P`, and an input without words `I`.
-fn files_of(alloc: Global, machine: &str, program: &str) -> Result<MemFiles, Fail> {
+fn files_of(alloc: Global, program: &str) -> Result<MemFiles, Fail> {
     let mut files = MemFiles::new(alloc, Vec::new(alloc));
-    files.add("M", machine.as_bytes())?;
+    files.add("M", MACHINE.as_bytes())?;
     files.add("P", program.as_bytes())?;
     files.add("I", b"")?;
     Ok(files)
@@ -74,7 +35,7 @@ fn prints(
     ending: Status,
     text: &str,
 ) -> Result<bool, Fail> {
-    let mut files = files_of(alloc, MACHINE, program)?;
+    let mut files = files_of(alloc, program)?;
     let mut sink = MemSink::new(alloc, 200, Vec::new(alloc))?;
     let status = run(alloc, &words_of(alloc, bound)?, &mut files, &mut sink)?;
     Ok(status == ending && sink.bytes() == text.as_bytes())
@@ -163,23 +124,5 @@ fn endless_program_stops_at_its_bound(rt: HostRuntime) -> Result<(), Fail> {
             "{bound}"
         );
     }
-    Ok(())
-}
-
-#[test]
-fn handed_in_operation_is_run(rt: HostRuntime) -> Result<(), Fail> {
-    let alloc = rt.alloc();
-    let mut boxes: Vec<Box<dyn OpUnit>> = Vec::new(alloc);
-    assert!(rt; boxes.push(Box::new(alloc, Arith)?).is_ok());
-    assert!(rt; boxes.push(Box::new(alloc, Bitrev)?).is_ok());
-    assert!(rt; UnitSet::fits(boxes.as_slice()));
-    let units = UnitSet::new(alloc, boxes).ok().ok_or("refused")?;
-    let program = "proc main\na = bitrev 1\nout a\nend\n";
-    let mut files = files_of(alloc, REVERSING, program)?;
-    let mut sink = MemSink::new(alloc, 100, Vec::new(alloc))?;
-    let words = words_of(alloc, "100")?;
-    let status = tool(alloc, &words, &units, &mut files, &mut sink);
-    assert_eq!(rt; status, Status::Ok);
-    assert_eq!(rt; sink.bytes(), b"2147483648\nhalted\nsteps 3\n".as_slice());
     Ok(())
 }
