@@ -1,11 +1,14 @@
 -- Where the reading of a draft ends: in its machine, or in a refusal.
-use Rattle.std.proofs.Common.{◌≡◌, ℕ, zero, suc, ◌+◌, ◌<◌, ◌≤◌, Bool, true, false, List, [], ◌∷◌, length, filter, max, drop, get_or, Option, Some, None, Ok, Err, lit≤, refl, sym, ap, ap₂, subst, ◌∙◌, arith}
-use Rattle.std.specs.Prelude.{nat_lt, if◌then◌else◌, ◌==◌, unwrap_or}
+use Rattle.std.proofs.Common.{◌≡◌, ℕ, ◌+◌, ◌<◌, ◌≤◌, Bool, true, false, List, [], ◌∷◌, length, filter, max, drop, get_or, Option, Some, None, Result, Ok, Err, lit≤, refl, sym, ap, ap₂, subst, ◌∙◌, arith}
+use Rattle.std.specs.Prelude.{nat_lt, if◌then◌else◌}
 use Rattle.std.specs.Option.{option_map_or}
+use Rattle.std.specs.Result.{IsErr, IsErrAnd}
 use Rattle.std.specs.List.{sum_by}
 use Rattle.std.proofs.lemmas.List.{drop_more}
 use Rattle.std.proofs.lemmas.Bool.{lt-ltb, le-ltb}
 use Rattle.tta_machine.specs.declared.reading.refusal.Refusal.TheVariants.{Missing, TooNarrow}
+use Rattle.tta_machine.specs.declared.reading.refusal.MachineError.{MachineError}
+use Rattle.tta_machine.specs.declared.reading.refusal.MachineError.TheVariants as machine_error
 use Rattle.tta_machine.specs.declared.reading.draft.Draft.{Draft}
 use Rattle.tta_machine.specs.declared.parts.Template.{Template}
 use Rattle.tta_machine.specs.declared.parts.Control.{Control}
@@ -17,16 +20,14 @@ use Rattle.tta_machine.specs.Machine.{Machine}
 use Rattle.tta_machine.specs.Joins.{has_bit, has_socket, source_socket, dest_socket, is_source_on, is_dest_on}
 use Rattle.tta_machine.specs.Fields.{width_for, numbers, all_sources, all_dests, sources_on, dests_on, guard_width, short_width, bus_width, taken_width}
 use Rattle.tta_machine.specs.Rules.{IsMachine, is_control}
-use Rattle.tta_machine.specs.Draft.{machine_of}
+use Rattle.tta_machine.specs.Draft.{machine_of, without_templates}
 use Rattle.tta_machine.specs.Text.{narrow_line, complete}
 use Rattle.tta_machine.specs.Kept.{IsDraft}
+use Rattle.tta_machine.specs.Whole.{CompleteEnds, WidthsEnd}
 use Rattle.tta_machine.proofs.Distinct.{names_good_without, names_different_without}
 use Rattle.tta_machine.proofs.TakenLines.{ended_with, is_machine}
 
 -- ---- a machine without its templates
-
-abbrev pub without_templates : Machine → Machine
-without_templates m = record m { templates = [] }
 
 -- it keeps the rules of machines
 pub rules_without : (d : Draft) (c : Control) → IsDraft d → d.control ≡ Some c → 0 < length d.buses → IsMachine (without_templates (machine_of d c))
@@ -121,63 +122,35 @@ pub is_complete : (d : Draft) (c : Control) → d.control ≡ Some c → 0 < len
     → narrow_line (machine_of d c) d.templates d.template_lines ≡ None → complete d ≡ Ok (machine_of d c)
 is_complete d c is some wide = complete_by d (Some c) is ∙ rw (lt-ltb 0 (length d.buses) some, wide) refl
 
--- ---- a machine built from a draft part by part
+-- ---- a machine and templates that are apart
 
-some_bus : (buses : ℕ) (is_empty : Bool) → is_empty ≡ (buses == 0) → is_empty ≡ false → 0 < buses
-some_bus zero is_empty is some = cc
-some_bus (suc n) is_empty is some = omega arith
+module _ (d : Draft) (c : Control) (m : Machine) (ts : List Template) (lines : List ℕ) (control : d.control ≡ Some c) (bus : 0 < length d.buses)
+    (bare : m ≡ without_templates (machine_of d c)) (templates : ts ≡ d.templates) (same_lines : lines ≡ d.template_lines) where
+  -- what the bare machine tells of templates is so of the whole machine
+  narrow_whole : (o : Option ℕ) → narrow_line m ts lines ≡ o → narrow_line (machine_of d c) d.templates d.template_lines ≡ o
+  narrow_whole o is =
+      let same : narrow_line m ts lines ≡ narrow_line (without_templates (machine_of d c)) d.templates d.template_lines = rw (bare, templates, same_lines) refl in
+      sym (narrow_same (machine_of d c) d.templates d.template_lines) ∙ (sym same ∙ is)
 
--- the machine of a draft, with these of its templates and so many words of its spaces
-abbrev pub built : Draft → Control → List Template → (data_words frame_words : ℕ) → Machine
-built d c templates data_words frame_words = record (machine_of d c) { templates = templates; data_words = data_words; frame_words = frame_words }
+  whole : record m { templates = ts } ≡ machine_of d c
+  whole = rw (bare, templates) refl
 
--- that it is without templates so far
-pub record IsBare (d : Draft) (c : Control) (templates : List Template) (words frame : ℕ) : Type 0 where
-  pub has_control : d.control ≡ Some c
-  pub has_bus : 0 < length d.buses
-  pub no_template : templates ≡ []
-  pub data_words : words ≡ unwrap_or d.data_words 0
-  pub frame_words : frame ≡ unwrap_or d.frame_words 0
+  -- with its templates it keeps the rules of machines
+  pub whole_rules : IsDraft d → narrow_line m ts lines ≡ None → IsMachine (record m { templates = ts })
+  whole_rules r wide = subst IsMachine (sym whole) (is_machine d c r control bus (narrow_whole None wide))
 
-pub is_bare : (d : Draft) (c : Control) (templates : List Template) (words frame : ℕ) (is_empty : Bool) → d.control ≡ Some c → is_empty ≡ (length d.buses == 0)
-    → is_empty ≡ false → templates ≡ [] → words ≡ unwrap_or d.data_words 0 → frame ≡ unwrap_or d.frame_words 0 → IsBare d c templates words frame
-is_bare d c templates words frame is_empty has_control empty some none data_said frame_said = record {
-  has_control = has_control;
-  has_bus = some_bus (length d.buses) is_empty empty some;
-  no_template = none;
-  data_words = data_said;
-  frame_words = frame_said;
-}
+  -- and the draft is complete
+  pub whole_end : narrow_line m ts lines ≡ None → complete d ≡ Ok (record m { templates = ts })
+  whole_end wide = is_complete d c control bus (narrow_whole None wide) ∙ ap (λ (x : Machine). Ok x) (sym whole)
 
--- built without templates it is the machine without them, and built with them the whole one
-bare : (d : Draft) (c : Control) (templates : List Template) (words frame : ℕ) → IsBare d c templates words frame
-    → built d c templates words frame ≡ without_templates (machine_of d c)
-bare d c templates words frame b = rw (b.no_template, b.data_words, b.frame_words) refl
+  -- or a template is too narrow
+  pub narrow_end : (e : MachineError) → WidthsEnd m ts lines (Err e) → CompleteEnds d (Err e)
+  narrow_end (machine_error.Refused line code) (found, told) =
+      record { refusal = TooNarrow; refused = too_narrow d c line control bus (narrow_whole (Some line) found); told = told }
+  narrow_end machine_error.NoMemory ends = tt
 
-filled : (d : Draft) (c : Control) (templates : List Template) (words frame : ℕ) → IsBare d c templates words frame
-    → built d c d.templates words frame ≡ machine_of d c
-filled d c templates words frame b = rw (b.data_words, b.frame_words) refl
-
--- both keep the rules of machines, the second where no template is too narrow
-pub bare_rules : (d : Draft) (c : Control) (templates : List Template) (words frame : ℕ) → IsDraft d → IsBare d c templates words frame
-    → IsMachine (built d c templates words frame)
-bare_rules d c templates words frame r b = subst IsMachine (sym (bare d c templates words frame b)) (rules_without d c r b.has_control b.has_bus)
-
--- what the bare machine tells of templates is so of the whole machine
-pub narrow_whole : (d : Draft) (c : Control) (templates ts : List Template) (words frame : ℕ) (lines : List ℕ) (o : Option ℕ) → IsBare d c templates words frame
-    → ts ≡ d.templates → lines ≡ d.template_lines → o ≡ narrow_line (built d c templates words frame) ts lines
-    → narrow_line (machine_of d c) d.templates d.template_lines ≡ o
-narrow_whole d c templates ts words frame lines o b same same_lines is =
-    sym (is ∙ ap₂ (narrow_line (built d c templates words frame)) same same_lines
-    ∙ ap (λ (m : Machine). narrow_line m d.templates d.template_lines) (bare d c templates words frame b)
-    ∙ narrow_same (machine_of d c) d.templates d.template_lines)
-
--- the templates stand in it
-pub filled_rules : (d : Draft) (c : Control) (templates : List Template) (words frame : ℕ) → IsDraft d → IsBare d c templates words frame
-    → narrow_line (machine_of d c) d.templates d.template_lines ≡ None → IsMachine (built d c d.templates words frame)
-filled_rules d c templates words frame r b wide = subst IsMachine (sym (filled d c templates words frame b)) (is_machine d c r b.has_control b.has_bus wide)
-
--- and then the draft is complete
-pub filled_end : (d : Draft) (c : Control) (templates : List Template) (words frame : ℕ) → IsBare d c templates words frame
-    → narrow_line (machine_of d c) d.templates d.template_lines ≡ None → complete d ≡ Ok (built d c d.templates words frame)
-filled_end d c templates words frame b wide = is_complete d c b.has_control b.has_bus wide ∙ ap (λ (m : Machine). Ok m) (sym (filled d c templates words frame b))
+-- an error that is passed on is the same
+pub ends_so : (d : Draft) (e : MachineError) (r : Result Machine MachineError) → IsErr r → IsErrAnd r (λ x. x ≡ e) → CompleteEnds d (Err e)
+    → CompleteEnds d r
+ends_so d e (Ok m) failed same ends = cc
+ends_so d e (Err x) failed same ends = subst (λ y. CompleteEnds d (Err y)) (sym same) ends

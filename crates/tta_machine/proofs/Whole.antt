@@ -26,10 +26,6 @@ pub lines_refused : (u : Units) (k : ℕ) (d : Draft) (line : Line) (before rest
     → take_line u k d line ≡ Err refusal → take_lines u k d before ≡ Err (k, refusal)
 lines_refused u k d line before rest refusal e refused = rw (e, refused) refl
 
--- no line is left
-pub lines_ended : (u : Units) (k : ℕ) (d : Draft) (before : List Line) → before ≡ [] → take_lines u k d before ≡ Ok d
-lines_ended u k d before e = rw e refl
-
 -- a line that was taken keeps the rules of drafts
 pub line_kept : (u : Units) (k : ℕ) (d next : Draft) (line : Line) → IsDraft d → take_line u k d line ≡ Ok next → IsDraft next
 line_kept u k d next line kept taken = take_line-keeps u k d next line kept taken

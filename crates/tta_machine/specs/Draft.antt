@@ -111,3 +111,7 @@ machine_of d control = record {
   data_words = unwrap_or d.data_words 0;
   frame_words = unwrap_or d.frame_words 0;
 }
+
+-- a machine without its templates
+abbrev pub without_templates : Machine → Machine
+without_templates m = record m { templates = [] }

@@ -1,14 +1,16 @@
 -- What becomes of a text as a whole.
-use Rattle.std.specs.Prelude.{◌≡◌, ℕ, List, Result, Ok, Err}
+use Rattle.std.specs.Prelude.{◌≡◌, ℕ, List, Some, None, Result, Ok, Err}
 use Rattle.tta_reading.specs.Lines.{Line}
 use Rattle.tta_ops.specs.Units.{Units}
+use Rattle.tta_machine.specs.declared.parts.Template.{Template}
 use Rattle.tta_machine.specs.declared.reading.refusal.Refusal.{Refusal}
+use Rattle.tta_machine.specs.declared.reading.refusal.Refusal.TheVariants.{TooNarrow}
 use Rattle.tta_machine.specs.declared.reading.refusal.MachineError.{MachineError}
 use Rattle.tta_machine.specs.declared.reading.refusal.MachineError.TheVariants as machine_error
 use Rattle.tta_machine.specs.declared.reading.draft.Draft.{Draft}
 use Rattle.tta_machine.specs.Draft.{nothing, code_of}
 use Rattle.tta_machine.specs.Machine.{Machine}
-use Rattle.tta_machine.specs.Text.{take_lines, complete}
+use Rattle.tta_machine.specs.Text.{take_lines, narrow_line, complete}
 use Rattle.tta_machine.specs.Kept.{IsDraft}
 
 -- all lines were taken, and the rules of drafts hold
@@ -39,3 +41,10 @@ abbrev pub CompleteEnds : Draft → Result Machine MachineError → Type 0
 CompleteEnds d (Ok m) = complete d ≡ Ok m
 CompleteEnds d (Err (machine_error.Refused line code)) = RefusesDraft d line code
 CompleteEnds d (Err machine_error.NoMemory) = Unit {0}
+
+-- every template is wide enough, or the first that is not is told, or there was no memory
+abbrev pub WidthsEnd : Machine → List Template → (lines : List ℕ) → Result (Unit {0}) MachineError → Type 0
+WidthsEnd m templates lines (Ok x) = narrow_line m templates lines ≡ None
+WidthsEnd m templates lines (Err (machine_error.Refused line code)) =
+    (narrow_line m templates lines ≡ Some line) × (code ≡ code_of TooNarrow)
+WidthsEnd m templates lines (Err machine_error.NoMemory) = Unit {0}

@@ -1,11 +1,12 @@
 //! The machine of a text.
 
-ghost use Rattle.std.specs.Prelude.{◌≡◌, ◌≤◌, ◌^◌, length, Ok, IfOk, IfErr};
+ghost use Rattle.std.specs.Prelude.{◌≡◌, ◌≤◌, ◌^◌, length, Ok, Err, IfOk, IfErr, OnOk};
 ghost use Rattle.tta_reading.specs.Lines.{lines_of};
 ghost use Rattle.tta_ops.specs.Set.{stated};
+ghost use Rattle.tta_machine.specs.Draft.{nothing};
 ghost use Rattle.tta_machine.specs.Grammar.{IsMachineText};
 ghost use Rattle.tta_machine.specs.Text.{machine_of_text, HasCause};
-ghost use Rattle.tta_machine.specs.Whole.{DraftEnds};
+ghost use Rattle.tta_machine.specs.Whole.{DraftEnds, TakesAll};
 
 use crate::machine::Machine;
 use crate::reading::complete::complete;
@@ -16,14 +17,32 @@ use tta_ops::UnitSet;
 use tta_reading::Lines;
 
 // What all lines of a text declare.
-#[tactic(auto, using(crate::proofs::Whole::lines_taken, crate::proofs::Whole::lines_refused, crate::proofs::Whole::lines_ended, crate::proofs::Whole::line_kept))]
 fn read_draft(alloc: Global, text: &[u8], units: &UnitSet) -> Result<Draft, MachineError>
     requires { length text.now ≤ 2 ^ 24 }
     ensures { DraftEnds (stated unit_meaning units.now) (lines_of text.now) result }
 {
+    let mut draft = Draft::new(alloc);
+    read_lines(alloc, text, units, &mut draft)?;
+    Ok(draft)
+}
+
+// Takes all lines of a text into an empty draft.
+#[tactic(auto, using(crate::proofs::Whole::lines_taken, crate::proofs::Whole::lines_refused, crate::proofs::Whole::line_kept))]
+fn read_lines(
+    alloc: Global,
+    text: &[u8],
+    units: &UnitSet,
+    draft: &mut Draft,
+) -> Result<(), MachineError>
+    requires short { length text.now ≤ 2 ^ 24 }
+    requires empty { draft.old ≡ nothing }
+    ensures taken { OnOk result
+        (TakesAll (stated unit_meaning units.now) (lines_of text.now) draft.new) }
+    ensures refused { IfErr result (λ e. DraftEnds (stated unit_meaning units.now)
+        (lines_of text.now) (Err e)) }
+{
     let mut lines = Lines::new(text);
     let mut words = Vec::new(alloc);
-    let mut draft = Draft::new(alloc);
     let mut line: u32 = 0;
     while lines.next_line(&mut words)? {
         line += 1;
@@ -38,7 +57,7 @@ fn read_draft(alloc: Global, text: &[u8], units: &UnitSet) -> Result<Draft, Mach
             Err(LineError::NoMemory) => return Err(MachineError::NoMemory),
         }
     }
-    Ok(draft)
+    Ok(())
 }
 
 /// The machine that a text describes, over these operation units. The text has at most 2^24 bytes.

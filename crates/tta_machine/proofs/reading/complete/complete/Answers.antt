@@ -1,48 +1,37 @@
-use Rattle.std.proofs.Common.{Err, refl, sym, subst}
-use Rattle.tta_machine.specs.declared.reading.refusal.MachineError.{MachineError}
-use Rattle.tta_machine.specs.declared.reading.refusal.Refusal.TheVariants.{TooNarrow}
-use Rattle.tta_machine.specs.Whole.{CompleteEnds}
-use Rattle.tta_machine.proofs.Completed.{is_bare, bare_rules, narrow_whole, filled_rules, filled_end, too_narrow}
+use Rattle.std.proofs.Common.{◌≡◌, Ok, Err, None, sym, subst, ap, ap₂, ◌∙◌}
+use Rattle.tta_machine.specs.Machine.{Machine}
+use Rattle.tta_machine.specs.Text.{narrow_line}
+use Rattle.tta_machine.specs.Whole.{WidthsEnd}
+use Rattle.tta_machine.proofs.Completed.{whole_rules, whole_end, narrow_end, ends_so}
 use Rattle.tta_machine.proofs.reading.complete.complete.Goals as goal
 
-pub invariant_of-machine : goal.invariant_of-machine
-invariant_of-machine c =
+pub returns-in_err-check_widths : goal.returns-in_err-check_widths
+returns-in_err-check_widths c =
     let d = c.args.draft in
-    let bare = is_bare d c.in-Some.control c.new.result c.unwrap_or.result c.unwrap_or-2.result c.is_empty.result c.in-Some.is c.is_empty.ensures c.if-is_empty.false
-    c.new.ensures c.unwrap_or.ensures c.unwrap_or-2.ensures in
-    bare_rules d c.in-Some.control c.new.result c.unwrap_or.result c.unwrap_or-2.result c.requires bare
+    let bare = c.bare_of-bare in
+    let e = c.in_err-check_widths.field-0.0 in
+    let passed = c.from_residual-in_err-check_widths.ensures in
+    let ends : WidthsEnd bare.result.machine bare.result.templates bare.result.lines (Err e) =
+    subst (λ templates. WidthsEnd bare.result.machine templates bare.result.lines (Err e)) c.as_slice.ensures
+    (subst (λ lines. WidthsEnd bare.result.machine c.as_slice.result.now lines (Err e)) c.as_slice-2.ensures c.in_err-check_widths.ensures) in
+    ends_so d e c.from_residual-in_err-check_widths.result passed.0 passed.1
+    (narrow_end d c.in_ok-control.control bare.result.machine bare.result.templates bare.result.lines c.in_ok-control.ensures.control
+    c.in_ok-control.ensures.bus bare.ensures.machine bare.ensures.templates bare.ensures.lines e ends)
 
-pub invariant_of-machine-2 : goal.invariant_of-machine-2
-invariant_of-machine-2 c =
+pub whole-requires : goal.whole-requires
+whole-requires c =
     let d = c.args.draft in
-    let bare = is_bare d c.in-Some.control c.new.result c.unwrap_or.result c.unwrap_or-2.result c.is_empty.result c.in-Some.is c.is_empty.ensures c.if-is_empty.false
-    c.new.ensures c.unwrap_or.ensures c.unwrap_or-2.ensures in
-    bare_rules d c.in-Some.control c.new.result c.unwrap_or.result c.unwrap_or-2.result c.requires bare
+    let bare = c.bare_of-bare in
+    let wide : narrow_line bare.result.machine bare.result.templates bare.result.lines ≡ None =
+    sym (ap₂ (narrow_line bare.result.machine) c.as_slice.ensures c.as_slice-2.ensures) ∙ c.in_ok-check_widths.ensures in
+    whole_rules d c.in_ok-control.control bare.result.machine bare.result.templates bare.result.lines c.in_ok-control.ensures.control
+    c.in_ok-control.ensures.bus bare.ensures.machine bare.ensures.templates bare.ensures.lines c.requires wide
 
-pub returns-in-Some-narrow_line : goal.returns-in-Some-narrow_line
-returns-in-Some-narrow_line c =
+pub returns : goal.returns
+returns c =
     let d = c.args.draft in
-    let bare = is_bare d c.in-Some.control c.new.result c.unwrap_or.result c.unwrap_or-2.result c.is_empty.result c.in-Some.is c.is_empty.ensures c.if-is_empty.false
-    c.new.ensures c.unwrap_or.ensures c.unwrap_or-2.ensures in
-    let narrow = narrow_whole d c.in-Some.control c.new.result c.as_slice.result.now c.unwrap_or.result c.unwrap_or-2.result c.as_slice-2.result.now _ bare c.as_slice.ensures c.as_slice-2.ensures
-    c.in-Some-narrow_line.ensures in
-    subst (λ (e : MachineError). CompleteEnds d (Err e)) (sym c.at_line-in-Some-narrow_line.ensures)
-    (record { refusal = TooNarrow; refused = too_narrow d c.in-Some.control c.in-Some-narrow_line.line bare.has_control bare.has_bus narrow; told = refl })
-
-pub invariant_of-machine-in-None : goal.invariant_of-machine-in-None
-invariant_of-machine-in-None c =
-    let d = c.args.draft in
-    let bare = is_bare d c.in-Some.control c.new.result c.unwrap_or.result c.unwrap_or-2.result c.is_empty.result c.in-Some.is c.is_empty.ensures c.if-is_empty.false
-    c.new.ensures c.unwrap_or.ensures c.unwrap_or-2.ensures in
-    let wide = narrow_whole d c.in-Some.control c.new.result c.as_slice.result.now c.unwrap_or.result c.unwrap_or-2.result c.as_slice-2.result.now _ bare c.as_slice.ensures c.as_slice-2.ensures
-    c.in-None.ensures in
-    filled_rules d c.in-Some.control c.new.result c.unwrap_or.result c.unwrap_or-2.result c.requires bare wide
-
-pub returns-in-None : goal.returns-in-None
-returns-in-None c =
-    let d = c.args.draft in
-    let bare = is_bare d c.in-Some.control c.new.result c.unwrap_or.result c.unwrap_or-2.result c.is_empty.result c.in-Some.is c.is_empty.ensures c.if-is_empty.false
-    c.new.ensures c.unwrap_or.ensures c.unwrap_or-2.ensures in
-    let wide = narrow_whole d c.in-Some.control c.new.result c.as_slice.result.now c.unwrap_or.result c.unwrap_or-2.result c.as_slice-2.result.now _ bare c.as_slice.ensures c.as_slice-2.ensures
-    c.in-None.ensures in
-    filled_end d c.in-Some.control c.new.result c.unwrap_or.result c.unwrap_or-2.result bare wide
+    let bare = c.bare_of-bare in
+    let wide : narrow_line bare.result.machine bare.result.templates bare.result.lines ≡ None =
+    sym (ap₂ (narrow_line bare.result.machine) c.as_slice.ensures c.as_slice-2.ensures) ∙ c.in_ok-check_widths.ensures in
+    whole_end d c.in_ok-control.control bare.result.machine bare.result.templates bare.result.lines c.in_ok-control.ensures.control
+    c.in_ok-control.ensures.bus bare.ensures.machine bare.ensures.templates bare.ensures.lines wide ∙ ap (λ (m : Machine). Ok m) (sym c.whole.ensures)

@@ -1,0 +1,25 @@
+use Rattle.std.proofs.Common.{◌≡◌, ◌+◌, ◌∷◌, List, Ok, length, map, sym, subst, ◌∙◌, arith}
+use Rattle.tta_reading.specs.declared.word.Word.{Word}
+use Rattle.tta_reading.specs.Lines.{plain}
+use Rattle.tta_ops.specs.Set.{stated}
+use Rattle.tta_machine.specs.Text.{take_line}
+use Rattle.tta_machine.proofs.Whole.{lines_taken, line_kept}
+use Rattle.tta_machine.proofs.reading.read.read_lines.Goals as goal
+
+-- the first of the lines that are left was taken
+pub loop-words-preserved : goal.loop-words-preserved
+loop-words-preserved g c =
+    let U = stated (λ v. (goal.OpUnit-dyn g v).unit_meaning v.1) c.args.units.now in
+    let line = c.loop-words.line + 1 in
+    let words = map plain c.next_line.new.words.items in
+    let rest = c.next_line.new.self in
+    let next = c.take_line.new.self in
+    let Taken : List Word → Type 0 = λ ws. take_line U line c.loop-words.draft (map plain ws) ≡ Ok next in
+    let taken : take_line U line c.loop-words.draft words ≡ Ok next = subst Taken c.as_slice.ensures.value c.in-Ok.ensures in
+    let split : c.loop-words.lines ≡ words ∷ rest = c.in_ok-next_line.ensures.more c.if-branch.true in
+    let counted : length c.loop-words.lines ≡ length rest + 1 = c.in_ok-next_line.ensures.counted c.if-branch.true in
+    record {
+      rest = sym (lines_taken U line c.loop-words.draft next words c.loop-words.lines rest split taken) ∙ c.loop-words.invariant.rest;
+      kept = line_kept U line c.loop-words.draft next words c.loop-words.invariant.kept taken;
+      room = omega (arith, c.loop-words.invariant.room, counted);
+    }
