@@ -44,6 +44,29 @@ fn words_of(rt: &(impl Env + AllocGlobal)) -> Result<Vec<String>, Status> {
     Ok(words)
 }
 
+// Puts the five standard units at the end.
+fn add_units(alloc: Global, boxes: &mut Vec<Box<dyn OpUnit>>) -> Result<(), AllocError> {
+    boxes.push(Box::new(alloc, Arith)?)?;
+    boxes.push(Box::new(alloc, Logic)?)?;
+    boxes.push(Box::new(alloc, Shift)?)?;
+    boxes.push(Box::new(alloc, Compare)?)?;
+    boxes.push(Box::new(alloc, Divide)?)?;
+    Ok(())
+}
+
+// A set of the five standard units.
+fn standard_units(alloc: Global) -> Result<UnitSet, AllocError> {
+    let mut boxes: Vec<Box<dyn OpUnit>> = Vec::new(alloc);
+    add_units(alloc, &mut boxes)?;
+    if !UnitSet::fits(boxes.as_slice()) {
+        return Err(AllocError);
+    }
+    let Ok(units) = UnitSet::new(alloc, boxes) else {
+        return Err(AllocError);
+    };
+    Ok(units)
+}
+
 // Carries out the words over the five standard units.
 fn run<F: Files, S: Sink>(
     alloc: Global,
@@ -51,18 +74,7 @@ fn run<F: Files, S: Sink>(
     files: &mut F,
     sink: &mut S,
 ) -> Result<Status, AllocError> {
-    let mut boxes: Vec<Box<dyn OpUnit>> = Vec::new(alloc);
-    boxes.push(Box::new(alloc, Arith)?)?;
-    boxes.push(Box::new(alloc, Logic)?)?;
-    boxes.push(Box::new(alloc, Shift)?)?;
-    boxes.push(Box::new(alloc, Compare)?)?;
-    boxes.push(Box::new(alloc, Divide)?)?;
-    if !UnitSet::fits(boxes.as_slice()) {
-        return Ok(Status::NoMemory);
-    }
-    let Ok(units) = UnitSet::new(alloc, boxes) else {
-        return Ok(Status::NoMemory);
-    };
+    let units = standard_units(alloc)?;
     Ok(tool(alloc, words, &units, files, sink))
 }
 

@@ -54,7 +54,33 @@ fn begin_with<F: Files>(
     }
 }
 
-// Runs code and puts out its text.
+// Runs code from data words and puts out its text.
+fn run_code<S: Sink>(
+    alloc: Global,
+    units: &UnitSet,
+    sink: &mut S,
+    machine: &Machine,
+    code: &Code,
+    memory: Vec<u32>,
+    bound: u64,
+) -> Status
+    requires bound { bound < 2 ^ 48 }
+    requires size { length memory.items ≡ machine.now.data_words }
+    requires short { length memory.items < 2 ^ 32 }
+    requires legal { IsLegalCode machine.now code.now }
+    ensures { RunEnds
+        (cyc (stated unit_meaning units.now) machine.now code.now memory.items bound)
+        (output (S.taken sink.old) (S.faults sink.old))
+        (output (S.taken sink.new) (S.faults sink.new))
+        result }
+{
+    let Ok(mut sim) = Sim::load(alloc, machine, code, memory) else {
+        return Status::NoMemory;
+    };
+    code_to_status(sink, machine, code, units, &mut sim, bound)
+}
+
+// Runs what a run begins with, and puts out its text.
 fn carry_out<S: Sink>(
     alloc: Global,
     units: &UnitSet,
@@ -75,10 +101,7 @@ fn carry_out<S: Sink>(
         result }
 {
     let Beginning { code, memory } = beginning;
-    let Ok(mut sim) = Sim::load(alloc, machine, &code, memory) else {
-        return Status::NoMemory;
-    };
-    code_to_status(sink, machine, &code, units, &mut sim, bound)
+    run_code(alloc, units, sink, machine, &code, memory, bound)
 }
 
 // Runs the code that word 2 names on a machine that was read.

@@ -1,10 +1,9 @@
 //! A longer run: the dot product of two vectors of 64 words, and every line that it prints.
 
-use crate::run;
+use super::host::{Host, texts_of};
 use crate::status::Status;
-use std::alloc::Global;
+use std::alloc::{AllocError, Global};
 use std::test::Fail;
-use tta_ports::{MemFiles, MemSink};
 
 /// A machine of 256 data words.
 const MACHINE: &str =
@@ -15,42 +14,54 @@ const PROGRAM: &str =
     "proc main\ni = 0\ns = 0\nloop:\na = load i\nj = add i 64\nb = load j\np = mul a b\n\
 s = add s p\ni = add i 1\nif ltu i 64 goto loop\nstore 128 s\nout s\nhalt\nend\n";
 
-/// A line for each of 64 words.
-fn add_vector(input: &mut Vec<u8>, line: &str) -> Result<(), Fail> {
+// A line for each of 64 words.
+fn add_vector(input: &mut String, line: &str) -> Result<(), AllocError> {
     for _ in 0..64 {
-        input.extend_from_slice(line.as_bytes())?;
+        input.push_str(line)?;
     }
     Ok(())
 }
 
-/// Two vectors, whose words are all 2 and all 3.
-fn files_of(alloc: Global) -> Result<MemFiles, Fail> {
-    let mut input = Vec::new(alloc);
+// The lines that tell this word of the data words from `from` on, to before `to`.
+fn add_words(
+    alloc: Global,
+    output: &mut String,
+    from: usize,
+    to: usize,
+    word: usize,
+) -> Result<(), AllocError> {
+    for at in from..to {
+        let line = format!(in alloc; "mem {at} {word}\n")?;
+        output.push_str(line.as_str())?;
+    }
+    Ok(())
+}
+
+// Two vectors, whose words are all 2 and all 3.
+fn vectors(alloc: Global) -> Result<String, AllocError> {
+    let mut input = String::new(alloc);
     add_vector(&mut input, "00000002\n")?;
     add_vector(&mut input, "00000003\n")?;
-    let mut files = MemFiles::new(alloc, Vec::new(alloc));
-    files.add("M", MACHINE.as_bytes())?;
-    files.add("P", PROGRAM.as_bytes())?;
-    files.add("I", input.as_slice())?;
-    Ok(files)
+    Ok(input)
+}
+
+// The word, the outcome, 129 data words and the count.
+fn lines(alloc: Global) -> Result<String, AllocError> {
+    let mut output = String::from_str(alloc, "384\nhalted\n")?;
+    add_words(alloc, &mut output, 0, 64, 2)?;
+    add_words(alloc, &mut output, 64, 128, 3)?;
+    output.push_str("mem 128 384\nsteps 453\n")?;
+    Ok(output)
 }
 
 #[test]
 fn dot_product_of_64_words(rt: HostRuntime) -> Result<(), Fail> {
     let alloc = rt.alloc();
-    let mut files = files_of(alloc)?;
-    let mut words = Vec::new(alloc);
-    for word in ["exec", "M", "P", "I", "1000"] {
-        words.push(String::from_str(alloc, word)?)?;
-    }
-    let mut sink = MemSink::new(alloc, 2000, Vec::new(alloc))?;
-    let status = run(alloc, &words, &mut files, &mut sink)?;
-    assert_eq!(rt; status, Status::Ok);
-    let text = sink.bytes();
-    assert!(rt; text.starts_with(b"384\nhalted\nmem 0 2\nmem 1 2\n"));
-    assert!(rt; text.ends_with(b"mem 126 3\nmem 127 3\nmem 128 384\nsteps 453\n"));
-    // The word, the outcome, 129 data words and the count.
-    let lines = text.iter().filter(|byte| **byte == b'\n').count();
-    assert_eq!(rt; lines, 132);
+    let input = vectors(alloc)?;
+    let output = lines(alloc)?;
+    let texts = texts_of(MACHINE, PROGRAM, input.as_str());
+    let words = ["exec", "M", "P", "I", "1000"];
+    let host = Host::new(alloc, &texts, b"");
+    assert!(rt; host.prints(&words, Status::Ok, output.as_str())?);
     Ok(())
 }

@@ -1,10 +1,9 @@
 //! A program is run over files in memory, and what it puts out is taken by a sink in memory.
 
-use crate::run;
+use super::host::Host;
 use crate::status::Status;
-use std::alloc::Global;
+use std::alloc::{AllocError, Global};
 use std::test::Fail;
-use tta_ports::{MemFiles, MemSink};
 
 /// A machine of four data words.
 const MACHINE: &str =
@@ -13,59 +12,46 @@ const MACHINE: &str =
 /// Puts the first data word out, and stores 9 in the second.
 const PROGRAM: &str = "proc main\na = load 0\nout a\nstore 1 9\nhalt\nend\n";
 
-const INPUT: &str = "0000000a\n";
+/// The machine, the program, its input, and inputs with a mistake.
+const TEXTS: [(&str, &str); 5] = [
+    ("M", MACHINE),
+    ("P", PROGRAM),
+    ("I", "0000000a\n"),
+    ("BAD", "00000001\n0000000g\n"),
+    ("MANY", "00000001\n00000001\n00000001\n00000001\n00000001\n"),
+];
 
-/// What the program prints.
-const LINES: &str = "10\nhalted\nmem 0 10\nmem 1 9\nsteps 4\n";
-
-/// The machine `M`, the program `P`, its input `I`, and inputs with a mistake, `BAD` and `MANY`.
-fn files_of(alloc: Global) -> Result<MemFiles, Fail> {
-    let mut files = MemFiles::new(alloc, Vec::new(alloc));
-    files.add("M", MACHINE.as_bytes())?;
-    files.add("P", PROGRAM.as_bytes())?;
-    files.add("I", INPUT.as_bytes())?;
-    files.add("BAD", b"00000001\n0000000g\n")?;
-    files.add(
-        "MANY",
-        b"00000001\n00000001\n00000001\n00000001\n00000001\n",
-    )?;
-    Ok(files)
-}
-
-/// The words of `exec` with this input and this bound.
-fn words_of(alloc: Global, input: &str, bound: &str) -> Result<Vec<String>, Fail> {
-    let mut words = Vec::new(alloc);
-    for word in ["exec", "M", "P", input, bound] {
-        words.push(String::from_str(alloc, word)?)?;
-    }
-    Ok(words)
+// Whether the program ends so with this input and bound, and prints so.
+fn prints(
+    alloc: Global,
+    input: &str,
+    bound: &str,
+    ending: Status,
+    text: &str,
+) -> Result<bool, AllocError> {
+    let words = ["exec", "M", "P", input, bound];
+    Host::new(alloc, &TEXTS, b"").prints(&words, ending, text)
 }
 
 #[test]
-fn program_runs_to_its_halt(rt: HostRuntime) -> Result<(), Fail> {
+fn program_runs_to_its_halt_or_bound(rt: HostRuntime) -> Result<(), Fail> {
     let alloc = rt.alloc();
-    let mut files = files_of(alloc)?;
-    let mut sink = MemSink::new(alloc, 100, Vec::new(alloc))?;
-    let status = run(alloc, &words_of(alloc, "I", "1000")?, &mut files, &mut sink)?;
-    assert_eq!(rt; status, Status::Ok);
-    assert_eq!(rt; sink.bytes(), LINES.as_bytes());
-    Ok(())
-}
-
-#[test]
-fn program_stops_at_its_bound(rt: HostRuntime) -> Result<(), Fail> {
-    let alloc = rt.alloc();
-    let bounds = [
-        ("0", "running\nmem 0 10\nsteps 0\n"),
-        ("2", "10\nrunning\nmem 0 10\nsteps 2\n"),
-        ("3", "10\nrunning\nmem 0 10\nmem 1 9\nsteps 3\n"),
+    let runs = [
+        (
+            "1000",
+            Status::Ok,
+            "10\nhalted\nmem 0 10\nmem 1 9\nsteps 4\n",
+        ),
+        ("0", Status::Running, "running\nmem 0 10\nsteps 0\n"),
+        ("2", Status::Running, "10\nrunning\nmem 0 10\nsteps 2\n"),
+        (
+            "3",
+            Status::Running,
+            "10\nrunning\nmem 0 10\nmem 1 9\nsteps 3\n",
+        ),
     ];
-    for (bound, text) in bounds {
-        let mut files = files_of(alloc)?;
-        let mut sink = MemSink::new(alloc, 100, Vec::new(alloc))?;
-        let status = run(alloc, &words_of(alloc, "I", bound)?, &mut files, &mut sink)?;
-        assert_eq!(rt; status, Status::Running, "within {bound}");
-        assert_eq!(rt; sink.bytes(), text.as_bytes(), "within {bound}");
+    for (bound, ending, text) in runs {
+        assert!(rt; prints(alloc, "I", bound, ending, text)?, "{text}");
     }
     Ok(())
 }
@@ -82,16 +68,7 @@ fn refusals_put_nothing(rt: HostRuntime) -> Result<(), Fail> {
         ("NONE", "9", Status::ReadFault { word: 3 }),
     ];
     for (input, bound, refusal) in refusals {
-        let mut files = files_of(alloc)?;
-        let mut sink = MemSink::new(alloc, 100, Vec::new(alloc))?;
-        let status = run(
-            alloc,
-            &words_of(alloc, input, bound)?,
-            &mut files,
-            &mut sink,
-        )?;
-        assert_eq!(rt; status, refusal, "of {input} and {bound}");
-        assert_eq!(rt; sink.bytes(), b"".as_slice(), "of {input} and {bound}");
+        assert!(rt; prints(alloc, input, bound, refusal, "")?, "{input}");
     }
     Ok(())
 }

@@ -2,11 +2,10 @@
 //! the first fault, no file changes but the front of the one that is written, and the output has
 //! the lines before the fault and half of the next.
 
-use crate::run;
+use super::host::{BEFORE, Host};
 use crate::status::Status;
-use std::alloc::Global;
+use std::alloc::{AllocError, Global};
 use std::test::Fail;
-use tta_ports::{MemFiles, MemSink};
 
 /// Three buses, each of which joins the registers and the output.
 const MACHINE: &str =
@@ -39,63 +38,66 @@ const TEXTS: [(&str, &str); 6] = [
     ("C", "proc main\nout 7\nhalt\nend\n"),
 ];
 
-/// The texts, the image `IMG` of the swap, and `OUT`, which is there already.
-fn files_of(alloc: Global, image: &[u8], failing: Vec<u64>) -> Result<MemFiles, Fail> {
-    let mut files = MemFiles::new(alloc, failing);
-    for (name, text) in TEXTS {
-        files.add(name, text.as_bytes())?;
+// The image of the swap.
+fn swap_image(alloc: Global) -> Result<Vec<u8>, AllocError> {
+    Host::new(alloc, &TEXTS, b"").written(&["asm", "M", "A", "OUT"])
+}
+
+// How a command that writes these bytes ends where this call fails, and what it leaves in `OUT`.
+fn fault_at(call: u64, whole: &[u8]) -> (Status, &[u8]) {
+    match call {
+        1 => (Status::ReadFault { word: 1 }, BEFORE),
+        2 => (Status::ReadFault { word: 2 }, BEFORE),
+        3 => (Status::WriteFault, &whole[..whole.len() / 2]),
+        _ => (Status::Ok, whole),
     }
-    files.add("IMG", image)?;
-    files.add("OUT", b"before")?;
-    Ok(files)
 }
 
-/// Whether all files but `OUT` are as they were.
-fn are_kept(files: &MemFiles, image: &[u8]) -> bool {
-    for (name, text) in TEXTS {
-        if files.get(name) != Some(text.as_bytes()) {
-            return false;
-        }
-    }
-    files.get("IMG") == Some(image)
+// Whether a command that writes tells that this call fails, and leaves the files so.
+fn fails_at_call(
+    alloc: Global,
+    image: &[u8],
+    words: &[&str],
+    call: u64,
+) -> Result<bool, AllocError> {
+    let mut host = Host::new(alloc, &TEXTS, image);
+    let whole = host.written(words)?;
+    let (fault, left) = fault_at(call, whole.as_slice());
+    host.failing_call = call;
+    host.leaves(words, fault, left, b"")
 }
 
-fn words_of(alloc: Global, words: &[&str]) -> Result<Vec<String>, Fail> {
-    let mut strings = Vec::new(alloc);
-    for word in words {
-        strings.push(String::from_str(alloc, word)?)?;
-    }
-    Ok(strings)
-}
-
-/// The bytes that a good command of these words writes to `OUT`.
-fn written(alloc: Global, image: &[u8], words: &[&str]) -> Result<Vec<u8>, Fail> {
-    let mut files = files_of(alloc, image, Vec::new(alloc))?;
-    let mut sink = MemSink::new(alloc, 0, Vec::new(alloc))?;
-    if run(alloc, &words_of(alloc, words)?, &mut files, &mut sink)? != Status::Ok {
-        return Err(Fail::new("a good command fails"));
-    }
-    let bytes = files.get("OUT").ok_or("no file is written")?;
-    Ok(Vec::from_slice(alloc, bytes)?)
-}
-
-fn swap_image(alloc: Global) -> Result<Vec<u8>, Fail> {
-    written(alloc, b"", &["asm", "M", "A", "OUT"])
-}
-
-/// The lines before the put that fails, and the first half of its line.
-fn taken_until(alloc: Global, lines: &[&str], failing: usize) -> Result<Vec<u8>, Fail> {
-    let mut taken = Vec::new(alloc);
+// Puts the lines before the put that fails at the end, and the first half of its line.
+fn add_taken(taken: &mut Vec<u8>, lines: &[&str], failing: usize) -> Result<(), AllocError> {
     for (i, line) in lines.iter().enumerate() {
         if i + 1 < failing {
             taken.extend_from_slice(line.as_bytes())?;
         }
         if i + 1 == failing {
-            let half = line.as_bytes().get(..line.len() / 2).ok_or("no half")?;
-            taken.extend_from_slice(half)?;
+            taken.extend_from_slice(&line.as_bytes()[..line.len() / 2])?;
         }
     }
-    Ok(taken)
+    Ok(())
+}
+
+// Whether a command that prints these five lines tells that this put fails.
+fn fails_at_put(
+    alloc: Global,
+    image: &[u8],
+    words: &[&str],
+    lines: &[&str],
+    put: usize,
+) -> Result<bool, AllocError> {
+    let mut taken = Vec::new(alloc);
+    add_taken(&mut taken, lines, put)?;
+    let mut host = Host::new(alloc, &TEXTS, image);
+    host.failing_put = put as u64;
+    let ending = if put < 6 {
+        Status::WriteFault
+    } else {
+        Status::Ok
+    };
+    host.leaves(words, ending, BEFORE, taken.as_slice())
 }
 
 #[test]
@@ -108,21 +110,8 @@ fn writing_commands_fail_at_each_call(rt: HostRuntime) -> Result<(), Fail> {
         ["dis", "M", "IMG", "OUT"],
     ];
     for words in commands {
-        let whole = written(alloc, &image, &words)?;
-        let half = whole.get(..whole.len() / 2).ok_or("no half")?;
-        let faults = [
-            (1, Status::ReadFault { word: 1 }, b"before".as_slice()),
-            (2, Status::ReadFault { word: 2 }, b"before".as_slice()),
-            (3, Status::WriteFault, half),
-            (4, Status::Ok, whole.as_slice()),
-        ];
-        for (call, fault, left) in faults {
-            let mut files = files_of(alloc, &image, vec![in alloc; call]?)?;
-            let mut sink = MemSink::new(alloc, 0, Vec::new(alloc))?;
-            let status = run(alloc, &words_of(alloc, &words)?, &mut files, &mut sink)?;
-            assert_eq!(rt; status, fault, "call {call}");
-            assert_eq!(rt; files.get("OUT"), Some(left), "call {call}");
-            assert!(rt; are_kept(&files, &image), "call {call}");
+        for call in 1..5u64 {
+            assert!(rt; fails_at_call(alloc, &image, &words, call)?);
         }
     }
     Ok(())
@@ -132,17 +121,12 @@ fn writing_commands_fail_at_each_call(rt: HostRuntime) -> Result<(), Fail> {
 fn printing_commands_fail_at_each_call(rt: HostRuntime) -> Result<(), Fail> {
     let alloc = rt.alloc();
     let image = swap_image(alloc)?;
-    let commands = [["exec", "M", "P", "I", "9"], ["run", "M", "IMG", "I", "20"]];
-    for words in commands {
-        for call in 1..4u8 {
-            let mut files = files_of(alloc, &image, vec![in alloc; u64::from(call)]?)?;
-            let mut sink = MemSink::new(alloc, 100, Vec::new(alloc))?;
-            let status = run(alloc, &words_of(alloc, &words)?, &mut files, &mut sink)?;
-            assert_eq!(rt; status, Status::ReadFault { word: call }, "call {call}");
-            assert_eq!(rt; sink.bytes(), b"".as_slice(), "call {call}");
-            assert_eq!(rt; files.get("OUT"), Some(b"before".as_slice()), "call {call}");
-            assert!(rt; are_kept(&files, &image), "call {call}");
-        }
+    let mut host = Host::new(alloc, &TEXTS, &image);
+    for word in 1..4u8 {
+        host.failing_call = u64::from(word);
+        let fault = Status::ReadFault { word };
+        assert!(rt; host.prints(&["exec", "M", "P", "I", "9"], fault, "")?);
+        assert!(rt; host.prints(&["run", "M", "IMG", "I", "20"], fault, "")?);
     }
     Ok(())
 }
@@ -157,19 +141,7 @@ fn printing_commands_fail_at_each_put(rt: HostRuntime) -> Result<(), Fail> {
     ];
     for (words, lines) in commands {
         for put in 1..7usize {
-            let mut files = files_of(alloc, &image, Vec::new(alloc))?;
-            let mut sink = MemSink::new(alloc, 100, vec![in alloc; put as u64]?)?;
-            let status = run(alloc, &words_of(alloc, &words)?, &mut files, &mut sink)?;
-            let ending = if put < 6 {
-                Status::WriteFault
-            } else {
-                Status::Ok
-            };
-            assert_eq!(rt; status, ending, "put {put}");
-            let taken = taken_until(alloc, &lines, put)?;
-            assert_eq!(rt; sink.bytes(), taken.as_slice(), "put {put}");
-            assert_eq!(rt; files.get("OUT"), Some(b"before".as_slice()), "put {put}");
-            assert!(rt; are_kept(&files, &image), "put {put}");
+            assert!(rt; fails_at_put(alloc, &image, &words, &lines, put)?);
         }
     }
     Ok(())

@@ -1,12 +1,11 @@
 //! A unit that is handed in, with one operation that no standard unit offers: it is found by its
 //! name, applied and run, and refused where it is handed in twice.
 
-use crate::command::tool;
+use super::host::{Host, texts_of};
 use crate::status::Status;
 use std::alloc::{AllocError, Global};
 use std::test::Fail;
-use tta_ops::{Arith, OpId, OpUnit, OpsError, UnitSet};
-use tta_ports::{MemFiles, MemSink};
+use tta_ops::{Arith, OpUnit, OpsError, UnitSet};
 
 const MACHINE: &str =
     "bus B short 8 unsigned\nsocket I in B\nsocket O out B\nunit OUT t I r O\nop OUT out\nop OUT bitrev 1\ncontrol delay 0 address 8 t I\n";
@@ -46,56 +45,61 @@ impl OpUnit for Bitrev {
     }
 }
 
-/// The standard unit of whole numbers, and so many times the unit that is handed in.
-fn units_of(alloc: Global, times: usize) -> Result<Vec<Box<dyn OpUnit>>, AllocError> {
-    let mut boxes: Vec<Box<dyn OpUnit>> = Vec::new(alloc);
-    put(&mut boxes, Box::new(alloc, Arith)?)?;
+// Puts the standard unit of whole numbers at the end, and so many times the unit that is handed in.
+fn add_units(
+    alloc: Global,
+    boxes: &mut Vec<Box<dyn OpUnit>>,
+    times: usize,
+) -> Result<(), AllocError> {
+    boxes.push(Box::new(alloc, Arith)?)?;
     for _ in 0..times {
-        put(&mut boxes, Box::new(alloc, Bitrev)?)?;
+        boxes.push(Box::new(alloc, Bitrev)?)?;
     }
-    Ok(boxes)
+    Ok(())
 }
 
-/// Puts a unit at the end.
-fn put(boxes: &mut Vec<Box<dyn OpUnit>>, unit: Box<dyn OpUnit>) -> Result<(), AllocError> {
-    match boxes.push(unit) {
-        Ok(()) => Ok(()),
-        Err(_) => Err(AllocError),
+// A set of these units.
+fn units_of(alloc: Global, times: usize) -> Result<UnitSet, OpsError> {
+    let mut boxes: Vec<Box<dyn OpUnit>> = Vec::new(alloc);
+    add_units(alloc, &mut boxes, times)?;
+    if !UnitSet::fits(boxes.as_slice()) {
+        return Err(OpsError::NoMemory);
     }
+    UnitSet::new(alloc, boxes)
+}
+
+// The number and arity of the operation that is handed in, and what it makes of a word.
+fn found(units: &UnitSet) -> Option<(u32, u8, u32)> {
+    let op = units.find("bitrev")?;
+    Some((op.0, units.arity(op), units.apply(op, 9, 0x0000_000d)))
+}
+
+// The same in a set of these units.
+fn found_in_set(alloc: Global) -> Result<Option<(u32, u8, u32)>, OpsError> {
+    let units = units_of(alloc, 1)?;
+    Ok(found(&units))
+}
+
+// Whether the program prints so over a set of these units.
+fn prints(alloc: Global, text: &str) -> Result<bool, OpsError> {
+    let units = units_of(alloc, 1)?;
+    let texts = texts_of(MACHINE, PROGRAM, "");
+    let mut host = Host::new(alloc, &texts, b"");
+    host.units = Some(&units);
+    Ok(host.prints(&["exec", "M", "P", "I", "100"], Status::Ok, text)?)
 }
 
 #[test]
 fn handed_in_operation_is_found_and_run(rt: HostRuntime) -> Result<(), Fail> {
     let alloc = rt.alloc();
-    let boxes = units_of(alloc, 1)?;
-    assert!(rt; UnitSet::fits(boxes.as_slice()));
-    let units = UnitSet::new(alloc, boxes).ok().ok_or("refused")?;
-    let found = units.find("bitrev").ok_or("not found")?;
-    assert_eq!(rt; found, OpId(5));
-    assert_eq!(rt; units.arity(found), 1);
-    assert_eq!(rt; units.apply(found, 9, 0x0000_000d), 0xb000_0000);
-
-    let mut files = MemFiles::new(alloc, Vec::new(alloc));
-    for (name, text) in [("M", MACHINE), ("P", PROGRAM), ("I", "")] {
-        files.add(name, text.as_bytes())?;
-    }
-    let mut words = Vec::new(alloc);
-    for word in ["exec", "M", "P", "I", "100"] {
-        words.push(String::from_str(alloc, word)?)?;
-    }
-    let mut sink = MemSink::new(alloc, 100, Vec::new(alloc))?;
-    let status = tool(alloc, &words, &units, &mut files, &mut sink);
-    assert_eq!(rt; status, Status::Ok);
-    assert_eq!(rt; sink.bytes(), b"2147483648\nhalted\nsteps 3\n".as_slice());
+    assert!(rt; found_in_set(alloc)? == Some((5, 1, 0xb000_0000)));
+    assert!(rt; prints(alloc, "2147483648\nhalted\nsteps 3\n")?);
     Ok(())
 }
 
 #[test]
 fn handed_in_operation_is_refused_twice(rt: HostRuntime) -> Result<(), Fail> {
-    let alloc = rt.alloc();
-    let boxes = units_of(alloc, 2)?;
-    assert!(rt; UnitSet::fits(boxes.as_slice()));
-    let refusal = UnitSet::new(alloc, boxes).err();
-    assert_eq!(rt; refusal, Some(OpsError::Twice { unit: 2, index: 0 }));
+    let refusal = units_of(rt.alloc(), 2).err();
+    assert!(rt; refusal == Some(OpsError::Twice { unit: 2, index: 0 }));
     Ok(())
 }

@@ -1,15 +1,16 @@
 //! Small programs of moves, handed to a simulator as values and run cycle by cycle.
 
-ghost use Rattle.std.specs.Prelude.{◌+◌, ◌<◌, ◌≤◌, ◌^◌, IfOk};
+ghost use Rattle.std.specs.Prelude.{◌≡◌, ◌+◌, ◌<◌, ◌≤◌, ◌^◌, length, IfOk};
 ghost use Rattle.tta_code.specs.Legal.{IsLegalCode};
 ghost use Rattle.tta_sim.specs.Held.{IsRunOf};
 
-use std::alloc::Global;
+use crate::standard_units;
+use std::alloc::{AllocError, Global};
 use std::test::Fail;
 use tta_asm::assemble;
 use tta_code::Code;
 use tta_machine::{Machine, read_machine};
-use tta_ops::{Arith, Compare, Logic, OpUnit, Shift, UnitSet};
+use tta_ops::UnitSet;
 use tta_sim::{CycleStep, Sim};
 
 /// A machine of three buses with two delay slots, whose products show after three cycles.
@@ -115,45 +116,28 @@ const NO_JUMP: &str = "0 -> G.0 , ... , ... ;\n\
 const UNENDED: &str = "4294967295 -> R.1 , ... , ... ;\n\
      ... , ... , ... [L=2147483648] ;\n";
 
-/// What a run put out, and how it ended.
-#[derive(Drop)]
+/// How a run ended.
+#[derive(Clone, Copy, PartialEq, Eq)]
 struct Outcome {
-    output: Vec<u32>,
     halted: bool,
     fault: Option<u8>,
     cycles: u64,
 }
 
-/// The standard units.
-fn units_of(alloc: Global) -> Result<UnitSet, Fail> {
-    let mut boxes: Vec<Box<dyn OpUnit>> = Vec::new(alloc);
-    boxes.push(Box::new(alloc, Arith)?).ok().ok_or("no memory")?;
-    boxes.push(Box::new(alloc, Logic)?).ok().ok_or("no memory")?;
-    boxes.push(Box::new(alloc, Shift)?).ok().ok_or("no memory")?;
-    boxes
-        .push(Box::new(alloc, Compare)?)
-        .ok()
-        .ok_or("no memory")?;
-    if !UnitSet::fits(boxes.as_slice()) {
-        return Err(Fail::new("too many operations"));
-    }
-    Ok(UnitSet::new(alloc, boxes).ok().ok_or("no units")?)
-}
-
-/// The code of an assembly text.
-fn code_of(alloc: Global, text: &str, m: &Machine, units: &UnitSet) -> Result<Code, Fail>
+// The code of an assembly text that is not too long.
+fn code_of(alloc: Global, text: &str, m: &Machine, units: &UnitSet) -> Result<Code, AllocError>
     ensures { IfOk result (λ code. IsLegalCode m.now code) }
 {
     if text.len() > 10_000 {
-        return Err(Fail::new("too long"));
+        return Err(AllocError);
     }
     match assemble(alloc, text.as_bytes(), m, units) {
         Ok(code) => Ok(code),
-        Err(_) => Err(Fail::new("the assembly is refused")),
+        Err(_) => Err(AllocError),
     }
 }
 
-/// Carries out a cycle, and answers the word that it puts out, if any.
+// Carries out a cycle, and answers the word that it puts out, if any.
 fn step(sim: &mut Sim, m: &Machine, code: &Code, units: &UnitSet) -> Option<u32>
     requires loaded { IsRunOf m.now code.now sim.old }
     requires few { sim.old.cycle < 2 ^ 62 }
@@ -166,34 +150,108 @@ fn step(sim: &mut Sim, m: &Machine, code: &Code, units: &UnitSet) -> Option<u32>
     }
 }
 
-/// How 20 cycles of code end.
-fn run(alloc: Global, m: &Machine, code: &Code, units: &UnitSet) -> Result<Outcome, Fail>
-    requires { IsLegalCode m.now code.now }
+// Carries out 20 cycles, and puts the words that they put out at the end.
+fn run_cycles(
+    sim: &mut Sim,
+    m: &Machine,
+    code: &Code,
+    units: &UnitSet,
+    output: &mut Vec<u32>,
+) -> Result<(), AllocError>
+    requires loaded { IsRunOf m.now code.now sim.old }
+    requires fresh { sim.old.cycle ≡ 0 }
 {
-    let memory = vec![in alloc; 0; m.data_words as usize]?;
-    let mut sim = Sim::load(alloc, m, code, memory)?;
-    let mut output = Vec::new(alloc);
     for _ in 0..20u64 {
-        if let Some(word) = step(&mut sim, m, code, units) {
+        if let Some(word) = step(sim, m, code, units) {
             output.push(word)?;
         }
     }
+    Ok(())
+}
+
+// The same, and how they end.
+fn outcome_after_cycles(
+    sim: &mut Sim,
+    m: &Machine,
+    code: &Code,
+    units: &UnitSet,
+    output: &mut Vec<u32>,
+) -> Result<Outcome, AllocError>
+    requires loaded { IsRunOf m.now code.now sim.old }
+    requires fresh { sim.old.cycle ≡ 0 }
+{
+    run_cycles(sim, m, code, units, output)?;
     Ok(Outcome {
-        output,
         halted: sim.halted(),
         fault: sim.fault(),
         cycles: sim.cycles(),
     })
 }
 
-/// How 20 cycles of an assembly text end.
-fn outcome_of(alloc: Global, text: &str) -> Result<Outcome, Fail> {
-    let units = units_of(alloc)?;
-    let m = read_machine(alloc, MACHINE.as_bytes(), &units)
-        .ok()
-        .ok_or("no machine")?;
-    let code = code_of(alloc, text, &m, &units)?;
-    run(alloc, &m, &code, &units)
+// How 20 cycles of code end from these data words, with what they put out.
+fn run(
+    alloc: Global,
+    m: &Machine,
+    code: &Code,
+    units: &UnitSet,
+    memory: Vec<u32>,
+    output: &mut Vec<u32>,
+) -> Result<Outcome, AllocError>
+    requires legal { IsLegalCode m.now code.now }
+    requires size { length memory.items ≡ m.now.data_words }
+{
+    let mut sim = Sim::load(alloc, m, code, memory)?;
+    outcome_after_cycles(&mut sim, m, code, units, output)
+}
+
+// The same of an assembly text, on a machine.
+fn outcome_on(
+    alloc: Global,
+    text: &str,
+    m: &Machine,
+    units: &UnitSet,
+    output: &mut Vec<u32>,
+) -> Result<Outcome, AllocError> {
+    let memory = vec![in alloc; 0; m.data_words as usize]?;
+    let code = code_of(alloc, text, m, units)?;
+    run(alloc, m, &code, units, memory, output)
+}
+
+// The same on the machine of three buses.
+fn outcome_of(
+    alloc: Global,
+    text: &str,
+    units: &UnitSet,
+    output: &mut Vec<u32>,
+) -> Result<Outcome, AllocError> {
+    let Ok(m) = read_machine(alloc, MACHINE.as_bytes(), units) else {
+        return Err(AllocError);
+    };
+    outcome_on(alloc, text, &m, units, output)
+}
+
+// Whether an assembly text ends so, and these words are put out.
+fn ends(
+    alloc: Global,
+    text: &str,
+    units: &UnitSet,
+    outcome: Outcome,
+    words: &[u32],
+) -> Result<bool, AllocError> {
+    let mut output = Vec::new(alloc);
+    let ended = outcome_of(alloc, text, units, &mut output)?;
+    Ok(ended == outcome && output.as_slice() == words)
+}
+
+// The same over the standard units.
+fn ends_over_standard(
+    alloc: Global,
+    text: &str,
+    outcome: Outcome,
+    words: &[u32],
+) -> Result<bool, AllocError> {
+    let units = standard_units(alloc)?;
+    ends(alloc, text, &units, outcome, words)
 }
 
 #[test]
@@ -208,11 +266,15 @@ fn programs_of_moves_run(rt: HostRuntime) -> Result<(), Fail> {
         (UNENDED, [0, 0, 0], 0, Some(65), 2),
     ];
     for (text, words, count, fault, cycles) in runs {
-        let outcome = outcome_of(alloc, text)?;
-        assert_eq!(rt; outcome.output.as_slice(), &words[..count], "{text}");
-        assert_eq!(rt; outcome.halted, fault.is_none(), "{text}");
-        assert_eq!(rt; outcome.fault, fault, "{text}");
-        assert_eq!(rt; outcome.cycles, cycles, "{text}");
+        let outcome = Outcome {
+            halted: fault.is_none(),
+            fault,
+            cycles,
+        };
+        assert!(rt;
+            ends_over_standard(alloc, text, outcome, &words[..count])?,
+            "{text}"
+        );
     }
     Ok(())
 }

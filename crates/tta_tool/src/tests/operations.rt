@@ -53,54 +53,76 @@ fn push_named(
     }
 }
 
-/// The operations `n0` to `n32`.
-fn numbered(alloc: Global) -> Result<Vec<Box<dyn OpUnit>>, AllocError> {
-    let mut boxes: Vec<Box<dyn OpUnit>> = Vec::new(alloc);
+// Puts units with the operations `n0` to `n32` at the end.
+fn add_numbered(alloc: Global, boxes: &mut Vec<Box<dyn OpUnit>>) -> Result<(), AllocError> {
     for number in 0..33 {
-        push_named(alloc, &mut boxes, number)?;
+        push_named(alloc, boxes, number)?;
     }
-    Ok(boxes)
+    Ok(())
 }
 
-/// A machine of a unit that offers so many of these operations.
+// The operations `n0` to `n32`.
+fn numbered(alloc: Global) -> Result<UnitSet, AllocError> {
+    let mut boxes: Vec<Box<dyn OpUnit>> = Vec::new(alloc);
+    add_numbered(alloc, &mut boxes)?;
+    if !UnitSet::fits(boxes.as_slice()) {
+        return Err(AllocError);
+    }
+    let Ok(units) = UnitSet::new(alloc, boxes) else {
+        return Err(AllocError);
+    };
+    Ok(units)
+}
+
+// Puts the lines of so many operations at the end.
+fn add_lines(alloc: Global, text: &mut String, count: usize) -> Result<(), AllocError> {
+    for number in 0..count {
+        let line = format!(in alloc; "op U n{number} 1\n")?;
+        text.push_str(line.as_str())?;
+    }
+    Ok(())
+}
+
+// A machine of a unit that offers so many of these operations.
 fn machine_of_numbered(alloc: Global, count: usize) -> Result<String, AllocError> {
     let mut text = String::from_str(
         alloc,
         "bus B short 8 unsigned\nsocket I in B\nsocket O out B\nunit U t I r O\n",
     )?;
-    for number in 0..count {
-        let line = format!(in alloc; "op U n{number} 1\n")?;
-        text.push_str(line.as_str())?;
-    }
+    add_lines(alloc, &mut text, count)?;
     text.push_str("control delay 0 address 8 t I\n")?;
     Ok(text)
 }
 
-/// Where a short text is refused, and with which number.
-fn refusal(alloc: Global, text: &[u8], units: &UnitSet) -> Option<(u32, u8)> {
+// Whether a short text is read, or where it is refused and with which number. Two zeros stand for
+// any other failure.
+fn read(alloc: Global, text: &[u8], units: &UnitSet) -> Result<(), (u32, u8)> {
     if text.len() > 1000 {
-        return None;
+        return Err((0, 0));
     }
     match read_machine(alloc, text, units) {
-        Err(MachineError::Refused { line, code }) => Some((line, code)),
-        _ => None,
+        Ok(_) => Ok(()),
+        Err(MachineError::Refused { line, code }) => Err((line, code)),
+        Err(_) => Err((0, 0)),
     }
 }
 
-/// Whether a short text describes a machine.
-fn is_read(alloc: Global, text: &[u8], units: &UnitSet) -> bool {
-    text.len() <= 1000 && read_machine(alloc, text, units).is_ok()
+// Whether a machine of so many operations is read so.
+fn is_read(
+    alloc: Global,
+    units: &UnitSet,
+    count: usize,
+    ending: Result<(), (u32, u8)>,
+) -> Result<bool, AllocError> {
+    let text = machine_of_numbered(alloc, count)?;
+    Ok(read(alloc, text.as_bytes(), units) == ending)
 }
 
 #[test]
 fn unit_has_at_most_32_operations(rt: HostRuntime) -> Result<(), Fail> {
     let alloc = rt.alloc();
-    let boxes = numbered(alloc)?;
-    assert!(rt; UnitSet::fits(boxes.as_slice()));
-    let units = UnitSet::new(alloc, boxes).ok().ok_or("no units")?;
-    let most = machine_of_numbered(alloc, 32)?;
-    assert!(rt; is_read(alloc, most.as_bytes(), &units));
-    let more = machine_of_numbered(alloc, 33)?;
-    assert_eq!(rt; refusal(alloc, more.as_bytes(), &units), Some((37, 13)));
+    let units = numbered(alloc)?;
+    assert!(rt; is_read(alloc, &units, 32, Ok(()))?);
+    assert!(rt; is_read(alloc, &units, 33, Err((37, 13)))?);
     Ok(())
 }

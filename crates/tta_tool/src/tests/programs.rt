@@ -1,44 +1,25 @@
 //! Worked programs are run, and what each prints is compared.
 
-use crate::run;
+use super::host::{Host, texts_of};
 use crate::status::Status;
-use std::alloc::Global;
+use std::alloc::{AllocError, Global};
 use std::test::Fail;
-use tta_ports::{MemFiles, MemSink};
 
 /// A machine of 1024 data words.
 const MACHINE: &str =
     "bus B short 8 unsigned\nsocket I in B\nsocket O out B\nunit OUT t I\nop OUT out\ncontrol delay 0 address 8 t I\nspace data 1024\n";
 
-/// The machine `M`, a program `P`, and an input without words `I`.
-fn files_of(alloc: Global, program: &str) -> Result<MemFiles, Fail> {
-    let mut files = MemFiles::new(alloc, Vec::new(alloc));
-    files.add("M", MACHINE.as_bytes())?;
-    files.add("P", program.as_bytes())?;
-    files.add("I", b"")?;
-    Ok(files)
-}
-
-fn words_of(alloc: Global, bound: &str) -> Result<Vec<String>, Fail> {
-    let mut words = Vec::new(alloc);
-    for word in ["exec", "M", "P", "I", bound] {
-        words.push(String::from_str(alloc, word)?)?;
-    }
-    Ok(words)
-}
-
-/// Whether a program ends so within a bound, and prints so.
+// Whether a program ends so within a bound, from an input without words, and prints so.
 fn prints(
     alloc: Global,
     program: &str,
     bound: &str,
     ending: Status,
     text: &str,
-) -> Result<bool, Fail> {
-    let mut files = files_of(alloc, program)?;
-    let mut sink = MemSink::new(alloc, 200, Vec::new(alloc))?;
-    let status = run(alloc, &words_of(alloc, bound)?, &mut files, &mut sink)?;
-    Ok(status == ending && sink.bytes() == text.as_bytes())
+) -> Result<bool, AllocError> {
+    let texts = texts_of(MACHINE, program, "");
+    let words = ["exec", "M", "P", "I", bound];
+    Host::new(alloc, &texts, b"").prints(&words, ending, text)
 }
 
 #[test]

@@ -1,0 +1,154 @@
+//! The host of a test: files and an output in memory, over which a command is carried out.
+
+use crate::command::tool;
+use crate::run;
+use crate::status::Status;
+use std::alloc::{AllocError, Global};
+use tta_ops::UnitSet;
+use tta_ports::{MemFiles, MemSink};
+
+/// What `OUT` holds before a command.
+pub const BEFORE: &[u8] = b"before";
+
+/// Files of these texts, `IMG` with this image, and `OUT`, where the call of the files and the put
+/// of a line with these numbers fail. They are counted from 1, so that 0 stands for none. The
+/// commands run over the five standard units, where no others are given.
+#[derive(Clone, Copy)]
+pub struct Host<'a> {
+    pub alloc: Global,
+    pub texts: &'a [(&'a str, &'a str)],
+    pub image: &'a [u8],
+    pub units: Option<&'a UnitSet>,
+    pub failing_call: u64,
+    pub failing_put: u64,
+}
+
+/// A machine `M`, a program `P` and an input `I`.
+pub fn texts_of<'a>(machine: &'a str, program: &'a str, input: &'a str) -> [(&'a str, &'a str); 3] {
+    [("M", machine), ("P", program), ("I", input)]
+}
+
+// Gives the files their texts.
+fn add_texts(files: &mut MemFiles, texts: &[(&str, &str)]) -> Result<(), AllocError> {
+    for (name, text) in texts {
+        files.add(name, text.as_bytes())?;
+    }
+    Ok(())
+}
+
+// Whether the files hold their texts still.
+fn hold_texts(files: &MemFiles, texts: &[(&str, &str)]) -> bool {
+    for (name, text) in texts {
+        if files.get(name) != Some(text.as_bytes()) {
+            return false;
+        }
+    }
+    true
+}
+
+// Puts the words at the end.
+fn add_words(alloc: Global, strings: &mut Vec<String>, words: &[&str]) -> Result<(), AllocError> {
+    for word in words {
+        strings.push(String::from_str(alloc, word)?)?;
+    }
+    Ok(())
+}
+
+// Carries out the command of these words, over other units than the standard ones if given.
+fn carry_out(
+    alloc: Global,
+    units: Option<&UnitSet>,
+    words: &[&str],
+    files: &mut MemFiles,
+    sink: &mut MemSink,
+) -> Result<Status, AllocError> {
+    let mut strings = Vec::new(alloc);
+    add_words(alloc, &mut strings, words)?;
+    match units {
+        Some(units) => Ok(tool(alloc, &strings, units, files, sink)),
+        None => run(alloc, &strings, files, sink),
+    }
+}
+
+impl<'a> Host<'a> {
+    /// These texts and this image, and no call or put that fails.
+    pub fn new(alloc: Global, texts: &'a [(&'a str, &'a str)], image: &'a [u8]) -> Host<'a> {
+        Host {
+            alloc,
+            texts,
+            image,
+            units: None,
+            failing_call: 0,
+            failing_put: 0,
+        }
+    }
+
+    // Gives the files all that they hold before a command.
+    fn add_files(&self, files: &mut MemFiles) -> Result<(), AllocError> {
+        add_texts(files, self.texts)?;
+        files.add("IMG", self.image)?;
+        files.add("OUT", BEFORE)
+    }
+
+    // Whether all files but `OUT` are as they were, and none came to be.
+    fn are_kept(&self, files: &MemFiles) -> bool {
+        if files.get("IMG") != Some(self.image) {
+            return false;
+        }
+        if files.get("NEW").is_some() {
+            return false;
+        }
+        hold_texts(files, self.texts)
+    }
+
+    // The files before a command.
+    fn files(&self) -> Result<MemFiles, AllocError> {
+        let mut files = MemFiles::new(self.alloc, vec![in self.alloc; self.failing_call]?);
+        self.add_files(&mut files)?;
+        Ok(files)
+    }
+
+    // How a command over these files ends, if this is what it puts out.
+    fn ending_with(
+        &self,
+        words: &[&str],
+        files: &mut MemFiles,
+        output: &[u8],
+    ) -> Result<Option<Status>, AllocError> {
+        let failing = vec![in self.alloc; self.failing_put]?;
+        let mut sink = MemSink::new(self.alloc, 2000, failing)?;
+        let status = carry_out(self.alloc, self.units, words, files, &mut sink)?;
+        if sink.bytes() == output {
+            return Ok(Some(status));
+        }
+        Ok(None)
+    }
+
+    /// Whether a command ends so, leaves `OUT` so, puts this out, and changes no other file.
+    pub fn leaves(
+        &self,
+        words: &[&str],
+        ending: Status,
+        out: &[u8],
+        output: &[u8],
+    ) -> Result<bool, AllocError> {
+        let mut files = self.files()?;
+        let ended = self.ending_with(words, &mut files, output)?;
+        Ok(ended == Some(ending) && files.get("OUT") == Some(out) && self.are_kept(&files))
+    }
+
+    /// Whether a command ends so, puts this out, and changes no file.
+    pub fn prints(&self, words: &[&str], ending: Status, output: &str) -> Result<bool, AllocError> {
+        self.leaves(words, ending, BEFORE, output.as_bytes())
+    }
+
+    /// What a command writes to `OUT`: `before` where it writes nothing, and no bytes where it does
+    /// not end well or puts something out.
+    pub fn written(&self, words: &[&str]) -> Result<Vec<u8>, AllocError> {
+        let mut files = self.files()?;
+        if self.ending_with(words, &mut files, b"")? != Some(Status::Ok) {
+            return Ok(Vec::new(self.alloc));
+        }
+        Vec::from_slice(self.alloc, files.get("OUT").unwrap_or(b""))
+    }
+}
