@@ -22,7 +22,8 @@ use Rattle.tta_sim.proofs.Starting.{reachable, can_start, are_fitting}
 use Rattle.tta_sim.proofs.Faulting.{no_clash}
 use Rattle.tta_sim.proofs.Fitting.{line_there, writes_placed, numbers_within}
 use Rattle.tta_sim.proofs.Noting.{nothing_in, quiet_parts}
-use Rattle.tta_sim.proofs.Readying.{ready_is, starts_in, tells_in, all_unread, could_read, brought_is, starts_are}
+use Rattle.tta_sim.proofs.Brought.{starts_in, tells_in}
+use Rattle.tta_sim.proofs.Readying.{ready_is, all_unread, could_read, brought_is, starts_are}
 
 -- the operations of stores show no result
 stores_of : (places : List (Option ℕ)) (shown : List (Option Result')) (operand : ℕ → Option ℕ) (ss : List DecodedStart)

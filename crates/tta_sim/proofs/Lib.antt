@@ -17,5 +17,6 @@ pub mod Acting
 pub mod Fitting
 pub mod Noting
 pub mod Facing
+pub mod Brought
 pub mod Readying
 pub mod Going

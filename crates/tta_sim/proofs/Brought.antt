@@ -1,0 +1,242 @@
+-- What the moves of a decoded instruction bring and start, and which cannot be read.
+use Rattle.std.proofs.Common.{◌≡◌, ℕ, ◌<◌, ◌%◌, ◌==◌, Bool, true, false, ◌||◌, List, [], ◌∷◌, ◌++◌, map, Option, Some, None, refl, sym, ap, ◌∙◌, arith}
+use Rattle.std.specs.Prelude.{option_map, option_and_then, option_to_list, slice_get, if◌then◌else◌}
+use Rattle.std.specs.Option.{option_map_or, option_or}
+use Rattle.std.specs.List.{list_any, filter_map, cons_option, find, AllByRecursion}
+use Rattle.std.proofs.lemmas.Bool.{ltb-true}
+use Rattle.tta_machine.specs.declared.parts.Template.{Template}
+use Rattle.tta_machine.specs.declared.ends.Dest.{Dest}
+use Rattle.tta_machine.specs.declared.ends.Dest.TheVariants as dest
+use Rattle.tta_machine.specs.Machine.{Machine}
+use Rattle.tta_machine.specs.Effects.{KeptReg, KeptImm, KeptOperand, KeptRa, Reads, Start, width_of, write_of, first_some, control_of, is_port, has_unset}
+use Rattle.tta_code.specs.declared.code.Move.{Move}
+use Rattle.tta_code.specs.declared.code.Long.{Long}
+use Rattle.tta_code.specs.Cycle.{effect_of}
+use Rattle.tta_sim.specs.declared.arrivals.Arrival.{Arrival}
+use Rattle.tta_sim.specs.declared.decoded.DecodedStart.{DecodedStart}
+use Rattle.tta_sim.specs.declared.decoded.DecodedWrite.{DecodedWrite}
+use Rattle.tta_sim.specs.declared.decoded.DecodedSource.TheVariants as decoded
+use Rattle.tta_sim.specs.declared.lines.Write.{Write}
+use Rattle.tta_sim.specs.Places.{number_of, word_at, is_place}
+use Rattle.tta_sim.specs.Results.{Results}
+use Rattle.tta_sim.specs.Moves.{reads_of, lacks_register, is_reachable, arrival_of, brought_of}
+use Rattle.tta_sim.specs.Starts.{is_operand_of, operand_with, start_by, triggered, is_stopped, told_in, AreReachable}
+use Rattle.tta_sim.specs.Writing.{long_writes, is_long_place, numbered, numbered_one}
+use Rattle.tta_sim.specs.Decoded.{reading_of, write_decoded, start_decoded, tell_decoded, long_decoded, has_operation}
+use Rattle.tta_sim.specs.Lines.{is_unread, write_brought, start_brought, tell_brought, operand_in, cannot_start}
+use Rattle.tta_sim.proofs.Lining.{filter_map-twice, filter_map-map, map-filter_map, filter_map-same, first-filter_map, first-map, first-same, any-filter_map, unread_same, write_same, start_same, tell_same, parts_same}
+
+-- ---- tests of lists
+
+pub all_false : {A : Type 0} (p : A → Bool) (xs : List A) → list_any p xs ≡ false → AllByRecursion (λ x. p x ≡ false) xs
+all_false p [] none = tt
+all_false p (x ∷ xs) none = (grind arith, all_false p xs (grind arith))
+
+swap_three : (a b c x y z : Bool) → ((a || (b || c)) || (x || (y || z))) ≡ ((a || x) || ((b || y) || (c || z)))
+swap_three true b c x y z = refl
+swap_three false true c true y z = refl
+swap_three false true c false y z = refl
+swap_three false false true true y z = refl
+swap_three false false true false true z = refl
+swap_three false false true false false z = refl
+swap_three false false false x y z = refl
+
+any_three : {A : Type 0} (p a b c : A → Bool) (xs : List A) → AllByRecursion (λ x. p x ≡ (a x || (b x || c x))) xs
+    → list_any p xs ≡ (list_any a xs || (list_any b xs || list_any c xs))
+any_three p a b c [] same = refl
+any_three p a b c (x ∷ xs) same =
+    ap (λ t. t || list_any p xs) same.0 ∙ ap (λ t. (a x || (b x || c x)) || t) (any_three p a b c xs same.1)
+    ∙ swap_three (a x) (b x) (c x) (list_any a xs) (list_any b xs) (list_any c xs)
+
+swap_two : (a b x y : Bool) → ((a || b) || (x || y)) ≡ ((a || x) || (b || y))
+swap_two true b x y = refl
+swap_two false true true y = refl
+swap_two false true false y = refl
+swap_two false false x y = refl
+
+module _ (m : Machine) (back : ℕ) (places : List (Option ℕ)) (r : Results) where
+  abbrev reads : Reads
+  reads = reads_of places r.shown
+
+  abbrev unread : Move → Bool
+  unread v = is_unread places r.shown (reading_of v)
+
+  -- moves cannot be read where the word of a register or of a port is lacking
+  pub unread_moves : (ms : List Move) → list_any unread ms ≡ (list_any (lacks_register reads) (map effect_of ms) || list_any (has_unset reads is_port) (map effect_of ms))
+  unread_moves [] = refl
+  unread_moves (v ∷ ms) =
+      ap (λ b. b || list_any unread ms) (unread_same places r.shown v) ∙ ap (λ b. (lacks_register reads (effect_of v) || has_unset reads is_port (effect_of v)) || b) (unread_moves ms)
+      ∙ swap_two (lacks_register reads (effect_of v)) (has_unset reads is_port (effect_of v)) (list_any (lacks_register reads) (map effect_of ms)) (list_any (has_unset reads is_port) (map effect_of ms))
+
+  abbrev pub unread_writes : List Move → Bool
+  unread_writes ms = list_any (λ w. is_unread places r.shown w.reading) (filter_map (write_decoded m back) ms)
+
+  abbrev pub unread_starts : List Move → Bool
+  unread_starts ms = list_any (λ s. is_unread places r.shown s.reading) (filter_map (start_decoded m) ms)
+
+  abbrev pub unread_tells : List Move → Bool
+  unread_tells ms = list_any (λ t. is_unread places r.shown t.reading) (filter_map tell_decoded ms)
+
+  parts_all : (ms : List Move) → AllByRecursion (λ v. has_operation m v ≡ true) ms → AllByRecursion (λ v. unread v
+      ≡ (option_map_or (λ w. is_unread places r.shown w.reading) (write_decoded m back v) false
+      || (option_map_or (λ s. is_unread places r.shown s.reading) (start_decoded m v) false
+      || option_map_or (λ t. is_unread places r.shown t.reading) (tell_decoded v) false))) ms
+  parts_all [] there = tt
+  parts_all (v ∷ ms) there = (parts_same places r.shown m back v there.0, parts_all ms there.1)
+
+  -- they cannot be read where some of what they are decoded into cannot
+  pub unread_parts : (ms : List Move) → AllByRecursion (λ v. has_operation m v ≡ true) ms → list_any unread ms ≡ (unread_writes ms || (unread_starts ms || unread_tells ms))
+  unread_parts ms there =
+      any_three unread (λ v. option_map_or (λ w. is_unread places r.shown w.reading) (write_decoded m back v) false)
+      (λ v. option_map_or (λ s. is_unread places r.shown s.reading) (start_decoded m v) false)
+      (λ v. option_map_or (λ t. is_unread places r.shown t.reading) (tell_decoded v) false) ms (parts_all ms there)
+      ∙ ap (λ b. b || (list_any (λ v. option_map_or (λ s. is_unread places r.shown s.reading) (start_decoded m v) false) ms
+      || list_any (λ v. option_map_or (λ t. is_unread places r.shown t.reading) (tell_decoded v) false) ms))
+      (sym (any-filter_map (λ w. is_unread places r.shown w.reading) (write_decoded m back) ms))
+      ∙ ap (λ b. unread_writes ms || (b || list_any (λ v. option_map_or (λ t. is_unread places r.shown t.reading) (tell_decoded v) false) ms))
+      (sym (any-filter_map (λ s. is_unread places r.shown s.reading) (start_decoded m) ms))
+      ∙ ap (λ b. unread_writes ms || (unread_starts ms || b)) (sym (any-filter_map (λ t. is_unread places r.shown t.reading) tell_decoded ms))
+
+  -- ---- what is brought
+
+  writes_each : (ms : List Move) → AllByRecursion (λ v. unread v ≡ false) ms
+      → AllByRecursion (λ v. option_and_then (write_brought places r.shown) (write_decoded m back v) ≡ option_map numbered_one (option_and_then (λ a. write_of m back (brought_of a)) (arrival_of reads v))) ms
+  writes_each [] could = tt
+  writes_each (v ∷ ms) could = (write_same places r.shown m back v could.0, writes_each ms could.1)
+
+  pub writes_in : (ms : List Move) → AllByRecursion (λ v. unread v ≡ false) ms
+      → filter_map (write_brought places r.shown) (filter_map (write_decoded m back) ms) ≡ numbered (filter_map (write_of m back) (map brought_of (filter_map (arrival_of reads) ms)))
+  writes_in ms could =
+      let one : Move → Option Write = λ v. option_map numbered_one (option_and_then (λ a. write_of m back (brought_of a)) (arrival_of reads v)) in
+      filter_map-twice (write_brought places r.shown) (write_decoded m back) ms
+      ∙ filter_map-same (λ v. option_and_then (write_brought places r.shown) (write_decoded m back v)) one ms (writes_each ms could)
+      ∙ sym (map-filter_map numbered_one (λ v. option_and_then (λ a. write_of m back (brought_of a)) (arrival_of reads v)) ms)
+      ∙ ap numbered (sym (filter_map-twice (λ a. write_of m back (brought_of a)) (arrival_of reads) ms))
+      ∙ ap numbered (sym (filter_map-map (write_of m back) brought_of (filter_map (arrival_of reads) ms)))
+
+  pub long_in : (long : Option Long) → filter_map (write_brought places r.shown) (option_to_list (long_decoded m long)) ≡ numbered (long_writes m long)
+  long_in None = refl
+  long_in (Some l) = by (slice_get m.templates l.template) where
+    by : (o : Option Template) → filter_map (write_brought places r.shown) (option_to_list (option_map (λ t. record { reading = record { guard = None; src = decoded.Word l.value }; place = number_of (KeptImm t.imm t.reg); narrow = false }) o))
+        ≡ numbered (option_map_or (λ t. (KeptImm t.imm t.reg, l.value) ∷ []) o [])
+    by None = refl
+    by (Some t) = refl
+
+  pub long_unread : (long : Option Long) → list_any {X = DecodedWrite} (λ w. is_unread places r.shown w.reading) (option_to_list (long_decoded m long)) ≡ false
+  long_unread None = refl
+  long_unread (Some l) = by (slice_get m.templates l.template) where
+    by : (o : Option Template) → list_any {X = DecodedWrite} (λ w. is_unread places r.shown w.reading) (option_to_list (option_map (λ t. record { reading = record { guard = None; src = decoded.Word l.value }; place = number_of (KeptImm t.imm t.reg); narrow = false }) o)) ≡ false
+    by None = refl
+    by (Some t) = refl
+
+  pub starts_in : (operand : ℕ → Option ℕ) (ms : List Move) → filter_map (start_brought places r.shown operand) (filter_map (start_decoded m) ms) ≡ filter_map (start_by m operand) (filter_map (arrival_of reads) ms)
+  starts_in operand ms =
+      filter_map-twice (start_brought places r.shown operand) (start_decoded m) ms
+      ∙ filter_map-same (λ v. option_and_then (start_brought places r.shown operand) (start_decoded m v)) (λ v. option_and_then (start_by m operand) (arrival_of reads v)) ms (each ms)
+      ∙ sym (filter_map-twice (start_by m operand) (arrival_of reads) ms)
+    where
+      each : (ms : List Move) → AllByRecursion (λ v. option_and_then (start_brought places r.shown operand) (start_decoded m v) ≡ option_and_then (start_by m operand) (arrival_of reads v)) ms
+      each [] = tt
+      each (v ∷ ms) = (start_same places r.shown m operand v, each ms)
+
+  pub tells_in : (ms : List Move) → first_some (tell_brought places r.shown) (filter_map tell_decoded ms) ≡ told_in (filter_map (arrival_of reads) ms)
+  tells_in ms =
+      first-filter_map (tell_brought places r.shown) tell_decoded ms
+      ∙ first-same (λ v. option_and_then (tell_brought places r.shown) (tell_decoded v)) (λ v. option_and_then (λ a. control_of (brought_of a)) (arrival_of reads v)) ms (tell_same places r.shown)
+      ∙ sym (first-filter_map (λ a. control_of (brought_of a)) (arrival_of reads) ms)
+      ∙ sym (first-map control_of brought_of (filter_map (arrival_of reads) ms))
+
+  -- operations that cannot start, or cannot be read
+  pub cannot_all : (operand : ℕ → Option ℕ) (starts : List DecodedStart) → list_any (cannot_start places r operand) starts
+      ≡ (list_any (λ s. is_unread places r.shown s.reading) starts || list_any (is_stopped r) (filter_map (start_brought places r.shown operand) starts))
+  cannot_all operand [] = refl
+  cannot_all operand (s ∷ starts) =
+      let here : Option Start = start_brought places r.shown operand s in
+      let more = filter_map (start_brought places r.shown operand) starts in
+      ap (λ b. (is_unread places r.shown s.reading || list_any (is_stopped r) (option_to_list here)) || b) (cannot_all operand starts)
+      ∙ swap_two (is_unread places r.shown s.reading) (list_any (is_stopped r) (option_to_list here)) (list_any (λ s. is_unread places r.shown s.reading) starts) (list_any (is_stopped r) more)
+      ∙ ap (λ b. (is_unread places r.shown s.reading || list_any (λ s. is_unread places r.shown s.reading) starts) || b) (joined here)
+    where
+      joined : (o : Option Start) → (list_any (is_stopped r) (option_to_list o) || list_any (is_stopped r) (filter_map (start_brought places r.shown operand) starts))
+          ≡ list_any (is_stopped r) (cons_option o (filter_map (start_brought places r.shown operand) starts))
+      joined None = refl
+      joined (Some t) = by (is_stopped r t) where
+        by : (b : Bool) → ((b || false) || list_any (is_stopped r) (filter_map (start_brought places r.shown operand) starts)) ≡ (b || list_any (is_stopped r) (filter_map (start_brought places r.shown operand) starts))
+        by true = refl
+        by false = refl
+
+-- ---- operands
+
+module _ (m : Machine) (back : ℕ) (places : List (Option ℕ)) (unit : ℕ) where
+  abbrev number : ℕ
+  number = number_of (KeptOperand unit)
+
+  abbrev kept : Option ℕ
+  kept = word_at places (KeptOperand unit)
+
+  -- the operand where the first write is to the port, or where it is not
+  abbrev pick : Bool → Write → Option Write → Option ℕ
+  pick here w rest = option_or (option_map (λ w. w.word) (if here then Some w else rest)) kept
+
+  long_operand : (long : Option Long) → is_long_place m long ≡ true → operand_in places (numbered (long_writes m long)) unit ≡ kept
+  long_operand None there = refl
+  long_operand (Some l) there = by (slice_get m.templates l.template) there where
+    by : (o : Option Template) → option_map_or (λ t. is_place (KeptImm t.imm t.reg)) o true ≡ true
+        → operand_in places (numbered (option_map_or (λ t. (KeptImm t.imm t.reg, l.value) ∷ []) o [])) unit ≡ kept
+    by None there = refl
+    by (Some t) there =
+        let apart : (number_of (KeptImm t.imm t.reg) == number) ≡ false = grind (arith, there) in
+        ap (λ b. pick b (numbered_one (KeptImm t.imm t.reg, l.value)) None) apart
+
+  -- the operand that the writes leave is the one that the arrivals leave
+  pub operand_same : (units : ℕ) → unit < 32 → (arrivals : List Arrival) → AreReachable units arrivals → (long : Option Long) → is_long_place m long ≡ true
+      → operand_in places (numbered (filter_map (write_of m back) (map brought_of arrivals) ++ long_writes m long)) unit ≡ operand_with places arrivals unit
+  operand_same units few [] there long placed = long_operand long placed
+  operand_same units few (a ∷ arrivals) there long placed = by a.dst there.0 (operand_same units few arrivals there.1 long placed) where
+    tail : List Write
+    tail = numbered (filter_map (write_of m back) (map brought_of arrivals) ++ long_writes m long)
+
+    others : Option Write
+    others = find (λ w. w.place == number) tail
+
+    shift : (u : ℕ) → (number_of (KeptOperand u) == number) ≡ (u == unit)
+    shift u = grind arith
+
+    by : (d : Dest) → is_reachable units d ≡ true → operand_in places tail unit ≡ operand_with places arrivals unit
+        → operand_in places (numbered (filter_map (write_of m back) (map brought_of (record { dst = d; word = a.word } ∷ arrivals)) ++ long_writes m long)) unit
+        ≡ operand_with places (record { dst = d; word = a.word } ∷ arrivals) unit
+    by (dest.Reg file index) there rest =
+        let apart : (number_of (KeptReg file index) == number) ≡ false = grind (arith, there) in
+        ap (λ b. pick b (record { place = number_of (KeptReg file index); word = if width_of m file == 1 then a.word % 2 else a.word }) others) apart ∙ rest
+    by (dest.Operand u) there rest =
+        let w : Write = record { place = number_of (KeptOperand u); word = a.word } in
+        ap (λ b. pick b w others) (shift u)
+        ∙ elim (u == unit) as (λ b. pick b w others
+        ≡ option_or (option_map (λ a. a.word) (if b then Some (record { dst = dest.Operand u; word = a.word }) else find (λ a. is_operand_of unit a.dst) arrivals)) kept) [
+          | true ↦ refl
+          | false ↦ rest
+        ]
+    by (dest.Trigger u op) there rest = rest
+    by dest.Jump there rest = rest
+    by dest.Call there rest =
+        let apart : (number_of KeptRa == number) ≡ false = grind (arith, few) in
+        ap (λ b. pick b (record { place = number_of KeptRa; word = back }) others) apart ∙ rest
+    by dest.Halt there rest = rest
+
+-- operations take the same operands
+pub starts_alike : (m : Machine) (f g : ℕ → Option ℕ) (units : ℕ) → ((unit : ℕ) → unit < units → f unit ≡ g unit) → (arrivals : List Arrival) → AreReachable units arrivals
+    → filter_map (start_by m f) arrivals ≡ filter_map (start_by m g) arrivals
+starts_alike m f g units same arrivals there = filter_map-same (start_by m f) (start_by m g) arrivals (each arrivals there) where
+  one : (a : Arrival) → is_reachable units a.dst ≡ true → start_by m f a ≡ start_by m g a
+  one a there = by a.dst there where
+    by : (d : Dest) → is_reachable units d ≡ true → start_by m f (record { dst = d; word = a.word }) ≡ start_by m g (record { dst = d; word = a.word })
+    by (dest.Reg file index) there = refl
+    by (dest.Operand unit) there = refl
+    by (dest.Trigger unit op) there = ap (λ o. triggered m (λ n. o) unit op a.word) (same unit (ltb-true unit units there))
+    by dest.Jump there = refl
+    by dest.Call there = refl
+    by dest.Halt there = refl
+
+  each : (arrivals : List Arrival) → AreReachable units arrivals → AllByRecursion (λ a. start_by m f a ≡ start_by m g a) arrivals
+  each [] there = tt
+  each (a ∷ arrivals) there = (one a there.0, each arrivals there.1)
