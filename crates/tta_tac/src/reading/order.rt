@@ -1,7 +1,7 @@
 //! Numbers of procedures that never rise along calls. Procedures that lead to one another have the
 //! same number, and all others have different ones; but nothing hangs on that but time.
 
-ghost use Rattle.std.specs.Prelude.{◌≡◌, true, nat_le, nat_lt, length, slice_index_or, IfOk};
+ghost use Rattle.std.specs.Prelude.{◌≡◌, true, false, nat_le, nat_lt, length, slice_index_or, IfOk};
 ghost use Rattle.std.specs.List.{list_all};
 ghost use Rattle.tta_tac.specs.Cycles.{AreLevel, passes};
 
@@ -151,7 +151,8 @@ fn write(times: &mut Vec<u64>, place: usize, time: u64)
 /// Whether numbers never rise along calls.
 pub fn are_level(procs: &[Proc], numbers: &[u64]) -> bool
     requires { length numbers.now ≡ length procs.now }
-    ensures { result ≡ true → AreLevel procs.now numbers.now }
+    ensures level { result ≡ true → AreLevel procs.now numbers.now }
+    ensures rises { result ≡ false → AreLevel procs.now numbers.now → ⊥ }
 {
     for (place, proc) in procs.iter().enumerate() {
         if !are_at_most(proc.steps.as_slice(), numbers, numbers[place]) {
