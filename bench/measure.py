@@ -4,7 +4,7 @@ import os
 import subprocess
 import time
 
-PROGRAM = os.path.join(os.path.dirname(os.path.abspath(__file__)), "..", "crates", "tta_tool", "out", "tta_tool")
+PROGRAM = os.path.join(os.path.dirname(os.path.abspath(__file__)), "..", "crates", "tta", "out", "tta")
 FEWEST, MOST, ENOUGH = 3, 30, 1.5
 
 

@@ -3,9 +3,9 @@
 //! the lines before the fault and half of the next.
 
 use super::host::{BEFORE, Host};
-use crate::status::Status;
 use std::alloc::{AllocError, Global};
 use std::test::Fail;
+use tta_tool::Status;
 
 /// Three buses, each of which joins the registers and the output.
 const MACHINE: &str =

@@ -1,9 +1,9 @@
 //! A program is run over files in memory, and what it puts out is taken by a sink in memory.
 
 use super::host::Host;
-use crate::status::Status;
 use std::alloc::{AllocError, Global};
 use std::test::Fail;
+use tta_tool::Status;
 
 /// A machine of four data words.
 const MACHINE: &str =

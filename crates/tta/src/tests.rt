@@ -11,10 +11,10 @@ mod operations;
 mod programs;
 mod run;
 
-use crate::status::Status;
 use host::Host;
 use std::alloc::{AllocError, Global};
 use std::test::Fail;
+use tta_tool::Status;
 
 const MACHINE: &str =
     "bus B short 8 unsigned\nsocket I in B\nunit OUT t I\nop OUT out\ncontrol delay 0 address 8 t I\n";

@@ -1,9 +1,9 @@
 //! Worked programs are run, and what each prints is compared.
 
 use super::host::{Host, texts_of};
-use crate::status::Status;
 use std::alloc::{AllocError, Global};
 use std::test::Fail;
+use tta_tool::Status;
 
 /// A machine of 1024 data words.
 const MACHINE: &str =

@@ -2,10 +2,10 @@
 //! name, applied and run, and refused where it is handed in twice.
 
 use super::host::{Host, texts_of};
-use crate::status::Status;
 use std::alloc::{AllocError, Global};
 use std::test::Fail;
 use tta_ops::{Arith, OpUnit, OpsError, UnitSet};
+use tta_tool::Status;
 
 const MACHINE: &str =
     "bus B short 8 unsigned\nsocket I in B\nsocket O out B\nunit OUT t I r O\nop OUT out\nop OUT bitrev 1\ncontrol delay 0 address 8 t I\n";

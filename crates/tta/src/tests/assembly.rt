@@ -1,8 +1,8 @@
 //! Assembly is read into an image and an image shown as assembly, over files in memory.
 
 use super::host::Host;
-use crate::status::Status;
 use std::test::Fail;
+use tta_tool::Status;
 
 const MACHINE: &str =
     "bus B short 8 unsigned\nsocket I in B\nunit OUT t I\nop OUT out\ncontrol delay 0 address 8 t I\n";

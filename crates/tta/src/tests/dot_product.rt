@@ -1,9 +1,9 @@
 //! A longer run: the dot product of two vectors of 64 words, and every line that it prints.
 
 use super::host::{Host, texts_of};
-use crate::status::Status;
 use std::alloc::{AllocError, Global};
 use std::test::Fail;
+use tta_tool::Status;
 
 /// A machine of 256 data words.
 const MACHINE: &str =

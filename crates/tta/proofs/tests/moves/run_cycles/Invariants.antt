@@ -1,6 +1,6 @@
 use Rattle.std.proofs.Common.{◌≤◌}
 use Rattle.tta_sim.specs.Held.{IsRunOf}
-use Rattle.tta_tool.proofs.tests.moves.run_cycles.Given as goal
+use Rattle.tta.proofs.tests.moves.run_cycles.Given as goal
 
 abbrev pub invariant-loop : goal.invariant-loop
 invariant-loop g l = record {

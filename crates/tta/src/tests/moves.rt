@@ -4,13 +4,12 @@ ghost use Rattle.std.specs.Prelude.{◌≡◌, ◌+◌, ◌<◌, ◌≤◌, ◌^
 ghost use Rattle.tta_code.specs.Legal.{IsLegalCode};
 ghost use Rattle.tta_sim.specs.Held.{IsRunOf};
 
-use crate::standard_units;
 use std::alloc::{AllocError, Global};
 use std::test::Fail;
 use tta_asm::assemble;
 use tta_code::Code;
 use tta_machine::{Machine, read_machine};
-use tta_ops::UnitSet;
+use tta_ops::{Arith, Compare, Logic, OpUnit, Shift, UnitSet};
 use tta_sim::{CycleStep, Sim};
 
 /// A machine of three buses with two delay slots, whose products show after three cycles.
@@ -241,6 +240,25 @@ fn ends(
     let mut output = Vec::new(alloc);
     let ended = outcome_of(alloc, text, units, &mut output)?;
     Ok(ended == outcome && output.as_slice() == words)
+}
+
+// Puts the standard units that the machine offers at the end.
+fn add_units(alloc: Global, boxes: &mut Vec<Box<dyn OpUnit>>) -> Result<(), AllocError> {
+    boxes.push(Box::new(alloc, Arith)?)?;
+    boxes.push(Box::new(alloc, Logic)?)?;
+    boxes.push(Box::new(alloc, Shift)?)?;
+    boxes.push(Box::new(alloc, Compare)?)?;
+    Ok(())
+}
+
+// A set of these units.
+fn standard_units(alloc: Global) -> Result<UnitSet, AllocError> {
+    let mut boxes: Vec<Box<dyn OpUnit>> = Vec::new(alloc);
+    add_units(alloc, &mut boxes)?;
+    if !UnitSet::fits(boxes.as_slice()) {
+        return Err(AllocError);
+    }
+    UnitSet::new(alloc, boxes).ok().ok_or(AllocError)
 }
 
 // The same over the standard units.

@@ -1,25 +1,10 @@
-//! The command line of the toolset.
+//! The program: it takes the words of the command line, carries them out over the files of the host and its standard output,
+//! and ends with the number of the status.
 #![tactic(auto)]
 
-mod asm;
-mod bound;
-mod build;
-mod command;
-mod contents;
-mod cycle_report;
-mod cycles;
-mod dis;
-mod exec;
-mod report;
-mod running;
-mod status;
-mod steps;
 #[cfg(test)]
 mod tests;
-mod write;
 
-use command::tool;
-use status::Status;
 use std::alloc::{AllocError, Global};
 use std::env;
 use std::io::ErrorKind;
@@ -27,6 +12,7 @@ use std::process::ExitCode;
 use std::rt::Env;
 use tta_ops::{Arith, Compare, Divide, Logic, OpUnit, Shift, UnitSet};
 use tta_ports::{Files, RealFiles, RealSink, Sink};
+use tta_tool::{Status, tool};
 
 // The words behind the program's name. A word that is not UTF-8 makes no command.
 fn words_of(rt: &(impl Env + AllocGlobal)) -> Result<Vec<String>, Status> {
@@ -44,29 +30,6 @@ fn words_of(rt: &(impl Env + AllocGlobal)) -> Result<Vec<String>, Status> {
     Ok(words)
 }
 
-// Puts the five standard units at the end.
-fn add_units(alloc: Global, boxes: &mut Vec<Box<dyn OpUnit>>) -> Result<(), AllocError> {
-    boxes.push(Box::new(alloc, Arith)?)?;
-    boxes.push(Box::new(alloc, Logic)?)?;
-    boxes.push(Box::new(alloc, Shift)?)?;
-    boxes.push(Box::new(alloc, Compare)?)?;
-    boxes.push(Box::new(alloc, Divide)?)?;
-    Ok(())
-}
-
-// A set of the five standard units.
-fn standard_units(alloc: Global) -> Result<UnitSet, AllocError> {
-    let mut boxes: Vec<Box<dyn OpUnit>> = Vec::new(alloc);
-    add_units(alloc, &mut boxes)?;
-    if !UnitSet::fits(boxes.as_slice()) {
-        return Err(AllocError);
-    }
-    let Ok(units) = UnitSet::new(alloc, boxes) else {
-        return Err(AllocError);
-    };
-    Ok(units)
-}
-
 // Carries out the words over the five standard units.
 fn run<F: Files, S: Sink>(
     alloc: Global,
@@ -74,7 +37,18 @@ fn run<F: Files, S: Sink>(
     files: &mut F,
     sink: &mut S,
 ) -> Result<Status, AllocError> {
-    let units = standard_units(alloc)?;
+    let mut boxes: Vec<Box<dyn OpUnit>> = Vec::new(alloc);
+    boxes.push(Box::new(alloc, Arith)?)?;
+    boxes.push(Box::new(alloc, Logic)?)?;
+    boxes.push(Box::new(alloc, Shift)?)?;
+    boxes.push(Box::new(alloc, Compare)?)?;
+    boxes.push(Box::new(alloc, Divide)?)?;
+    if !UnitSet::fits(boxes.as_slice()) {
+        return Ok(Status::NoMemory);
+    }
+    let Ok(units) = UnitSet::new(alloc, boxes) else {
+        return Ok(Status::NoMemory);
+    };
     Ok(tool(alloc, words, &units, files, sink))
 }
 

@@ -1,11 +1,10 @@
 //! The host of a test: files and an output in memory, over which a command is carried out.
 
-use crate::command::tool;
 use crate::run;
-use crate::status::Status;
 use std::alloc::{AllocError, Global};
 use tta_ops::UnitSet;
 use tta_ports::{MemFiles, MemSink};
+use tta_tool::{Status, tool};
 
 /// What `OUT` holds before a command.
 pub const BEFORE: &[u8] = b"before";

@@ -1,0 +1,20 @@
+//! The commands of the toolset, over any operation units, files and output.
+#![tactic(auto)]
+
+mod asm;
+mod bound;
+mod build;
+mod command;
+mod contents;
+mod cycle_report;
+mod cycles;
+mod dis;
+mod exec;
+mod report;
+mod running;
+mod status;
+mod steps;
+mod write;
+
+pub use command::tool;
+pub use status::Status;
