@@ -12,6 +12,10 @@ use Rattle.tta_tac.specs.Text.{take_lines, linked_text, HasCause, InPasses}
 use Rattle.tta_tac.specs.Whole.{TakesAll}
 use Rattle.tta_tac.proofs.TextsKept.{text_kept}
 
+-- what the lines that are left make of a draft is what all lines make of none
+abbrev pub Rest : Units → (text : List ℕ) → (line : ℕ) → Draft → (lines : List Line) → Type 0
+Rest u text line d lines = take_lines u line d lines ≡ take_lines u 1 nothing (lines_of text)
+
 -- a line was taken, and the others are left
 pub line_taken : (u : Units) (k : ℕ) (d next : Draft) (line : Line) (before rest : List Line) → before ≡ line ∷ rest
     → take_line u k d line ≡ Ok next → take_lines u k d before ≡ take_lines u (k + 1) next rest

@@ -1,11 +1,10 @@
 //! The program of a text.
 
-ghost use Rattle.std.specs.Prelude.{◌≡◌, ◌≤◌, ◌+◌, ◌^◌, [], length, IfOk, IfErr};
-ghost use Rattle.tta_reading.specs.Lines.{lines_of};
+ghost use Rattle.std.specs.Prelude.{◌≡◌, ◌≤◌, ◌^◌, length, IfOk, IfErr, OnOk};
 ghost use Rattle.tta_ops.specs.Set.{stated};
 ghost use Rattle.tta_tac.specs.Draft.{draft_seen, nothing};
-ghost use Rattle.tta_tac.specs.Text.{ProgramText, HasCause, take_lines};
-ghost use Rattle.tta_tac.specs.Whole.{DraftEnds};
+ghost use Rattle.tta_tac.specs.Text.{ProgramText, HasCause};
+ghost use Rattle.tta_tac.specs.Whole.{DraftEnds, TakesAll};
 
 use crate::program::Program;
 use crate::reading::draft::Draft;
@@ -15,38 +14,29 @@ use std::alloc::Global;
 use tta_ops::UnitSet;
 use tta_reading::Lines;
 
-// What all lines of a text say. A text that ends inside a procedure is refused at the line behind
-// it.
-#[tactic(auto, using(crate::proofs::Whole::text_ended, crate::proofs::Whole::text_open))]
+// What all lines of a text say.
 fn read_draft<'t>(alloc: Global, text: &'t [u8], units: &UnitSet) -> Result<Draft<'t>, TacError>
     requires { length text.now ≤ 2 ^ 24 }
     ensures { DraftEnds (stated unit_meaning units.now) text.now (λ d. draft_seen d) result }
 {
     let mut draft = Draft::new(alloc);
-    let line = read_lines(alloc, text, units, &mut draft)?;
-    if draft.begun.is_some() {
-        return Err(TacError::Refused {
-            line: line + 1,
-            code: Refusal::Syntax.code(),
-        });
-    }
+    read_lines(alloc, text, units, &mut draft)?;
     Ok(draft)
 }
 
-// Takes all lines of a text into an empty draft, and tells how many there are.
+// Takes all lines of a text into an empty draft. A text that ends inside a procedure is refused at
+// the line behind it.
 #[tactic(auto, using(crate::proofs::Whole::line_refused))]
 fn read_lines<'t>(
     alloc: Global,
     text: &'t [u8],
     units: &UnitSet,
     draft: &mut Draft<'t>,
-) -> Result<u32, TacError>
+) -> Result<(), TacError>
     requires short { length text.now ≤ 2 ^ 24 }
     requires empty { draft_seen draft.old ≡ nothing }
-    ensures taken { IfOk result (λ line. take_lines (stated unit_meaning units.now) (line + 1)
-        (draft_seen draft.new) [] ≡
-        take_lines (stated unit_meaning units.now) 1 nothing (lines_of text.now)) }
-    ensures room { IfOk result (λ line. line ≤ 2 ^ 24 + 1) }
+    ensures taken { let U = stated unit_meaning units.now in
+        OnOk result (TakesAll U text.now (draft_seen draft.new)) }
     ensures refused { IfErr result (HasCause (stated unit_meaning units.now) text.now) }
 {
     let mut lines = Lines::new(text);
@@ -65,7 +55,13 @@ fn read_lines<'t>(
             Err(LineError::NoMemory) => return Err(TacError::NoMemory),
         }
     }
-    Ok(line)
+    if draft.begun.is_some() {
+        return Err(TacError::Refused {
+            line: line + 1,
+            code: Refusal::Syntax.code(),
+        });
+    }
+    Ok(())
 }
 
 /// The program of a text, over these operation units. The text has at most 2^24 bytes.

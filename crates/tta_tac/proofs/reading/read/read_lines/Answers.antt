@@ -1,4 +1,4 @@
-use Rattle.std.proofs.Common.{◌≡◌, ap, ◌+◌, ◌∷◌, List, Ok, Err, length, map, sym, subst, ◌∙◌, arith}
+use Rattle.std.proofs.Common.{◌≡◌, [], ap, ◌+◌, ◌∷◌, List, Ok, Err, length, map, sym, subst, ◌∙◌, arith}
 use Rattle.tta_reading.specs.declared.word.Word.{Word}
 use Rattle.tta_reading.specs.Lines.{plain}
 use Rattle.tta_ops.specs.Set.{stated}
@@ -10,7 +10,8 @@ use Rattle.tta_tac.specs.FirstPass.{take_line}
 use Rattle.tta_tac.specs.declared.reading.refusal.TacError.TheVariants as tac_error
 use Rattle.tta_tac.specs.Refusals.{code_of}
 use Rattle.tta_tac.specs.Text.{HasCause}
-use Rattle.tta_tac.proofs.Whole.{line_taken, line_refused}
+use Rattle.tta_tac.proofs.Whole.{line_taken, line_refused, text_ended, text_open, Rest}
+use Rattle.tta_tac.proofs.Lines.{not_begun, some_begun}
 use Rattle.tta_tac.proofs.reading.read.read_lines.Goals as goal
 
 -- the first of the lines that are left was taken
@@ -51,6 +52,25 @@ returns-in-Err-Refused-clause-refused g c =
     subst (λ code. HasCause U c.args.text.now (tac_error.Refused line code))
     (sym (c.code.ensures ∙ ap code_of c.in-Err-Refused.refusal-is)) cause
 
--- no line is left
-pub returns-clause-room : goal.returns-clause-room
-returns-clause-room g c = omega (arith, c.loop-words.invariant.room)
+-- no line is left, and a procedure is open
+pub returns-then-is_some-clause-refused : goal.returns-then-is_some-clause-refused
+returns-then-is_some-clause-refused g c =
+    let U = stated (λ v. (goal.OpUnit-dyn g v).unit_meaning v.1) c.args.units.now in
+    let line = c.loop-words.line + 1 in
+    let d = c.loop-words.draft in
+    let begun = some_begun d.begun c.is_some.result c.is_some.ensures c.if-is_some.true in
+    let left : c.loop-words.lines ≡ [] = (c.in_ok-next_line.ensures.none c.if-branch.false).0 in
+    let rest = subst (Rest U c.args.text.now line (draft_seen d)) left c.loop-words.invariant.rest in
+    let cause = text_open U c.args.text.now line (draft_seen d) begun.0 rest begun.1 in
+    subst (λ code. HasCause U c.args.text.now (tac_error.Refused line code)) (sym c.code-then-is_some.ensures) cause
+
+-- no line is left, and no procedure is open
+pub returns-clause-taken : goal.returns-clause-taken
+returns-clause-taken g c =
+    let U = stated (λ v. (goal.OpUnit-dyn g v).unit_meaning v.1) c.args.units.now in
+    let line = c.loop-words.line + 1 in
+    let d = c.loop-words.draft in
+    let none = not_begun d.begun c.is_some.result c.is_some.ensures c.if-is_some.false in
+    let left : c.loop-words.lines ≡ [] = (c.in_ok-next_line.ensures.none c.if-branch.false).0 in
+    let rest = subst (Rest U c.args.text.now line (draft_seen d)) left c.loop-words.invariant.rest in
+    text_ended U c.args.text.now line (draft_seen d) rest none
