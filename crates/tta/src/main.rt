@@ -37,19 +37,20 @@ fn run<F: Files, S: Sink>(
     files: &mut F,
     sink: &mut S,
 ) -> Result<Status, AllocError> {
-    let mut boxes: Vec<Box<dyn OpUnit>> = Vec::new(alloc);
-    boxes.push(Box::new(alloc, Arith)?)?;
-    boxes.push(Box::new(alloc, Logic)?)?;
-    boxes.push(Box::new(alloc, Shift)?)?;
-    boxes.push(Box::new(alloc, Compare)?)?;
-    boxes.push(Box::new(alloc, Divide)?)?;
+    let arith: Box<dyn OpUnit> = Box::new(alloc, Arith)?;
+    let logic: Box<dyn OpUnit> = Box::new(alloc, Logic)?;
+    let shift: Box<dyn OpUnit> = Box::new(alloc, Shift)?;
+    let compare: Box<dyn OpUnit> = Box::new(alloc, Compare)?;
+    let divide: Box<dyn OpUnit> = Box::new(alloc, Divide)?;
+    let boxes = vec![in alloc; arith, logic, shift, compare, divide]?;
     if !UnitSet::fits(boxes.as_slice()) {
+        drop(boxes);
         return Ok(Status::NoMemory);
     }
-    let Ok(units) = UnitSet::new(alloc, boxes) else {
-        return Ok(Status::NoMemory);
-    };
-    Ok(tool(alloc, words, &units, files, sink))
+    match UnitSet::new(alloc, boxes) {
+        Ok(units) => Ok(tool(alloc, words, &units, files, sink)),
+        Err(_) => Ok(Status::NoMemory),
+    }
 }
 
 fn main(rt: HostRuntime) -> ExitCode {

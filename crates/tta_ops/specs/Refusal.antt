@@ -8,12 +8,24 @@ use Rattle.tta_ops.specs.declared.error.OpsError.TheVariants.{Twice, Reserved, N
 use Rattle.tta_ops.specs.Row.{Row}
 use Rattle.tta_ops.specs.Units.{first_at}
 
+-- the words that machine texts keep for operations of memory and of control
+abbrev pub machine_words : List (List ℕ)
+machine_words =
+    codes "ldw" ∷ codes "stw" ∷ codes "ldf" ∷ codes "stf" ∷ codes "jump" ∷ []
+
+-- the words that lay out a program text
+abbrev pub block_words : List (List ℕ)
+block_words =
+    codes "proc" ∷ codes "end" ∷ codes "if" ∷ codes "goto" ∷ codes "when" ∷ codes "data" ∷ []
+
+-- the words of a program's steps
+abbrev pub step_words : List (List ℕ)
+step_words =
+    codes "load" ∷ codes "store" ∷ codes "out" ∷ codes "call" ∷ codes "return" ∷ codes "halt" ∷ []
+
 -- the words that machine and program texts keep for themselves
 abbrev pub reserved_words : List (List ℕ)
-reserved_words =
-    codes "ldw" ∷ codes "stw" ∷ codes "ldf" ∷ codes "stf" ∷ codes "jump" ∷ codes "proc"
-    ∷ codes "end" ∷ codes "if" ∷ codes "goto" ∷ codes "when" ∷ codes "load" ∷ codes "store"
-    ∷ codes "out" ∷ codes "call" ∷ codes "return" ∷ codes "halt" ∷ codes "data" ∷ []
+reserved_words = machine_words ++ block_words ++ step_words
 
 -- whether a name is one of these words
 abbrev pub is_reserved : List ℕ → Bool
