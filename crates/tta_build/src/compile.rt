@@ -1,7 +1,7 @@
 //! Code that puts constants out.
 
 ghost use Rattle.std.specs.Prelude.{◌≡◌, ◌+◌, ◌<◌, ◌≤◌, ◌^◌, ◌++◌, ◌∷◌, [], true, map, replicate};
-ghost use Rattle.std.specs.Prelude.{length, None, IfOk, OnOk, IfErr};
+ghost use Rattle.std.specs.Prelude.{length, None, Some, IfOk, OnOk, IfErr};
 ghost use Rattle.tta_ops.specs.Units.{Units};
 ghost use Rattle.tta_tac.specs.Rules.{IsProgram};
 ghost use Rattle.tta_code.specs.Legal.{IsLegalCode};
@@ -50,35 +50,37 @@ impl<T: Drop> From<AllocFailed<T>> for BuildError {
     }
 }
 
-fn on_bus(alloc: Global, slot: Option<Move>) -> Result<Instruction, AllocError>
-    ensures { IfOk result (λ i. i ≡ on_bus slot) }
+// puts an instruction of one bus, with a move or without one, behind the words
+fn push_on_bus(
+    alloc: Global,
+    words: &mut Items<Instruction>,
+    slot: Option<Move>,
+) -> Result<(), AllocError>
+    ensures { OnOk result (words.new ≡ words.old ++ on_bus slot ∷ []) }
 {
-    Ok(Instruction {
-        moves: Items::one(alloc, slot)?,
-        long: None,
-    })
+    let moves = Items::one(alloc, slot)?;
+    words.push(Instruction { moves, long: None })?;
+    Ok(())
 }
 
-fn put_instruction(alloc: Global, word: u32) -> Result<Instruction, AllocError>
-    ensures { IfOk result (λ i. i ≡ put_instruction word) }
+fn put_move(word: u32) -> Move
+    ensures { on_bus (Some result) ≡ put_instruction word }
 {
-    let put = Move {
+    Move {
         guard: None,
         src: Source::Value(word),
         dst: Dest::Trigger { unit: 0, op: 0 },
-    };
-    Ok(on_bus(alloc, Some(put))?)
+    }
 }
 
-fn halt_instruction(alloc: Global) -> Result<Instruction, AllocError>
-    ensures { IfOk result (λ i. i ≡ halt_instruction) }
+fn halt_move() -> Move
+    ensures { on_bus (Some result) ≡ halt_instruction }
 {
-    let halt = Move {
+    Move {
         guard: None,
         src: Source::Value(0),
         dst: Dest::Halt,
-    };
-    Ok(on_bus(alloc, Some(halt))?)
+    }
 }
 
 // each constant is one move, one a cycle
@@ -91,7 +93,7 @@ fn push_puts(
 {
     for step in steps {
         match constant_of(step) {
-            Some(word) => words.push(put_instruction(alloc, word)?)?,
+            Some(word) => push_on_bus(alloc, words, Some(put_move(word)))?,
             None => return Ok(()),
         }
     }
@@ -103,19 +105,37 @@ fn push_empty(alloc: Global, words: &mut Items<Instruction>, count: u8) -> Resul
     ensures { OnOk result (words.new ≡ words.old ++ replicate count (on_bus None)) }
 {
     for _delay in 0..count {
-        words.push(on_bus(alloc, None)?)?;
+        push_on_bus(alloc, words, None)?;
     }
     Ok(())
+}
+
+// puts the code that puts out the constants, and then halts, behind the words
+fn push_code(
+    alloc: Global,
+    words: &mut Items<Instruction>,
+    m: &Machine,
+    p: &Program,
+) -> Result<(), AllocError>
+    ensures { OnOk result (
+        words.new ≡ words.old ++ (constants_code m.now (constants_of p.now)).words) }
+{
+    push_puts(alloc, words, main_steps(p))?;
+    push_on_bus(alloc, words, Some(halt_move()))?;
+    push_empty(alloc, words, m.control.delay)
 }
 
 fn constants_code(alloc: Global, m: &Machine, p: &Program) -> Result<Code, AllocError>
     ensures { IfOk result (λ code. code ≡ constants_code m.now (constants_of p.now)) }
 {
     let mut words = Items::new(alloc);
-    push_puts(alloc, &mut words, main_steps(p))?;
-    words.push(halt_instruction(alloc)?)?;
-    push_empty(alloc, &mut words, m.control.delay)?;
-    Ok(Code { words })
+    match push_code(alloc, &mut words, m, p) {
+        Ok(()) => Ok(Code { words }),
+        Err(e) => {
+            drop(words);
+            Err(e)
+        }
+    }
 }
 
 fn code_length(m: &Machine, p: &Program) -> u64

@@ -124,13 +124,11 @@ fn are_held(bus: &Bus, steps: &[Step]) -> bool
     ensures { result ≡ list_all (holds_word bus.now) (puts steps.now) }
 {
     for step in steps {
-        match constant_of(step) {
-            Some(word) => {
-                if !bus.holds(word) {
-                    return false;
-                }
-            }
-            None => return true,
+        let Some(word) = constant_of(step) else {
+            return true;
+        };
+        if !bus.holds(word) {
+            return false;
         }
     }
     true
