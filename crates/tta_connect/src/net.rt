@@ -50,6 +50,8 @@ impl Model for Net {
 }
 
 impl Net {
+    ghost use Rattle.tta_machine.specs.declared.ends.Source.TheVariants as source;
+    ghost use Rattle.tta_machine.specs.declared.ends.Dest.TheVariants as dest;
     ghost use Rattle.tta_connect.specs.Net.{IsNetOf, port_buses, dest_buses, guarded};
 
     /// The net of a machine. It fails only where there is no memory.
@@ -76,23 +78,44 @@ impl Net {
         plain | entry(self.signed.as_slice(), signed_bits(word))
     }
 
+    /// The buses over which a register of a file is read.
+    fn read_buses(&self, file: u8, index: u8) -> u16
+        ensures { result ≡ port_buses self.now (source.Reg file index) }
+    {
+        match self.files.get(usize::from(file)) {
+            None => 0,
+            Some(f) => buses_within(usize::from(index), usize::from(f.size), f.out),
+        }
+    }
+
+    /// The buses over which a register of an immediate unit is read.
+    fn long_buses(&self, unit: u8, index: u8) -> u16
+        ensures { result ≡ port_buses self.now (source.Imm unit index) }
+    {
+        match self.imms.get(usize::from(unit)) {
+            None => 0,
+            Some(i) => buses_within(usize::from(index), usize::from(i.size), i.out),
+        }
+    }
+
+    /// The buses over which the result of a unit is read.
+    fn result_buses(&self, unit: u8) -> u16
+        ensures { result ≡ port_buses self.now (source.Shown unit) }
+    {
+        match self.units.get(usize::from(unit)) {
+            None => 0,
+            Some(u) => u.result,
+        }
+    }
+
     /// The buses of the port that a source stands behind; a word has none.
     fn port_buses(&self, src: Source) -> u16
         ensures { result ≡ port_buses self.now src }
     {
         match src {
-            Source::Reg { file, index } => match self.files.get(usize::from(file)) {
-                None => 0,
-                Some(f) => buses_within(usize::from(index), usize::from(f.size), f.out),
-            },
-            Source::Imm { unit, index } => match self.imms.get(usize::from(unit)) {
-                None => 0,
-                Some(i) => buses_within(usize::from(index), usize::from(i.size), i.out),
-            },
-            Source::Shown { unit } => match self.units.get(usize::from(unit)) {
-                None => 0,
-                Some(u) => u.result,
-            },
+            Source::Reg { file, index } => self.read_buses(file, index),
+            Source::Imm { unit, index } => self.long_buses(unit, index),
+            Source::Shown { unit } => self.result_buses(unit),
             Source::Ra => self.control.ra,
             Source::Value(_) => 0,
         }
@@ -109,23 +132,44 @@ impl Net {
         }
     }
 
+    /// The buses over which a register of a file is written.
+    fn write_buses(&self, file: u8, index: u8) -> u16
+        ensures { result ≡ dest_buses self.now (dest.Reg file index) }
+    {
+        match self.files.get(usize::from(file)) {
+            None => 0,
+            Some(f) => buses_within(usize::from(index), usize::from(f.size), f.into),
+        }
+    }
+
+    /// The buses over which the operand port of a unit is written.
+    fn operand_buses(&self, unit: u8) -> u16
+        ensures { result ≡ dest_buses self.now (dest.Operand unit) }
+    {
+        match self.units.get(usize::from(unit)) {
+            None => 0,
+            Some(u) => u.operand,
+        }
+    }
+
+    /// The buses over which an operation of a unit is started.
+    fn trigger_buses(&self, unit: u8, op: u8) -> u16
+        ensures { result ≡ dest_buses self.now (dest.Trigger unit op) }
+    {
+        match self.units.get(usize::from(unit)) {
+            None => 0,
+            Some(u) => buses_within(usize::from(op), u.ops, u.trigger),
+        }
+    }
+
     /// The buses that can bring a word to a destination.
     fn dest_buses(&self, dst: Dest) -> u16
         ensures { result ≡ dest_buses self.now dst }
     {
         match dst {
-            Dest::Reg { file, index } => match self.files.get(usize::from(file)) {
-                None => 0,
-                Some(f) => buses_within(usize::from(index), usize::from(f.size), f.into),
-            },
-            Dest::Operand { unit } => match self.units.get(usize::from(unit)) {
-                None => 0,
-                Some(u) => u.operand,
-            },
-            Dest::Trigger { unit, op } => match self.units.get(usize::from(unit)) {
-                None => 0,
-                Some(u) => buses_within(usize::from(op), u.ops, u.trigger),
-            },
+            Dest::Reg { file, index } => self.write_buses(file, index),
+            Dest::Operand { unit } => self.operand_buses(unit),
+            Dest::Trigger { unit, op } => self.trigger_buses(unit, op),
             Dest::Jump | Dest::Call | Dest::Halt => self.control.trigger,
         }
     }
