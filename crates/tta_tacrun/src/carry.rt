@@ -1,10 +1,10 @@
 //! One step.
 
 ghost use Rattle.std.specs.Prelude.{◌≡◌, ℕ, List, ◌+◌, ◌<◌, ◌^◌, ◌∷◌, length};
-ghost use Rattle.std.specs.Prelude.{Some, OnSome, IsSome, option_copied};
+ghost use Rattle.std.specs.Prelude.{Some, OnSome, IsSome, option_copied, slice_index, slice_set};
 ghost use Rattle.tta_ops.specs.Set.{stated};
 ghost use Rattle.tta_tac.specs.Rules.{IsProgram};
-ghost use Rattle.tta_tac.specs.Sequential.{State, step_at, returns, carry_out};
+ghost use Rattle.tta_tac.specs.Sequential.{State, operand, holds, step_at, returns, carry_out};
 ghost use Rattle.tta_tac.specs.Sequential.{take_value as value_taken};
 ghost use Rattle.tta_tacrun.specs.Run.{AreCallsOf, state_of, put, destination};
 
@@ -13,8 +13,8 @@ use crate::entry::Entry;
 use crate::phase::Phase;
 use crate::relations::Relations;
 use crate::words::Words;
-use tta_ops::UnitSet;
-use tta_tac::{Program, Step};
+use tta_ops::{OpId, UnitSet};
+use tta_tac::{Program, Rel, Src, Step};
 
 /// The step that a call has come to, if there is one.
 pub fn step_of(p: &Program, call: Entry) -> Option<&Step>
@@ -70,6 +70,53 @@ fn give_back(calls: &mut Calls, p: &Program, value: u32) -> Phase
     Phase::Running
 }
 
+/// Whether a condition holds on two operands of the innermost call.
+fn is_held(
+    calls: &Calls,
+    relations: &mut Relations,
+    units: &UnitSet,
+    rel: Rel,
+    a: Src,
+    b: Src,
+) -> bool
+    ensures { let vars = calls.now.top.vars in
+        result ≡ holds (stated unit_meaning units.now) rel (operand vars a) (operand vars b) }
+{
+    relations.is_held(units, rel, calls.value(a), calls.value(b))
+}
+
+/// A variable of the innermost call becomes what an operation makes of two of its operands.
+fn apply(calls: &mut Calls, units: &UnitSet, d: u32, op: OpId, a: Src, b: Src)
+    requires { calls.old.top.at + 1 < 2 ^ 64 }
+    ensures { let f = calls.old.top in
+        let value = (stated unit_meaning units.now).value op.0 (operand f.vars a) (operand f.vars b) in
+        let g = record f { at = f.at + 1; vars = slice_set f.vars d value } in
+        calls.new ≡ record calls.old { top = g } }
+{
+    let value = units.apply(op, calls.value(a), calls.value(b));
+    calls.assign(d, value);
+}
+
+/// A variable of the innermost call becomes the data word at the address that an operand gives.
+fn load(calls: &mut Calls, memory: &Words, d: u32, a: Src)
+    requires { calls.old.top.at + 1 < 2 ^ 64 }
+    ensures { let f = calls.old.top in
+        let value = slice_index memory.now (operand f.vars a) in
+        let g = record f { at = f.at + 1; vars = slice_set f.vars d value } in
+        calls.new ≡ record calls.old { top = g } }
+{
+    let value = memory.get(calls.value(a) as usize);
+    calls.assign(d, value);
+}
+
+/// The data word at the address that an operand gives becomes the word of another.
+fn store(calls: &Calls, memory: &mut Words, a: Src, v: Src)
+    ensures { let vars = calls.now.top.vars in
+        memory.new ≡ slice_set memory.old (operand vars a) (operand vars v) }
+{
+    memory.set(calls.value(a) as usize, calls.value(v));
+}
+
 /// Carries out a step. It answers whether the run goes on, and the word put out, if any.
 pub fn carry(
     calls: &mut Calls,
@@ -95,16 +142,10 @@ pub fn carry(
     let mut word = None;
     match step {
         Step::Copy { d, s } => calls.copy(*d, *s),
-        Step::Apply { d, op, a, b } => {
-            let value = units.apply(*op, calls.value(*a), calls.value(*b));
-            calls.assign(*d, value);
-        }
-        Step::Load { d, a } => {
-            let value = memory.get(calls.value(*a) as usize);
-            calls.assign(*d, value);
-        }
+        Step::Apply { d, op, a, b } => apply(calls, units, *d, *op, *a, *b),
+        Step::Load { d, a } => load(calls, memory, *d, *a),
         Step::Store { a, v } => {
-            memory.set(calls.value(*a) as usize, calls.value(*v));
+            store(calls, memory, *a, *v);
             calls.go_to(next);
         }
         Step::Put { v } => {
@@ -112,12 +153,12 @@ pub fn carry(
             calls.go_to(next);
         }
         Step::If { rel, a, b, to } => {
-            let held = relations.is_held(units, *rel, calls.value(*a), calls.value(*b));
+            let held = is_held(calls, relations, units, *rel, *a, *b);
             calls.go_to(if held { *to as usize } else { next });
         }
         Step::Goto { to } => calls.go_to(*to as usize),
         Step::When { rel, a, b, d, s } => {
-            if relations.is_held(units, *rel, calls.value(*a), calls.value(*b)) {
+            if is_held(calls, relations, units, *rel, *a, *b) {
                 calls.copy(*d, *s);
             } else {
                 calls.go_to(next);
