@@ -1,6 +1,7 @@
 //! Assembly is read into an image and an image shown as assembly, over files in memory.
 
 use super::host::Host;
+use std::alloc::{AllocError, Global};
 use std::test::Fail;
 use tta_tool::Status;
 
@@ -21,15 +22,28 @@ const TEXTS: [(&str, &str); 4] = [
     ("BAD", "7 -> OUT.t.out ;\n256 -> OUT.t.out ;\n"),
 ];
 
+// Whether an image is shown as the canonical text, and that text is read as the image.
+fn is_of_canonical(alloc: Global, image: &[u8]) -> Result<bool, AllocError> {
+    let host = Host::new(alloc, &TEXTS, image);
+    let is_shown = host.leaves(
+        &["dis", "M", "IMG", "OUT"],
+        Status::Ok,
+        CANONICAL.as_bytes(),
+        b"",
+    )?;
+    let is_read = host.leaves(&["asm", "M", "C", "OUT"], Status::Ok, image, b"")?;
+    Ok(is_shown && is_read)
+}
+
+// Whether the assembly is read into such an image.
+fn is_read_as_canonical(alloc: Global) -> Result<bool, AllocError> {
+    let image = Host::new(alloc, &TEXTS, b"").written(&["asm", "M", "A", "OUT"])?;
+    is_of_canonical(alloc, image.as_slice())
+}
+
 #[test]
 fn image_is_shown_as_it_was_read(rt: HostRuntime) -> Result<(), Fail> {
-    let alloc = rt.alloc();
-    let image = Host::new(alloc, &TEXTS, b"").written(&["asm", "M", "A", "OUT"])?;
-    let host = Host::new(alloc, &TEXTS, image.as_slice());
-    let show = ["dis", "M", "IMG", "OUT"];
-    assert!(rt; host.leaves(&show, Status::Ok, CANONICAL.as_bytes(), b"")?);
-    let read = ["asm", "M", "C", "OUT"];
-    assert!(rt; host.leaves(&read, Status::Ok, image.as_slice(), b"")?);
+    assert!(rt; is_read_as_canonical(rt.alloc())?);
     Ok(())
 }
 

@@ -100,20 +100,51 @@ fn fails_at_put(
     host.leaves(words, ending, BEFORE, taken.as_slice())
 }
 
+// Whether a command that writes tells each of its calls that fails.
+fn fails_at_each_call(alloc: Global, image: &[u8], words: &[&str]) -> Result<bool, AllocError> {
+    for call in 1..5 {
+        if !fails_at_call(alloc, image, words, call)? {
+            return Ok(false);
+        }
+    }
+    Ok(true)
+}
+
+// Whether a command that prints tells each of its reads that fails.
+fn fails_at_each_read(alloc: Global, image: &[u8], words: &[&str]) -> Result<bool, AllocError> {
+    let mut host = Host::new(alloc, &TEXTS, image);
+    for word in 1..4u8 {
+        host.failing_call = u64::from(word);
+        if !host.prints(words, Status::ReadFault { word }, "")? {
+            return Ok(false);
+        }
+    }
+    Ok(true)
+}
+
+// Whether a command that prints these five lines tells each of its puts that fails.
+fn fails_at_each_put(
+    alloc: Global,
+    image: &[u8],
+    words: &[&str],
+    lines: &[&str],
+) -> Result<bool, AllocError> {
+    for put in 1..7 {
+        if !fails_at_put(alloc, image, words, lines, put)? {
+            return Ok(false);
+        }
+    }
+    Ok(true)
+}
+
 #[test]
 fn writing_commands_fail_at_each_call(rt: HostRuntime) -> Result<(), Fail> {
     let alloc = rt.alloc();
     let image = swap_image(alloc)?;
-    let commands = [
-        ["build", "S", "C", "OUT"],
-        ["asm", "M", "A", "OUT"],
-        ["dis", "M", "IMG", "OUT"],
-    ];
-    for words in commands {
-        for call in 1..5u64 {
-            assert!(rt; fails_at_call(alloc, &image, &words, call)?);
-        }
-    }
+    let image = image.as_slice();
+    assert!(rt; fails_at_each_call(alloc, image, &["build", "S", "C", "OUT"])?);
+    assert!(rt; fails_at_each_call(alloc, image, &["asm", "M", "A", "OUT"])?);
+    assert!(rt; fails_at_each_call(alloc, image, &["dis", "M", "IMG", "OUT"])?);
     Ok(())
 }
 
@@ -121,13 +152,9 @@ fn writing_commands_fail_at_each_call(rt: HostRuntime) -> Result<(), Fail> {
 fn printing_commands_fail_at_each_call(rt: HostRuntime) -> Result<(), Fail> {
     let alloc = rt.alloc();
     let image = swap_image(alloc)?;
-    let mut host = Host::new(alloc, &TEXTS, &image);
-    for word in 1..4u8 {
-        host.failing_call = u64::from(word);
-        let fault = Status::ReadFault { word };
-        assert!(rt; host.prints(&["exec", "M", "P", "I", "9"], fault, "")?);
-        assert!(rt; host.prints(&["run", "M", "IMG", "I", "20"], fault, "")?);
-    }
+    let image = image.as_slice();
+    assert!(rt; fails_at_each_read(alloc, image, &["exec", "M", "P", "I", "9"])?);
+    assert!(rt; fails_at_each_read(alloc, image, &["run", "M", "IMG", "I", "20"])?);
     Ok(())
 }
 
@@ -135,14 +162,8 @@ fn printing_commands_fail_at_each_call(rt: HostRuntime) -> Result<(), Fail> {
 fn printing_commands_fail_at_each_put(rt: HostRuntime) -> Result<(), Fail> {
     let alloc = rt.alloc();
     let image = swap_image(alloc)?;
-    let commands = [
-        (["exec", "M", "P", "I", "9"], PRINTED),
-        (["run", "M", "IMG", "I", "20"], SWAPPED),
-    ];
-    for (words, lines) in commands {
-        for put in 1..7usize {
-            assert!(rt; fails_at_put(alloc, &image, &words, &lines, put)?);
-        }
-    }
+    let image = image.as_slice();
+    assert!(rt; fails_at_each_put(alloc, image, &["exec", "M", "P", "I", "9"], &PRINTED)?);
+    assert!(rt; fails_at_each_put(alloc, image, &["run", "M", "IMG", "I", "20"], &SWAPPED)?);
     Ok(())
 }

@@ -89,6 +89,11 @@ impl<'a> Host<'a> {
         files.add("OUT", BEFORE)
     }
 
+    // Whether `OUT` holds this, and the other files are as they were before a command.
+    fn are_left(&self, files: &MemFiles, out: &[u8]) -> bool {
+        files.get("OUT") == Some(out) && self.are_kept(files)
+    }
+
     // Whether all files but `OUT` are as they were, and none came to be.
     fn are_kept(&self, files: &MemFiles) -> bool {
         if files.get("IMG") != Some(self.image) {
@@ -103,8 +108,10 @@ impl<'a> Host<'a> {
     // The files before a command.
     fn files(&self) -> Result<MemFiles, AllocError> {
         let mut files = MemFiles::new(self.alloc, vec![in self.alloc; self.failing_call]?);
-        self.add_files(&mut files)?;
-        Ok(files)
+        match self.add_files(&mut files) {
+            Ok(()) => Ok(files),
+            Err(e) => Err(e),
+        }
     }
 
     // How a command over these files ends, if this is what it puts out.
@@ -116,11 +123,11 @@ impl<'a> Host<'a> {
     ) -> Result<Option<Status>, AllocError> {
         let failing = vec![in self.alloc; self.failing_put]?;
         let mut sink = MemSink::new(self.alloc, 2000, failing)?;
-        let status = carry_out(self.alloc, self.units, words, files, &mut sink)?;
-        if sink.bytes() == output {
-            return Ok(Some(status));
+        match carry_out(self.alloc, self.units, words, files, &mut sink) {
+            Ok(status) if sink.bytes() == output => Ok(Some(status)),
+            Ok(_) => Ok(None),
+            Err(e) => Err(e),
         }
-        Ok(None)
     }
 
     /// Whether a command ends so, leaves `OUT` so, puts this out, and changes no other file.
@@ -132,8 +139,10 @@ impl<'a> Host<'a> {
         output: &[u8],
     ) -> Result<bool, AllocError> {
         let mut files = self.files()?;
-        let ended = self.ending_with(words, &mut files, output)?;
-        Ok(ended == Some(ending) && files.get("OUT") == Some(out) && self.are_kept(&files))
+        match self.ending_with(words, &mut files, output) {
+            Ok(ended) => Ok(ended == Some(ending) && self.are_left(&files, out)),
+            Err(e) => Err(e),
+        }
     }
 
     /// Whether a command ends so, puts this out, and changes no file.
@@ -145,9 +154,10 @@ impl<'a> Host<'a> {
     /// not end well or puts something out.
     pub fn written(&self, words: &[&str]) -> Result<Vec<u8>, AllocError> {
         let mut files = self.files()?;
-        if self.ending_with(words, &mut files, b"")? != Some(Status::Ok) {
-            return Ok(Vec::new(self.alloc));
+        match self.ending_with(words, &mut files, b"") {
+            Ok(Some(Status::Ok)) => Vec::from_slice(self.alloc, files.get("OUT").unwrap_or(b"")),
+            Ok(_) => Ok(Vec::new(self.alloc)),
+            Err(e) => Err(e),
         }
-        Vec::from_slice(self.alloc, files.get("OUT").unwrap_or(b""))
     }
 }
