@@ -68,7 +68,12 @@ fn assemble_files<F: Files>(
         (λ v. v.items) result }
 {
     match machine_file(alloc, units, files, machine) {
-        Ok(file) => assemble_for(alloc, units, files, assembly, &file),
+        Ok(file) => {
+            let image = assemble_for(alloc, units, files, assembly, &file);
+            // Dropped here as a whole, so that no part of it is left to drop at the end.
+            drop(file);
+            image
+        }
         Err(status) => Err(status),
     }
 }

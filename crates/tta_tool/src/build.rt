@@ -111,7 +111,12 @@ fn compile<F: Files>(
         (λ v. v.items) result }
 {
     match machine_file(alloc, units, files, machine) {
-        Ok(file) => compile_for(alloc, units, files, program, &file),
+        Ok(file) => {
+            let image = compile_for(alloc, units, files, program, &file);
+            // Dropped here as a whole, so that no part of it is left to drop at the end.
+            drop(file);
+            image
+        }
         Err(status) => Err(status),
     }
 }

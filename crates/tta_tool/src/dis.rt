@@ -68,7 +68,12 @@ fn show_files<F: Files>(
         (λ v. v.items) result }
 {
     match machine_file(alloc, units, files, machine) {
-        Ok(file) => show_for(alloc, units, files, image, &file),
+        Ok(file) => {
+            let text = show_for(alloc, units, files, image, &file);
+            // Dropped here as a whole, so that no part of it is left to drop at the end.
+            drop(file);
+            text
+        }
         Err(status) => Err(status),
     }
 }

@@ -63,19 +63,43 @@ fn begin<F: Files>(
     ensures short { IfOk result (λ b. length b.memory.items < 2 ^ 32) }
 {
     match machine_file(alloc, units, files, machine) {
-        Ok(file) => begin_with(
-            alloc,
-            units,
-            files,
-            program,
-            input,
-            data_words(&file.machine),
-        ),
+        Ok(file) => {
+            let space = data_words(&file.machine);
+            drop(file);
+            begin_with(alloc, units, files, program, input, space)
+        }
         Err(status) => Err(status),
     }
 }
 
-// Runs a program and puts out its text.
+// Runs a program from data words and puts out its text.
+fn run_program<S: Sink>(
+    alloc: Global,
+    units: &UnitSet,
+    sink: &mut S,
+    program: &Program,
+    memory: Vec<u32>,
+    bound: u64,
+) -> Status
+    requires bound { bound < 2 ^ 48 }
+    requires short { length memory.items < 2 ^ 32 }
+    ensures { RunEnds (seq (stated unit_meaning units.now) program.now memory.items bound)
+        (output (S.taken sink.old) (S.faults sink.old))
+        (output (S.taken sink.new) (S.faults sink.new))
+        result }
+{
+    match Seq::load(alloc, program, memory) {
+        Ok(mut seq) => {
+            let status = run_to_status(sink, program, units, &mut seq, bound);
+            // Dropped here as a whole, so that no part of it is left to drop at the end.
+            drop(seq);
+            status
+        }
+        Err(_) => Status::NoMemory,
+    }
+}
+
+// Runs what a run begins with, and puts out its text.
 fn carry_out<S: Sink>(
     alloc: Global,
     units: &UnitSet,
@@ -92,10 +116,7 @@ fn carry_out<S: Sink>(
         result }
 {
     let Beginning { program, memory } = beginning;
-    let Ok(mut seq) = Seq::load(alloc, &program, memory) else {
-        return Status::NoMemory;
-    };
-    run_to_status(sink, &program, units, &mut seq, bound)
+    run_program(alloc, units, sink, &program, memory, bound)
 }
 
 /// Runs the program of the file `program` for at most so many steps, from the data words of the

@@ -74,10 +74,15 @@ fn run_code<S: Sink>(
         (output (S.taken sink.new) (S.faults sink.new))
         result }
 {
-    let Ok(mut sim) = Sim::load(alloc, machine, code, memory) else {
-        return Status::NoMemory;
-    };
-    code_to_status(sink, machine, code, units, &mut sim, bound)
+    match Sim::load(alloc, machine, code, memory) {
+        Ok(mut sim) => {
+            let status = code_to_status(sink, machine, code, units, &mut sim, bound);
+            // Dropped here as a whole, so that no part of it is left to drop at the end.
+            drop(sim);
+            status
+        }
+        Err(_) => Status::NoMemory,
+    }
 }
 
 // Runs what a run begins with, and puts out its text.
@@ -151,7 +156,12 @@ pub fn run_image<F: Files, S: Sink>(
         result }
 {
     match machine_file(alloc, units, files, machine) {
-        Ok(file) => run_file(alloc, units, files, sink, &file, image, input, bound),
+        Ok(file) => {
+            let status = run_file(alloc, units, files, sink, &file, image, input, bound);
+            // Dropped here as a whole, so that no part of it is left to drop at the end.
+            drop(file);
+            status
+        }
         Err(status) => status,
     }
 }

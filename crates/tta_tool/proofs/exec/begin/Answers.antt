@@ -17,7 +17,7 @@ returns-in-Ok-clause-ends g c =
     (λ b. b.program) (λ b. b.memory.items) c.begin_with.result in
     begin_ends U c.args.machine.now c.args.program.now c.args.input.now file.text.items file.machine before between after
     (λ b. b.program) (λ b. b.memory.items) c.begin_with.result c.in-Ok.ensures
-    (subst Ends c.data_words.ensures c.begin_with.ensures.ends)
+    (subst Ends c.data_words-space.ensures c.begin_with.ensures.ends)
 
 pub returns-in-Err-clause-ends : goal.returns-in-Err-clause-ends
 returns-in-Err-clause-ends g c = machine_fails _ _ _ _ _ _ _ c.in-Err.ensures

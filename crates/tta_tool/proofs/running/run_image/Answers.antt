@@ -11,12 +11,12 @@ returns-in-Ok g c =
     let U = stated (λ v. (goal.OpUnit-dyn g v).unit_meaning v.1) c.args.units.now in
     let before = world (f.contents c.args.files.now) (f.faults c.args.files.now) (f.latest c.args.files.now) in
     let between = world (f.contents c.machine_file.new.files) (f.faults c.machine_file.new.files) (f.latest c.machine_file.new.files) in
-    let after = world (f.contents c.run_file.new.files) (f.faults c.run_file.new.files) (f.latest c.run_file.new.files) in
+    let after = world (f.contents c.run_file-status.new.files) (f.faults c.run_file-status.new.files) (f.latest c.run_file-status.new.files) in
     let old = output (sink.taken c.args.sink.now) (sink.faults c.args.sink.now) in
-    let new = output (sink.taken c.run_file.new.sink) (sink.faults c.run_file.new.sink) in
+    let new = output (sink.taken c.run_file-status.new.sink) (sink.faults c.run_file-status.new.sink) in
     let file = c.in-Ok.file in
     runs_ends U c.args.machine.now c.args.image.now c.args.input.now file.text.items file.machine c.args.bound before between after old new
-    c.run_file.result c.in-Ok.ensures c.run_file.ensures
+    c.run_file-status.result c.in-Ok.ensures c.run_file-status.ensures
 
 pub returns-in-Err : goal.returns-in-Err
 returns-in-Err g c = not_begun _ _ _ _ _ _ _ _ _ (machine_fails _ _ _ _ _ _ _ c.in-Err.ensures)
