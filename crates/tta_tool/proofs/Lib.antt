@@ -1,4 +1,5 @@
 pub mod Worlds
+pub mod Readings
 pub mod Endings
 pub mod Assemblies
 pub mod Showings

@@ -15,7 +15,7 @@ use Rattle.tta_input.specs.Input.{input_of}
 use Rattle.tta_tool.specs.declared.status.Status.{Status}
 use Rattle.tta_tool.specs.declared.status.Status.TheVariants as status
 use Rattle.tta_tool.specs.World.{World, IsUntouched, ReadFailed, IsTooLong}
-use Rattle.tta_tool.specs.Stages.{IsBadMachine, IsBadProgram}
+use Rattle.tta_tool.specs.Stages.{IsBadMachine, IsBadProgram, MachineEnds}
 
 -- ---- what files hold
 
@@ -101,6 +101,11 @@ pub record ReadsMachine (u : Units) (M text : List ℕ) (machine : Machine) (bef
 abbrev pub MachineFileEnds : {T : Type 0} → Units → (M : List ℕ) → (before after : World) → (T → List ℕ) → (T → Machine) → Result T Status → Type 0
 MachineFileEnds u M before after text machine (Ok v) = ReadsMachine u M (text v) (machine v) before after
 MachineFileEnds u M before after text machine (Err s) = MachineFails u M before after s
+
+-- a text is the description of a machine, or there is a cause
+abbrev pub DescribedEnds : {T : Type 0} → Units → (bytes : List ℕ) → (T → List ℕ) → (T → Machine) → Result T Status → Type 0
+DescribedEnds u bytes text machine (Ok v) = (text v ≡ bytes) × (machine_of_text u bytes ≡ Ok (machine v))
+DescribedEnds u bytes text machine (Err s) = MachineEnds u bytes (Err s)
 
 pub record ReadsProgram (u : Units) (P : List ℕ) (program : Program) (before after : World) : Type 0 where
   pub text : List ℕ

@@ -27,13 +27,17 @@ pub record WasRead (name bytes : List ℕ) (before after : World) : Type 0 where
   pub short : length bytes ≤ limit
   pub untouched : IsUntouched before after
 
+-- why a file was not read
+abbrev pub ReadFails : (name : List ℕ) (word : ℕ) → (before after : World) → Status → Type 0
+ReadFails name word before after (status.ReadFault w) = (w ≡ word) × ReadFailed name before after
+ReadFails name word before after (status.TooLong w) = (w ≡ word) × IsTooLong name before after
+ReadFails name word before after status.NoMemory = IsUntouched before after
+ReadFails name word before after s = ⊥
+
 -- a file was read, or there is a cause
 abbrev pub ReadEnds : {T : Type 0} → (name : List ℕ) (word : ℕ) → (before after : World) → (T → List ℕ) → Result T Status → Type 0
 ReadEnds name word before after items (Ok v) = WasRead name (items v) before after
-ReadEnds name word before after items (Err (status.ReadFault w)) = (w ≡ word) × ReadFailed name before after
-ReadEnds name word before after items (Err (status.TooLong w)) = (w ≡ word) × IsTooLong name before after
-ReadEnds name word before after items (Err status.NoMemory) = IsUntouched before after
-ReadEnds name word before after items (Err s) = ⊥
+ReadEnds name word before after items (Err s) = ReadFails name word before after s
 
 -- a text is refused with this number at this line
 pub record IsBadMachine (u : Units) (text : List ℕ) (line code : ℕ) : Type 0 where

@@ -1,4 +1,5 @@
-//! What the files of a command hold.
+//! What the files of a command hold. The bytes of a file are dropped as soon as they are read,
+//! unless they are kept.
 
 ghost use Rattle.std.specs.Prelude.{◌≡◌, ◌≤◌, ◌^◌, length, IfOk};
 ghost use Rattle.tta_ops.specs.Set.{stated};
@@ -6,7 +7,8 @@ ghost use Rattle.tta_tool.specs.World.{world};
 ghost use Rattle.tta_tool.specs.Stages.{ReadEnds, MachineEnds, ProgramEnds, CodeEnds, InputEnds};
 ghost use Rattle.tta_code.specs.Legal.{IsLegalCode};
 ghost use Rattle.tta_tool.specs.Asm.{AssemblyEnds, AssemblyFileEnds};
-ghost use Rattle.tta_tool.specs.Contents.{MachineFileEnds, ProgramFileEnds, CodeFileEnds};
+ghost use Rattle.tta_tool.specs.Contents.{DescribedEnds, MachineFileEnds};
+ghost use Rattle.tta_tool.specs.Contents.{ProgramFileEnds, CodeFileEnds};
 ghost use Rattle.tta_tool.specs.Contents.{InputFileEnds};
 
 use crate::status::Status;
@@ -116,6 +118,21 @@ pub struct MachineFile {
     pub machine: Machine,
 }
 
+// The machine of a text, with the text.
+fn described(alloc: Global, units: &UnitSet, text: Vec<u8>) -> Result<MachineFile, Status>
+    requires { length text.items ≤ 2 ^ 24 }
+    ensures { DescribedEnds (stated unit_meaning units.now) text.items
+        (λ f. f.text.items) (λ f. f.machine) result }
+{
+    match machine_of(alloc, text.as_slice(), units) {
+        Ok(machine) => Ok(MachineFile { text, machine }),
+        Err(status) => {
+            drop(text);
+            Err(status)
+        }
+    }
+}
+
 /// The machine of the file that word 1 names.
 pub fn machine_file<F: Files>(
     alloc: Global,
@@ -128,9 +145,8 @@ pub fn machine_file<F: Files>(
         (world (F.contents files.new) (F.faults files.new) (F.latest files.new))
         (λ f. f.text.items) (λ f. f.machine) result }
 {
-    let text = read_file(files, name, 1)?;
-    match machine_of(alloc, text.as_slice(), units) {
-        Ok(machine) => Ok(MachineFile { text, machine }),
+    match read_file(files, name, 1) {
+        Ok(text) => described(alloc, units, text),
         Err(status) => Err(status),
     }
 }
@@ -146,9 +162,12 @@ pub fn program_file<F: Files>(
         (world (F.contents files.old) (F.faults files.old) (F.latest files.old))
         (world (F.contents files.new) (F.faults files.new) (F.latest files.new)) result }
 {
-    let text = read_file(files, name, 2)?;
-    match program_of(alloc, text.as_slice(), units) {
-        Ok(program) => Ok(program),
+    match read_file(files, name, 2) {
+        Ok(text) => {
+            let program = program_of(alloc, text.as_slice(), units);
+            drop(text);
+            program
+        }
         Err(status) => Err(status),
     }
 }
@@ -157,17 +176,20 @@ pub fn program_file<F: Files>(
 pub fn code_file<F: Files>(
     alloc: Global,
     files: &mut F,
-    name: &str,
+    image: &str,
     machine: &Machine,
     digest: &[u8; 32],
 ) -> Result<Code, Status>
-    ensures { CodeFileEnds machine.now digest.now name.now
+    ensures { CodeFileEnds machine.now digest.now image.now
         (world (F.contents files.old) (F.faults files.old) (F.latest files.old))
         (world (F.contents files.new) (F.faults files.new) (F.latest files.new)) result }
 {
-    let bytes = read_file(files, name, 2)?;
-    match code_of(alloc, bytes.as_slice(), machine, digest) {
-        Ok(code) => Ok(code),
+    match read_file(files, image, 2) {
+        Ok(bytes) => {
+            let code = code_of(alloc, bytes.as_slice(), machine, digest);
+            drop(bytes);
+            code
+        }
         Err(status) => Err(status),
     }
 }
@@ -177,17 +199,20 @@ pub fn assembly_file<F: Files>(
     alloc: Global,
     units: &UnitSet,
     files: &mut F,
-    name: &str,
+    assembly: &str,
     machine: &Machine,
 ) -> Result<Code, Status>
-    ensures ends { AssemblyFileEnds (stated unit_meaning units.now) machine.now name.now
+    ensures ends { AssemblyFileEnds (stated unit_meaning units.now) machine.now assembly.now
         (world (F.contents files.old) (F.faults files.old) (F.latest files.old))
         (world (F.contents files.new) (F.faults files.new) (F.latest files.new)) result }
     ensures legal { IfOk result (λ code. IsLegalCode machine.now code) }
 {
-    let assembly = read_file(files, name, 2)?;
-    match assembly_of(alloc, assembly.as_slice(), machine, units) {
-        Ok(code) => Ok(code),
+    match read_file(files, assembly, 2) {
+        Ok(text) => {
+            let code = assembly_of(alloc, text.as_slice(), machine, units);
+            drop(text);
+            code
+        }
         Err(status) => Err(status),
     }
 }
@@ -212,9 +237,12 @@ pub fn input_file<F: Files>(
         (λ v. v.items) result }
     ensures whole { IfOk result (λ v. length v.items ≡ space) }
 {
-    let bytes = read_file(files, name, 3)?;
-    match words_of(alloc, bytes.as_slice(), space) {
-        Ok(memory) => Ok(memory),
+    match read_file(files, name, 3) {
+        Ok(bytes) => {
+            let memory = words_of(alloc, bytes.as_slice(), space);
+            drop(bytes);
+            memory
+        }
         Err(status) => Err(status),
     }
 }
