@@ -49,7 +49,12 @@ fn assemble_for<F: Files>(
         (λ v. v.items) result }
 {
     match assembly_file(alloc, units, files, name, &file.machine) {
-        Ok(code) => image_of_code(alloc, file.text.as_slice(), &file.machine, &code),
+        Ok(code) => {
+            let image = image_of_code(alloc, file.text.as_slice(), &file.machine, &code);
+            // Dropped here as a whole, so that no part of it is left to drop at the end.
+            drop(code);
+            image
+        }
         Err(status) => Err(status),
     }
 }

@@ -72,7 +72,12 @@ fn compile_program<F: Files>(
         (λ v. v.items) result }
 {
     match program_file(alloc, units, files, name) {
-        Ok(program) => image_of_pair(alloc, file, &program),
+        Ok(program) => {
+            let image = image_of_pair(alloc, file, &program);
+            // Dropped here as a whole, so that no part of it is left to drop at the end.
+            drop(program);
+            image
+        }
         Err(status) => Err(status),
     }
 }

@@ -49,7 +49,12 @@ fn show_for<F: Files>(
 {
     let digest = Sha256::digest(file.text.as_slice());
     match code_file(alloc, files, name, &file.machine, &digest) {
-        Ok(code) => text_of_code(alloc, units, &file.machine, &code),
+        Ok(code) => {
+            let text = text_of_code(alloc, units, &file.machine, &code);
+            // Dropped here as a whole, so that no part of it is left to drop at the end.
+            drop(code);
+            text
+        }
         Err(status) => Err(status),
     }
 }

@@ -41,7 +41,10 @@ fn begin_with<F: Files>(
     match program_file(alloc, units, files, program) {
         Ok(program) => match input_file(alloc, files, input, space) {
             Ok(memory) => Ok(Beginning { program, memory }),
-            Err(status) => Err(status),
+            Err(status) => {
+                drop(program);
+                Err(status)
+            }
         },
         Err(status) => Err(status),
     }

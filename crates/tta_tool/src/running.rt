@@ -48,7 +48,10 @@ fn begin_with<F: Files>(
     match code_file(alloc, files, image, &file.machine, &digest) {
         Ok(code) => match input_file(alloc, files, input, data_words(&file.machine)) {
             Ok(memory) => Ok(Beginning { code, memory }),
-            Err(status) => Err(status),
+            Err(status) => {
+                drop(code);
+                Err(status)
+            }
         },
         Err(status) => Err(status),
     }

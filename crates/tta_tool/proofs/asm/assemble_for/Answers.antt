@@ -15,8 +15,8 @@ returns-in-Ok g c =
     let m = c.args.file.now.machine in
     let text = c.args.file.now.text.items in
     let code = c.in-Ok.code in
-    let image = subst (λ t. CodeImageEnds m (sha256 t) code (λ v. v.items) c.image_of_code.result) c.as_slice.ensures.value c.image_of_code.ensures in
-    code_ends U c.args.name.now text m code before after (λ v. v.items) c.image_of_code.result c.in-Ok.ensures.ends image
+    let image = subst (λ t. CodeImageEnds m (sha256 t) code (λ v. v.items) c.image_of_code-image.result) c.as_slice.ensures.value c.image_of_code-image.ensures in
+    code_ends U c.args.name.now text m code before after (λ v. v.items) c.image_of_code-image.result c.in-Ok.ensures.ends image
 
 pub returns-in-Err : goal.returns-in-Err
 returns-in-Err g c =

@@ -10,8 +10,8 @@ returns-in-Ok g c =
     let before = world (f.contents c.args.files.now) (f.faults c.args.files.now) (f.latest c.args.files.now) in
     let after = world (f.contents c.program_file.new.files) (f.faults c.program_file.new.files) (f.latest c.program_file.new.files) in
     let file = c.args.file.now in
-    pair_ends U c.args.name.now file.text.items file.machine c.in-Ok.program before after (λ v. v.items) c.image_of_pair.result
-    c.in-Ok.ensures c.image_of_pair.ensures
+    pair_ends U c.args.name.now file.text.items file.machine c.in-Ok.program before after (λ v. v.items) c.image_of_pair-image.result
+    c.in-Ok.ensures c.image_of_pair-image.ensures
 
 pub returns-in-Err : goal.returns-in-Err
 returns-in-Err g c = program_fails _ _ _ _ _ _ c.in-Err.ensures

@@ -16,7 +16,7 @@ returns-in-Ok g c =
     let text = c.args.file.now.text.items in
     let is = c.digest-digest.ensures ∙ ap sha256 c.as_slice.ensures.value in
     let reads = subst (λ d. ReadsCode m d c.args.name.now c.in-Ok.code before after) is c.in-Ok.ensures in
-    code_ends U c.args.name.now text m c.in-Ok.code before after (λ v. v.items) c.text_of_code.result reads c.text_of_code.ensures
+    code_ends U c.args.name.now text m c.in-Ok.code before after (λ v. v.items) c.text_of_code-text.result reads c.text_of_code-text.ensures
 
 pub returns-in-Err : goal.returns-in-Err
 returns-in-Err g c =
