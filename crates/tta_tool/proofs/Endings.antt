@@ -1,15 +1,18 @@
 -- How the endings of the parts of `build` make its own.
-use Rattle.std.proofs.Common.{◌≡◌, ℕ, true, false, List, Result, Ok, Err, refl, subst, inl, inr}
+use Rattle.std.proofs.Common.{◌≡◌, ℕ, true, false, List, Result, Ok, Err, refl, sym, subst, inl, inr}
 use Rattle.sha2.specs.Sha256.{sha256}
 use Rattle.tta_ops.specs.Units.{Units}
 use Rattle.tta_machine.specs.Machine.{Machine}
 use Rattle.tta_tac.specs.Program.{Program}
+use Rattle.tta_code.specs.declared.code.Code.{Code}
+use Rattle.tta_code.specs.Agrees.{Agrees}
 use Rattle.tta_tool.specs.declared.status.Status.{Status}
 use Rattle.tta_tool.specs.declared.status.Status.TheVariants as status
 use Rattle.tta_build.specs.First.{is_first_machine, is_direct}
 use Rattle.tta_tool.specs.World.{World, IsUntouched}
-use Rattle.tta_tool.specs.Stages.{PairEnds, LacksRoom}
+use Rattle.tta_tool.specs.Stages.{ImageEnds, PairEnds, LacksRoom}
 use Rattle.tta_tool.specs.Contents.{HasMachine, MachineFails, ProgramFails, ReadsMachine, ReadsProgram}
+use Rattle.tta_tool.specs.Asm.{CodeImageEnds}
 use Rattle.tta_tool.specs.Build.{HasFirst, Builds, CompileProgramEnds, CompileForEnds, CompileEnds, IsResult}
 use Rattle.tta_tool.specs.Writing.{WriteEnds, WritingEnds}
 use Rattle.tta_tool.proofs.Worlds.{same_world, writing_ends}
@@ -34,6 +37,12 @@ program_fails u P machine before after status.NoMemory fails M OUT has same = fa
 program_fails u P machine before after s fails M OUT has same = absurd fails
 
 -- ---- the parts
+
+-- code that does what a program does, and what became of its image
+pub code_image : {T : Type 0} → (m : Machine) (p : Program) (digest : List ℕ) (code : Code) (items : T → List ℕ) (result : Result T Status)
+    → ((u : Units) → Agrees u m p code) → CodeImageEnds m digest code items result → ImageEnds m p digest items result
+code_image m p digest code items (Ok v) agrees ends = record { code = code; image = ends; agrees = agrees }
+code_image m p digest code items (Err s) agrees ends = subst (λ s. ImageEnds m p digest items (Err s)) (sym ends) tt
 
 -- a program that was read, and what became of its image
 pub pair_ends : {T : Type 0} → (u : Units) (P text : List ℕ) (m : Machine) (p : Program) (before after : World) (items : T → List ℕ) (result : Result T Status)

@@ -17,8 +17,8 @@ use tta_machine::Machine;
 use tta_ops::UnitSet;
 use tta_ports::Files;
 
-// The image of code for a machine, with the digest of the machine's text.
-fn image_of_code(
+/// The image of code for a machine, with the digest of the machine's text.
+pub fn image_of_code(
     alloc: Global,
     text: &[u8],
     machine: &Machine,

@@ -8,13 +8,12 @@ ghost use Rattle.tta_tool.specs.World.{world};
 ghost use Rattle.tta_tool.specs.Stages.{ImageEnds, PairEnds};
 ghost use Rattle.tta_tool.specs.Build.{Builds, CompileProgramEnds, CompileForEnds, CompileEnds};
 
+use crate::asm::image_of_code;
 use crate::contents::{MachineFile, machine_file, program_file};
 use crate::status::Status;
 use crate::write::write_out;
-use sha2::{Digest, Sha256};
 use std::alloc::Global;
 use tta_build::{BuildError, build, is_direct, is_first_machine};
-use tta_image::write_image;
 use tta_machine::Machine;
 use tta_ops::UnitSet;
 use tta_ports::Files;
@@ -33,11 +32,10 @@ fn image_of(
 {
     match build(alloc, machine, program) {
         Ok(built) => {
-            let digest = Sha256::digest(text);
-            match write_image(alloc, &built.code, machine, &digest) {
-                Ok(image) => Ok(image),
-                Err(_) => Err(Status::NoMemory),
-            }
+            let image = image_of_code(alloc, text, machine, &built.code);
+            // Dropped here as a whole, so that no part of it is left to drop at the end.
+            drop(built);
+            image
         }
         Err(BuildError::CodeFull { words, have }) => Err(Status::CodeFull { words, have }),
         Err(BuildError::NoMemory) => Err(Status::NoMemory),
