@@ -1,7 +1,7 @@
 //! A call that is under way.
 
 /// Which procedure was called, and the step that comes next in it.
-#[derive(Clone, Copy, Debug)]
+#[derive(Clone, Copy)]
 pub struct Entry {
     pub proc: usize,
     pub at: usize,

@@ -1,7 +1,7 @@
 //! Whether a run goes on.
 
 /// Whether a run goes on, and how it ended.
-#[derive(Clone, Copy, Debug)]
+#[derive(Clone, Copy)]
 pub enum Phase {
     Running,
     /// A `halt` was carried out; the calls stay under way.

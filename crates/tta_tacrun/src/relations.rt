@@ -36,7 +36,7 @@ fn is_odd_at(units: &UnitSet, name: &[u8], last: &mut OpId, a: u32, b: u32) -> b
 
 /// The operations that conditions ask, as they were found last. Their names are looked at each
 /// time, so nothing hangs on them but time.
-#[derive(Clone, Copy, Debug)]
+#[derive(Clone, Copy)]
 pub struct Relations {
     eq: OpId,
     lt: OpId,
