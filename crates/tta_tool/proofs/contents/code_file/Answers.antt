@@ -1,5 +1,4 @@
 use Rattle.std.proofs.Common.{ℕ, List, subst}
-use Rattle.tta_tool.specs.World.{world}
 use Rattle.tta_tool.specs.Stages.{CodeEnds}
 use Rattle.tta_tool.proofs.Readings.{code_read, code_unread}
 use Rattle.tta_tool.proofs.contents.code_file.Goals as goal

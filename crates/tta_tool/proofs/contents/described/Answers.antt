@@ -1,4 +1,4 @@
-use Rattle.std.proofs.Common.{◌≡◌, ℕ, List, Ok, Err, refl, subst}
+use Rattle.std.proofs.Common.{◌≡◌, Ok, Err, refl, subst}
 use Rattle.tta_ops.specs.Set.{stated}
 use Rattle.tta_machine.specs.Text.{machine_of_text}
 use Rattle.tta_tool.specs.Stages.{MachineEnds}

@@ -1,4 +1,3 @@
-use Rattle.std.proofs.Common.{ℕ, List}
 use Rattle.tta_ops.specs.Set.{stated}
 use Rattle.tta_tool.proofs.Readings.{machine_read, machine_unread}
 use Rattle.tta_tool.proofs.contents.machine_file.Goals as goal
