@@ -1,12 +1,12 @@
 -- What a search along calls has found.
-use Rattle.std.proofs.Common.{◌≡◌, ℕ, suc, ◌+◌, ◌<◌, ◌≤◌, Bool, true, false, List, [], ◌∷◌, ◌++◌, length, get_or, take, set, replicate, zero, refl, sym, ◌∙◌, ap, arith, length-append, inl, inr, ◌≢◌, ◌⊎◌}
+use Rattle.std.proofs.Common.{◌≡◌, ℕ, suc, ◌+◌, ◌<◌, ◌≤◌, Bool, true, false, List, [], ◌∷◌, ◌++◌, length, get_or, take, set, replicate, zero, refl, sym, ◌∙◌, ap, arith, length-append, inl, inr, ◌≢◌, ◌⊎◌, append_assoc, subst}
 use Rattle.std.specs.Prelude.{◌||◌, ◌&&◌, ◌==◌, nat_lt}
 use Rattle.std.specs.List.{list_any}
 use Rattle.std.proofs.lemmas.List.Folds.{list_any-append, list_any_more, list_any_at}
 use Rattle.std.proofs.lemmas.Bool.{eqb-true, eq-eqb, or_cases}
 use Rattle.std.proofs.lemmas.Bool.Decides.{eqb_tells}
 use Rattle.std.proofs.Math.Dec.{eqb}
-use Rattle.std.proofs.lemmas.List.{take_all, take-append-le}
+use Rattle.std.proofs.lemmas.List.{append-nil, take_all, take-append-le}
 use Rattle.std.proofs.Common.{get_or-set_same, get_or-set_other, length-set}
 use Rattle.tta_tac.specs.declared.step.Step.{Step}
 use Rattle.tta_tac.specs.declared.program.Proc.{Proc}
@@ -47,6 +47,50 @@ marks_one marks found place h below clear = record {
       let other : k ≢ place = λ e. t.1 (sym e) in
       get_or-set_other marks place k true false other ∙ h.same k
       ∙ sym (found_more found place k ∙ ap (λ b. is_found found k || b) t.0 ∙ or_false (is_found found k))
+
+-- ---- the steps that were looked at
+
+-- before the first look
+pub finds_none : (places : ℕ) (found : List ℕ) → Finds places (λ k. false) found found
+finds_none places found = record {
+  all = λ k. sym (none (is_found found k) (nat_lt k places));
+  more = [];
+  front = sym (append-nil found);
+} where
+  none : (a w : Bool) → (a || (w && false)) ≡ a
+  none true w = refl
+  none false true = refl
+  none false false = refl
+
+-- one more look, at the next step, where there are as many places as before
+pub finds_more : (places now : ℕ) (steps : List Step) (i : ℕ) (step : Step) (first before after : List ℕ)
+    → now ≡ places → i < length steps → step ≡ get_or steps i step
+    → Finds places (λ k. list_any (calls_proc k) (take i steps)) first before
+    → Finds now (λ k. calls_proc k step) before after
+    → Finds places (λ k. list_any (calls_proc k) (take (i + 1) steps)) first after
+finds_more places now steps i step first before after same below at old new = record {
+  all = λ k. new.all k ∙ ap (λ (n : ℕ). is_found before k || (nat_lt k n && calls_proc k step)) same
+      ∙ ap (λ b. b || (nat_lt k places && calls_proc k step)) (old.all k)
+      ∙ both (is_found first k) (nat_lt k places) (list_any (calls_proc k) (take i steps)) (calls_proc k step)
+      ∙ ap (λ b. is_found first k || (nat_lt k places && b)) (sym (one_more k));
+  more = old.more ++ new.more;
+  front = new.front ∙ ap (λ l. l ++ new.more) old.front ∙ append_assoc first old.more new.more;
+} where
+  one_more : (k : ℕ) → list_any (calls_proc k) (take (i + 1) steps) ≡ (list_any (calls_proc k) (take i steps) || calls_proc k step)
+  one_more k = list_any_more (calls_proc k) steps i step below
+      ∙ ap (λ s. list_any (calls_proc k) (take i steps) || calls_proc k s) (sym at)
+
+  both : (a w b c : Bool) → ((a || (w && b)) || (w && c)) ≡ (a || (w && (b || c)))
+  both true w b c = refl
+  both false true b c = refl
+  both false false b c = refl
+
+-- after the last look
+pub finds_all : (places : ℕ) (steps : List Step) (i : ℕ) (first found : List ℕ) → length steps ≤ i
+    → Finds places (λ k. list_any (calls_proc k) (take i steps)) first found
+    → Finds places (λ k. list_any (calls_proc k) steps) first found
+finds_all places steps i first found past h =
+    subst (λ (ss : List Step). Finds places (λ k. list_any (calls_proc k) ss) first found) (take_all i steps past) h
 
 -- ---- a search from one procedure
 
