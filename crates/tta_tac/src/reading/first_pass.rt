@@ -8,7 +8,7 @@ ghost use Rattle.tta_ops.specs.Set.{stated};
 ghost use Rattle.tta_tac.specs.Draft.{draft_seen, proc_seen, nothing};
 ghost use Rattle.tta_tac.specs.DraftRules.{IsDraft, IsBegun};
 ghost use Rattle.tta_tac.specs.FirstPass.{take_line, take_form, take_proc, take_label, take_step};
-ghost use Rattle.tta_tac.specs.FirstPass.{has_twice, numbered, with_fresh, labelled, stepped};
+ghost use Rattle.tta_tac.specs.FirstPass.{has_twice, numbered, with_fresh, labelled, stepped, close_if};
 ghost use Rattle.tta_tac.specs.Seen.{Says, form_seen, texts};
 
 use crate::reading::declarations::declare_names;
@@ -138,11 +138,19 @@ impl<'t> Draft<'t> {
             with_fresh (draft_seen self.old) line name.now (texts params.now)) }
     {
         let number = self.procs.len() as u32;
-        let proc = new_proc(alloc, line, params)?;
         self.names.add(alloc, name, number)?;
-        self.begun = Some(proc);
-        self.lines += 1;
+        let proc = new_proc(alloc, line, params)?;
+        self.put_back(proc);
         Ok(())
+    }
+
+    // puts a procedure that has not ended into the draft, after one line more
+    fn put_back(&mut self, proc: DraftProc<'t>)
+        requires { self.old.lines ≤ 65535 }
+        ensures { draft_seen self.new ≡ labelled (draft_seen self.old) (proc_seen proc.entry) }
+    {
+        drop(self.begun.replace(proc));
+        self.lines += 1;
     }
 
     // whether a procedure has this name already, or a parameter stands twice
@@ -169,10 +177,16 @@ impl<'t> Draft<'t> {
         ensures { Says (draft_seen self.new) result
             (take_label (draft_seen self.old) (proc_seen proc.entry) name.now) }
     {
-        self.add_label(alloc, &mut proc, name)?;
-        self.begun = Some(proc);
-        self.lines += 1;
-        Ok(())
+        match self.add_label(alloc, &mut proc, name) {
+            Ok(()) => {
+                self.put_back(proc);
+                Ok(())
+            }
+            Err(error) => {
+                drop(proc);
+                Err(error)
+            }
+        }
     }
 
     // the label of a line in a procedure that was moved out of the draft
@@ -202,7 +216,6 @@ impl<'t> Draft<'t> {
     /// Takes a step of a begun procedure that was moved out of the draft. It is refused as
     /// `UnknownOp` or `Arity` by its operation, and as `TooMany` where it has more than eight
     /// arguments, brings the procedure's 4,097th variable, or 65,536 lines were read.
-    #[tactic(auto, using(crate::proofs::Seen::procs_seen_append))]
     fn take_step(
         &mut self,
         alloc: Global,
@@ -216,12 +229,31 @@ impl<'t> Draft<'t> {
         ensures { Says (draft_seen self.new) result (take_step (stated unit_meaning units.now)
             (draft_seen self.old) (proc_seen proc.entry) line (form_seen form.now)) }
     {
-        self.add_step(alloc, units, &mut proc, line, form)?;
-        self.lines += 1;
-        if is_end(form) {
+        match self.add_step(alloc, units, &mut proc, line, form) {
+            Ok(()) => {
+                self.put_stepped(proc, is_end(form))?;
+                Ok(())
+            }
+            Err(error) => {
+                drop(proc);
+                Err(error)
+            }
+        }
+    }
+
+    // puts a procedure into the draft after a step, by which it may have ended
+    #[tactic(auto, using(crate::proofs::Seen::procs_seen_append))]
+    fn put_stepped(&mut self, proc: DraftProc<'t>, ends: bool) -> Result<(), AllocError>
+        requires lines { self.old.lines ≤ 65535 }
+        requires moved { self.old.begun ≡ None }
+        ensures { let next = record (draft_seen self.old) { lines = self.old.lines + 1 } in
+            OnOk result (draft_seen self.new ≡ close_if ends next (proc_seen proc.entry)) }
+    {
+        if ends {
+            self.lines += 1;
             self.procs.push(proc)?;
         } else {
-            self.begun = Some(proc);
+            self.put_back(proc);
         }
         Ok(())
     }
