@@ -23,9 +23,18 @@ pub fn first_recursive(alloc: Global, procs: &[Proc]) -> Result<Option<usize>, A
         MatchOption first (IsAcyclic procs.now) (IsFirstRecursive procs.now)) }
 {
     let numbers = numbers_of(alloc, procs)?;
-    let level = are_level(procs, numbers.as_slice());
+    first_back(alloc, procs, numbers.as_slice())
+}
+
+/// The place of the first procedure that leads back to itself, where one number is given for each.
+fn first_back(alloc: Global, procs: &[Proc], numbers: &[u64]) -> Result<Option<usize>, AllocError>
+    requires { length numbers.now ≡ length procs.now }
+    ensures { IfOk result (λ first.
+        MatchOption first (IsAcyclic procs.now) (IsFirstRecursive procs.now)) }
+{
+    let level = are_level(procs, numbers);
     for place in 0..procs.len() {
-        if falls(procs, numbers.as_slice(), level, place) {
+        if falls(procs, numbers, level, place) {
             continue;
         }
         if leads_back(alloc, procs, place)? {

@@ -39,14 +39,27 @@ pub fn numbers_of(alloc: Global, procs: &[Proc]) -> Result<Vec<u64>, AllocError>
     ensures { IfOk result (λ numbers. length numbers.items ≡ length procs.now) }
 {
     let mut walk = start(alloc, procs)?;
+    match walk_on(&mut walk, procs) {
+        Ok(()) => Ok(walk.numbers),
+        Err(error) => {
+            drop(walk);
+            Err(error)
+        }
+    }
+}
+
+/// Makes all visits that a walk has left to do.
+fn walk_on(walk: &mut Walk, procs: &[Proc]) -> Result<(), AllocError>
+    ensures { length walk.new.numbers.items ≡ length walk.old.numbers.items }
+{
     for time in 0..NEVER {
         match walk.visits.pop() {
             None => break,
-            Some(Visit::Enter(place)) => enter(&mut walk, procs, place, time)?,
-            Some(Visit::Leave(place)) => leave(&mut walk, procs, place, time),
+            Some(Visit::Enter(place)) => enter(walk, procs, place, time)?,
+            Some(Visit::Leave(place)) => leave(walk, procs, place, time),
         }
     }
-    Ok(walk.numbers)
+    Ok(())
 }
 
 /// A walk that is to enter each procedure.

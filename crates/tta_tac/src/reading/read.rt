@@ -4,7 +4,7 @@ ghost use Rattle.std.specs.Prelude.{◌≡◌, ◌≤◌, ◌^◌, length, IfOk,
 ghost use Rattle.tta_ops.specs.Set.{stated};
 ghost use Rattle.tta_tac.specs.Draft.{draft_seen, nothing};
 ghost use Rattle.tta_tac.specs.Text.{ProgramText, HasCause};
-ghost use Rattle.tta_tac.specs.Whole.{DraftEnds, TakesAll};
+ghost use Rattle.tta_tac.specs.Whole.{TakesAll};
 
 use crate::program::Program;
 use crate::reading::draft::Draft;
@@ -13,16 +13,6 @@ use crate::reading::refusal::{LineError, Refusal, TacError};
 use std::alloc::Global;
 use tta_ops::UnitSet;
 use tta_reading::Lines;
-
-// What all lines of a text say.
-fn read_draft<'t>(alloc: Global, text: &'t [u8], units: &UnitSet) -> Result<Draft<'t>, TacError>
-    requires { length text.now ≤ 2 ^ 24 }
-    ensures { DraftEnds (stated unit_meaning units.now) text.now (λ d. draft_seen d) result }
-{
-    let mut draft = Draft::new(alloc);
-    read_lines(alloc, text, units, &mut draft)?;
-    Ok(draft)
-}
 
 // Takes all lines of a text into an empty draft. A text that ends inside a procedure is refused at
 // the line behind it.
@@ -64,6 +54,24 @@ fn read_lines<'t>(
     Ok(())
 }
 
+// The program of a text, whose lines are taken into an empty draft.
+fn program_of<'t>(
+    alloc: Global,
+    text: &'t [u8],
+    units: &UnitSet,
+    draft: &mut Draft<'t>,
+) -> Result<Program, TacError>
+    requires short { length text.now ≤ 2 ^ 24 }
+    requires empty { draft_seen draft.old ≡ nothing }
+    ensures read { IfOk result (ProgramText (stated unit_meaning units.now) text.now) }
+    ensures refused { IfErr result (HasCause (stated unit_meaning units.now) text.now) }
+{
+    match read_lines(alloc, text, units, draft) {
+        Ok(()) => finish(alloc, draft),
+        Err(error) => Err(error),
+    }
+}
+
 /// The program of a text, over these operation units. The text has at most 2^24 bytes.
 ///
 /// `Refused` tells the first refusal of the text with its line, counted from 1 (0 stands for the
@@ -73,8 +81,8 @@ pub fn read_program(alloc: Global, text: &[u8], units: &UnitSet) -> Result<Progr
     ensures read { IfOk result (ProgramText (stated unit_meaning units.now) text.now) }
     ensures refused { IfErr result (HasCause (stated unit_meaning units.now) text.now) }
 {
-    match read_draft(alloc, text, units) {
-        Ok(draft) => finish(alloc, &draft),
-        Err(error) => Err(error),
-    }
+    let mut draft = Draft::new(alloc);
+    let program = program_of(alloc, text, units, &mut draft);
+    drop(draft);
+    program
 }
