@@ -3,8 +3,9 @@
 //! Each function takes the words of a line behind those that chose the form, and gives what they
 //! say, or `None` where the words are not of the form. Whether a name is known is not judged here.
 
-ghost use Rattle.std.specs.Prelude.{◌≡◌, map, option_map};
+ghost use Rattle.std.specs.Prelude.{◌≡◌, map, option_map, Some};
 ghost use Rattle.tta_reading.specs.Lines.{plain};
+ghost use Rattle.tta_reading.specs.Steps.{◌>>?◌};
 ghost use Rattle.tta_tac.specs.Forms as spec;
 ghost use Rattle.tta_tac.specs.Seen.{form_seen};
 
@@ -96,17 +97,32 @@ fn if_form<'w, 't>(words: &'w [Word<'t>]) -> Option<Form<'w, 't>>
 {
     match words {
         [rel, a, b, goto, label] => {
-            if !goto.is_keyword(b"goto") {
-                return None;
+            if goto.is_keyword(b"goto") {
+                branch_of(rel, a, b, label)
+            } else {
+                None
             }
-            let rel = rel_of(rel)?;
-            let a = operand_of(a)?;
-            let b = operand_of(b)?;
-            let label = free_name(label)?;
-            Some(Form::If { rel, a, b, label })
         }
         _ => None,
     }
+}
+
+/// A branch where a condition holds.
+fn branch_of<'w, 't>(
+    rel: &Word<'t>,
+    a: &Word<'t>,
+    b: &Word<'t>,
+    label: &Word<'t>,
+) -> Option<Form<'w, 't>>
+    ensures { option_map form_seen result ≡ (spec.rel_of (plain rel.now) >>? λ rel.
+        spec.operand_of (plain a.now) >>? λ left. spec.operand_of (plain b.now) >>? λ right.
+        spec.free_name (plain label.now) >>? λ label. Some (spec.IfForm rel left right label)) }
+{
+    let rel = rel_of(rel)?;
+    let a = operand_of(a)?;
+    let b = operand_of(b)?;
+    let label = free_name(label)?;
+    Some(Form::If { rel, a, b, label })
 }
 
 /// `goto NAME`
@@ -130,18 +146,35 @@ fn when_form<'w, 't>(words: &'w [Word<'t>]) -> Option<Form<'w, 't>>
 {
     match words {
         [rel, a, b, d, equals, s] => {
-            if !equals.is_mark(b"=") {
-                return None;
+            if equals.is_mark(b"=") {
+                move_of(rel, a, b, d, s)
+            } else {
+                None
             }
-            let rel = rel_of(rel)?;
-            let a = operand_of(a)?;
-            let b = operand_of(b)?;
-            let d = free_name(d)?;
-            let s = operand_of(s)?;
-            Some(Form::When { rel, a, b, d, s })
         }
         _ => None,
     }
+}
+
+/// A move where a condition holds.
+fn move_of<'w, 't>(
+    rel: &Word<'t>,
+    a: &Word<'t>,
+    b: &Word<'t>,
+    d: &Word<'t>,
+    s: &Word<'t>,
+) -> Option<Form<'w, 't>>
+    ensures { option_map form_seen result ≡ (spec.rel_of (plain rel.now) >>? λ rel.
+        spec.operand_of (plain a.now) >>? λ left. spec.operand_of (plain b.now) >>? λ right.
+        spec.free_name (plain d.now) >>? λ target. spec.operand_of (plain s.now) >>? λ value.
+        Some (spec.WhenForm rel left right target value)) }
+{
+    let rel = rel_of(rel)?;
+    let a = operand_of(a)?;
+    let b = operand_of(b)?;
+    let d = free_name(d)?;
+    let s = operand_of(s)?;
+    Some(Form::When { rel, a, b, d, s })
 }
 
 /// `return` and `return s`
