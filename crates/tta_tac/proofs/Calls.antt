@@ -1,9 +1,9 @@
 -- Procedures that others lead to by calls.
-use Rattle.std.proofs.Common.{◌≡◌, ℕ, ◌<◌, ◌≤◌, Bool, true, false, List, [], ◌∷◌, length, get_or, Option, Some, None, nat_le, nat_lt, refl, sym, ap, ◌∙◌, arith}
+use Rattle.std.proofs.Common.{◌≡◌, ℕ, ◌<◌, ◌≤◌, Bool, true, false, List, [], ◌∷◌, length, get_or, Option, Some, None, nat_le, refl, sym, ap, ◌∙◌, arith}
 use Rattle.std.specs.Prelude.{◌||◌, slice_get}
 use Rattle.std.specs.List.{list_all, list_any}
 use Rattle.std.specs.Option.{option_map_or}
-use Rattle.std.proofs.lemmas.Bool.{leb-true, ltb-true}
+use Rattle.std.proofs.lemmas.Bool.{leb-true}
 use Rattle.std.proofs.lemmas.Option.{slice_get_read, slice_get_within, slice_get-get_or, get_or_from_slice_get}
 use Rattle.tta_tac.specs.declared.step.Step.{Step}
 use Rattle.tta_tac.specs.declared.step.Step.TheVariants.{Invoke}
@@ -78,14 +78,13 @@ module _ (procs : List Proc) (numbers : List ℕ) (size : length numbers ≡ len
       omega arith
 
   -- a procedure all of whose calls go to smaller numbers does not lead back to itself
-  pub not_back : (k : ℕ) (q : Proc) → k < length procs → q ≡ get_or procs k q → list_all (passes (λ n. nat_lt n (get_or numbers k 0)) numbers) q.steps ≡ true
-      → Reaches (with_main procs 0) k k → ⊥
-  not_back k q within at falls (ByCall _ _ e) =
-      let less = ltb-true (get_or numbers k 0) (get_or numbers k 0) (call_passes (λ n. nat_lt n (get_or numbers k 0)) k k q within at falls e within) in
+  pub not_back : (k : ℕ) (q : Proc) (most : ℕ) → k < length procs → q ≡ get_or procs k q → most < get_or numbers k 0
+      → list_all (passes (λ n. nat_le n most) numbers) q.steps ≡ true → Reaches (with_main procs 0) k k → ⊥
+  not_back k q most within at less falls (ByCall _ _ e) =
+      let one = leb-true (get_or numbers k 0) most (call_passes (λ n. nat_le n most) k k q within at falls e within) in
       absurd (omega arith)
-  not_back k q within at falls (ByMore _ via _ e r) =
-      let less = ltb-true (get_or numbers via 0) (get_or numbers k 0)
-      (call_passes (λ n. nat_lt n (get_or numbers k 0)) k via q within at falls e (reaches_within procs via k r)) in
+  not_back k q most within at less falls (ByMore _ via _ e r) =
+      let one = leb-true (get_or numbers via 0) most (call_passes (λ n. nat_le n most) k via q within at falls e (reaches_within procs via k r)) in
       let back = reach_level via k r within in
       absurd (omega arith)
 

@@ -11,7 +11,7 @@ ghost use Rattle.tta_tac.specs.Cycles.{AreLevel, IsAcyclic, IsMarked, Finds};
 ghost use Rattle.tta_tac.specs.Rules.{Reaches, calls_proc};
 ghost use Rattle.tta_tac.specs.Text.{with_main, IsFirstRecursive};
 
-use super::order::{are_below, are_level, numbers_of};
+use super::order::{are_at_most, are_level, numbers_of};
 use crate::program::Proc;
 use crate::step::Step;
 use std::alloc::{AllocError, Global};
@@ -52,8 +52,9 @@ fn falls(procs: &[Proc], numbers: &[u64], level: bool, place: usize) -> bool
     requires within { place < length procs.now }
     ensures { result ≡ true → Reaches (with_main procs.now 0) place place → ⊥ }
 {
-    if level {
-        are_below(procs[place].steps.as_slice(), numbers, numbers[place])
+    let own = numbers[place];
+    if level && own > 0 {
+        are_at_most(procs[place].steps.as_slice(), numbers, own - 1)
     } else {
         false
     }

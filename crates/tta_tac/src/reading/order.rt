@@ -1,7 +1,7 @@
 //! Numbers of procedures that never rise along calls. Procedures that lead to one another have the
 //! same number, and all others have different ones; but nothing hangs on that but time.
 
-ghost use Rattle.std.specs.Prelude.{◌≡◌, true, false, nat_le, nat_lt, length, slice_index_or, IfOk};
+ghost use Rattle.std.specs.Prelude.{◌≡◌, true, false, nat_le, length, slice_index_or, IfOk};
 ghost use Rattle.std.specs.List.{list_all};
 ghost use Rattle.tta_tac.specs.Cycles.{AreLevel, passes};
 
@@ -13,7 +13,7 @@ use std::alloc::{AllocError, Global};
 const NEVER: u64 = u64::MAX;
 
 /// What is left to do on a walk along the calls, the next at the end.
-#[derive(Drop)]
+#[derive(Clone, Copy)]
 enum Visit {
     Enter(usize),
     Leave(usize),
@@ -176,37 +176,23 @@ pub fn are_level(procs: &[Proc], numbers: &[u64]) -> bool
 }
 
 /// Whether all calls among steps go to procedures whose number is no greater than this one.
-fn are_at_most(steps: &[Step], numbers: &[u64], own: u64) -> bool
-    ensures { result ≡ list_all (passes (λ n. nat_le n own) numbers.now) steps.now }
+pub fn are_at_most(steps: &[Step], numbers: &[u64], most: u64) -> bool
+    ensures { result ≡ list_all (passes (λ n. nat_le n most) numbers.now) steps.now }
 {
-    steps.iter().all(|step| is_at_most(step, numbers, own))
-}
-
-fn is_at_most(step: &Step, numbers: &[u64], own: u64) -> bool
-    ensures { result ≡ passes (λ n. nat_le n own) numbers.now step.now }
-{
-    match step {
-        Step::Invoke { callee, .. } => match numbers.get(*callee as usize) {
-            Some(number) => *number <= own,
-            None => true,
-        },
-        _ => true,
+    for step in steps {
+        if !is_at_most(step, numbers, most) {
+            return false;
+        }
     }
+    true
 }
 
-/// Whether all calls among steps go to procedures whose number is smaller than this one.
-pub fn are_below(steps: &[Step], numbers: &[u64], own: u64) -> bool
-    ensures { result ≡ list_all (passes (λ n. nat_lt n own) numbers.now) steps.now }
-{
-    steps.iter().all(|step| is_below(step, numbers, own))
-}
-
-fn is_below(step: &Step, numbers: &[u64], own: u64) -> bool
-    ensures { result ≡ passes (λ n. nat_lt n own) numbers.now step.now }
+fn is_at_most(step: &Step, numbers: &[u64], most: u64) -> bool
+    ensures { result ≡ passes (λ n. nat_le n most) numbers.now step.now }
 {
     match step {
         Step::Invoke { callee, .. } => match numbers.get(*callee as usize) {
-            Some(number) => *number < own,
+            Some(number) => *number <= most,
             None => true,
         },
         _ => true,

@@ -1,6 +1,6 @@
 //! The parameters of a procedure.
 
-ghost use Rattle.std.specs.Prelude.{◌≡◌, ◌≤◌, false, length, IfOk};
+ghost use Rattle.std.specs.Prelude.{◌≡◌, ◌≤◌, false, length, [], IfOk};
 ghost use Rattle.tta_tac.specs.FirstPass.{has_twice, numbered};
 ghost use Rattle.tta_tac.specs.Seen.{texts};
 
@@ -13,6 +13,16 @@ pub fn has_twice(alloc: Global, words: &[Word]) -> Result<bool, AllocError>
     ensures { IfOk result (λ twice. twice ≡ has_twice (texts words.now)) }
 {
     let mut seen = Names::new(alloc);
+    let twice = sees_twice(alloc, words, &mut seen);
+    drop(seen);
+    twice
+}
+
+/// Whether a name stands twice among words, of which none was seen before.
+fn sees_twice(alloc: Global, words: &[Word], seen: &mut Names<()>) -> Result<bool, AllocError>
+    requires { seen.old ≡ [] }
+    ensures { IfOk result (λ twice. twice ≡ has_twice (texts words.now)) }
+{
     for word in words {
         if seen.get(word.text).is_some() {
             return Ok(true);

@@ -80,7 +80,7 @@ impl<T: Drop> From<AllocFailed<T>> for TacError {
 }
 
 /// Why a line could not be taken.
-#[derive(Clone, Copy, Debug, PartialEq, Eq)]
+#[derive(Clone, Copy)]
 pub enum LineError {
     Refused(Refusal),
     NoMemory,

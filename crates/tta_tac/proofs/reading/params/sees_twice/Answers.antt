@@ -1,10 +1,10 @@
 use Rattle.std.proofs.Common.{◌∙◌}
 use Rattle.tta_tac.specs.Seen.{texts}
-use Rattle.tta_tac.proofs.reading.params.has_twice.Goals as goal
+use Rattle.tta_tac.proofs.reading.params.sees_twice.Goals as goal
 use Rattle.tta_tac.proofs.Twice.{is_twice_none, is_twice_step}
 
 pub loop-word-init : goal.loop-word-init
-loop-word-init c = rw c.new-seen.ensures (is_twice_none (Unit {0}) (texts c.args.words.now))
+loop-word-init c = rw c.requires (is_twice_none (Unit {0}) (texts c.args.words.now))
 
 pub loop-word-preserved : goal.loop-word-preserved
 loop-word-preserved c =
