@@ -66,13 +66,23 @@ fn walk_on(walk: &mut Walk, procs: &[Proc]) -> Result<(), AllocError>
 fn start(alloc: Global, procs: &[Proc]) -> Result<Walk, AllocError>
     ensures { IfOk result (λ walk. length walk.numbers.items ≡ length procs.now) }
 {
+    let visits = enter_all(alloc, procs.len())?;
     Ok(Walk {
-        visits: (0..procs.len()).map(Visit::Enter).collect(alloc)?,
+        visits,
         entered: vec![in alloc; NEVER; procs.len()]?,
         firsts: vec![in alloc; NEVER; procs.len()]?,
         open: Vec::new(alloc),
         numbers: vec![in alloc; NEVER; procs.len()]?,
     })
+}
+
+/// Visits that enter so many procedures.
+fn enter_all(alloc: Global, count: usize) -> Result<Vec<Visit>, AllocError> {
+    let mut visits = Vec::new(alloc);
+    for place in 0..count {
+        visits.push(Visit::Enter(place))?;
+    }
+    Ok(visits)
 }
 
 /// Enters a procedure where it was not entered before.
