@@ -57,14 +57,24 @@ pub fn rel_of(word: &Word) -> Option<Rel>
 fn are_operands(words: &[Word]) -> bool
     ensures { result ≡ list_all (λ w. is_some (spec.operand_of (plain w))) words.now }
 {
-    words.iter().all(|word| operand_of(word).is_some())
+    for word in words {
+        if operand_of(word).is_none() {
+            return false;
+        }
+    }
+    true
 }
 
 /// Whether all words are free names.
 fn are_free_names(words: &[Word]) -> bool
     ensures { result ≡ list_all (λ w. is_some (spec.free_name (plain w))) words.now }
 {
-    words.iter().all(|word| free_name(word).is_some())
+    for word in words {
+        if free_name(word).is_none() {
+            return false;
+        }
+    }
+    true
 }
 
 /// Words, where all of them are operands; they stand for those.
