@@ -5,7 +5,8 @@
 //! no way leads back. So a search, which takes as long as there are calls, is made of the procedure
 //! that is told, and of no other.
 
-ghost use Rattle.std.specs.Prelude.{◌≡◌, ◌<◌, ◌==◌, true, false, length, IfOk, OnOk, MatchOption};
+ghost use Rattle.std.specs.Prelude.{◌≡◌, ◌<◌, ◌==◌, true, false, length, [], IfOk, OnOk, MatchOption};
+ghost use Rattle.std.specs.Prelude.{replicate, slice_index_or};
 ghost use Rattle.std.specs.List.{list_any};
 ghost use Rattle.tta_tac.specs.Cycles.{AreLevel, IsAcyclic, IsMarked, Finds};
 ghost use Rattle.tta_tac.specs.Rules.{Reaches, calls_proc};
@@ -69,14 +70,36 @@ fn leads_back(alloc: Global, procs: &[Proc], from: usize) -> Result<bool, AllocE
 {
     let mut marks = vec![in alloc; false; procs.len()]?;
     let mut found = Vec::new(alloc);
-    mark_callees(procs[from].steps.as_slice(), &mut marks, &mut found)?;
+    match mark_reached(procs, from, &mut marks, &mut found) {
+        Ok(()) => Ok(marks[from]),
+        Err(error) => Err(error),
+    }
+}
+
+/// Finds and marks the procedures that one leads to, where none was found.
+fn mark_reached(
+    procs: &[Proc],
+    from: usize,
+    marks: &mut Vec<bool>,
+    found: &mut Vec<usize>,
+) -> Result<(), AllocError>
+    requires within { from < length procs.now }
+    requires clear { marks.old.items ≡ replicate (length procs.now) false }
+    requires none { found.old.items ≡ [] }
+    ensures size { OnOk result (length marks.new.items ≡ length procs.now) }
+    ensures back { OnOk result (slice_index_or marks.new.items from false ≡ true
+        → Reaches (with_main procs.now 0) from from) }
+    ensures no { OnOk result (slice_index_or marks.new.items from false ≡ false
+        → Reaches (with_main procs.now 0) from from → ⊥) }
+{
+    mark_callees(procs[from].steps.as_slice(), marks, found)?;
     let mut next = 0;
     while next < found.len() {
         let place = found[next];
-        mark_callees(procs[place].steps.as_slice(), &mut marks, &mut found)?;
+        mark_callees(procs[place].steps.as_slice(), marks, found)?;
         next += 1;
     }
-    Ok(marks[from])
+    Ok(())
 }
 
 /// Finds the procedures that steps call.

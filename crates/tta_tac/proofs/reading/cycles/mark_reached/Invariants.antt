@@ -1,6 +1,6 @@
 use Rattle.std.proofs.Common.{◌-◌, length}
 use Rattle.tta_tac.proofs.Search.{IsSearch}
-use Rattle.tta_tac.proofs.reading.cycles.leads_back.Given as goal
+use Rattle.tta_tac.proofs.reading.cycles.mark_reached.Given as goal
 
 abbrev pub invariant-loop-next : goal.invariant-loop-next
 invariant-loop-next l = IsSearch l.procs l.from l.marks.items l.found.items l.next

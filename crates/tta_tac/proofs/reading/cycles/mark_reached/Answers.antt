@@ -1,21 +1,18 @@
 -- The search keeps what it has found, up to the end.
-use Rattle.std.proofs.Common.{◌≡◌, ◌<◌, ◌≤◌, false, length, replicate, get_or, arith, rules, sym, ◌∙◌, ap}
+use Rattle.std.proofs.Common.{◌<◌, ◌≤◌, false, length, rules, sym, ◌∙◌, ap}
 use Rattle.std.proofs.lemmas.List.{length-replicate}
 use Rattle.tta_tac.proofs.Search.{unmarked, search_first, place_within, search_step, search_no}
-use Rattle.tta_tac.proofs.reading.cycles.leads_back.Goals as goal
+use Rattle.tta_tac.proofs.reading.cycles.mark_reached.Goals as goal
 
 pub mark_callees-requires : goal.mark_callees-requires
-mark_callees-requires c =
-    let clear : c.in_ok-marks.marks.items ≡ replicate (length c.args.procs.now) false = search rules in
-    rw (clear, c.new-found.ensures.items) (unmarked (length c.args.procs.now))
+mark_callees-requires c = rw (c.requires.clear, c.requires.none) (unmarked (length c.args.procs.now))
 
 pub loop-next-init : goal.loop-next-init
 loop-next-init c =
-    let clear : c.in_ok-marks.marks.items ≡ replicate (length c.args.procs.now) false = search rules in
-    search_first c.args.procs.now c.args.from c.in_ok-marks.marks.items c.mark_callees.new.marks.items c.new-found.result.items
-    c.mark_callees.new.found.items c.index-procs-from.result c.as_slice.result.now c.requires c.index-procs-from.is
+    search_first c.args.procs.now c.args.from c.args.marks.now.items c.mark_callees.new.marks.items c.args.found.now.items
+    c.mark_callees.new.found.items c.index-procs-from.result c.as_slice.result.now c.requires.within c.index-procs-from.is
     (c.as_slice.ensures ∙ ap (λ q. q.steps) (sym c.index-procs-from.is))
-    c.new-found.ensures.items (ap length clear ∙ length-replicate (length c.args.procs.now) false)
+    c.requires.none (ap length c.requires.clear ∙ length-replicate (length c.args.procs.now) false)
     c.in_ok-mark_callees.ensures.size c.in_ok-mark_callees.ensures.marked c.in_ok-mark_callees.ensures.finds
 
 pub offset_bounds-procs-place : goal.offset_bounds-procs-place
@@ -41,5 +38,4 @@ loop-next-preserved c =
 pub returns-clause-no : goal.returns-clause-no
 returns-clause-no c clear r =
     let all : length c.loop-next.found.items ≤ c.loop-next.next = search rules in
-    let mark : get_or c.loop-next.marks.items c.args.from false ≡ false = grind (arith, c.index.ensures, clear) in
-    search_no _ _ _ _ _ c.loop-next.invariant c.requires all mark r
+    search_no _ _ _ _ _ c.loop-next.invariant c.requires.within all clear r
