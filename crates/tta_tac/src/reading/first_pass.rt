@@ -1,21 +1,21 @@
 //! What each line of a program's text does to the draft.
 
-ghost use Rattle.std.specs.Prelude.{◌≡◌, ◌≤◌, ◌+◌, ◌&&◌, ◌||◌, nat_lt, false, [], None};
-ghost use Rattle.std.specs.Prelude.{is_some, codes, bytes_eq, length, map, IfOk, OnOk};
+ghost use Rattle.std.specs.Prelude.{◌≡◌, ◌≤◌, ◌+◌, ◌||◌, false, None};
+ghost use Rattle.std.specs.Prelude.{is_some, length, map, IfOk, OnOk};
 ghost use Rattle.tta_reading.specs.Lines.{plain};
 ghost use Rattle.tta_reading.specs.Names.{named_in};
 ghost use Rattle.tta_ops.specs.Set.{stated};
 ghost use Rattle.tta_tac.specs.Draft.{draft_seen, proc_seen, nothing};
 ghost use Rattle.tta_tac.specs.DraftRules.{IsDraft, IsBegun};
 ghost use Rattle.tta_tac.specs.FirstPass.{take_line, take_form, take_proc, take_label, take_step};
-ghost use Rattle.tta_tac.specs.FirstPass.{has_twice, numbered, with_fresh, labelled, stepped, close_if};
+ghost use Rattle.tta_tac.specs.FirstPass.{has_twice, with_fresh, labelled, stepped, close_if};
 ghost use Rattle.tta_tac.specs.Seen.{Says, form_seen, texts};
 
 use crate::reading::declarations::declare_names;
 use crate::reading::draft::{Draft, DraftProc};
 use crate::reading::forms::Form;
 use crate::reading::operations::check_op;
-use crate::reading::params::{has_twice, numbered};
+use crate::reading::params::{has_twice, is_main_with_params, new_proc};
 use crate::reading::refusal::{LineError, Refusal};
 use crate::reading::steps::{has_many_args, is_end, step_of};
 use crate::reading::syntax::form_of;
@@ -289,38 +289,4 @@ impl<'t> Draft<'t> {
         proc.lines.push(line)?;
         Ok(())
     }
-}
-
-// whether a procedure is `main` and has parameters, which it may not
-#[tactic(auto, using(crate::proofs::Seen::texts_length))]
-fn is_main_with_params(name: &[u8], params: &[Word]) -> bool
-    ensures { let count = length (texts params.now) in
-        result ≡ (bytes_eq name.now (codes "main") && nat_lt 0 count) }
-{
-    name == b"main".as_slice() && params.len() > 0
-}
-
-// a procedure of which only the first line was read
-#[tactic(auto, using(crate::proofs::Seen::texts_length))]
-fn new_proc<'t>(alloc: Global, line: u32, params: &[Word]) -> Result<DraftProc<'t>, AllocError>
-    requires few { length params.now ≤ 8 }
-    requires once { has_twice (texts params.now) ≡ false }
-    ensures { IfOk result (λ q. proc_seen q ≡ record {
-      line = line;
-      params = length (texts params.now);
-      vars = numbered 0 (texts params.now);
-      labels = [];
-      steps = [];
-      lines = [];
-    }) }
-{
-    let vars = numbered(alloc, params)?;
-    Ok(DraftProc {
-        line,
-        params: params.len() as u32,
-        vars,
-        labels: Names::new(alloc),
-        steps: Items::new(alloc),
-        lines: Items::new(alloc),
-    })
 }
