@@ -5,8 +5,8 @@
 //! no way leads back. So a search, which takes as long as there are calls, is made of the procedure
 //! that is told, and of no other.
 
-ghost use Rattle.std.specs.Prelude.{◌≡◌, ◌<◌, ◌==◌, true, false, length, [], IfOk, OnOk, MatchOption};
-ghost use Rattle.std.specs.Prelude.{replicate, slice_index_or};
+ghost use Rattle.std.specs.Prelude.{◌≡◌, ◌<◌, ◌==◌, true, false, length, IfOk, OnOk, MatchOption};
+ghost use Rattle.std.specs.Prelude.{[], replicate, slice_index_or};
 ghost use Rattle.std.specs.List.{list_any};
 ghost use Rattle.tta_tac.specs.Cycles.{AreLevel, IsAcyclic, IsMarked, Finds};
 ghost use Rattle.tta_tac.specs.Rules.{Reaches, calls_proc};
