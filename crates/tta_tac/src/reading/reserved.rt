@@ -24,13 +24,12 @@ fn is_reserved_of_three(name: &[u8]) -> bool
     requires { length name.now ≡ 3 }
     ensures { result ≡ spec.is_reserved name.now }
 {
-    // All words are compared, since none of the comparisons takes long.
-    (name == b"ldw".as_slice())
-        | (name == b"stw".as_slice())
-        | (name == b"ldf".as_slice())
-        | (name == b"stf".as_slice())
-        | (name == b"end".as_slice())
-        | (name == b"out".as_slice())
+    name == b"ldw".as_slice()
+        || name == b"stw".as_slice()
+        || name == b"ldf".as_slice()
+        || name == b"stf".as_slice()
+        || name == b"end".as_slice()
+        || name == b"out".as_slice()
 }
 
 /// Whether a name of four letters is a reserved word.
@@ -39,13 +38,12 @@ fn is_reserved_of_four(name: &[u8]) -> bool
     requires { length name.now ≡ 4 }
     ensures { result ≡ spec.is_reserved name.now }
 {
-    // All words are compared, since none of the comparisons takes long.
-    (name == b"jump".as_slice())
-        | (name == b"proc".as_slice())
-        | (name == b"goto".as_slice())
-        | (name == b"when".as_slice())
-        | (name == b"load".as_slice())
-        | (name == b"call".as_slice())
-        | (name == b"halt".as_slice())
-        | (name == b"data".as_slice())
+    name == b"jump".as_slice()
+        || name == b"proc".as_slice()
+        || name == b"goto".as_slice()
+        || name == b"when".as_slice()
+        || name == b"load".as_slice()
+        || name == b"call".as_slice()
+        || name == b"halt".as_slice()
+        || name == b"data".as_slice()
 }
