@@ -1,8 +1,7 @@
 -- Where the reading of a draft ends: in its machine, or in a refusal.
-use Rattle.std.proofs.Common.{◌≡◌, ℕ, ◌+◌, ◌<◌, ◌≤◌, Bool, true, false, List, [], ◌∷◌, length, filter, max, drop, get_or, Option, Some, None, Result, Ok, Err, lit≤, refl, sym, ap, ap₂, subst, ◌∙◌, arith}
+use Rattle.std.proofs.Common.{◌≡◌, ℕ, ◌+◌, ◌<◌, ◌≤◌, Bool, true, false, List, [], ◌∷◌, length, filter, max, drop, get_or, Option, Some, None, Ok, Err, lit≤, refl, sym, ap, ap₂, subst, ◌∙◌, arith}
 use Rattle.std.specs.Prelude.{nat_lt, if◌then◌else◌}
 use Rattle.std.specs.Option.{option_map_or}
-use Rattle.std.specs.Result.{IsErr, IsErrAnd}
 use Rattle.std.specs.List.{sum_by}
 use Rattle.std.proofs.lemmas.List.{drop_more}
 use Rattle.std.proofs.lemmas.Bool.{lt-ltb, le-ltb}
@@ -148,9 +147,3 @@ module _ (d : Draft) (c : Control) (m : Machine) (ts : List Template) (lines : L
   narrow_end (machine_error.Refused line code) (found, told) =
       record { refusal = TooNarrow; refused = too_narrow d c line control bus (narrow_whole (Some line) found); told = told }
   narrow_end machine_error.NoMemory ends = tt
-
--- an error that is passed on is the same
-pub ends_so : (d : Draft) (e : MachineError) (r : Result Machine MachineError) → IsErr r → IsErrAnd r (λ x. x ≡ e) → CompleteEnds d (Err e)
-    → CompleteEnds d r
-ends_so d e (Ok m) failed same ends = cc
-ends_so d e (Err x) failed same ends = subst (λ y. CompleteEnds d (Err y)) (sym same) ends

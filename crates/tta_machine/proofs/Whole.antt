@@ -1,5 +1,5 @@
 -- Taking the lines of a text one by one.
-use Rattle.std.proofs.Common.{◌≡◌, ℕ, ◌+◌, List, [], ◌∷◌, Result, Ok, Err, IfOk, IfErr, refl, ap, ◌∙◌}
+use Rattle.std.proofs.Common.{◌≡◌, ℕ, ◌+◌, List, ◌∷◌, Result, Ok, Err, IfOk, IfErr, refl, ap, ◌∙◌}
 use Rattle.tta_reading.specs.Lines.{Line, lines_of}
 use Rattle.tta_reading.specs.Steps.{◌>>=◌}
 use Rattle.tta_ops.specs.Units.{Units}

@@ -5,7 +5,7 @@ use tta_list::Items;
 use tta_reading::Names;
 
 /// What a name of a machine names: a part and its place in the list of its kind.
-#[derive(Clone, Copy, Debug, PartialEq, Eq)]
+#[derive(Clone, Copy)]
 pub enum Named {
     Bus(u8),
     Socket(u8),

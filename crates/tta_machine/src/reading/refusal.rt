@@ -51,7 +51,7 @@ pub enum MachineError {
 }
 
 /// Why a line declares nothing.
-#[derive(Clone, Copy, Debug, PartialEq, Eq)]
+#[derive(Clone, Copy)]
 pub enum LineError {
     Refused(Refusal),
     NoMemory,

@@ -7,7 +7,7 @@ ghost use Rattle.tta_machine.specs.Services.{serves};
 use crate::parts::{Op, Unit};
 
 /// What a machine has once.
-#[derive(Clone, Copy, Debug, PartialEq, Eq)]
+#[derive(Clone, Copy)]
 pub enum Service {
     /// The data space.
     Data,
