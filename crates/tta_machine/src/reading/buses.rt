@@ -9,6 +9,7 @@ use crate::parts::{Bus, Socket};
 use crate::reading::draft::{Draft, Named};
 use crate::reading::forms::{BusForm, SocketForm};
 use crate::reading::limits::{is_from_to, is_too_long};
+use crate::reading::lookups::add_part;
 use crate::reading::refusal::{LineError, Refusal};
 use std::alloc::Global;
 use tta_list::Name;
@@ -27,16 +28,25 @@ impl Draft {
             return Err(LineError::Refused(Refusal::Range));
         }
         let place = Named::Bus(self.buses.len() as u8);
-        let name = Name::new(alloc, form.name)?;
-        let short = form.short as u8;
-        let signed = form.signed;
-        self.buses.push(Bus {
+        let Ok(name) = Name::new(alloc, form.name) else {
+            return Err(LineError::NoMemory);
+        };
+        let bus = Bus {
             name,
-            short,
-            signed,
-        })?;
-        self.add_name(alloc, form.name, place)?;
-        Ok(())
+            short: form.short as u8,
+            signed: form.signed,
+        };
+        match add_part(
+            alloc,
+            &mut self.names,
+            &mut self.buses,
+            form.name,
+            place,
+            bus,
+        ) {
+            Ok(()) => Ok(()),
+            Err(_) => Err(LineError::NoMemory),
+        }
     }
 
     /// Declares a socket. It is refused as `Unknown` where a name of its buses names no bus, as
@@ -47,19 +57,34 @@ impl Draft {
         requires { IsDraft self.old }
         ensures { Declares self.new result (take_socket self.old (socket_seen form.now)) }
     {
-        let set = self.set_named(form.buses).ok_or(Refusal::Unknown)?;
+        let Some(set) = self.set_named(form.buses) else {
+            return Err(LineError::Refused(Refusal::Unknown));
+        };
         if self.is_taken(form.name) {
             return Err(LineError::Refused(Refusal::Twice));
         }
-        let buses = set.ok_or(Refusal::Twice)?;
+        let Some(buses) = set else {
+            return Err(LineError::Refused(Refusal::Twice));
+        };
         if is_too_long(form.name) || self.sockets.len() >= 128 {
             return Err(LineError::Refused(Refusal::Range));
         }
         let place = Named::Socket(self.sockets.len() as u8);
-        let name = Name::new(alloc, form.name)?;
+        let Ok(name) = Name::new(alloc, form.name) else {
+            return Err(LineError::NoMemory);
+        };
         let input = form.input;
-        self.sockets.push(Socket { name, input, buses })?;
-        self.add_name(alloc, form.name, place)?;
-        Ok(())
+        let socket = Socket { name, input, buses };
+        match add_part(
+            alloc,
+            &mut self.names,
+            &mut self.sockets,
+            form.name,
+            place,
+            socket,
+        ) {
+            Ok(()) => Ok(()),
+            Err(_) => Err(LineError::NoMemory),
+        }
     }
 }

@@ -20,9 +20,9 @@ impl Draft {
     pub fn take_control(&mut self, form: &ControlForm) -> Result<(), LineError>
         ensures { Declares self.new result (take_control self.old (control_seen form.now)) }
     {
-        let trigger = self
-            .socket_named(true, form.trigger)
-            .ok_or(Refusal::Unknown)?;
+        let Some(trigger) = self.socket_named(true, form.trigger) else {
+            return Err(LineError::Refused(Refusal::Unknown));
+        };
         let ra = self.port_named(false, form.ra)?;
         if self.control.is_some() {
             return Err(LineError::Refused(Refusal::Twice));

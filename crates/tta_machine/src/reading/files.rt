@@ -10,6 +10,7 @@ use crate::parts::{File, ImmUnit};
 use crate::reading::draft::{Draft, Named};
 use crate::reading::forms::{FileForm, ImmForm};
 use crate::reading::limits::{is_from_to, is_too_long};
+use crate::reading::lookups::add_part;
 use crate::reading::refusal::{LineError, Refusal};
 use std::alloc::Global;
 use tta_list::Name;
@@ -22,7 +23,9 @@ impl Draft {
     pub fn take_imm(&mut self, alloc: Global, form: &ImmForm) -> Result<(), LineError>
         ensures { Declares self.new result (take_imm self.old (imm_seen form.now)) }
     {
-        let out = self.socket_named(false, form.out).ok_or(Refusal::Unknown)?;
+        let Some(out) = self.socket_named(false, form.out) else {
+            return Err(LineError::Refused(Refusal::Unknown));
+        };
         if self.is_taken(form.name) {
             return Err(LineError::Refused(Refusal::Twice));
         }
@@ -30,11 +33,22 @@ impl Draft {
             return Err(LineError::Refused(Refusal::Range));
         }
         let place = Named::Imm(self.imms.len() as u8);
-        let name = Name::new(alloc, form.name)?;
         let size = form.size as u8;
-        self.imms.push(ImmUnit { name, size, out })?;
-        self.add_name(alloc, form.name, place)?;
-        Ok(())
+        let Ok(name) = Name::new(alloc, form.name) else {
+            return Err(LineError::NoMemory);
+        };
+        let imm = ImmUnit { name, size, out };
+        match add_part(
+            alloc,
+            &mut self.names,
+            &mut self.imms,
+            form.name,
+            place,
+            imm,
+        ) {
+            Ok(()) => Ok(()),
+            Err(_) => Err(LineError::NoMemory),
+        }
     }
 
     /// Declares a file. It is refused as `Unknown` where its sockets are no output and no input
@@ -45,8 +59,12 @@ impl Draft {
     pub fn take_file(&mut self, alloc: Global, form: &FileForm) -> Result<(), LineError>
         ensures { Declares self.new result (take_file self.old (file_seen form.now)) }
     {
-        let out = self.socket_named(false, form.out).ok_or(Refusal::Unknown)?;
-        let into = self.socket_named(true, form.into).ok_or(Refusal::Unknown)?;
+        let Some(out) = self.socket_named(false, form.out) else {
+            return Err(LineError::Refused(Refusal::Unknown));
+        };
+        let Some(into) = self.socket_named(true, form.into) else {
+            return Err(LineError::Refused(Refusal::Unknown));
+        };
         if self.is_taken(form.name) {
             return Err(LineError::Refused(Refusal::Twice));
         }
@@ -54,8 +72,11 @@ impl Draft {
             return Err(LineError::Refused(Refusal::Range));
         }
         let place = Named::File(self.files.len() as u8);
+        let Ok(name) = Name::new(alloc, form.name) else {
+            return Err(LineError::NoMemory);
+        };
         let file = File {
-            name: Name::new(alloc, form.name)?,
+            name,
             width: form.width as u8,
             size: form.size as u8,
             read: form.read as u8,
@@ -63,9 +84,17 @@ impl Draft {
             out,
             into,
         };
-        self.files.push(file)?;
-        self.add_name(alloc, form.name, place)?;
-        Ok(())
+        match add_part(
+            alloc,
+            &mut self.names,
+            &mut self.files,
+            form.name,
+            place,
+            file,
+        ) {
+            Ok(()) => Ok(()),
+            Err(_) => Err(LineError::NoMemory),
+        }
     }
 }
 

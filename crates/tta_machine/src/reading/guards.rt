@@ -22,9 +22,15 @@ impl Draft {
     pub fn take_guard(&mut self, form: &GuardForm) -> Result<(), LineError>
         ensures { Declares self.new result (take_guard self.old (guard_seen form.now)) }
     {
-        let bus = self.bus_named(form.bus).ok_or(Refusal::Unknown)?;
-        let file = self.file_named(form.file).ok_or(Refusal::Unknown)?;
-        let (width, size) = shape_at(self.files.as_slice(), file).ok_or(Refusal::Unknown)?;
+        let Some(bus) = self.bus_named(form.bus) else {
+            return Err(LineError::Refused(Refusal::Unknown));
+        };
+        let Some(file) = self.file_named(form.file) else {
+            return Err(LineError::Refused(Refusal::Unknown));
+        };
+        let Some((width, size)) = shape_at(self.files.as_slice(), file) else {
+            return Err(LineError::Refused(Refusal::Unknown));
+        };
         if has_guard(self.guards.as_slice(), bus, file, form.index, form.inverted) {
             return Err(LineError::Refused(Refusal::Twice));
         }
@@ -38,8 +44,10 @@ impl Draft {
             index,
             inverted,
         };
-        self.guards.push(Guard { bus, on })?;
-        Ok(())
+        match self.guards.push(Guard { bus, on }) {
+            Ok(()) => Ok(()),
+            Err(_) => Err(LineError::NoMemory),
+        }
     }
 }
 

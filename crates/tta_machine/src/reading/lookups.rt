@@ -2,6 +2,7 @@
 
 ghost use Rattle.std.specs.Prelude.{◌≡◌, ◌++◌, ◌∷◌, [], false, if◌then◌else◌};
 ghost use Rattle.std.specs.Prelude.{Some, None, option_map, OnOk};
+ghost use Rattle.tta_reading.specs.Names.{named_in};
 ghost use Rattle.tta_machine.specs.Draft.{nothing, is_taken};
 ghost use Rattle.tta_machine.specs.Draft.{bus_named, socket_named, file_named, imm_named};
 ghost use Rattle.tta_machine.specs.Draft.{unit_named};
@@ -41,16 +42,6 @@ impl Draft {
         ensures { result ≡ is_taken self.now name.now }
     {
         self.names.get(name).is_some() || name == b"gcu".as_slice()
-    }
-
-    /// Declares a name. An `Err` is want of memory.
-    pub fn add_name(&mut self, alloc: Global, name: &[u8], named: Named) -> Result<(), AllocError>
-        requires { is_taken self.old name.now ≡ false }
-        ensures { let names = self.old.names ++ (name.now, named) ∷ [] in
-            OnOk result (self.new ≡ record self.old { names = names }) }
-    {
-        self.names.add(alloc, name, named)?;
-        Ok(())
     }
 
     /// The bus of a name.
@@ -116,6 +107,24 @@ impl Draft {
             None => Err(Refusal::Unknown),
         }
     }
+}
+
+/// Puts a part behind the others of its kind, and declares its name.
+pub fn add_part<T: Drop>(
+    alloc: Global,
+    names: &mut Names<Named>,
+    parts: &mut Items<T>,
+    name: &[u8],
+    named: Named,
+    part: T,
+) -> Result<(), AllocError>
+    requires { named_in names.old name.now ≡ None }
+    ensures names { OnOk result (names.new ≡ names.old ++ (name.now, named) ∷ []) }
+    ensures parts { OnOk result (parts.new ≡ parts.old ++ part ∷ []) }
+{
+    parts.push(part)?;
+    names.add(alloc, name, named)?;
+    Ok(())
 }
 
 fn only_of_direction(sockets: &[Socket], input: bool, place: u8) -> Option<u8>

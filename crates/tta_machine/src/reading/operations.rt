@@ -20,6 +20,7 @@ use crate::reading::forms::OpForm;
 use crate::reading::limits::is_from_to;
 use crate::reading::refusal::{LineError, Refusal};
 use crate::reading::services::is_served;
+use std::alloc::AllocError;
 use tta_ops::UnitSet;
 
 impl Draft {
@@ -33,11 +34,16 @@ impl Draft {
         ensures { let U = stated unit_meaning units.now in
             Declares self.new result (take_op U self.old (op_seen form.now)) }
     {
-        let place = self.unit_named(form.unit).ok_or(Refusal::Unknown)? as usize;
+        let Some(place) = self.unit_named(form.unit) else {
+            return Err(LineError::Refused(Refusal::Unknown));
+        };
+        let place = usize::from(place);
         let Some(unit) = self.units.as_slice().get(place) else {
             return Err(LineError::Refused(Refusal::Unknown));
         };
-        let op = op_named(units, form.latency, form.operation).ok_or(Refusal::Unknown)?;
+        let Some(op) = op_named(units, form.latency, form.operation) else {
+            return Err(LineError::Refused(Refusal::Unknown));
+        };
         if has_same(unit, op) || is_served(self.units.as_slice(), place, op) {
             return Err(LineError::Refused(Refusal::Twice));
         }
@@ -50,18 +56,19 @@ impl Draft {
         }
         let latency = cycles(form.latency);
         let added = UnitOp { op, arity, latency };
-        self.push_op(place, added)?;
-        Ok(())
+        match self.push_op(place, added) {
+            Ok(()) => Ok(()),
+            Err(_) => Err(LineError::NoMemory),
+        }
     }
 
     // puts an operation behind the others of a unit
-    fn push_op(&mut self, place: usize, added: UnitOp) -> Result<(), LineError>
+    fn push_op(&mut self, place: usize, added: UnitOp) -> Result<(), AllocError>
         requires { place < length self.old.units }
         ensures ok { (unit : UnitSeen) → slice_get self.old.units place ≡ Some unit
             → OnOk result (
             let units = slice_set self.old.units place (with_op unit added) in
             self.new ≡ record self.old { units = units }) }
-        ensures err { OnErr result (result ≡ Err NoMemory) }
     {
         self.units.at_mut(place).ops.push(added)?;
         Ok(())

@@ -9,6 +9,7 @@ use crate::parts::{ImmUnit, Template};
 use crate::reading::draft::{Draft, Named};
 use crate::reading::forms::TemplateForm;
 use crate::reading::limits::is_too_long;
+use crate::reading::lookups::add_part;
 use crate::reading::refusal::{LineError, Refusal};
 use std::alloc::Global;
 use tta_list::Name;
@@ -28,28 +29,48 @@ impl Draft {
         requires { IsDraft self.old }
         ensures { Declares self.new result (take_template line self.old (template_seen form.now)) }
     {
-        let imm = self.imm_named(form.imm).ok_or(Refusal::Unknown)?;
-        let size = size_at(self.imms.as_slice(), imm).ok_or(Refusal::Unknown)?;
-        let set = self.set_named(form.buses).ok_or(Refusal::Unknown)?;
+        let Some(imm) = self.imm_named(form.imm) else {
+            return Err(LineError::Refused(Refusal::Unknown));
+        };
+        let Some(size) = size_at(self.imms.as_slice(), imm) else {
+            return Err(LineError::Refused(Refusal::Unknown));
+        };
+        let Some(set) = self.set_named(form.buses) else {
+            return Err(LineError::Refused(Refusal::Unknown));
+        };
         if self.is_taken(form.name) {
             return Err(LineError::Refused(Refusal::Twice));
         }
-        let buses = set.ok_or(Refusal::Twice)?;
+        let Some(buses) = set else {
+            return Err(LineError::Refused(Refusal::Twice));
+        };
         if form.index >= u32::from(size) || is_too_long(form.name) || self.templates.len() >= 8 {
             return Err(LineError::Refused(Refusal::Range));
         }
         let place = Named::Template(self.templates.len() as u8);
-        let name = Name::new(alloc, form.name)?;
-        let reg = form.index as u8;
-        self.templates.push(Template {
+        let Ok(()) = self.template_lines.push(line) else {
+            return Err(LineError::NoMemory);
+        };
+        let Ok(name) = Name::new(alloc, form.name) else {
+            return Err(LineError::NoMemory);
+        };
+        let template = Template {
             name,
             imm,
-            reg,
+            reg: form.index as u8,
             buses,
-        })?;
-        self.template_lines.push(line)?;
-        self.add_name(alloc, form.name, place)?;
-        Ok(())
+        };
+        match add_part(
+            alloc,
+            &mut self.names,
+            &mut self.templates,
+            form.name,
+            place,
+            template,
+        ) {
+            Ok(()) => Ok(()),
+            Err(_) => Err(LineError::NoMemory),
+        }
     }
 }
 

@@ -8,6 +8,7 @@ use crate::parts::Unit;
 use crate::reading::draft::{Draft, Named};
 use crate::reading::forms::UnitForm;
 use crate::reading::limits::is_too_long;
+use crate::reading::lookups::add_part;
 use crate::reading::refusal::{LineError, Refusal};
 use std::alloc::Global;
 use tta_list::{Items, Name};
@@ -21,9 +22,9 @@ impl Draft {
         ensures { Declares self.new result (take_unit self.old (unit_seen form.now)) }
     {
         let operand = self.port_named(true, form.operand)?;
-        let trigger = self
-            .socket_named(true, form.trigger)
-            .ok_or(Refusal::Unknown)?;
+        let Some(trigger) = self.socket_named(true, form.trigger) else {
+            return Err(LineError::Refused(Refusal::Unknown));
+        };
         let result = self.port_named(false, form.result)?;
         if self.is_taken(form.name) {
             return Err(LineError::Refused(Refusal::Twice));
@@ -32,15 +33,26 @@ impl Draft {
             return Err(LineError::Refused(Refusal::Range));
         }
         let place = Named::Unit(self.units.len() as u8);
+        let Ok(name) = Name::new(alloc, form.name) else {
+            return Err(LineError::NoMemory);
+        };
         let unit = Unit {
-            name: Name::new(alloc, form.name)?,
+            name,
             operand,
             trigger,
             result,
             ops: Items::new(alloc),
         };
-        self.units.push(unit)?;
-        self.add_name(alloc, form.name, place)?;
-        Ok(())
+        match add_part(
+            alloc,
+            &mut self.names,
+            &mut self.units,
+            form.name,
+            place,
+            unit,
+        ) {
+            Ok(()) => Ok(()),
+            Err(_) => Err(LineError::NoMemory),
+        }
     }
 }

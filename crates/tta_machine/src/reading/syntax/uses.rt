@@ -50,16 +50,16 @@ pub fn guard_form<'t>(words: &'t [Word<'t>]) -> Option<GuardForm<'t>>
             if !dot.is_mark(b".") {
                 return None;
             }
-            let bus = bus.name()?;
-            let file = file.name()?;
-            let index = index.value()?;
-            let inverted = one_of_two(b"inverted", b"plain", sense)?;
-            Some(GuardForm {
-                bus,
-                file,
-                index,
-                inverted,
-            })
+            let inverted = one_of_two(b"inverted", b"plain", sense);
+            match (bus.name(), file.name(), index.value(), inverted) {
+                (Some(bus), Some(file), Some(index), Some(inverted)) => Some(GuardForm {
+                    bus,
+                    file,
+                    index,
+                    inverted,
+                }),
+                _ => None,
+            }
         }
         _ => None,
     }
