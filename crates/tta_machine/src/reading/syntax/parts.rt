@@ -19,14 +19,15 @@ pub fn bus_form<'t>(words: &'t [Word<'t>]) -> Option<BusForm<'t>>
             if !key.is_keyword(b"short") {
                 return None;
             }
-            let name = name.name()?;
-            let short = short.value()?;
-            let signed = one_of_two(b"signed", b"unsigned", sign)?;
-            Some(BusForm {
-                name,
-                short,
-                signed,
-            })
+            let signed = one_of_two(b"signed", b"unsigned", sign);
+            match (name.name(), short.value(), signed) {
+                (Some(name), Some(short), Some(signed)) => Some(BusForm {
+                    name,
+                    short,
+                    signed,
+                }),
+                _ => None,
+            }
         }
         _ => None,
     }
@@ -39,10 +40,11 @@ pub fn socket_form<'t>(words: &'t [Word<'t>]) -> Option<SocketForm<'t>>
 {
     match words {
         [name, direction, buses @ ..] if !buses.is_empty() => {
-            let name = name.name()?;
-            let input = one_of_two(b"in", b"out", direction)?;
-            let buses = names_alone(buses)?;
-            Some(SocketForm { name, input, buses })
+            let input = one_of_two(b"in", b"out", direction);
+            match (name.name(), input, names_alone(buses)) {
+                (Some(name), Some(input), Some(buses)) => Some(SocketForm { name, input, buses }),
+                _ => None,
+            }
         }
         _ => None,
     }
@@ -97,10 +99,12 @@ pub fn imm_form<'t>(words: &'t [Word<'t>]) -> Option<ImmForm<'t>>
 {
     match words {
         [name, size_key, size, out_key, out] => {
-            let name = name.name()?;
-            let size = keyed_value(b"size", size_key, size)?;
-            let out = keyed_name(b"out", out_key, out)?;
-            Some(ImmForm { name, size, out })
+            let size = keyed_value(b"size", size_key, size);
+            let out = keyed_name(b"out", out_key, out);
+            match (name.name(), size, out) {
+                (Some(name), Some(size), Some(out)) => Some(ImmForm { name, size, out }),
+                _ => None,
+            }
         }
         _ => None,
     }
@@ -118,23 +122,27 @@ fn unit_ports<'t>(
 {
     match words {
         [key, trigger] => {
-            let trigger = keyed_name(b"t", key, trigger)?;
-            Some(UnitForm {
-                name,
-                operand,
-                trigger,
-                result: None,
-            })
+            match keyed_name(b"t", key, trigger) {
+                Some(trigger) => Some(UnitForm {
+                    name,
+                    operand,
+                    trigger,
+                    result: None,
+                }),
+                None => None,
+            }
         }
         [trigger_key, trigger, result_key, result] => {
-            let trigger = keyed_name(b"t", trigger_key, trigger)?;
-            let result = keyed_name(b"r", result_key, result)?;
-            Some(UnitForm {
-                name,
-                operand,
-                trigger,
-                result: Some(result),
-            })
+            let trigger = keyed_name(b"t", trigger_key, trigger);
+            match (trigger, keyed_name(b"r", result_key, result)) {
+                (Some(trigger), Some(result)) => Some(UnitForm {
+                    name,
+                    operand,
+                    trigger,
+                    result: Some(result),
+                }),
+                _ => None,
+            }
         }
         _ => None,
     }

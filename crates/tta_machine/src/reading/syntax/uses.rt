@@ -18,23 +18,24 @@ pub fn op_form<'t>(words: &'t [Word<'t>]) -> Option<OpForm<'t>>
 {
     match words {
         [unit, operation] => {
-            let unit = unit.name()?;
-            let operation = operation.name()?;
-            Some(OpForm {
-                unit,
-                operation,
-                latency: None,
-            })
+            match (unit.name(), operation.name()) {
+                (Some(unit), Some(operation)) => Some(OpForm {
+                    unit,
+                    operation,
+                    latency: None,
+                }),
+                _ => None,
+            }
         }
         [unit, operation, latency] => {
-            let unit = unit.name()?;
-            let operation = operation.name()?;
-            let latency = latency.value()?;
-            Some(OpForm {
-                unit,
-                operation,
-                latency: Some(latency),
-            })
+            match (unit.name(), operation.name(), latency.value()) {
+                (Some(unit), Some(operation), Some(latency)) => Some(OpForm {
+                    unit,
+                    operation,
+                    latency: Some(latency),
+                }),
+                _ => None,
+            }
         }
         _ => None,
     }
@@ -98,8 +99,10 @@ fn ra_pair<'t>(words: &'t [Word<'t>]) -> Option<Option<&'t [u8]>>
     match words {
         [] => Some(None),
         [key, socket] => {
-            let ra = keyed_name(b"ra", key, socket)?;
-            Some(Some(ra))
+            match keyed_name(b"ra", key, socket) {
+                Some(ra) => Some(Some(ra)),
+                None => None,
+            }
         }
         _ => None,
     }
@@ -142,9 +145,10 @@ pub fn space_form(words: &[Word]) -> Option<SpaceForm>
 {
     match words {
         [space, size] => {
-            let is_data = one_of_two(b"data", b"frame", space)?;
-            let size = size.value()?;
-            Some(SpaceForm { is_data, size })
+            match (one_of_two(b"data", b"frame", space), size.value()) {
+                (Some(is_data), Some(size)) => Some(SpaceForm { is_data, size }),
+                _ => None,
+            }
         }
         _ => None,
     }
