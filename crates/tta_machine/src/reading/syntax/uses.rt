@@ -76,16 +76,15 @@ pub fn template_form<'t>(words: &'t [Word<'t>]) -> Option<TemplateForm<'t>>
             if !dot.is_mark(b".") {
                 return None;
             }
-            let name = name.name()?;
-            let imm = imm.name()?;
-            let index = index.value()?;
-            let buses = names_alone(buses)?;
-            Some(TemplateForm {
-                name,
-                imm,
-                index,
-                buses,
-            })
+            match (name.name(), imm.name(), index.value(), names_alone(buses)) {
+                (Some(name), Some(imm), Some(index), Some(buses)) => Some(TemplateForm {
+                    name,
+                    imm,
+                    index,
+                    buses,
+                }),
+                _ => None,
+            }
         }
         _ => None,
     }
@@ -123,16 +122,18 @@ pub fn control_form<'t>(words: &'t [Word<'t>]) -> Option<ControlForm<'t>>
             trigger,
             others @ ..,
         ] => {
-            let delay = keyed_value(b"delay", delay_key, delay)?;
-            let address = keyed_value(b"address", address_key, address)?;
-            let trigger = keyed_name(b"t", trigger_key, trigger)?;
-            let ra = ra_pair(others)?;
-            Some(ControlForm {
-                delay,
-                address,
-                trigger,
-                ra,
-            })
+            let delay = keyed_value(b"delay", delay_key, delay);
+            let address = keyed_value(b"address", address_key, address);
+            let trigger = keyed_name(b"t", trigger_key, trigger);
+            match (delay, address, trigger, ra_pair(others)) {
+                (Some(delay), Some(address), Some(trigger), Some(ra)) => Some(ControlForm {
+                    delay,
+                    address,
+                    trigger,
+                    ra,
+                }),
+                _ => None,
+            }
         }
         _ => None,
     }
