@@ -1,26 +1,33 @@
 //! The declarations of buses and sockets.
 
-ghost use Rattle.std.specs.Prelude.{◌≡◌};
+ghost use Rattle.std.specs.Prelude.{◌≡◌, map};
+ghost use Rattle.tta_reading.specs.Lines.{plain};
+ghost use Rattle.tta_machine.specs.Forms.{bus_form, socket_form};
 ghost use Rattle.tta_machine.specs.Declarations.{take_bus, take_socket};
 ghost use Rattle.tta_machine.specs.Kept.{IsDraft};
-ghost use Rattle.tta_machine.specs.Seen.{Declares, bus_seen, socket_seen};
+ghost use Rattle.tta_machine.specs.Seen.{Declares, formed};
 
 use crate::parts::{Bus, Socket};
 use crate::reading::draft::{Draft, Named};
-use crate::reading::forms::{BusForm, SocketForm};
 use crate::reading::limits::{is_from_to, is_too_long};
 use crate::reading::lookups::add_part;
 use crate::reading::refusal::{LineError, Refusal};
+use crate::reading::syntax;
 use std::alloc::Global;
 use tta_list::Name;
+use tta_reading::Word;
 
 impl Draft {
     /// Declares a bus. It is refused as `Twice` where its name is taken, and else as `Range` where
     /// its short field has no bit or more than 32, its name is too long, or 16 buses are there.
     #[tactic(auto, unfolding(crate::specs::Declarations::take_bus))]
-    pub fn take_bus(&mut self, alloc: Global, form: &BusForm) -> Result<(), LineError>
-        ensures { Declares self.new result (take_bus self.old (bus_seen form.now)) }
+    pub fn take_bus(&mut self, alloc: Global, words: &[Word]) -> Result<(), LineError>
+        ensures { Declares self.new result
+            (formed (bus_form (map plain words.now)) (take_bus self.old)) }
     {
+        let Some(form) = syntax::bus_form(words) else {
+            return Err(LineError::Refused(Refusal::Syntax));
+        };
         if self.is_taken(form.name) {
             return Err(LineError::Refused(Refusal::Twice));
         }
@@ -53,10 +60,14 @@ impl Draft {
     /// `Twice` where its name is taken or a bus stands twice, and as `Range` where its name is too
     /// long or 128 sockets are there.
     #[tactic(auto, unfolding(crate::specs::Declarations::take_socket))]
-    pub fn take_socket(&mut self, alloc: Global, form: &SocketForm) -> Result<(), LineError>
+    pub fn take_socket(&mut self, alloc: Global, words: &[Word]) -> Result<(), LineError>
         requires { IsDraft self.old }
-        ensures { Declares self.new result (take_socket self.old (socket_seen form.now)) }
+        ensures { Declares self.new result
+            (formed (socket_form (map plain words.now)) (take_socket self.old)) }
     {
+        let Some(form) = syntax::socket_form(words) else {
+            return Err(LineError::Refused(Refusal::Syntax));
+        };
         let Some(set) = self.set_named(form.buses) else {
             return Err(LineError::Refused(Refusal::Unknown));
         };

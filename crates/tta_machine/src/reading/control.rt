@@ -1,25 +1,32 @@
 //! The declarations of control and of the spaces.
 
-ghost use Rattle.std.specs.Prelude.{◌≡◌, is_some, nat_lt, Ok};
+ghost use Rattle.std.specs.Prelude.{◌≡◌, map, is_some, nat_lt, Ok};
 ghost use Rattle.tta_reading.specs.Steps.{refuse_if};
+ghost use Rattle.tta_reading.specs.Lines.{plain};
+ghost use Rattle.tta_machine.specs.Forms.{control_form, space_form};
 ghost use Rattle.tta_machine.specs.Declarations.{take_control, take_space};
 ghost use Rattle.tta_machine.specs.declared.reading.refusal.Refusal.TheVariants.{Twice, Range};
-ghost use Rattle.tta_machine.specs.Seen.{Declares, control_seen, space_seen};
+ghost use Rattle.tta_machine.specs.Seen.{Declares, formed};
 
 use crate::parts::Control;
 use crate::reading::draft::Draft;
-use crate::reading::forms::{ControlForm, SpaceForm};
 use crate::reading::limits::is_from_to;
 use crate::reading::refusal::{LineError, Refusal};
+use crate::reading::syntax;
+use tta_reading::Word;
 
 impl Draft {
     /// Declares control. It is refused as `Unknown` where the socket of one of its ports is not
     /// there in the port's direction, as `Twice` where control is there already, and as `Range`
     /// where its delay is over 4 or an address has no bit or more than 16.
     #[tactic(auto, unfolding(crate::specs::Declarations::take_control))]
-    pub fn take_control(&mut self, form: &ControlForm) -> Result<(), LineError>
-        ensures { Declares self.new result (take_control self.old (control_seen form.now)) }
+    pub fn take_control(&mut self, words: &[Word]) -> Result<(), LineError>
+        ensures { Declares self.new result
+            (formed (control_form (map plain words.now)) (take_control self.old)) }
     {
+        let Some(form) = syntax::control_form(words) else {
+            return Err(LineError::Refused(Refusal::Syntax));
+        };
         let Some(trigger) = self.socket_named(true, form.trigger) else {
             return Err(LineError::Refused(Refusal::Unknown));
         };
@@ -43,9 +50,13 @@ impl Draft {
     /// already, and as `Range` where the data space has more than 2^20 words or the frame space
     /// more than 65,536.
     #[tactic(auto, unfolding(crate::specs::Declarations::take_space))]
-    pub fn take_space(&mut self, form: &SpaceForm) -> Result<(), LineError>
-        ensures { Declares self.new result (take_space self.old (space_seen form.now)) }
+    pub fn take_space(&mut self, words: &[Word]) -> Result<(), LineError>
+        ensures { Declares self.new result
+            (formed (space_form (map plain words.now)) (take_space self.old)) }
     {
+        let Some(form) = syntax::space_form(words) else {
+            return Err(LineError::Refused(Refusal::Syntax));
+        };
         if form.is_data {
             self.data_words = Some(words_once(self.data_words, 1 << 20, form.size)?);
         } else {

@@ -1,28 +1,36 @@
 //! The declarations of files and immediate units.
 
-ghost use Rattle.std.specs.Prelude.{◌≡◌, not, ◌||◌, ◌==◌, nat_le, length};
+ghost use Rattle.std.specs.Prelude.{◌≡◌, map, not, ◌||◌, ◌==◌, nat_le, length};
+ghost use Rattle.tta_reading.specs.Lines.{plain};
+ghost use Rattle.tta_machine.specs.Forms.{file_form, imm_form};
 ghost use Rattle.tta_machine.specs.Declarations.{take_file, take_imm};
 ghost use Rattle.tta_machine.specs.Draft.{is_too_long};
 ghost use Rattle.tta_machine.specs.Rules.{is_from_to};
-ghost use Rattle.tta_machine.specs.Seen.{Declares, file_seen, imm_seen};
+ghost use Rattle.tta_machine.specs.Seen.{Declares, formed};
 
 use crate::parts::{File, ImmUnit};
 use crate::reading::draft::{Draft, Named};
-use crate::reading::forms::{FileForm, ImmForm};
+use crate::reading::forms::FileForm;
 use crate::reading::limits::{is_from_to, is_too_long};
 use crate::reading::lookups::add_part;
 use crate::reading::refusal::{LineError, Refusal};
+use crate::reading::syntax;
 use std::alloc::Global;
 use tta_list::Name;
+use tta_reading::Word;
 
 impl Draft {
     /// Declares an immediate unit. It is refused as `Unknown` where its socket is no output
     /// socket, as `Twice` where its name is taken, and as `Range` where it has no register or more
     /// than 16, its name is too long, or 4 immediate units are there.
     #[tactic(auto, unfolding(crate::specs::Declarations::take_imm))]
-    pub fn take_imm(&mut self, alloc: Global, form: &ImmForm) -> Result<(), LineError>
-        ensures { Declares self.new result (take_imm self.old (imm_seen form.now)) }
+    pub fn take_imm(&mut self, alloc: Global, words: &[Word]) -> Result<(), LineError>
+        ensures { Declares self.new result
+            (formed (imm_form (map plain words.now)) (take_imm self.old)) }
     {
+        let Some(form) = syntax::imm_form(words) else {
+            return Err(LineError::Refused(Refusal::Syntax));
+        };
         let Some(out) = self.socket_named(false, form.out) else {
             return Err(LineError::Refused(Refusal::Unknown));
         };
@@ -56,9 +64,13 @@ impl Draft {
     /// 1 or 32 bits, it has no register or more than 64, a cycle has no read or write of it or
     /// more than 16, its name is too long, or 8 files are there.
     #[tactic(auto, unfolding(crate::specs::Declarations::take_file))]
-    pub fn take_file(&mut self, alloc: Global, form: &FileForm) -> Result<(), LineError>
-        ensures { Declares self.new result (take_file self.old (file_seen form.now)) }
+    pub fn take_file(&mut self, alloc: Global, words: &[Word]) -> Result<(), LineError>
+        ensures { Declares self.new result
+            (formed (file_form (map plain words.now)) (take_file self.old)) }
     {
+        let Some(form) = syntax::file_form(words) else {
+            return Err(LineError::Refused(Refusal::Syntax));
+        };
         let Some(out) = self.socket_named(false, form.out) else {
             return Err(LineError::Refused(Refusal::Unknown));
         };
@@ -68,7 +80,7 @@ impl Draft {
         if self.is_taken(form.name) {
             return Err(LineError::Refused(Refusal::Twice));
         }
-        if is_outside(form) || is_too_long(form.name) || self.files.len() >= 8 {
+        if is_outside(&form) || is_too_long(form.name) || self.files.len() >= 8 {
             return Err(LineError::Refused(Refusal::Range));
         }
         let place = Named::File(self.files.len() as u8);

@@ -1,25 +1,40 @@
 //! The declaration of a guard.
 
-ghost use Rattle.std.specs.Prelude.{◌≡◌, option_map, slice_get};
+ghost use Rattle.std.specs.Prelude.{◌≡◌, map, option_map, slice_get};
 ghost use Rattle.std.specs.List.{list_any};
+ghost use Rattle.tta_reading.specs.Lines.{plain};
+ghost use Rattle.tta_machine.specs.Forms.{guard_form};
 ghost use Rattle.tta_machine.specs.Declarations.{take_guard};
 ghost use Rattle.tta_machine.specs.Guards.{guard_of};
 ghost use Rattle.tta_machine.specs.Joins.{is_same};
 ghost use Rattle.tta_machine.specs.Rules.{same_guard};
-ghost use Rattle.tta_machine.specs.Seen.{Declares, guard_seen};
+ghost use Rattle.tta_machine.specs.Seen.{Declares, formed, guard_seen};
 
 use crate::ends::GuardRef;
 use crate::parts::{File, Guard};
 use crate::reading::draft::Draft;
 use crate::reading::forms::GuardForm;
 use crate::reading::refusal::{LineError, Refusal};
+use crate::reading::syntax;
+use tta_reading::Word;
 
 impl Draft {
     /// Declares a guard. It is refused as `Unknown` where its bus or its file is not there, as
     /// `Twice` where the same guard stands on the bus already, and as `Range` where the file's
     /// width is not 1, the file has no such register, or 64 guards are there.
+    pub fn take_guard(&mut self, words: &[Word]) -> Result<(), LineError>
+        ensures { Declares self.new result
+            (formed (guard_form (map plain words.now)) (take_guard self.old)) }
+    {
+        match syntax::guard_form(words) {
+            Some(form) => self.add_guard(&form),
+            None => Err(LineError::Refused(Refusal::Syntax)),
+        }
+    }
+
+    // puts a guard behind the others, where nothing refuses it
     #[tactic(auto, unfolding(crate::specs::Declarations::take_guard))]
-    pub fn take_guard(&mut self, form: &GuardForm) -> Result<(), LineError>
+    fn add_guard(&mut self, form: &GuardForm) -> Result<(), LineError>
         ensures { Declares self.new result (take_guard self.old (guard_seen form.now)) }
     {
         let Some(bus) = self.bus_named(form.bus) else {

@@ -1,27 +1,30 @@
 //! The declaration of an operation of a unit.
 
-ghost use Rattle.std.specs.Prelude.{◌≡◌, ◌==◌, ◌<◌, ◌&&◌, ◌||◌, true, is_none};
+ghost use Rattle.std.specs.Prelude.{◌≡◌, ◌==◌, ◌<◌, ◌&&◌, ◌||◌, map, true, is_none};
 ghost use Rattle.std.specs.Prelude.{length, slice_get, slice_set, Some, Err, IfSome, OnOk, OnErr};
 ghost use Rattle.std.specs.List.{list_any};
 ghost use Rattle.std.specs.Option.{option_map_or};
 ghost use Rattle.tta_ops.specs.Set.{stated};
+ghost use Rattle.tta_reading.specs.Lines.{plain};
+ghost use Rattle.tta_machine.specs.Forms.{op_form};
 ghost use Rattle.tta_machine.specs.Declarations.{take_op, timed_op, untimed_op, op_named};
 ghost use Rattle.tta_machine.specs.Declarations.{arity_of, is_latency, with_op};
 ghost use Rattle.tta_machine.specs.declared.parts.Unit.{Unit as UnitSeen};
 ghost use Rattle.tta_machine.specs.declared.reading.refusal.LineError.TheVariants.{NoMemory};
 ghost use Rattle.tta_machine.specs.Effects.{has_result};
 ghost use Rattle.tta_machine.specs.Rules.{same_op};
-ghost use Rattle.tta_machine.specs.Seen.{Declares, op_seen};
+ghost use Rattle.tta_machine.specs.Seen.{Declares, formed};
 ghost use Rattle.tta_machine.specs.Services.{IsOffered};
 
 use crate::parts::{Op, Unit, UnitOp};
 use crate::reading::draft::Draft;
-use crate::reading::forms::OpForm;
 use crate::reading::limits::is_from_to;
 use crate::reading::refusal::{LineError, Refusal};
 use crate::reading::services::is_served;
+use crate::reading::syntax;
 use std::alloc::AllocError;
 use tta_ops::UnitSet;
+use tta_reading::Word;
 
 impl Draft {
     /// Adds an operation to a unit. It is refused as `Unknown` where the unit is not there or
@@ -30,10 +33,14 @@ impl Draft {
     /// latency is not from 1 to 16 or the unit has 32 operations, and as `Missing` where it takes
     /// two words and the unit has no operand port, or has a result and the unit no result port.
     #[tactic(auto, unfolding(crate::specs::Declarations::take_op))]
-    pub fn take_op(&mut self, units: &UnitSet, form: &OpForm) -> Result<(), LineError>
+    pub fn take_op(&mut self, units: &UnitSet, words: &[Word]) -> Result<(), LineError>
         ensures { let U = stated unit_meaning units.now in
-            Declares self.new result (take_op U self.old (op_seen form.now)) }
+            Declares self.new result
+            (formed (op_form (map plain words.now)) (take_op U self.old)) }
     {
+        let Some(form) = syntax::op_form(words) else {
+            return Err(LineError::Refused(Refusal::Syntax));
+        };
         let Some(place) = self.unit_named(form.unit) else {
             return Err(LineError::Refused(Refusal::Unknown));
         };

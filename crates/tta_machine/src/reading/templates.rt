@@ -1,18 +1,21 @@
 //! The declaration of a template.
 
-ghost use Rattle.std.specs.Prelude.{◌≡◌, option_map, slice_get};
+ghost use Rattle.std.specs.Prelude.{◌≡◌, map, option_map, slice_get};
+ghost use Rattle.tta_reading.specs.Lines.{plain};
+ghost use Rattle.tta_machine.specs.Forms.{template_form};
 ghost use Rattle.tta_machine.specs.Declarations.{take_template};
 ghost use Rattle.tta_machine.specs.Kept.{IsDraft};
-ghost use Rattle.tta_machine.specs.Seen.{Declares, template_seen};
+ghost use Rattle.tta_machine.specs.Seen.{Declares, formed};
 
 use crate::parts::{ImmUnit, Template};
 use crate::reading::draft::{Draft, Named};
-use crate::reading::forms::TemplateForm;
 use crate::reading::limits::is_too_long;
 use crate::reading::lookups::add_part;
 use crate::reading::refusal::{LineError, Refusal};
+use crate::reading::syntax;
 use std::alloc::Global;
 use tta_list::Name;
+use tta_reading::Word;
 
 impl Draft {
     /// Declares a template, at this line. It is refused as `Unknown` where its immediate unit or
@@ -24,11 +27,15 @@ impl Draft {
         &mut self,
         alloc: Global,
         line: u32,
-        form: &TemplateForm,
+        words: &[Word],
     ) -> Result<(), LineError>
         requires { IsDraft self.old }
-        ensures { Declares self.new result (take_template line self.old (template_seen form.now)) }
+        ensures { Declares self.new result
+            (formed (template_form (map plain words.now)) (take_template line self.old)) }
     {
+        let Some(form) = syntax::template_form(words) else {
+            return Err(LineError::Refused(Refusal::Syntax));
+        };
         let Some(imm) = self.imm_named(form.imm) else {
             return Err(LineError::Refused(Refusal::Unknown));
         };

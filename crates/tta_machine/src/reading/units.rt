@@ -1,26 +1,33 @@
 //! The declaration of a unit.
 
-ghost use Rattle.std.specs.Prelude.{◌≡◌};
+ghost use Rattle.std.specs.Prelude.{◌≡◌, map};
+ghost use Rattle.tta_reading.specs.Lines.{plain};
+ghost use Rattle.tta_machine.specs.Forms.{unit_form};
 ghost use Rattle.tta_machine.specs.Declarations.{take_unit};
-ghost use Rattle.tta_machine.specs.Seen.{Declares, unit_seen};
+ghost use Rattle.tta_machine.specs.Seen.{Declares, formed};
 
 use crate::parts::Unit;
 use crate::reading::draft::{Draft, Named};
-use crate::reading::forms::UnitForm;
 use crate::reading::limits::is_too_long;
 use crate::reading::lookups::add_part;
 use crate::reading::refusal::{LineError, Refusal};
+use crate::reading::syntax;
 use std::alloc::Global;
 use tta_list::{Items, Name};
+use tta_reading::Word;
 
 impl Draft {
     /// Declares a unit, without operations. It is refused as `Unknown` where the socket of one of
     /// its ports is not there in the port's direction, as `Twice` where its name is taken, and as
     /// `Range` where its name is too long or 32 units are there.
     #[tactic(auto, unfolding(crate::specs::Declarations::take_unit))]
-    pub fn take_unit(&mut self, alloc: Global, form: &UnitForm) -> Result<(), LineError>
-        ensures { Declares self.new result (take_unit self.old (unit_seen form.now)) }
+    pub fn take_unit(&mut self, alloc: Global, words: &[Word]) -> Result<(), LineError>
+        ensures { Declares self.new result
+            (formed (unit_form (map plain words.now)) (take_unit self.old)) }
     {
+        let Some(form) = syntax::unit_form(words) else {
+            return Err(LineError::Refused(Refusal::Syntax));
+        };
         let operand = self.port_named(true, form.operand)?;
         let Some(trigger) = self.socket_named(true, form.trigger) else {
             return Err(LineError::Refused(Refusal::Unknown));
