@@ -10,6 +10,7 @@ pub mod Forms
 pub mod Declarations
 pub mod BusSets
 pub mod Guards
+pub mod Templates
 pub mod Services
 pub mod Text
 pub mod Seen

@@ -71,10 +71,8 @@ impl Draft {
         let Some(form) = syntax::file_form(words) else {
             return Err(LineError::Refused(Refusal::Syntax));
         };
-        let Some(out) = self.socket_named(false, form.out) else {
-            return Err(LineError::Refused(Refusal::Unknown));
-        };
-        let Some(into) = self.socket_named(true, form.into) else {
+        let out = self.socket_named(false, form.out);
+        let (Some(out), Some(into)) = (out, self.socket_named(true, form.into)) else {
             return Err(LineError::Refused(Refusal::Unknown));
         };
         if self.is_taken(form.name) {

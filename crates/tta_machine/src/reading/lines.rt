@@ -1,17 +1,15 @@
 //! The lines of a machine's text.
 
-ghost use Rattle.std.specs.Prelude.{map};
+ghost use Rattle.std.specs.Prelude.{◌≡◌, false, map, codes};
 ghost use Rattle.tta_reading.specs.Lines.{plain};
+ghost use Rattle.tta_reading.specs.Words.{is_keyword};
 ghost use Rattle.tta_ops.specs.Set.{stated};
-ghost use Rattle.tta_machine.specs.Forms as form;
-ghost use Rattle.tta_machine.specs.Declarations as spec;
 ghost use Rattle.tta_machine.specs.Kept.{IsDraft};
-ghost use Rattle.tta_machine.specs.Seen.{Declares, formed};
+ghost use Rattle.tta_machine.specs.Seen.{Declares};
 ghost use Rattle.tta_machine.specs.Text as text;
 
 use crate::reading::draft::Draft;
 use crate::reading::refusal::{LineError, Refusal};
-use crate::reading::syntax;
 use std::alloc::Global;
 use tta_ops::UnitSet;
 use tta_reading::Word;
@@ -40,7 +38,30 @@ impl Draft {
             self.take_imm(alloc, words)
         } else if key.is_keyword(b"unit") {
             self.take_unit(alloc, words)
-        } else if key.is_keyword(b"op") {
+        } else {
+            self.declare_use(alloc, units, line, key, words)
+        }
+    }
+
+    // What such a part can do, where it is used, or what the whole machine has.
+    fn declare_use(
+        &mut self,
+        alloc: Global,
+        units: &UnitSet,
+        line: u32,
+        key: &Word,
+        words: &[Word],
+    ) -> Result<(), LineError>
+        requires draft { IsDraft self.old }
+        requires bus { is_keyword (codes "bus") (plain key.now) ≡ false }
+        requires socket { is_keyword (codes "socket") (plain key.now) ≡ false }
+        requires file { is_keyword (codes "file") (plain key.now) ≡ false }
+        requires imm { is_keyword (codes "imm") (plain key.now) ≡ false }
+        requires unit { is_keyword (codes "unit") (plain key.now) ≡ false }
+        ensures { let U = stated unit_meaning units.now in Declares self.new result
+            (text.declare U line self.old (plain key.now) (map plain words.now)) }
+    {
+        if key.is_keyword(b"op") {
             self.take_op(units, words)
         } else if key.is_keyword(b"guard") {
             self.take_guard(words)

@@ -1,11 +1,13 @@
 //! The declaration of a template.
 
-ghost use Rattle.std.specs.Prelude.{◌≡◌, map, option_map, slice_get};
+ghost use Rattle.std.specs.Prelude.{◌≡◌, ◌<◌, false, length, map, option_map, slice_get, OnOk};
 ghost use Rattle.tta_reading.specs.Lines.{plain};
 ghost use Rattle.tta_machine.specs.Forms.{template_form};
 ghost use Rattle.tta_machine.specs.Declarations.{take_template};
+ghost use Rattle.tta_machine.specs.Draft.{is_taken};
 ghost use Rattle.tta_machine.specs.Kept.{IsDraft};
 ghost use Rattle.tta_machine.specs.Seen.{Declares, formed};
+ghost use Rattle.tta_machine.specs.Templates.{with_template};
 
 use crate::parts::{ImmUnit, Template};
 use crate::reading::draft::{Draft, Named};
@@ -13,7 +15,7 @@ use crate::reading::limits::is_too_long;
 use crate::reading::lookups::add_part;
 use crate::reading::refusal::{LineError, Refusal};
 use crate::reading::syntax;
-use std::alloc::Global;
+use std::alloc::{AllocError, Global};
 use tta_list::Name;
 use tta_reading::Word;
 
@@ -54,30 +56,43 @@ impl Draft {
         if form.index >= u32::from(size) || is_too_long(form.name) || self.templates.len() >= 8 {
             return Err(LineError::Refused(Refusal::Range));
         }
-        let place = Named::Template(self.templates.len() as u8);
-        let Ok(()) = self.template_lines.push(line) else {
-            return Err(LineError::NoMemory);
-        };
-        let Ok(name) = Name::new(alloc, form.name) else {
-            return Err(LineError::NoMemory);
-        };
-        let template = Template {
-            name,
-            imm,
-            reg: form.index as u8,
-            buses,
-        };
-        match add_part(
-            alloc,
-            &mut self.names,
-            &mut self.templates,
-            form.name,
-            place,
-            template,
-        ) {
+        let reg = form.index as u8;
+        match self.add_template(alloc, line, form.name, imm, reg, buses) {
             Ok(()) => Ok(()),
             Err(_) => Err(LineError::NoMemory),
         }
+    }
+
+    // puts a template behind the others, with its line and its name
+    fn add_template(
+        &mut self,
+        alloc: Global,
+        line: u32,
+        name: &[u8],
+        imm: u8,
+        reg: u8,
+        buses: u16,
+    ) -> Result<(), AllocError>
+        requires free { is_taken self.old name.now ≡ false }
+        requires few { length self.old.templates < 8 }
+        ensures { OnOk result (self.new ≡ with_template self.old line name.now imm reg buses) }
+    {
+        let place = Named::Template(self.templates.len() as u8);
+        let template = Template {
+            name: Name::new(alloc, name)?,
+            imm,
+            reg,
+            buses,
+        };
+        self.template_lines.push(line)?;
+        add_part(
+            alloc,
+            &mut self.names,
+            &mut self.templates,
+            name,
+            place,
+            template,
+        )
     }
 }
 
