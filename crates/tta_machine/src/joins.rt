@@ -34,15 +34,18 @@ fn source_socket(m: &Machine, src: Source) -> Option<u8>
     ensures { result ≡ source_socket m.now src }
 {
     match src {
-        Source::Reg { file, index } => {
-            let f = m.files.as_slice().get(usize::from(file))?;
-            within(index, f.size, f.out)
-        }
-        Source::Imm { unit, index } => {
-            let u = m.imms.as_slice().get(usize::from(unit))?;
-            within(index, u.size, u.out)
-        }
-        Source::Shown { unit } => m.units.as_slice().get(usize::from(unit))?.result,
+        Source::Reg { file, index } => match m.files.as_slice().get(file as usize) {
+            Some(f) => within(index, f.size, f.out),
+            None => None,
+        },
+        Source::Imm { unit, index } => match m.imms.as_slice().get(unit as usize) {
+            Some(u) => within(index, u.size, u.out),
+            None => None,
+        },
+        Source::Shown { unit } => match m.units.as_slice().get(unit as usize) {
+            Some(u) => u.result,
+            None => None,
+        },
         Source::Ra => m.control.ra,
         Source::Value(_) => None,
     }
@@ -53,19 +56,18 @@ fn dest_socket(m: &Machine, dst: Dest) -> Option<u8>
     ensures { result ≡ dest_socket m.now dst }
 {
     match dst {
-        Dest::Reg { file, index } => {
-            let f = m.files.as_slice().get(usize::from(file))?;
-            within(index, f.size, f.into)
-        }
-        Dest::Operand { unit } => m.units.as_slice().get(usize::from(unit))?.operand,
-        Dest::Trigger { unit, op } => {
-            let u = m.units.as_slice().get(usize::from(unit))?;
-            if usize::from(op) < u.ops.len() {
-                Some(u.trigger)
-            } else {
-                None
-            }
-        }
+        Dest::Reg { file, index } => match m.files.as_slice().get(file as usize) {
+            Some(f) => within(index, f.size, f.into),
+            None => None,
+        },
+        Dest::Operand { unit } => match m.units.as_slice().get(unit as usize) {
+            Some(u) => u.operand,
+            None => None,
+        },
+        Dest::Trigger { unit, op } => match m.units.as_slice().get(unit as usize) {
+            Some(u) if (op as usize) < u.ops.len() => Some(u.trigger),
+            _ => None,
+        },
         Dest::Jump | Dest::Call | Dest::Halt => Some(m.control.trigger),
     }
 }
@@ -77,7 +79,7 @@ fn has_socket(m: &Machine, input: bool, socket: Option<u8>, bus: usize) -> bool
     let Some(k) = socket else {
         return false;
     };
-    match m.sockets.as_slice().get(usize::from(k)) {
+    match m.sockets.as_slice().get(k as usize) {
         None => false,
         Some(s) => s.input == input && has_bus(s.buses, bus),
     }

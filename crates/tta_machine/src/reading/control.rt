@@ -30,7 +30,9 @@ impl Draft {
         let Some(trigger) = self.socket_named(true, form.trigger) else {
             return Err(LineError::Refused(Refusal::Unknown));
         };
-        let ra = self.port_named(false, form.ra)?;
+        let Some(ra) = self.port_named(false, form.ra) else {
+            return Err(LineError::Refused(Refusal::Unknown));
+        };
         if self.control.is_some() {
             return Err(LineError::Refused(Refusal::Twice));
         }

@@ -3,6 +3,8 @@
 ghost use Rattle.std.specs.Prelude.{◌≡◌, ◌++◌, ◌∷◌, [], false, if◌then◌else◌};
 ghost use Rattle.std.specs.Prelude.{Some, None, option_map, OnOk};
 ghost use Rattle.tta_reading.specs.Names.{named_in};
+ghost use Rattle.tta_reading.specs.Steps.{or_refuse};
+ghost use Rattle.tta_machine.specs.declared.reading.refusal.Refusal.TheVariants.{Unknown};
 ghost use Rattle.tta_machine.specs.Draft.{nothing, is_taken};
 ghost use Rattle.tta_machine.specs.Draft.{bus_named, socket_named, file_named, imm_named};
 ghost use Rattle.tta_machine.specs.Draft.{unit_named};
@@ -11,7 +13,6 @@ ghost use Rattle.tta_machine.specs.Rules.{is_socket};
 
 use crate::parts::Socket;
 use crate::reading::draft::{Draft, Named};
-use crate::reading::refusal::Refusal;
 use std::alloc::{AllocError, Global};
 use tta_list::Items;
 use tta_reading::Names;
@@ -94,17 +95,18 @@ impl Draft {
         }
     }
 
-    /// The socket of a port that may be left out. It is refused where a name is given that names
-    /// no socket of this direction.
-    pub fn port_named(&self, input: bool, name: Option<&[u8]>) -> Result<Option<u8>, Refusal>
-        ensures { result ≡ port_named self.now input (option_map (λ b. b.now) name.entry) }
+    /// The socket of a port that may be left out: `None` where a name is given that names no
+    /// socket of this direction.
+    pub fn port_named(&self, input: bool, name: Option<&[u8]>) -> Option<Option<u8>>
+        ensures { let name = option_map (λ b. b.now) name.entry in
+            port_named self.now input name ≡ or_refuse Unknown result }
     {
         let Some(name) = name else {
-            return Ok(None);
+            return Some(None);
         };
         match self.socket_named(input, name) {
-            Some(place) => Ok(Some(place)),
-            None => Err(Refusal::Unknown),
+            Some(place) => Some(Some(place)),
+            None => None,
         }
     }
 }

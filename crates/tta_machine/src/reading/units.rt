@@ -28,11 +28,15 @@ impl Draft {
         let Some(form) = syntax::unit_form(words) else {
             return Err(LineError::Refused(Refusal::Syntax));
         };
-        let operand = self.port_named(true, form.operand)?;
+        let Some(operand) = self.port_named(true, form.operand) else {
+            return Err(LineError::Refused(Refusal::Unknown));
+        };
         let Some(trigger) = self.socket_named(true, form.trigger) else {
             return Err(LineError::Refused(Refusal::Unknown));
         };
-        let result = self.port_named(false, form.result)?;
+        let Some(result) = self.port_named(false, form.result) else {
+            return Err(LineError::Refused(Refusal::Unknown));
+        };
         if self.is_taken(form.name) {
             return Err(LineError::Refused(Refusal::Twice));
         }
