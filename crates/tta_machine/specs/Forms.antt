@@ -65,6 +65,13 @@ keyed_value word key value = only_if (is_keyword word key) (value_of value)
 abbrev pub keyed_name : (word : List ℕ) → (key name : Lexeme) → Option (List ℕ)
 keyed_name word key name = only_if (is_keyword word key) (name_of name)
 
+-- the sockets of a file of these numbers
+abbrev pub file_sockets : (name : List ℕ) → (width size read write : ℕ) → Line → Option FileForm
+file_sockets name w s r t (k1 ∷ out ∷ k2 ∷ into ∷ []) =
+    keyed_name (codes "out") k1 out >>? λ o. keyed_name (codes "in") k2 into >>? λ i.
+    Some (record { name = name; width = w; size = s; read = r; write = t; out = o; into = i })
+file_sockets name w s r t line = None
+
 -- the words behind `file`, where they have this form
 unfoldable pub file_form : Line → Option FileForm
 file_form (n ∷ k1 ∷ width ∷ k2 ∷ size ∷ k3 ∷ read ∷ k4 ∷ write ∷ k5 ∷ out ∷ k6 ∷ into ∷ []) =

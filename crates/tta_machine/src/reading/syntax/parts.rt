@@ -50,8 +50,40 @@ pub fn socket_form<'t>(words: &'t [Word<'t>]) -> Option<SocketForm<'t>>
     }
 }
 
+/// A file of these numbers, whose sockets these words tell.
+fn file_sockets<'t>(
+    name: &'t [u8],
+    width: u32,
+    size: u32,
+    read: u32,
+    write: u32,
+    words: &'t [Word<'t>],
+) -> Option<FileForm<'t>>
+    ensures { option_map file_seen result
+        ≡ spec.file_sockets name.now width size read write (map plain words.now) }
+{
+    match words {
+        [out_key, out, in_key, into] => {
+            let out = keyed_name(b"out", out_key, out);
+            match (out, keyed_name(b"in", in_key, into)) {
+                (Some(out), Some(into)) => Some(FileForm {
+                    name,
+                    width,
+                    size,
+                    read,
+                    write,
+                    out,
+                    into,
+                }),
+                _ => None,
+            }
+        }
+        _ => None,
+    }
+}
+
 /// What the words behind `file` declare.
-#[tactic(auto, unfolding(crate::specs::Forms::file_form))]
+#[tactic(auto, using(crate::proofs::Pieces::file_form_of), unfolding(crate::specs::Forms::file_form))]
 pub fn file_form<'t>(words: &'t [Word<'t>]) -> Option<FileForm<'t>>
     ensures { option_map file_seen result ≡ spec.file_form (map plain words.now) }
 {
@@ -66,27 +98,18 @@ pub fn file_form<'t>(words: &'t [Word<'t>]) -> Option<FileForm<'t>>
             read,
             write_key,
             write,
-            out_key,
-            out,
-            in_key,
-            into,
+            sockets @ ..,
         ] => {
-            let name = name.name()?;
-            let width = keyed_value(b"width", width_key, width)?;
-            let size = keyed_value(b"size", size_key, size)?;
-            let read = keyed_value(b"read", read_key, read)?;
-            let write = keyed_value(b"write", write_key, write)?;
-            let out = keyed_name(b"out", out_key, out)?;
-            let into = keyed_name(b"in", in_key, into)?;
-            Some(FileForm {
-                name,
-                width,
-                size,
-                read,
-                write,
-                out,
-                into,
-            })
+            let width = keyed_value(b"width", width_key, width);
+            let size = keyed_value(b"size", size_key, size);
+            let read = keyed_value(b"read", read_key, read);
+            let write = keyed_value(b"write", write_key, write);
+            match (name.name(), width, size, read, write) {
+                (Some(name), Some(width), Some(size), Some(read), Some(write)) => {
+                    file_sockets(name, width, size, read, write, sockets)
+                }
+                _ => None,
+            }
         }
         _ => None,
     }
