@@ -1,14 +1,14 @@
 //! The declaration of an operation of a unit.
 
-ghost use Rattle.std.specs.Prelude.{◌≡◌, ◌==◌, ◌<◌, ◌&&◌, ◌||◌, map, true, is_none};
-ghost use Rattle.std.specs.Prelude.{length, slice_get, slice_set, Some, Err, IfSome, OnOk, OnErr};
+ghost use Rattle.std.specs.Prelude.{◌≡◌, ◌==◌, ◌<◌, ◌&&◌, ◌||◌, map, true, false, not, is_none};
+ghost use Rattle.std.specs.Prelude.{length, nat_le, slice_get, slice_set, Some, Err, IfSome, OnOk, OnErr};
 ghost use Rattle.std.specs.List.{list_any};
 ghost use Rattle.std.specs.Option.{option_map_or};
 ghost use Rattle.tta_ops.specs.Set.{stated};
 ghost use Rattle.tta_reading.specs.Lines.{plain};
 ghost use Rattle.tta_machine.specs.Forms.{op_form};
 ghost use Rattle.tta_machine.specs.Declarations.{take_op, timed_op, untimed_op, op_named};
-ghost use Rattle.tta_machine.specs.Declarations.{arity_of, is_latency, with_op};
+ghost use Rattle.tta_machine.specs.Declarations.{arity_of, is_latency, is_served, with_op};
 ghost use Rattle.tta_machine.specs.declared.parts.Unit.{Unit as UnitSeen};
 ghost use Rattle.tta_machine.specs.declared.reading.refusal.LineError.TheVariants.{NoMemory};
 ghost use Rattle.tta_machine.specs.Effects.{has_result};
@@ -44,17 +44,17 @@ impl Draft {
         let Some(place) = self.unit_named(form.unit) else {
             return Err(LineError::Refused(Refusal::Unknown));
         };
-        let place = usize::from(place);
+        let place = place as usize;
         let Some(unit) = self.units.as_slice().get(place) else {
             return Err(LineError::Refused(Refusal::Unknown));
         };
         let Some(op) = op_named(units, form.latency, form.operation) else {
             return Err(LineError::Refused(Refusal::Unknown));
         };
-        if has_same(unit, op) || is_served(self.units.as_slice(), place, op) {
+        if is_twice(self.units.as_slice(), place, unit, op) {
             return Err(LineError::Refused(Refusal::Twice));
         }
-        if !is_latency(form.latency) || unit.ops.len() >= 32 {
+        if is_outside(unit, form.latency) {
             return Err(LineError::Refused(Refusal::Range));
         }
         let arity = arity_of(units, op);
@@ -134,6 +134,22 @@ fn arity_of(units: &UnitSet, op: Op) -> u8
         Op::Stw | Op::Stf => 2,
         Op::Set(id) => units.arity(id),
     }
+}
+
+// whether the unit at a place has the operation already, or another unit serves what it serves
+fn is_twice(units: &[Unit], place: usize, unit: &Unit, op: Op) -> bool
+    ensures { result ≡ (list_any (λ p. same_op p.op op) unit.now.ops
+        || is_served units.now place op) }
+{
+    has_same(unit, op) || is_served(units, place, op)
+}
+
+// whether the latency is outside its range, or the unit has as many operations as it may
+fn is_outside(unit: &Unit, latency: Option<u32>) -> bool
+    ensures value { result ≡ (not (is_latency latency) || nat_le 32 (length unit.now.ops)) }
+    ensures latency { result ≡ false → is_latency latency ≡ true }
+{
+    !is_latency(latency) || unit.ops.len() >= 32
 }
 
 fn has_same(unit: &Unit, op: Op) -> bool
