@@ -18,8 +18,9 @@ use tta_list::Name;
 use tta_reading::Word;
 
 impl Draft {
-    /// Declares a bus. It is refused as `Twice` where its name is taken, and else as `Range` where
-    /// its short field has no bit or more than 32, its name is too long, or 16 buses are there.
+    /// Declares a bus by the words behind `bus`. It is refused as `Syntax` where they have another
+    /// form, as `Twice` where its name is taken, and else as `Range` where its short field has no
+    /// bit or more than 32, its name is too long, or 16 buses are there.
     #[tactic(auto, unfolding(crate::specs::Declarations::take_bus))]
     pub fn take_bus(&mut self, alloc: Global, words: &[Word]) -> Result<(), LineError>
         ensures { Declares self.new result
@@ -56,9 +57,10 @@ impl Draft {
         }
     }
 
-    /// Declares a socket. It is refused as `Unknown` where a name of its buses names no bus, as
-    /// `Twice` where its name is taken or a bus stands twice, and as `Range` where its name is too
-    /// long or 128 sockets are there.
+    /// Declares a socket by the words behind `socket`. It is refused as `Syntax` where they have
+    /// another form, as `Unknown` where a name of its buses names no bus, as `Twice` where its name
+    /// is taken or a bus stands twice, and as `Range` where its name is too long or 128 sockets are
+    /// there.
     #[tactic(auto, unfolding(crate::specs::Declarations::take_socket))]
     pub fn take_socket(&mut self, alloc: Global, words: &[Word]) -> Result<(), LineError>
         requires { IsDraft self.old }

@@ -16,9 +16,10 @@ use crate::reading::syntax;
 use tta_reading::Word;
 
 impl Draft {
-    /// Declares control. It is refused as `Unknown` where the socket of one of its ports is not
-    /// there in the port's direction, as `Twice` where control is there already, and as `Range`
-    /// where its delay is over 4 or an address has no bit or more than 16.
+    /// Declares control by the words behind `control`. It is refused as `Syntax` where they have
+    /// another form, as `Unknown` where the socket of one of its ports is not there in the port's
+    /// direction, as `Twice` where control is there already, and as `Range` where its delay is over
+    /// 4 or an address has no bit or more than 16.
     #[tactic(auto, unfolding(crate::specs::Declarations::take_control))]
     pub fn take_control(&mut self, words: &[Word]) -> Result<(), LineError>
         ensures { Declares self.new result
@@ -27,10 +28,8 @@ impl Draft {
         let Some(form) = syntax::control_form(words) else {
             return Err(LineError::Refused(Refusal::Syntax));
         };
-        let Some(trigger) = self.socket_named(true, form.trigger) else {
-            return Err(LineError::Refused(Refusal::Unknown));
-        };
-        let Some(ra) = self.port_named(false, form.ra) else {
+        let trigger = self.socket_named(true, form.trigger);
+        let (Some(trigger), Some(ra)) = (trigger, self.port_named(false, form.ra)) else {
             return Err(LineError::Refused(Refusal::Unknown));
         };
         if self.control.is_some() {
@@ -48,9 +47,9 @@ impl Draft {
         Ok(())
     }
 
-    /// Declares how many words a space has. It is refused as `Twice` where that is declared
-    /// already, and as `Range` where the data space has more than 2^20 words or the frame space
-    /// more than 65,536.
+    /// Declares how many words a space has, by the words behind `space`. It is refused as `Syntax`
+    /// where they have another form, as `Twice` where that is declared already, and as `Range`
+    /// where the data space has more than 2^20 words or the frame space more than 65,536.
     #[tactic(auto, unfolding(crate::specs::Declarations::take_space))]
     pub fn take_space(&mut self, words: &[Word]) -> Result<(), LineError>
         ensures { Declares self.new result

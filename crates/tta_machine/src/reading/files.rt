@@ -20,9 +20,10 @@ use tta_list::Name;
 use tta_reading::Word;
 
 impl Draft {
-    /// Declares an immediate unit. It is refused as `Unknown` where its socket is no output
-    /// socket, as `Twice` where its name is taken, and as `Range` where it has no register or more
-    /// than 16, its name is too long, or 4 immediate units are there.
+    /// Declares an immediate unit by the words behind `imm`. It is refused as `Syntax` where they
+    /// have another form, as `Unknown` where its socket is no output socket, as `Twice` where its
+    /// name is taken, and as `Range` where it has no register or more than 16, its name is too
+    /// long, or 4 immediate units are there.
     #[tactic(auto, unfolding(crate::specs::Declarations::take_imm))]
     pub fn take_imm(&mut self, alloc: Global, words: &[Word]) -> Result<(), LineError>
         ensures { Declares self.new result
@@ -59,10 +60,11 @@ impl Draft {
         }
     }
 
-    /// Declares a file. It is refused as `Unknown` where its sockets are no output and no input
-    /// socket, as `Twice` where its name is taken, and as `Range` where a register has other than
-    /// 1 or 32 bits, it has no register or more than 64, a cycle has no read or write of it or
-    /// more than 16, its name is too long, or 8 files are there.
+    /// Declares a file by the words behind `file`. It is refused as `Syntax` where they have
+    /// another form, as `Unknown` where its sockets are no output and no input socket, as `Twice`
+    /// where its name is taken, and as `Range` where a register has other than 1 or 32 bits, it has
+    /// no register or more than 64, a cycle has no read or write of it or more than 16, its name is
+    /// too long, or 8 files are there.
     #[tactic(auto, unfolding(crate::specs::Declarations::take_file))]
     pub fn take_file(&mut self, alloc: Global, words: &[Word]) -> Result<(), LineError>
         ensures { Declares self.new result

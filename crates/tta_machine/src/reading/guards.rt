@@ -19,9 +19,10 @@ use crate::reading::syntax;
 use tta_reading::Word;
 
 impl Draft {
-    /// Declares a guard. It is refused as `Unknown` where its bus or its file is not there, as
-    /// `Twice` where the same guard stands on the bus already, and as `Range` where the file's
-    /// width is not 1, the file has no such register, or 64 guards are there.
+    /// Declares a guard by the words behind `guard`. It is refused as `Syntax` where they have
+    /// another form, as `Unknown` where its bus or its file is not there, as `Twice` where the same
+    /// guard stands on the bus already, and as `Range` where the file's width is not 1, the file
+    /// has no such register, or 64 guards are there.
     pub fn take_guard(&mut self, words: &[Word]) -> Result<(), LineError>
         ensures { Declares self.new result
             (formed (guard_form (map plain words.now)) (take_guard self.old)) }

@@ -27,11 +27,12 @@ use tta_ops::UnitSet;
 use tta_reading::Word;
 
 impl Draft {
-    /// Adds an operation to a unit. It is refused as `Unknown` where the unit is not there or
-    /// nothing offers an operation of this name in a line of this form, as `Twice` where the unit
-    /// has it already or another unit serves the same space or the output, as `Range` where the
-    /// latency is not from 1 to 16 or the unit has 32 operations, and as `Missing` where it takes
-    /// two words and the unit has no operand port, or has a result and the unit no result port.
+    /// Adds an operation to a unit by the words behind `op`. It is refused as `Syntax` where they
+    /// have another form, as `Unknown` where the unit is not there or nothing offers an operation
+    /// of this name in a line of this form, as `Twice` where the unit has it already or another
+    /// unit serves the same space or the output, as `Range` where the latency is not from 1 to 16
+    /// or the unit has 32 operations, and as `Missing` where it takes two words and the unit has no
+    /// operand port, or has a result and the unit no result port.
     #[tactic(auto, unfolding(crate::specs::Declarations::take_op))]
     pub fn take_op(&mut self, units: &UnitSet, words: &[Word]) -> Result<(), LineError>
         ensures { let U = stated unit_meaning units.now in

@@ -20,10 +20,10 @@ use tta_list::Name;
 use tta_reading::Word;
 
 impl Draft {
-    /// Declares a template, at this line. It is refused as `Unknown` where its immediate unit or
-    /// one of its buses is not there, as `Twice` where its name is taken or a bus stands twice,
-    /// and as `Range` where the unit has no such register, its name is too long, or 8 templates
-    /// are there.
+    /// Declares a template, at this line, by the words behind `template`. It is refused as `Syntax`
+    /// where they have another form, as `Unknown` where its immediate unit or one of its buses is
+    /// not there, as `Twice` where its name is taken or a bus stands twice, and as `Range` where
+    /// the unit has no such register, its name is too long, or 8 templates are there.
     #[tactic(auto, unfolding(crate::specs::Declarations::take_template))]
     pub fn take_template(
         &mut self,

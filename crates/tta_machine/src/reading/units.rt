@@ -17,9 +17,10 @@ use tta_list::{Items, Name};
 use tta_reading::Word;
 
 impl Draft {
-    /// Declares a unit, without operations. It is refused as `Unknown` where the socket of one of
-    /// its ports is not there in the port's direction, as `Twice` where its name is taken, and as
-    /// `Range` where its name is too long or 32 units are there.
+    /// Declares a unit, without operations, by the words behind `unit`. It is refused as `Syntax`
+    /// where they have another form, as `Unknown` where the socket of one of its ports is not there
+    /// in the port's direction, as `Twice` where its name is taken, and as `Range` where its name
+    /// is too long or 32 units are there.
     #[tactic(auto, unfolding(crate::specs::Declarations::take_unit))]
     pub fn take_unit(&mut self, alloc: Global, words: &[Word]) -> Result<(), LineError>
         ensures { Declares self.new result
@@ -28,13 +29,10 @@ impl Draft {
         let Some(form) = syntax::unit_form(words) else {
             return Err(LineError::Refused(Refusal::Syntax));
         };
-        let Some(operand) = self.port_named(true, form.operand) else {
-            return Err(LineError::Refused(Refusal::Unknown));
-        };
-        let Some(trigger) = self.socket_named(true, form.trigger) else {
-            return Err(LineError::Refused(Refusal::Unknown));
-        };
-        let Some(result) = self.port_named(false, form.result) else {
+        let operand = self.port_named(true, form.operand);
+        let trigger = self.socket_named(true, form.trigger);
+        let result = self.port_named(false, form.result);
+        let (Some(operand), Some(trigger), Some(result)) = (operand, trigger, result) else {
             return Err(LineError::Refused(Refusal::Unknown));
         };
         if self.is_taken(form.name) {
