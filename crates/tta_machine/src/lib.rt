@@ -8,6 +8,7 @@ mod joins;
 mod layout;
 mod machine;
 mod parts;
+mod places;
 mod reading;
 mod word;
 
