@@ -12,6 +12,7 @@ ghost use Rattle.tta_machine.specs.Seen.{Declares, formed, guard_seen};
 
 use crate::ends::GuardRef;
 use crate::parts::{File, Guard};
+use crate::places::part_at;
 use crate::reading::draft::Draft;
 use crate::reading::forms::GuardForm;
 use crate::reading::refusal::{LineError, Refusal};
@@ -71,7 +72,7 @@ impl Draft {
 fn shape_at(files: &[File], place: u8) -> Option<(u8, u8)>
     ensures { result ≡ option_map (λ f. (f.width, f.size)) (slice_get files.now place) }
 {
-    match files.get(place as usize) {
+    match part_at(files, place) {
         Some(file) => Some((file.width, file.size)),
         None => None,
     }

@@ -12,6 +12,7 @@ ghost use Rattle.tta_machine.specs.Declarations.{port_named};
 ghost use Rattle.tta_machine.specs.Rules.{is_socket};
 
 use crate::parts::Socket;
+use crate::places::part_at;
 use crate::reading::draft::{Draft, Named};
 use std::alloc::{AllocError, Global};
 use tta_list::Items;
@@ -142,7 +143,7 @@ fn only_of_direction(sockets: &[Socket], input: bool, place: u8) -> Option<u8>
 fn is_socket(sockets: &[Socket], input: bool, place: u8) -> bool
     ensures { result ≡ is_socket sockets.now input place }
 {
-    match sockets.get(place as usize) {
+    match part_at(sockets, place) {
         Some(socket) => socket.input == input,
         None => false,
     }

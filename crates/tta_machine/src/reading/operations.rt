@@ -17,6 +17,7 @@ ghost use Rattle.tta_machine.specs.Seen.{Declares, formed};
 ghost use Rattle.tta_machine.specs.Services.{IsOffered};
 
 use crate::parts::{Op, Unit, UnitOp};
+use crate::places::part_at;
 use crate::reading::draft::Draft;
 use crate::reading::limits::is_from_to;
 use crate::reading::refusal::{LineError, Refusal};
@@ -45,13 +46,13 @@ impl Draft {
         let Some(place) = self.unit_named(form.unit) else {
             return Err(LineError::Refused(Refusal::Unknown));
         };
-        let place = place as usize;
-        let Some(unit) = self.units.as_slice().get(place) else {
+        let Some(unit) = part_at(self.units.as_slice(), place) else {
             return Err(LineError::Refused(Refusal::Unknown));
         };
         let Some(op) = op_named(units, form.latency, form.operation) else {
             return Err(LineError::Refused(Refusal::Unknown));
         };
+        let place = place as usize;
         if is_twice(self.units.as_slice(), place, unit, op) {
             return Err(LineError::Refused(Refusal::Twice));
         }
