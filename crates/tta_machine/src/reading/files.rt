@@ -80,7 +80,7 @@ impl Draft {
         if self.is_taken(form.name) {
             return Err(LineError::Refused(Refusal::Twice));
         }
-        if is_outside(&form) || is_too_long(form.name) || self.files.len() >= 8 {
+        if is_outside(&form, self.files.as_slice()) {
             return Err(LineError::Refused(Refusal::Range));
         }
         let place = Named::File(self.files.len() as u8);
@@ -110,14 +110,17 @@ impl Draft {
     }
 }
 
-// whether a number of a file is outside its range
-fn is_outside(form: &FileForm) -> bool
+// whether a number of a file is outside its range, its name is too long or there are 8 files
+fn is_outside(form: &FileForm, files: &[File]) -> bool
     ensures value { result ≡ (not (form.now.width == 1 || form.now.width == 32)
         || not (is_from_to 1 64 form.now.size) || not (is_from_to 1 16 form.now.read)
-        || not (is_from_to 1 16 form.now.write)) }
+        || not (is_from_to 1 16 form.now.write) || is_too_long form.now.name.now
+        || nat_le 8 (length files.now)) }
 {
     !(form.width == 1 || form.width == 32)
         || !is_from_to(1, 64, form.size)
         || !is_from_to(1, 16, form.read)
         || !is_from_to(1, 16, form.write)
+        || is_too_long(form.name)
+        || files.len() >= 8
 }

@@ -1,6 +1,7 @@
 //! The declaration of a guard.
 
-ghost use Rattle.std.specs.Prelude.{◌≡◌, map, option_map, slice_get};
+ghost use Rattle.std.specs.Prelude.{◌≡◌, ◌==◌, ◌<◌, ◌||◌, false, length, map, nat_le, not};
+ghost use Rattle.std.specs.Prelude.{option_map, slice_get};
 ghost use Rattle.std.specs.List.{list_any};
 ghost use Rattle.tta_reading.specs.Lines.{plain};
 ghost use Rattle.tta_machine.specs.Forms.{guard_form};
@@ -51,7 +52,7 @@ impl Draft {
         if has_guard(self.guards.as_slice(), bus, file, form.index, form.inverted) {
             return Err(LineError::Refused(Refusal::Twice));
         }
-        if width != 1 || form.index >= u32::from(size) || self.guards.len() >= 64 {
+        if is_outside(width, size, form.index, self.guards.as_slice()) {
             return Err(LineError::Refused(Refusal::Range));
         }
         let index = form.index as u8;
@@ -66,6 +67,15 @@ impl Draft {
             Err(_) => Err(LineError::NoMemory),
         }
     }
+}
+
+// whether the file does not hold one bit, it has no such register, or there are 64 guards
+fn is_outside(width: u8, size: u8, index: u32, guards: &[Guard]) -> bool
+    ensures value { result ≡ (not (width == 1) || nat_le size index
+        || nat_le 64 (length guards.now)) }
+    ensures index { result ≡ false → index < size }
+{
+    width != 1 || index >= u32::from(size) || guards.len() >= 64
 }
 
 // the width and the size of the file at a place
