@@ -1,6 +1,6 @@
 //! The declarations of files and immediate units.
 
-ghost use Rattle.std.specs.Prelude.{◌≡◌, map, not, ◌||◌, ◌==◌, nat_le, length};
+ghost use Rattle.std.specs.Prelude.{◌≡◌, ◌<◌, ◌≤◌, false, map, not, ◌||◌, ◌==◌, nat_le, length};
 ghost use Rattle.tta_reading.specs.Lines.{plain};
 ghost use Rattle.tta_machine.specs.Forms.{file_form, imm_form};
 ghost use Rattle.tta_machine.specs.Declarations.{take_file, take_imm};
@@ -116,6 +116,11 @@ fn is_outside(form: &FileForm, files: &[File]) -> bool
         || not (is_from_to 1 64 form.now.size) || not (is_from_to 1 16 form.now.read)
         || not (is_from_to 1 16 form.now.write) || is_too_long form.now.name.now
         || nat_le 8 (length files.now)) }
+    ensures width { result ≡ false → form.now.width ≤ 32 }
+    ensures size { result ≡ false → form.now.size ≤ 64 }
+    ensures read { result ≡ false → form.now.read ≤ 16 }
+    ensures write { result ≡ false → form.now.write ≤ 16 }
+    ensures few { result ≡ false → length files.now < 8 }
 {
     !(form.width == 1 || form.width == 32)
         || !is_from_to(1, 64, form.size)
