@@ -78,6 +78,7 @@ impl Draft {
         requires few { length self.old.templates < 8 }
         ensures { OnOk result (self.new ≡ with_template self.old line name.now imm reg buses) }
     {
+        self.template_lines.push(line)?;
         let place = Named::Template(self.templates.len() as u8);
         let template = Template {
             name: Name::new(alloc, name)?,
@@ -85,7 +86,6 @@ impl Draft {
             reg,
             buses,
         };
-        self.template_lines.push(line)?;
         add_part(
             alloc,
             &mut self.names,

@@ -178,12 +178,10 @@ pub fn unit_form<'t>(words: &'t [Word<'t>]) -> Option<UnitForm<'t>>
 {
     match words {
         [name, key, socket, others @ ..] => {
-            let name = name.name()?;
-            if key.is_keyword(b"o") {
-                let operand = socket.name()?;
-                unit_ports(name, Some(operand), others)
-            } else {
-                unit_ports(name, None, &words[1..])
+            match (name.name(), key.is_keyword(b"o"), socket.name()) {
+                (Some(name), true, Some(operand)) => unit_ports(name, Some(operand), others),
+                (Some(name), false, _) => unit_ports(name, None, &words[1..]),
+                _ => None,
             }
         }
         _ => None,
