@@ -1,13 +1,13 @@
 //! The instruction of slots and a long immediate.
 
-ghost use Rattle.std.specs.Prelude.{◌≡◌, ◌^◌, ◌≤◌, Ok, length, map, nat_le, not, option_map, true};
+ghost use Rattle.std.specs.Prelude.{◌≡◌, ◌^◌, ◌≤◌, ◌==◌, Ok, length, map, nat_le, not, option_map, true};
 ghost use Rattle.std.specs.Prelude.{IfOk};
 ghost use Rattle.std.specs.Option.{option_map_or};
 ghost use Rattle.tta_reading.specs.Steps.{refuse_if};
 ghost use Rattle.tta_ops.specs.Set.{stated};
 ghost use Rattle.tta_connect.specs.Net.{IsNetOf};
-ghost use Rattle.tta_code.specs.Legal.{is_instruction, is_legal, is_long};
-ghost use Rattle.tta_asm.specs.declared.refusal.AsmRefusal.TheVariants.{Illegal, Range};
+ghost use Rattle.tta_code.specs.Legal.{is_legal, is_long};
+ghost use Rattle.tta_asm.specs.declared.refusal.AsmRefusal.TheVariants.{Illegal, Range, Slots};
 ghost use Rattle.tta_asm.specs.Assembly.{at_line, moves_of, longs_of, instruction_of};
 ghost use Rattle.tta_asm.specs.Parts.{parts_of};
 ghost use Rattle.tta_asm.specs.Refusals.{Answers};
@@ -74,6 +74,31 @@ fn moves_of(
     Ok(moves)
 }
 
+/// The moves of slots, as `moves_of`, unless the slots are not as many as the buses, which is
+/// refused as `Slots`.
+fn all_moves(
+    alloc: Global,
+    units: &UnitSet,
+    m: &Machine,
+    net: &Net,
+    table: &Table,
+    labels: &Names<Label>,
+    line: u32,
+    slots: &[SlotForm],
+) -> Result<Items<Option<Move>>, AsmError>
+    requires net { IsNetOf net.now m.now }
+    requires table { IsTableOf (stated unit_meaning units.now) m.now table.now }
+    ensures answer { Answers result
+        (refuse_if (not (length slots.now == length m.now.buses)) (line, Slots)
+        (moves_of (stated unit_meaning units.now) m.now labels.now 0 (map slot_seen slots.now))) }
+    ensures count { IfOk result (λ moves. length moves ≡ length m.now.buses) }
+{
+    if slots.len() != m.buses.len() {
+        return Err(AsmRefusal::Slots.at(line));
+    }
+    moves_of(alloc, units, m, net, table, labels, slots)
+}
+
 /// The long immediate of a form, if there is one. A refusal is told at its line.
 fn longs_of(
     m: &Machine,
@@ -104,7 +129,8 @@ fn checked(
     i: Instruction,
 ) -> Result<Instruction, AsmError>
     requires net { IsNetOf net.now m.now }
-    requires instruction { is_instruction m.now i ≡ true }
+    requires count { length i.moves ≡ length m.now.buses }
+    requires long { option_map_or (is_long m.now) i.long true ≡ true }
     ensures { Answers result (refuse_if (not (is_legal m.now i)) (line, Illegal)
         (refuse_if (nat_le (2 ^ m.now.control.address) before) (line, Range) (Ok i))) }
 {
@@ -140,10 +166,7 @@ pub fn instruction_of(
     ensures { Answers result (instruction_of (stated unit_meaning units.now) m.now labels.now line
         before (map slot_seen slots.now) (option_map long_seen long.entry)) }
 {
-    if slots.len() != m.buses.len() {
-        return Err(AsmRefusal::Slots.at(line));
-    }
-    let moves = moves_of(alloc, units, m, net, table, labels, slots)?;
+    let moves = all_moves(alloc, units, m, net, table, labels, line, slots)?;
     let long = longs_of(m, table, labels, &long)?;
     checked(m, net, line, before, Instruction { moves, long })
 }

@@ -14,6 +14,7 @@ mod named;
 mod naming;
 mod parts;
 mod pieces;
+mod places;
 mod print;
 mod refusal;
 mod resolving;

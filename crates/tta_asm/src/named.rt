@@ -7,6 +7,7 @@ ghost use Rattle.tta_asm.specs.Canonical.{op_name_at};
 ghost use Rattle.tta_asm.specs.Parts.{op_name};
 ghost use Rattle.tta_machine.specs.declared.parts.Op.TheVariants.{Set};
 
+use crate::places::{file_at, imm_at, template_at, unit_at};
 use tta_machine::{Machine, Op};
 use tta_ops::{OpId, UnitSet};
 
@@ -14,7 +15,7 @@ use tta_ops::{OpId, UnitSet};
 pub fn file_name(m: &Machine, file: u8) -> &[u8]
     ensures { result.now ≡ file_name m.now file }
 {
-    match m.files.as_slice().get(usize::from(file)) {
+    match file_at(m, file) {
         None => b"",
         Some(f) => f.name.as_bytes(),
     }
@@ -24,7 +25,7 @@ pub fn file_name(m: &Machine, file: u8) -> &[u8]
 pub fn imm_name(m: &Machine, unit: u8) -> &[u8]
     ensures { result.now ≡ imm_name m.now unit }
 {
-    match m.imms.as_slice().get(usize::from(unit)) {
+    match imm_at(m, unit) {
         None => b"",
         Some(i) => i.name.as_bytes(),
     }
@@ -34,7 +35,7 @@ pub fn imm_name(m: &Machine, unit: u8) -> &[u8]
 pub fn unit_name(m: &Machine, unit: u8) -> &[u8]
     ensures { result.now ≡ unit_name m.now unit }
 {
-    match m.units.as_slice().get(usize::from(unit)) {
+    match unit_at(m, unit) {
         None => b"",
         Some(u) => u.name.as_bytes(),
     }
@@ -44,7 +45,7 @@ pub fn unit_name(m: &Machine, unit: u8) -> &[u8]
 pub fn template_name(m: &Machine, template: u8) -> &[u8]
     ensures { result.now ≡ template_name m.now template }
 {
-    match m.templates.as_slice().get(usize::from(template)) {
+    match template_at(m, template) {
         None => b"",
         Some(t) => t.name.as_bytes(),
     }
@@ -80,7 +81,7 @@ pub fn op_name(units: &UnitSet, op: Op) -> &[u8]
 pub fn op_name_at<'u>(units: &'u UnitSet, m: &Machine, unit: u8, op: u8) -> &'u [u8]
     ensures { result.now ≡ op_name_at (stated unit_meaning units.now) m.now unit op }
 {
-    let Some(u) = m.units.as_slice().get(usize::from(unit)) else {
+    let Some(u) = unit_at(m, unit) else {
         return b"";
     };
     match u.ops.as_slice().get(usize::from(op)) {

@@ -18,6 +18,7 @@ mod sources;
 use crate::forms::{GuardForm, LongForm, MoveForm};
 use crate::labels::Label;
 use crate::parts::Part;
+use crate::places::file_at;
 use crate::refusal::AsmRefusal;
 use crate::resolving::dests::dest_of;
 use crate::resolving::sources::{source_of, word_of};
@@ -35,7 +36,7 @@ fn guard_at(m: &Machine, form: &GuardForm, part: Part) -> Option<GuardRef>
     let Part::File(file) = part else {
         return None;
     };
-    let f = m.files.as_slice().get(usize::from(file))?;
+    let f = file_at(m, file)?;
     if f.width == 1 && form.index < u32::from(f.size) {
         Some(GuardRef {
             file,

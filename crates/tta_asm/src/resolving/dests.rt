@@ -12,6 +12,7 @@ ghost use Rattle.tta_asm.specs.Table.{NameTheSame, IsTableOf};
 
 use crate::forms::DestForm;
 use crate::parts::Part;
+use crate::places::{file_at, index_below, unit_at};
 use crate::table::Table;
 use tta_machine::{Dest, Machine};
 use tta_ops::UnitSet;
@@ -23,12 +24,10 @@ fn register_at(m: &Machine, index: u32, part: Part) -> Option<Dest>
     let Part::File(file) = part else {
         return None;
     };
-    let f = m.files.as_slice().get(usize::from(file))?;
-    if index < u32::from(f.size) {
-        let index = index as u8;
-        Some(Dest::Reg { file, index })
-    } else {
-        None
+    let f = file_at(m, file)?;
+    match index_below(index, f.size) {
+        Some(index) => Some(Dest::Reg { file, index }),
+        None => None,
     }
 }
 
@@ -39,11 +38,9 @@ fn operand_of(m: &Machine, part: Part) -> Option<Dest>
     let Part::Unit(unit) = part else {
         return None;
     };
-    let u = m.units.as_slice().get(usize::from(unit))?;
-    if u.operand.is_some() {
-        Some(Dest::Operand { unit })
-    } else {
-        None
+    match unit_at(m, unit) {
+        Some(u) if u.operand.is_some() => Some(Dest::Operand { unit }),
+        _ => None,
     }
 }
 

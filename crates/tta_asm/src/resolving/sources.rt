@@ -4,6 +4,7 @@ ghost use Rattle.std.specs.Prelude.{◌≡◌, Some, is_some};
 ghost use Rattle.tta_reading.specs.Names.{named_in};
 ghost use Rattle.tta_reading.specs.Steps.{◌>>?◌, only_if};
 ghost use Rattle.tta_machine.specs.declared.ends.Source.TheVariants.{Ra};
+ghost use Rattle.tta_asm.specs.declared.parts.Part.TheVariants.{File, Imm};
 ghost use Rattle.tta_asm.specs.Parts.{parts_of};
 ghost use Rattle.tta_asm.specs.Resolving.{word_of, source_at, result_of, source_of};
 ghost use Rattle.tta_asm.specs.Seen.{value_seen, source_seen};
@@ -12,6 +13,7 @@ ghost use Rattle.tta_asm.specs.Table.{NameTheSame};
 use crate::forms::{SourceForm, ValueForm};
 use crate::labels::Label;
 use crate::parts::Part;
+use crate::places::{file_at, imm_at, index_below, unit_at};
 use crate::refusal::AsmRefusal;
 use crate::table::Table;
 use tta_machine::{Machine, Source};
@@ -30,29 +32,35 @@ pub fn word_of(labels: &Names<Label>, value: &ValueForm) -> Result<u32, AsmRefus
     }
 }
 
+/// The register of a file that has this index.
+fn file_register(m: &Machine, index: u32, file: u8) -> Option<Source>
+    ensures { result ≡ source_at m.now index (File file) }
+{
+    let f = file_at(m, file)?;
+    match index_below(index, f.size) {
+        Some(index) => Some(Source::Reg { file, index }),
+        None => None,
+    }
+}
+
+/// The register of an immediate unit that has this index.
+fn imm_register(m: &Machine, index: u32, unit: u8) -> Option<Source>
+    ensures { result ≡ source_at m.now index (Imm unit) }
+{
+    let i = imm_at(m, unit)?;
+    match index_below(index, i.size) {
+        Some(index) => Some(Source::Imm { unit, index }),
+        None => None,
+    }
+}
+
 /// The register of a file or of an immediate unit that has this index.
 fn source_at(m: &Machine, index: u32, part: Part) -> Option<Source>
     ensures { result ≡ source_at m.now index part }
 {
     match part {
-        Part::File(file) => {
-            let f = m.files.as_slice().get(usize::from(file))?;
-            if index < u32::from(f.size) {
-                let index = index as u8;
-                Some(Source::Reg { file, index })
-            } else {
-                None
-            }
-        }
-        Part::Imm(unit) => {
-            let i = m.imms.as_slice().get(usize::from(unit))?;
-            if index < u32::from(i.size) {
-                let index = index as u8;
-                Some(Source::Imm { unit, index })
-            } else {
-                None
-            }
-        }
+        Part::File(file) => file_register(m, index, file),
+        Part::Imm(unit) => imm_register(m, index, unit),
         _ => None,
     }
 }
@@ -64,11 +72,9 @@ fn result_of(m: &Machine, part: Part) -> Option<Source>
     let Part::Unit(unit) = part else {
         return None;
     };
-    let u = m.units.as_slice().get(usize::from(unit))?;
-    if u.result.is_some() {
-        Some(Source::Shown { unit })
-    } else {
-        None
+    match unit_at(m, unit) {
+        Some(u) if u.result.is_some() => Some(Source::Shown { unit }),
+        _ => None,
     }
 }
 
