@@ -25,13 +25,13 @@ use Rattle.tta_asm.proofs.NameLists.{names_more, names_end}
 -- ---- parts
 
 -- the names of all files, immediate units, units and templates are the machine's
-pub all_named : (m : Machine) (names : Declared Part) (files : List File) (imms : List ImmUnit) (units : List OpUnit) (templates : List Template)
-    → files ≡ m.files → imms ≡ m.imms → units ≡ m.units → templates ≡ m.templates
-    → NameTheSame names (by_place part.File 0 (map (λ f. f.name) files) ++ (by_place part.Imm 0 (map (λ i. i.name) imms)
-    ++ (by_place part.Unit 0 (map (λ u. u.name) units) ++ by_place part.Template 0 (map (λ t. t.name) templates))))
-    → NameTheSame names (parts_of m)
+pub all_named : (m : Machine) (old names : Declared Part) (files : List File) (imms : List ImmUnit) (units : List OpUnit)
+    (templates : List Template) → files ≡ m.files → imms ≡ m.imms → units ≡ m.units → templates ≡ m.templates
+    → NameTheSame names (old ++ (by_place part.File 0 (map (λ f. f.name) files) ++ (by_place part.Imm 0 (map (λ i. i.name) imms)
+    ++ (by_place part.Unit 0 (map (λ u. u.name) units) ++ by_place part.Template 0 (map (λ t. t.name) templates)))))
+    → NameTheSame names (old ++ parts_of m)
 unfolding parts_of
-all_named m names files imms units templates f i u t all = rw (sym f, sym i, sym u, sym t) all
+all_named m old names files imms units templates f i u t all = rw (sym f, sym i, sym u, sym t) all
 
 -- ---- the operations of a unit
 

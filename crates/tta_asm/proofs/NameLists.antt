@@ -65,12 +65,12 @@ pub found_name : {P : Type 0} (xs : Declared P) (name : List ℕ) (place : P) (f
 found_name xs name place None is e = cc
 found_name xs name place (Some was) is e = known_name xs name place was (sym is)
 
--- four lists behind one that is empty
-pub four_lists : {P : Type 0} (none one two three four a b c d : Declared P) → none ≡ [] → NameTheSame one (none ++ a) → NameTheSame two (one ++ b)
-    → NameTheSame three (two ++ c) → NameTheSame four (three ++ d) → NameTheSame four (a ++ (b ++ (c ++ d)))
-four_lists {P = P} none one two three four a b c d empty first second third fourth other =
+-- four lists behind another, one after another
+pub four_lists : {P : Type 0} (old one two three four a b c d : Declared P) → NameTheSame one (old ++ a) → NameTheSame two (one ++ b)
+    → NameTheSame three (two ++ c) → NameTheSame four (three ++ d) → NameTheSame four (old ++ (a ++ (b ++ (c ++ d))))
+four_lists {P = P} old one two three four a b c d first second third fourth other =
     fourth other ∙ same_front three (two ++ c) d third other
     ∙ same_front (two ++ c) ((one ++ b) ++ c) d (same_front two (one ++ b) c second) other
-    ∙ same_front ((one ++ b) ++ c) (((none ++ a) ++ b) ++ c) d (same_front (one ++ b) ((none ++ a) ++ b) c (same_front one (none ++ a) b first)) other
-    ∙ ap (λ (l : Declared P). named_in ((((l ++ a) ++ b) ++ c) ++ d) other) empty
-    ∙ ap (λ (l : Declared P). named_in l other) (append_assoc (a ++ b) c d ∙ append_assoc a b (c ++ d))
+    ∙ same_front ((one ++ b) ++ c) (((old ++ a) ++ b) ++ c) d (same_front (one ++ b) ((old ++ a) ++ b) c (same_front one (old ++ a) b first)) other
+    ∙ ap (λ (l : Declared P). named_in l other)
+    (append_assoc ((old ++ a) ++ b) c d ∙ append_assoc (old ++ a) b (c ++ d) ∙ append_assoc old a (b ++ (c ++ d)))

@@ -7,6 +7,7 @@ ghost use Rattle.tta_asm.specs.Table.{NameTheSame, named_at, op_named, part_at};
 
 use crate::named::op_name;
 use crate::parts::Part;
+use crate::places::{files_of, imms_of, templates_of, units_of};
 use std::alloc::{AllocError, Global};
 use tta_list::Items;
 use tta_machine::{File, ImmUnit, Machine, Template, Unit};
@@ -111,18 +112,30 @@ fn add_parts<T: Named>(
     Ok(())
 }
 
-/// The parts of a machine by their names.
+/// Declares the names of all parts of a machine behind the others.
 #[tactic(auto, unfolding(crate::specs::Parts::parts_of))]
+fn add_all_parts(alloc: Global, names: &mut Names<Part>, m: &Machine) -> Result<(), AllocError>
+    ensures { OnOk result (NameTheSame names.new (names.old ++ parts_of m.now)) }
+{
+    add_parts(alloc, names, files_of(m), Kind::File)?;
+    add_parts(alloc, names, imms_of(m), Kind::Imm)?;
+    add_parts(alloc, names, units_of(m), Kind::Unit)?;
+    add_parts(alloc, names, templates_of(m), Kind::Template)?;
+    Ok(())
+}
+
+/// The parts of a machine by their names.
 pub fn all_parts(alloc: Global, m: &Machine) -> Result<Names<Part>, AllocError>
     ensures { IfOk result (λ names. NameTheSame names (parts_of m.now)) }
 {
-    let _control = &m.control;
     let mut names = Names::new(alloc);
-    add_parts(alloc, &mut names, m.files.as_slice(), Kind::File)?;
-    add_parts(alloc, &mut names, m.imms.as_slice(), Kind::Imm)?;
-    add_parts(alloc, &mut names, m.units.as_slice(), Kind::Unit)?;
-    add_parts(alloc, &mut names, m.templates.as_slice(), Kind::Template)?;
-    Ok(names)
+    match add_all_parts(alloc, &mut names, m) {
+        Ok(()) => Ok(names),
+        Err(e) => {
+            drop(names);
+            Err(e)
+        }
+    }
 }
 
 /// The operations of a unit by their names.
@@ -145,9 +158,8 @@ pub fn all_ops(alloc: Global, m: &Machine, units: &UnitSet) -> Result<Items<Name
     ensures ops { IfOk result (λ all. (unit : ℕ) (name : List ℕ)
         → named_at all unit name ≡ op_named (stated unit_meaning units.now) m.now unit name) }
 {
-    let _control = &m.control;
     let mut all = Items::new(alloc);
-    for unit in m.units.as_slice() {
+    for unit in units_of(m) {
         let ops = ops_of(alloc, unit, units)?;
         all.push(ops)?;
     }

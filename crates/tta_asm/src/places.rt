@@ -1,36 +1,70 @@
-//! The parts of a machine by their places.
+//! The parts of a machine, and those at a place.
 
-ghost use Rattle.std.specs.Prelude.{◌≡◌, Some, nat_lt, option_copied, slice_get};
+ghost use Rattle.std.specs.Prelude.{◌≡◌, ◌≤◌, Some, length, nat_lt, option_copied, slice_get};
 ghost use Rattle.tta_reading.specs.Steps.{only_if};
+ghost use Rattle.tta_machine.specs.Rules.{IsMachine};
 
 use tta_machine::{File, ImmUnit, Machine, Template, Unit};
+
+/// The files of a machine.
+pub fn files_of(m: &Machine) -> &[File]
+    ensures all { result.now ≡ m.now.files }
+    ensures few { length result.now ≤ 8 }
+{
+    m.files.as_slice()
+}
+
+/// The immediate units of a machine.
+pub fn imms_of(m: &Machine) -> &[ImmUnit]
+    ensures all { result.now ≡ m.now.imms }
+    ensures few { length result.now ≤ 4 }
+{
+    m.imms.as_slice()
+}
+
+/// The units of a machine.
+pub fn units_of(m: &Machine) -> &[Unit]
+    ensures all { result.now ≡ m.now.units }
+    ensures few { length result.now ≤ 32 }
+    ensures rules { IsMachine m.now }
+{
+    m.units.as_slice()
+}
+
+/// The templates of a machine.
+pub fn templates_of(m: &Machine) -> &[Template]
+    ensures all { result.now ≡ m.now.templates }
+    ensures few { length result.now ≤ 8 }
+{
+    m.templates.as_slice()
+}
 
 /// The file at a place.
 pub fn file_at(m: &Machine, place: u8) -> Option<&File>
     ensures { option_copied result ≡ slice_get m.now.files place }
 {
-    m.files.as_slice().get(usize::from(place))
+    files_of(m).get(usize::from(place))
 }
 
 /// The immediate unit at a place.
 pub fn imm_at(m: &Machine, place: u8) -> Option<&ImmUnit>
     ensures { option_copied result ≡ slice_get m.now.imms place }
 {
-    m.imms.as_slice().get(usize::from(place))
+    imms_of(m).get(usize::from(place))
 }
 
 /// The unit at a place.
 pub fn unit_at(m: &Machine, place: u8) -> Option<&Unit>
     ensures { option_copied result ≡ slice_get m.now.units place }
 {
-    m.units.as_slice().get(usize::from(place))
+    units_of(m).get(usize::from(place))
 }
 
 /// The template at a place.
 pub fn template_at(m: &Machine, place: u8) -> Option<&Template>
     ensures { option_copied result ≡ slice_get m.now.templates place }
 {
-    m.templates.as_slice().get(usize::from(place))
+    templates_of(m).get(usize::from(place))
 }
 
 /// The index of a register, where so many registers have it.

@@ -94,14 +94,13 @@ fn push_dest(out: &mut Vec<u8>, units: &UnitSet, m: &Machine, dst: Dest) -> Resu
         ++ dest_text (stated unit_meaning units.now) m.now dst) }
 {
     match dst {
-        Dest::Reg { file, index } => push_place(out, file_name(m, file), index)?,
-        Dest::Operand { unit } => push_port(out, m, unit, b".o")?,
-        Dest::Trigger { unit, op } => push_trigger(out, units, m, unit, op)?,
-        Dest::Jump => out.extend_from_slice(b"gcu.t.jump")?,
-        Dest::Call => out.extend_from_slice(b"gcu.t.call")?,
-        Dest::Halt => out.extend_from_slice(b"gcu.t.halt")?,
+        Dest::Reg { file, index } => push_place(out, file_name(m, file), index),
+        Dest::Operand { unit } => push_port(out, m, unit, b".o"),
+        Dest::Trigger { unit, op } => push_trigger(out, units, m, unit, op),
+        Dest::Jump => out.extend_from_slice(b"gcu.t.jump"),
+        Dest::Call => out.extend_from_slice(b"gcu.t.call"),
+        Dest::Halt => out.extend_from_slice(b"gcu.t.halt"),
     }
-    Ok(())
 }
 
 /// Puts a slot at the end: a move, or "...".
