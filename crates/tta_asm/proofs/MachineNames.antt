@@ -47,12 +47,12 @@ ops_more u q items i d called new old all same inside calls added was =
     (get_or_default q.ops i d (get_or q.ops i d) here) (calls ∙ ap (λ (o : UnitOp). op_name u o.op) item) refl added was
 
 -- no operation is left
-pub ops_end : (u : Units) (q : OpUnit) (items : List UnitOp) (i : ℕ) (names : Declared ℕ) → items ≡ q.ops → length items ≤ i
+pub ops_end : (u : Units) (q : OpUnit) (items : List UnitOp) (i : ℕ) (old names : Declared ℕ) → items ≡ q.ops → length items ≤ i
     → NameTheSame (names ++ by_place (λ k. k) i (map (λ (o : UnitOp). op_name u o.op) (drop i q.ops)))
-    (by_place (λ k. k) 0 (map (λ (o : UnitOp). op_name u o.op) q.ops))
-    → NameTheSame names (ops_of u q)
+    (old ++ by_place (λ k. k) 0 (map (λ (o : UnitOp). op_name u o.op) q.ops))
+    → NameTheSame names (old ++ ops_of u q)
 unfolding ops_of
-ops_end u q items i names same past was =
+ops_end u q items i old names same past was =
     let here : length q.ops ≤ i = let e = ap length same in omega arith in
     names_end (λ k. k) i (map (λ (o : UnitOp). op_name u o.op) (drop i q.ops)) names _
     (ap (map (λ (o : UnitOp). op_name u o.op)) (drop_all i q.ops here)) was

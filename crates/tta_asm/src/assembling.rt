@@ -1,18 +1,18 @@
 //! The code of an assembly text.
 
-ghost use Rattle.std.specs.Prelude.{◌≤◌, ◌^◌, length, IfOk};
+ghost use Rattle.std.specs.Prelude.{◌+◌, ◌≤◌, ◌^◌, length, IfOk};
 ghost use Rattle.tta_ops.specs.Set.{stated};
 ghost use Rattle.tta_connect.specs.Net.{IsNetOf};
 ghost use Rattle.tta_code.specs.Legal.{IsLegalCode};
 ghost use Rattle.tta_asm.specs.Assembly.{nothing, take_pieces, assembled};
-ghost use Rattle.tta_asm.specs.Drafts.{draft_seen, Drafts};
+ghost use Rattle.tta_asm.specs.Drafts.{draft_seen, Drafts, Takes};
 ghost use Rattle.tta_asm.specs.Pieces.{pieces_of};
 ghost use Rattle.tta_asm.specs.Refusals.{Answers};
 ghost use Rattle.tta_asm.specs.Table.{IsTableOf};
 
 use crate::draft::Draft;
 use crate::labels::{Label, collect_labels};
-use crate::pieces::{Close, Pieces};
+use crate::pieces::{Close, Pieces, PlacedWord};
 use crate::refusal::AsmError;
 use crate::table::Table;
 use std::alloc::Global;
@@ -21,6 +21,47 @@ use tta_connect::Net;
 use tta_machine::Machine;
 use tta_ops::UnitSet;
 use tta_reading::Names;
+
+/// Takes the pieces that are left, until a text is over. The first that is refused is told. After
+/// an `Err` the draft is of no more use.
+fn take_rest<'t>(
+    alloc: Global,
+    units: &UnitSet,
+    m: &Machine,
+    net: &Net,
+    table: &Table,
+    labels: &Names<Label>,
+    pieces: &mut Pieces<'t>,
+    words: &mut Vec<PlacedWord<'t>>,
+    draft: &mut Draft<'t>,
+) -> Result<(), AsmError>
+    requires few { length (draft_seen draft.old).words + length pieces.old ≤ 2 ^ 24 + 2 }
+    requires net { IsNetOf net.now m.now }
+    requires table { IsTableOf (stated unit_meaning units.now) m.now table.now }
+    ensures { Takes (draft_seen draft.new) result (take_pieces (stated unit_meaning units.now)
+        m.now labels.now (draft_seen draft.old) pieces.old) }
+{
+    loop {
+        let closed = pieces.next_piece(words)?;
+        if draft.is_over(words.as_slice(), closed) {
+            return Ok(());
+        }
+        draft.take_piece(
+            alloc,
+            units,
+            m,
+            net,
+            table,
+            labels,
+            words.as_slice(),
+            closed,
+        )?;
+        // What the end of the text closes is the last piece.
+        if closed.close == Close::End {
+            return Ok(());
+        }
+    }
+}
 
 /// The draft of all pieces of a text, or its first refusal.
 fn take_pieces<'t>(
@@ -41,24 +82,21 @@ fn take_pieces<'t>(
     let mut pieces = Pieces::new(text);
     let mut words = Vec::new(alloc);
     let mut draft = Draft::new(alloc);
-    loop {
-        let closed = pieces.next_piece(&mut words)?;
-        if draft.is_over(words.as_slice(), closed) {
-            return Ok(draft);
-        }
-        draft.take_piece(
-            alloc,
-            units,
-            m,
-            net,
-            table,
-            labels,
-            words.as_slice(),
-            closed,
-        )?;
-        // What the end of the text closes is the last piece.
-        if closed.close == Close::End {
-            return Ok(draft);
+    match take_rest(
+        alloc,
+        units,
+        m,
+        net,
+        table,
+        labels,
+        &mut pieces,
+        &mut words,
+        &mut draft,
+    ) {
+        Ok(()) => Ok(draft),
+        Err(e) => {
+            drop(draft);
+            Err(e)
         }
     }
 }
@@ -80,8 +118,13 @@ fn code_of(
     ensures legal { IfOk result (λ code. IsLegalCode m.now code) }
 {
     let labels = collect_labels(alloc, text)?;
-    let draft = take_pieces(alloc, units, m, net, table, &labels, text)?;
-    Ok(Code { words: draft.words })
+    match take_pieces(alloc, units, m, net, table, &labels, text) {
+        Ok(draft) => Ok(Code { words: draft.words }),
+        Err(e) => {
+            drop(labels);
+            Err(e)
+        }
+    }
 }
 
 /// The code of an assembly text of at most 2^24 bytes, over these operation units. The machine can
@@ -96,6 +139,11 @@ pub fn assemble(alloc: Global, text: &[u8], m: &Machine, units: &UnitSet) -> Res
     ensures legal { IfOk result (λ code. IsLegalCode m.now code) }
 {
     let net = Net::of(alloc, m)?;
-    let table = Table::of(alloc, m, units)?;
-    code_of(alloc, text, m, units, &net, &table)
+    match Table::of(alloc, m, units) {
+        Ok(table) => code_of(alloc, text, m, units, &net, &table),
+        Err(e) => {
+            drop(net);
+            Err(AsmError::from(e))
+        }
+    }
 }

@@ -1,16 +1,16 @@
 //! What was read of an assembly text, piece by piece.
 
-ghost use Rattle.std.specs.Prelude.{◌≡◌, ◌+◌, ◌<◌, ◌≤◌, ◌^◌, [], length, OnOk};
+ghost use Rattle.std.specs.Prelude.{◌≡◌, ◌+◌, ◌<◌, ◌≤◌, ◌^◌, [], length, option_map, OnOk};
 ghost use Rattle.tta_ops.specs.Set.{stated};
 ghost use Rattle.tta_connect.specs.Net.{IsNetOf};
 ghost use Rattle.tta_asm.specs.Assembly.{Draft as SeenDraft, nothing};
 ghost use Rattle.tta_asm.specs.Assembly.{take_label, take_slot, take_piece, is_over};
-ghost use Rattle.tta_asm.specs.Drafts.{draft_seen, Takes};
+ghost use Rattle.tta_asm.specs.Drafts.{draft_seen, end_instruction, Takes};
 ghost use Rattle.tta_asm.specs.LabelsSeen.{label_seen};
-ghost use Rattle.tta_asm.specs.Seen.{form_seen, piece_seen};
+ghost use Rattle.tta_asm.specs.Seen.{form_seen, long_seen, piece_seen};
 ghost use Rattle.tta_asm.specs.Table.{IsTableOf};
 
-use crate::forms::{PieceForm, SlotForm};
+use crate::forms::{LongForm, PieceForm, SlotForm};
 use crate::instruction::instruction_of;
 use crate::labels::{Label, LabelWord, label_of};
 use crate::pieces::{Close, Closed, PlacedWord};
@@ -53,6 +53,42 @@ impl<'t> Draft<'t> {
         }
     }
 
+    /// Ends the instruction of the slots so far, on this line. It is refused as `instruction_of`
+    /// says. After an `Err` the draft is of no more use.
+    fn end_instruction(
+        &mut self,
+        alloc: Global,
+        units: &UnitSet,
+        m: &Machine,
+        net: &Net,
+        table: &Table,
+        labels: &Names<Label>,
+        line: u32,
+        long: Option<LongForm>,
+    ) -> Result<(), AsmError>
+        requires net { IsNetOf net.now m.now }
+        requires table { IsTableOf (stated unit_meaning units.now) m.now table.now }
+        requires few { length (draft_seen self.old).words < 2 ^ 32 }
+        ensures takes { Takes (draft_seen self.new) result
+            (end_instruction (stated unit_meaning units.now) m.now labels.now (draft_seen self.old)
+            line (option_map long_seen long.entry)) }
+        ensures grows { OnOk result
+            (length (draft_seen self.new).words ≤ length (draft_seen self.old).words + 1) }
+    {
+        let before = self.words.len() as u32;
+        let slots = self.slots.as_slice();
+        match instruction_of(
+            alloc, units, m, net, table, labels, line, before, slots, long,
+        ) {
+            Ok(i) => {
+                self.words.push(i)?;
+                self.slots.clear();
+                Ok(())
+            }
+            Err(e) => Err(e),
+        }
+    }
+
     /// Takes a slot, with which its instruction may end: then it is refused as `instruction_of`
     /// says. After an `Err` the draft is of no more use.
     fn take_slot(
@@ -76,25 +112,10 @@ impl<'t> Draft<'t> {
             (length (draft_seen self.new).words ≤ length (draft_seen self.old).words + 1) }
     {
         self.slots.push(form.slot)?;
-        if closed.close == Close::Semicolon {
-            let before = self.words.len() as u32;
-            let slots = self.slots.as_slice();
-            let i = instruction_of(
-                alloc,
-                units,
-                m,
-                net,
-                table,
-                labels,
-                closed.line,
-                before,
-                slots,
-                form.long,
-            )?;
-            self.words.push(i)?;
-            self.slots.clear();
+        if closed.close != Close::Semicolon {
+            return Ok(());
         }
-        Ok(())
+        self.end_instruction(alloc, units, m, net, table, labels, closed.line, form.long)
     }
 
     /// Takes a piece: a label where no instruction has begun, and else a slot. It is refused with

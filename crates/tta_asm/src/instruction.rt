@@ -167,6 +167,11 @@ pub fn instruction_of(
         before (map slot_seen slots.now) (option_map long_seen long.entry)) }
 {
     let moves = all_moves(alloc, units, m, net, table, labels, line, slots)?;
-    let long = longs_of(m, table, labels, &long)?;
-    checked(m, net, line, before, Instruction { moves, long })
+    match longs_of(m, table, labels, &long) {
+        Ok(long) => checked(m, net, line, before, Instruction { moves, long }),
+        Err(e) => {
+            drop(moves);
+            Err(e)
+        }
+    }
 }

@@ -1,6 +1,6 @@
 //! The labels of an assembly text.
 
-ghost use Rattle.std.specs.Prelude.{◌≡◌, ◌^◌, ◌≤◌, if◌then◌else◌, None};
+ghost use Rattle.std.specs.Prelude.{◌≡◌, ◌+◌, ◌^◌, ◌≤◌, true, if◌then◌else◌, None};
 ghost use Rattle.std.specs.Prelude.{length, option_map, IfOk, OnOk};
 ghost use Rattle.tta_asm.specs.LabelsSeen.{label_seen};
 ghost use Rattle.tta_asm.specs.Labels as spec;
@@ -76,6 +76,34 @@ fn add_label(
     Ok(())
 }
 
+/// Adds the labels of the pieces that are left, the first of them at the begin of a text. An `Err`
+/// is want of memory.
+fn add_labels<'t>(
+    alloc: Global,
+    labels: &mut Names<Label>,
+    pieces: &mut Pieces<'t>,
+    words: &mut Vec<PlacedWord<'t>>,
+) -> Result<(), AllocError>
+    requires { length pieces.old ≤ 2 ^ 24 + 2 }
+    ensures { OnOk result (labels.new ≡ spec.labels_from true 0 labels.old pieces.old) }
+{
+    let mut may_begin = true;
+    let mut address = 0;
+    loop {
+        let closed = pieces.next_piece(words)?;
+        if closed.close == Close::End {
+            return Ok(());
+        }
+        match label_of(may_begin, words.as_slice(), closed) {
+            Some(word) => add_label(alloc, labels, address, &word)?,
+            None => {
+                may_begin = closed.close == Close::Semicolon;
+                address += u32::from(may_begin);
+            }
+        }
+    }
+}
+
 /// The labels of a text of at most 2^24 bytes, each with its address. Of two with one name the
 /// first stands. An `Err` is want of memory.
 #[tactic(auto, unfolding(crate::specs::Labels::labels_of))]
@@ -86,19 +114,11 @@ pub fn collect_labels(alloc: Global, text: &[u8]) -> Result<Names<Label>, AllocE
     let mut labels = Names::new(alloc);
     let mut pieces = Pieces::new(text);
     let mut words = Vec::new(alloc);
-    let mut may_begin = true;
-    let mut address = 0;
-    loop {
-        let closed = pieces.next_piece(&mut words)?;
-        if closed.close == Close::End {
-            return Ok(labels);
-        }
-        match label_of(may_begin, words.as_slice(), closed) {
-            Some(word) => add_label(alloc, &mut labels, address, &word)?,
-            None => {
-                may_begin = closed.close == Close::Semicolon;
-                address += u32::from(may_begin);
-            }
+    match add_labels(alloc, &mut labels, &mut pieces, &mut words) {
+        Ok(()) => Ok(labels),
+        Err(e) => {
+            drop(labels);
+            Err(e)
         }
     }
 }

@@ -138,18 +138,38 @@ pub fn all_parts(alloc: Global, m: &Machine) -> Result<Names<Part>, AllocError>
     }
 }
 
-/// The operations of a unit by their names.
+/// Declares the names of all operations of a unit behind the others.
 #[tactic(auto, unfolding(crate::specs::Parts::ops_of))]
+fn add_ops(
+    alloc: Global,
+    names: &mut Names<u8>,
+    unit: &Unit,
+    units: &UnitSet,
+) -> Result<(), AllocError>
+    requires { length unit.now.ops ≤ 256 }
+    ensures { OnOk result (NameTheSame names.new
+        (names.old ++ ops_of (stated unit_meaning units.now) unit.now)) }
+{
+    for (place, op) in unit.ops.as_slice().iter().enumerate() {
+        add_first(alloc, names, op_name(units, op.op), place as u8)?;
+    }
+    Ok(())
+}
+
+/// The operations of a unit by their names.
 fn ops_of(alloc: Global, unit: &Unit, units: &UnitSet) -> Result<Names<u8>, AllocError>
     requires { length unit.now.ops ≤ 256 }
     ensures { IfOk result (λ names. NameTheSame names
         (ops_of (stated unit_meaning units.now) unit.now)) }
 {
     let mut names = Names::new(alloc);
-    for (place, op) in unit.ops.as_slice().iter().enumerate() {
-        add_first(alloc, &mut names, op_name(units, op.op), place as u8)?;
+    match add_ops(alloc, &mut names, unit, units) {
+        Ok(()) => Ok(names),
+        Err(e) => {
+            drop(names);
+            Err(e)
+        }
     }
-    Ok(names)
 }
 
 /// The operations of each unit of a machine by their names.

@@ -21,8 +21,7 @@ fn push_number(out: &mut Vec<u8>, n: u32) -> Result<(), AllocError>
     ensures { OnOk result (out.new.items ≡ out.old.items ++ decimal n) }
 {
     let mut buffer = Buffer::new();
-    out.extend_from_slice(buffer.format(n).as_bytes())?;
-    Ok(())
+    out.extend_from_slice(buffer.format(n).as_bytes())
 }
 
 /// Puts a register at the end, by its file's name and its index.
@@ -31,8 +30,7 @@ fn push_place(out: &mut Vec<u8>, name: &[u8], index: u8) -> Result<(), AllocErro
 {
     out.extend_from_slice(name)?;
     out.extend_from_slice(b".")?;
-    push_number(out, u32::from(index))?;
-    Ok(())
+    push_number(out, u32::from(index))
 }
 
 /// Puts a port of a unit at the end: the unit's name, and what tells the port.
@@ -40,8 +38,7 @@ fn push_port(out: &mut Vec<u8>, m: &Machine, unit: u8, port: &[u8]) -> Result<()
     ensures { OnOk result (out.new.items ≡ out.old.items ++ (unit_name m.now unit ++ port.now)) }
 {
     out.extend_from_slice(unit_name(m, unit))?;
-    out.extend_from_slice(port)?;
-    Ok(())
+    out.extend_from_slice(port)
 }
 
 /// Puts a guard and a blank at the end, if there is a guard.
@@ -54,8 +51,7 @@ fn push_guard(out: &mut Vec<u8>, m: &Machine, guard: Option<GuardRef>) -> Result
     let sense: &[u8] = if g.inverted { b"!" } else { b"?" };
     out.extend_from_slice(sense)?;
     push_place(out, file_name(m, g.file), g.index)?;
-    out.extend_from_slice(b" ")?;
-    Ok(())
+    out.extend_from_slice(b" ")
 }
 
 /// Puts a source at the end.
@@ -63,13 +59,12 @@ fn push_source(out: &mut Vec<u8>, m: &Machine, src: Source) -> Result<(), AllocE
     ensures { OnOk result (out.new.items ≡ out.old.items ++ source_text m.now src) }
 {
     match src {
-        Source::Reg { file, index } => push_place(out, file_name(m, file), index)?,
-        Source::Imm { unit, index } => push_place(out, imm_name(m, unit), index)?,
-        Source::Shown { unit } => push_port(out, m, unit, b".r")?,
-        Source::Ra => out.extend_from_slice(b"gcu.ra")?,
-        Source::Value(word) => push_number(out, word)?,
+        Source::Reg { file, index } => push_place(out, file_name(m, file), index),
+        Source::Imm { unit, index } => push_place(out, imm_name(m, unit), index),
+        Source::Shown { unit } => push_port(out, m, unit, b".r"),
+        Source::Ra => out.extend_from_slice(b"gcu.ra"),
+        Source::Value(word) => push_number(out, word),
     }
-    Ok(())
 }
 
 /// Puts the trigger port of a unit at the end, with an operation.
@@ -84,8 +79,7 @@ fn push_trigger(
         ++ dest_text (stated unit_meaning units.now) m.now (Trigger unit op)) }
 {
     push_port(out, m, unit, b".t.")?;
-    out.extend_from_slice(op_name_at(units, m, unit, op))?;
-    Ok(())
+    out.extend_from_slice(op_name_at(units, m, unit, op))
 }
 
 /// Puts a destination at the end.
@@ -114,14 +108,12 @@ fn push_slot(
         ++ slot_text (stated unit_meaning units.now) m.now slot) }
 {
     let Some(v) = slot else {
-        out.extend_from_slice(b"...")?;
-        return Ok(());
+        return out.extend_from_slice(b"...");
     };
     push_guard(out, m, v.guard)?;
     push_source(out, m, v.src)?;
     out.extend_from_slice(b" -> ")?;
-    push_dest(out, units, m, v.dst)?;
-    Ok(())
+    push_dest(out, units, m, v.dst)
 }
 
 /// Puts a slot at the end, with a comma before it.
@@ -135,8 +127,7 @@ fn push_later_slot(
         ++ later_slot_text (stated unit_meaning units.now) m.now slot) }
 {
     out.extend_from_slice(b" , ")?;
-    push_slot(out, units, m, slot)?;
-    Ok(())
+    push_slot(out, units, m, slot)
 }
 
 /// Puts slots at the end, with a comma before each.
@@ -184,8 +175,7 @@ fn push_long(out: &mut Vec<u8>, m: &Machine, long: Option<Long>) -> Result<(), A
     out.extend_from_slice(template_name(m, l.template))?;
     out.extend_from_slice(b"=")?;
     push_number(out, l.value)?;
-    out.extend_from_slice(b"]")?;
-    Ok(())
+    out.extend_from_slice(b"]")
 }
 
 /// Puts an instruction at the end, as a line.
@@ -201,8 +191,7 @@ fn push_instruction(
 {
     push_slots(out, units, m, i.moves.as_slice())?;
     push_long(out, m, i.long)?;
-    out.extend_from_slice(b" ;\n")?;
-    Ok(())
+    out.extend_from_slice(b" ;\n")
 }
 
 /// Puts instructions at the end, each as a line.

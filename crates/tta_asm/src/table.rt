@@ -28,8 +28,13 @@ impl Table {
         ensures { IfOk result (IsTableOf (stated unit_meaning units.now) m.now) }
     {
         let parts = all_parts(alloc, m)?;
-        let ops = all_ops(alloc, m, units)?;
-        Ok(Table { parts, ops })
+        match all_ops(alloc, m, units) {
+            Ok(ops) => Ok(Table { parts, ops }),
+            Err(e) => {
+                drop(parts);
+                Err(e)
+            }
+        }
     }
 
     /// The part of the machine that has this name.

@@ -5,7 +5,7 @@ use Rattle.tta_asm.proofs.LegalCode.{taken_legal}
 use Rattle.tta_asm.proofs.assembling.code_of.Goals as goal
 
 -- what was read of all pieces is legal
-pub returns-clause-legal : goal.returns-clause-legal
-returns-clause-legal g c =
+pub returns-in-Ok-clause-legal : goal.returns-in-Ok-clause-legal
+returns-in-Ok-clause-legal g c =
     let U = stated (λ v. (goal.OpUnit-dyn g v).unit_meaning v.1) c.args.units.now in
-    taken_legal U c.args.m.now c.in_ok-labels.labels (draft_seen c.in_ok-draft.draft) (pieces_of c.args.text.now) c.in_ok-draft.ensures
+    taken_legal U c.args.m.now c.in_ok-labels.labels (draft_seen c.in-Ok.draft) (pieces_of c.args.text.now) c.in-Ok.ensures

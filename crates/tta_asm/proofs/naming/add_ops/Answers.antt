@@ -2,7 +2,7 @@ use Rattle.tta_machine.specs.declared.parts.UnitOp.{UnitOp}
 use Rattle.tta_machine.specs.declared.parts.Op.TheVariants.{Ldw}
 use Rattle.tta_ops.specs.Set.{stated}
 use Rattle.tta_asm.proofs.MachineNames.{ops_more, ops_end}
-use Rattle.tta_asm.proofs.naming.ops_of.Goals as goal
+use Rattle.tta_asm.proofs.naming.add_ops.Goals as goal
 
 pub loop-place-preserved : goal.loop-place-preserved
 loop-place-preserved g c =
@@ -16,5 +16,5 @@ loop-place-preserved g c =
 pub returns : goal.returns
 returns g c =
     let U = stated (λ v. (goal.OpUnit-dyn g v).unit_meaning v.1) c.args.units.now in
-    ops_end U c.args.unit.now c.as_slice-op-items.result.now c.loop-place.place c.loop-place.names c.as_slice-op-items.ensures c.loop-place-test.false
+    ops_end U c.args.unit.now c.as_slice-op-items.result.now c.loop-place.place c.args.names.now c.loop-place.names c.as_slice-op-items.ensures c.loop-place-test.false
     c.loop-place.invariant.same
