@@ -12,7 +12,7 @@ use std::alloc::{AllocError, Global};
 use tta_reading::Names;
 
 /// What a label stands for.
-#[derive(Clone, Copy, Debug, PartialEq, Eq)]
+#[derive(Clone, Copy)]
 pub struct Label {
     /// The number of instructions before it.
     pub address: u32,
@@ -38,11 +38,8 @@ pub fn label_of<'t>(
     ensures { let piece = piece_seen words.now closed.close closed.line in
         option_map label_seen result ≡ (if may_begin then spec.label_of piece else None) }
 {
-    if !may_begin || closed.close != Close::Colon {
-        return None;
-    }
-    match words {
-        [word] => {
+    match (closed.close, words) {
+        (Close::Colon, [word]) if may_begin => {
             let name = word.word.name()?;
             Some(LabelWord {
                 name,
@@ -91,13 +88,13 @@ fn add_labels<'t>(
     let mut address = 0;
     loop {
         let closed = pieces.next_piece(words)?;
-        if closed.close == Close::End {
+        if let Close::End = closed.close {
             return Ok(());
         }
         match label_of(may_begin, words.as_slice(), closed) {
             Some(word) => add_label(alloc, labels, address, &word)?,
             None => {
-                may_begin = closed.close == Close::Semicolon;
+                may_begin = matches!(closed.close, Close::Semicolon);
                 address += u32::from(may_begin);
             }
         }

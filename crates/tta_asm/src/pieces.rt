@@ -21,7 +21,7 @@ pub struct PlacedWord<'t> {
 }
 
 /// What closes a piece.
-#[derive(Clone, Copy, Debug, PartialEq, Eq)]
+#[derive(Clone, Copy)]
 pub enum Close {
     /// `,`, behind a slot that is not the last.
     Comma,
