@@ -1,8 +1,9 @@
 -- The slots of an instruction are printed one after another.
-use Rattle.std.proofs.Common.{◌≡◌, ℕ, ◌-◌, ◌≤◌, List, [], ◌∷◌, ◌++◌, length, take, drop, get_or, ap, sym, ◌∙◌, arith, le_refl}
+use Rattle.std.proofs.Common.{◌≡◌, ℕ, ◌+◌, ◌-◌, ◌<◌, ◌≤◌, List, [], ◌∷◌, ◌++◌, length, take, drop, get_or, ap, sym, ◌∙◌, arith, le_refl}
 use Rattle.std.specs.Prelude.{Option, None}
 use Rattle.std.specs.List.{flat_map}
-use Rattle.std.proofs.lemmas.List.{append-nil, append_assoc, take_all}
+use Rattle.std.proofs.lemmas.List.{append-nil, append_assoc, take_all, take_more}
+use Rattle.std.proofs.lemmas.Grind.{flat_map-append}
 use Rattle.tta_ops.specs.Units.{Units}
 use Rattle.tta_machine.specs.Machine.{Machine}
 use Rattle.tta_code.specs.declared.code.Move.{Move}
@@ -32,3 +33,13 @@ slots_done u m (slot ∷ slots) old first all some one more =
     let end = rw (rest_of slot slots) at more in
     let text = slots_by_comma u m slot slots in
     rw (text, ← append_assoc old (slot_text u m slot) (flat_map (later_slot_text u m) slots), ← one) end
+
+-- one item more stands behind a text
+pub text_more : {X : Type 0} (text : X → List ℕ) (xs : List X) (i : ℕ) (d x : X) (start old new : List ℕ) → i < length xs → x ≡ get_or xs i d
+    → new ≡ old ++ text x → old ≡ start ++ flat_map text (take i xs) → new ≡ start ++ flat_map text (take (i + 1) xs)
+text_more {X = X} text xs i d x start old new inside is more was =
+    let before : List ℕ = flat_map text (take i xs) in
+    let one : flat_map text (take (i + 1) xs) ≡ before ++ text x =
+    ap (flat_map text) (take_more xs i d inside) ∙ flat_map-append text (take i xs) (get_or xs i d ∷ [])
+    ∙ ap (λ (t : List ℕ). before ++ t) (append-nil (text (get_or xs i d))) ∙ ap (λ (y : X). before ++ text y) (sym is) in
+    more ∙ ap (λ (t : List ℕ). t ++ text x) was ∙ append_assoc start before (text x) ∙ ap (λ (t : List ℕ). start ++ t) (sym one)

@@ -23,7 +23,3 @@ end_instruction u m labels d line long = instruction_of u m labels line (length 
 -- a piece made of the draft what the definition says, or its refusal is told, or there was no memory
 abbrev pub Takes : {A : Type 0} → Draft → Result A AsmError → Result Draft Refusal → Type 0
 Takes new = AnswersAs (λ _. new)
-
--- the draft is the one that the definition makes, or its refusal is told, or there was no memory
-abbrev pub Drafts : Result DraftWords AsmError → Result Draft Refusal → Type 0
-Drafts = AnswersAs draft_seen

@@ -1,11 +1,12 @@
 //! The code of an assembly text.
 
-ghost use Rattle.std.specs.Prelude.{◌+◌, ◌≤◌, ◌^◌, length, IfOk};
+ghost use Rattle.std.specs.Prelude.{◌≡◌, ◌+◌, ◌≤◌, ◌^◌, length, IfOk};
 ghost use Rattle.tta_ops.specs.Set.{stated};
 ghost use Rattle.tta_connect.specs.Net.{IsNetOf};
 ghost use Rattle.tta_code.specs.Legal.{IsLegalCode};
-ghost use Rattle.tta_asm.specs.Assembly.{nothing, take_pieces, assembled};
-ghost use Rattle.tta_asm.specs.Drafts.{draft_seen, Drafts, Takes};
+ghost use Rattle.tta_asm.specs.Assembly.{take_pieces, assembled};
+ghost use Rattle.tta_asm.specs.Drafts.{draft_seen, Takes};
+ghost use Rattle.tta_asm.specs.Labels.{labels_of};
 ghost use Rattle.tta_asm.specs.Pieces.{pieces_of};
 ghost use Rattle.tta_asm.specs.Refusals.{Answers};
 ghost use Rattle.tta_asm.specs.Table.{IsTableOf};
@@ -57,27 +58,29 @@ fn take_rest<'t>(
             closed,
         )?;
         // What the end of the text closes is the last piece.
-        if closed.close == Close::End {
+        if let Close::End = closed.close {
             return Ok(());
         }
     }
 }
 
-/// The draft of all pieces of a text, or its first refusal.
-fn take_pieces<'t>(
+/// The code of a text that has these labels, or its first refusal.
+#[tactic(auto, unfolding(crate::specs::Assembly::assembled))]
+fn code_over(
     alloc: Global,
-    units: &UnitSet,
+    text: &[u8],
     m: &Machine,
+    units: &UnitSet,
     net: &Net,
     table: &Table,
     labels: &Names<Label>,
-    text: &'t [u8],
-) -> Result<Draft<'t>, AsmError>
+) -> Result<Code, AsmError>
     requires few { length text.now ≤ 2 ^ 24 }
     requires net { IsNetOf net.now m.now }
     requires table { IsTableOf (stated unit_meaning units.now) m.now table.now }
-    ensures { Drafts result (take_pieces (stated unit_meaning units.now) m.now labels.now nothing
-        (pieces_of text.now)) }
+    requires labels { labels.now ≡ labels_of (pieces_of text.now) }
+    ensures answers { Answers result (assembled (stated unit_meaning units.now) m.now text.now) }
+    ensures legal { IfOk result (λ code. IsLegalCode m.now code) }
 {
     let mut pieces = Pieces::new(text);
     let mut words = Vec::new(alloc);
@@ -93,7 +96,7 @@ fn take_pieces<'t>(
         &mut words,
         &mut draft,
     ) {
-        Ok(()) => Ok(draft),
+        Ok(()) => Ok(Code { words: draft.words }),
         Err(e) => {
             drop(draft);
             Err(e)
@@ -102,7 +105,6 @@ fn take_pieces<'t>(
 }
 
 /// The code of a text, or its first refusal.
-#[tactic(auto, unfolding(crate::specs::Assembly::assembled))]
 fn code_of(
     alloc: Global,
     text: &[u8],
@@ -118,13 +120,7 @@ fn code_of(
     ensures legal { IfOk result (λ code. IsLegalCode m.now code) }
 {
     let labels = collect_labels(alloc, text)?;
-    match take_pieces(alloc, units, m, net, table, &labels, text) {
-        Ok(draft) => Ok(Code { words: draft.words }),
-        Err(e) => {
-            drop(labels);
-            Err(e)
-        }
-    }
+    code_over(alloc, text, m, units, net, table, &labels)
 }
 
 /// The code of an assembly text of at most 2^24 bytes, over these operation units. The machine can
@@ -140,7 +136,12 @@ pub fn assemble(alloc: Global, text: &[u8], m: &Machine, units: &UnitSet) -> Res
 {
     let net = Net::of(alloc, m)?;
     match Table::of(alloc, m, units) {
-        Ok(table) => code_of(alloc, text, m, units, &net, &table),
+        Ok(table) => {
+            let code = code_of(alloc, text, m, units, &net, &table);
+            drop(table);
+            drop(net);
+            code
+        }
         Err(e) => {
             drop(net);
             Err(AsmError::from(e))

@@ -112,10 +112,12 @@ impl<'t> Draft<'t> {
             (length (draft_seen self.new).words ≤ length (draft_seen self.old).words + 1) }
     {
         self.slots.push(form.slot)?;
-        if closed.close != Close::Semicolon {
-            return Ok(());
+        match closed.close {
+            Close::Semicolon => {
+                self.end_instruction(alloc, units, m, net, table, labels, closed.line, form.long)
+            }
+            _ => Ok(()),
         }
-        self.end_instruction(alloc, units, m, net, table, labels, closed.line, form.long)
     }
 
     /// Takes a piece: a label where no instruction has begun, and else a slot. It is refused with
@@ -157,6 +159,6 @@ impl<'t> Draft<'t> {
         ensures { result
             ≡ is_over (draft_seen self.now) (piece_seen words.now closed.close closed.line) }
     {
-        closed.close == Close::End && words.is_empty() && self.slots.is_empty()
+        matches!(closed.close, Close::End) && words.is_empty() && self.slots.is_empty()
     }
 }
