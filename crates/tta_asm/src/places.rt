@@ -1,10 +1,28 @@
 //! The parts of a machine, and those at a place.
 
-ghost use Rattle.std.specs.Prelude.{◌≡◌, ◌≤◌, Some, length, nat_lt, option_copied, slice_get};
+ghost use Rattle.std.specs.Prelude.{◌≡◌, ◌≤◌, Some, IfSome, length, nat_lt, option_copied};
+ghost use Rattle.std.specs.Prelude.{slice_get, true};
+ghost use Rattle.std.specs.List.{list_all};
 ghost use Rattle.tta_reading.specs.Steps.{only_if};
-ghost use Rattle.tta_machine.specs.Rules.{IsMachine};
+ghost use Rattle.tta_machine.specs.Rules.{IsMachine, is_bus};
 
-use tta_machine::{File, ImmUnit, Machine, Template, Unit};
+use tta_machine::{Bus, File, ImmUnit, Machine, Template, Unit};
+
+/// The buses of a machine.
+fn buses_of(m: &Machine) -> &[Bus]
+    ensures all { result.now ≡ m.now.buses }
+    ensures rules { list_all is_bus result.now ≡ true }
+{
+    m.buses.as_slice()
+}
+
+/// The bus at a place.
+pub fn bus_at(m: &Machine, place: u8) -> Option<&Bus>
+    ensures all { option_copied result ≡ slice_get m.now.buses place }
+    ensures rules { IfSome result (λ b. is_bus b.now ≡ true) }
+{
+    buses_of(m).get(usize::from(place))
+}
 
 /// The files of a machine.
 pub fn files_of(m: &Machine) -> &[File]

@@ -18,7 +18,7 @@ mod sources;
 use crate::forms::{GuardForm, LongForm, MoveForm};
 use crate::labels::Label;
 use crate::parts::Part;
-use crate::places::file_at;
+use crate::places::{bus_at, file_at};
 use crate::refusal::AsmRefusal;
 use crate::resolving::dests::dest_of;
 use crate::resolving::sources::{source_of, word_of};
@@ -68,8 +68,7 @@ fn fits_bus(m: &Machine, bus: u8, src: Source) -> bool
     let Source::Value(word) = src else {
         return true;
     };
-    let _control = &m.control;
-    match m.buses.as_slice().get(usize::from(bus)) {
+    match bus_at(m, bus) {
         Some(b) => b.holds(word),
         None => false,
     }
