@@ -21,11 +21,13 @@ fn trigger_form<'w, 't>(
         ≡ spec.trigger_form unit.now end (map placed_seen words.now) }
 {
     let rest = behind_mark(b".", end, words)?;
-    let op = next_name(end, rest)?;
-    Ok(Read {
-        value: DestForm::Trigger { unit, op: op.value },
-        rest: op.rest,
-    })
+    match next_name(end, rest) {
+        Ok(op) => Ok(Read {
+            value: DestForm::Trigger { unit, op: op.value },
+            rest: op.rest,
+        }),
+        Err(line) => Err(line),
+    }
 }
 
 /// What may stand behind the `.` of a destination, and is its last word: an index, or `o`.

@@ -79,13 +79,15 @@ pub fn move_form<'w, 't>(
     let guard = guard_form(end, words)?;
     let src = source_form(end, guard.rest)?;
     let rest = behind_mark(b"->", end, src.rest)?;
-    let dst = dest_form(end, rest)?;
-    Ok(Read {
-        value: MoveForm {
-            guard: guard.value,
-            src: src.value,
-            dst: dst.value,
-        },
-        rest: dst.rest,
-    })
+    match dest_form(end, rest) {
+        Ok(dst) => Ok(Read {
+            value: MoveForm {
+                guard: guard.value,
+                src: src.value,
+                dst: dst.value,
+            },
+            rest: dst.rest,
+        }),
+        Err(line) => Err(line),
+    }
 }
