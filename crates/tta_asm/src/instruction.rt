@@ -68,7 +68,13 @@ fn moves_of(
 {
     let mut moves = Items::new(alloc);
     for (bus, slot) in slots.iter().enumerate() {
-        let action = slot_move(units, m, net, table, labels, bus as u8, slot)?;
+        let action = match slot_move(units, m, net, table, labels, bus as u8, slot) {
+            Ok(action) => action,
+            Err(e) => {
+                drop(moves);
+                return Err(e);
+            }
+        };
         moves.push(action)?;
     }
     Ok(moves)
@@ -89,7 +95,7 @@ fn all_moves(
     requires net { IsNetOf net.now m.now }
     requires table { IsTableOf (stated unit_meaning units.now) m.now table.now }
     ensures answer { Answers result
-        (refuse_if (not (length slots.now == length m.now.buses)) (line, Slots)
+        (refuse_if (not (length (map slot_seen slots.now) == length m.now.buses)) (line, Slots)
         (moves_of (stated unit_meaning units.now) m.now labels.now 0 (map slot_seen slots.now))) }
     ensures count { IfOk result (λ moves. length moves ≡ length m.now.buses) }
 {

@@ -12,7 +12,7 @@ loop-bus-preserved g c =
     let none : SlotForm = record { line = 0; action = None } in
     record {
       count = let was = c.loop-bus.invariant.count in rw c.in_ok-push.ensures.ok (rw length-append (omega arith));
-      read = slot_read U c.args.m.now c.args.labels.now c.args.slots.now c.loop-bus.bus none c.loop-bus.moves c.push.new.self c.in_ok-action.action
+      read = slot_read U c.args.m.now c.args.labels.now c.args.slots.now c.loop-bus.bus none c.loop-bus.moves c.push.new.self c.in-Ok.action
           (moves_of U c.args.m.now c.args.labels.now 0 (map slot_seen c.args.slots.now))
-          c.loop-bus-test.true c.in_ok-action.ensures c.in_ok-push.ensures.ok c.loop-bus.invariant.read;
+          c.loop-bus-test.true c.in-Ok.ensures c.in_ok-push.ensures.ok c.loop-bus.invariant.read;
     }
