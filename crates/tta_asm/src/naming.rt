@@ -180,7 +180,13 @@ pub fn all_ops(alloc: Global, m: &Machine, units: &UnitSet) -> Result<Items<Name
 {
     let mut all = Items::new(alloc);
     for unit in units_of(m) {
-        let ops = ops_of(alloc, unit, units)?;
+        let ops = match ops_of(alloc, unit, units) {
+            Ok(ops) => ops,
+            Err(e) => {
+                drop(all);
+                return Err(e);
+            }
+        };
         all.push(ops)?;
     }
     Ok(all)
