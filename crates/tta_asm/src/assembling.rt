@@ -138,6 +138,7 @@ pub fn assemble(alloc: Global, text: &[u8], m: &Machine, units: &UnitSet) -> Res
     match Table::of(alloc, m, units) {
         Ok(table) => {
             let code = code_of(alloc, text, m, units, &net, &table);
+            // The code stands for itself, so both are given back before it is told.
             drop(table);
             drop(net);
             code

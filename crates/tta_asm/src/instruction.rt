@@ -1,7 +1,7 @@
 //! The instruction of slots and a long immediate.
 
-ghost use Rattle.std.specs.Prelude.{◌≡◌, ◌^◌, ◌≤◌, ◌==◌, Ok, length, map, nat_le, not, option_map, true};
-ghost use Rattle.std.specs.Prelude.{IfOk};
+ghost use Rattle.std.specs.Prelude.{◌≡◌, ◌^◌, ◌≤◌, ◌==◌, IfOk, Ok, length, map, nat_le, not};
+ghost use Rattle.std.specs.Prelude.{option_map, true};
 ghost use Rattle.std.specs.Option.{option_map_or};
 ghost use Rattle.tta_reading.specs.Steps.{refuse_if};
 ghost use Rattle.tta_ops.specs.Set.{stated};
