@@ -1,13 +1,14 @@
 -- Moves that are decoded one by one.
-use Rattle.std.proofs.Common.{◌≡◌, ◌<◌, ◌+◌, ℕ, List, [], ◌∷◌, ◌++◌, length, take, get_or, Option, None, Some, refl, ap, sym, ◌∙◌, arith}
+use Rattle.std.proofs.Common.{◌≡◌, ◌<◌, ◌+◌, ℕ, true, List, [], ◌∷◌, ◌++◌, length, take, get_or, Option, None, Some, refl, ap, sym, ◌∙◌, arith}
 use Rattle.std.specs.Prelude.{option_to_list, option_and_then}
 use Rattle.std.specs.List.{filter_map}
 use Rattle.std.proofs.lemmas.List.{take_more, length-take-le}
 use Rattle.std.proofs.lemmas.List.Elements.{filter_map-append}
 use Rattle.tta_machine.specs.Machine.{Machine}
+use Rattle.tta_code.specs.declared.code.Move.{Move}
 use Rattle.tta_code.specs.declared.code.Instruction.{Instruction}
 use Rattle.tta_sim.specs.declared.decoded.Line.{Line}
-use Rattle.tta_sim.specs.Decoded.{line_of, lines_from}
+use Rattle.tta_sim.specs.Decoded.{write_decoded, start_decoded, store_decoded, tell_decoded, line_of, lines_from, with_move}
 use Rattle.tta_sim.proofs.Lists.{filter_map-one}
 
 -- what a function gives of the moves that there are
@@ -31,6 +32,34 @@ of_slots-more f slots i d old new within before added =
     ∙ ap (λ xs. of_slots f (take i slots) ++ xs) (sym (of_slots-one f (get_or slots i d)))
     ∙ sym (of_slots-append f (take i slots) (get_or slots i d ∷ []))
     ∙ ap (of_slots f) (sym (take_more slots i d within))
+
+-- what the moves of some slots do
+abbrev pub moves_noted : Machine → (back : ℕ) → List (Option Move) → Line
+moves_noted m back slots = record {
+  writes = of_slots (write_decoded m back) slots;
+  starts = of_slots (start_decoded m) slots;
+  stores = of_slots (store_decoded m) slots;
+  tells = of_slots tell_decoded slots;
+  quiet = true;
+}
+
+pub moves-more : (m : Machine) (back : ℕ) (slots : List (Option Move)) (i : ℕ) (d : Option Move) (old new : Line) → i < length slots
+    → old ≡ moves_noted m back (take i slots) → new ≡ with_move m back old (get_or slots i d) → new ≡ moves_noted m back (take (i + 1) slots)
+moves-more m back slots i d old new within before added =
+    let slot = get_or slots i d in
+    let writes : of_slots (write_decoded m back) (take i slots) ++ option_to_list (option_and_then (write_decoded m back) slot) ≡ of_slots (write_decoded m back) (take (i + 1) slots) =
+    of_slots-more (write_decoded m back) slots i d _ _ within refl refl in
+    let starts : of_slots (start_decoded m) (take i slots) ++ option_to_list (option_and_then (start_decoded m) slot) ≡ of_slots (start_decoded m) (take (i + 1) slots) =
+    of_slots-more (start_decoded m) slots i d _ _ within refl refl in
+    let stores : of_slots (store_decoded m) (take i slots) ++ option_to_list (option_and_then (store_decoded m) slot) ≡ of_slots (store_decoded m) (take (i + 1) slots) =
+    of_slots-more (store_decoded m) slots i d _ _ within refl refl in
+    let tells : of_slots tell_decoded (take i slots) ++ option_to_list (option_and_then tell_decoded slot) ≡ of_slots tell_decoded (take (i + 1) slots) =
+    of_slots-more tell_decoded slots i d _ _ within refl refl in
+    added ∙ ap (λ line. with_move m back line slot) before
+    ∙ ap (λ list. record (with_move m back (moves_noted m back (take i slots)) slot) { writes = list }) writes
+    ∙ ap (λ list. record (with_move m back (moves_noted m back (take i slots)) slot) { writes = of_slots (write_decoded m back) (take (i + 1) slots); starts = list }) starts
+    ∙ ap (λ list. record (moves_noted m back (take (i + 1) slots)) { stores = list; tells = of_slots tell_decoded (take i slots) ++ option_to_list (option_and_then tell_decoded slot) }) stores
+    ∙ ap (λ list. record (moves_noted m back (take (i + 1) slots)) { tells = list }) tells
 
 lines-append : (m : Machine) (back : ℕ) (is : List Instruction) (i : Instruction) → lines_from m back (is ++ i ∷ []) ≡ lines_from m back is ++ line_of m (back + length is) i ∷ []
 lines-append m back [] i = ap (λ n. line_of m n i ∷ []) (omega arith)

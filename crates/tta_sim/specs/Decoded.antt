@@ -113,6 +113,15 @@ line_of m back i = record {
   quiet = is_nil (filter_map (store_decoded m) (moves_of i)) && is_nil (filter_map tell_decoded (moves_of i));
 }
 
+-- an instruction to which what one more move does is added
+abbrev pub with_move : Machine → (back : ℕ) → Line → Option Move → Line
+with_move m back line slot = record line {
+  writes = line.writes ++ option_to_list (option_and_then (write_decoded m back) slot);
+  starts = line.starts ++ option_to_list (option_and_then (start_decoded m) slot);
+  stores = line.stores ++ option_to_list (option_and_then (store_decoded m) slot);
+  tells = line.tells ++ option_to_list (option_and_then tell_decoded slot);
+}
+
 -- the instructions of some code, where a call in the first comes back to this address
 abbrev pub lines_from : Machine → (back : ℕ) → List Instruction → List Line
 lines_from m back [] = []

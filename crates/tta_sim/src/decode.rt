@@ -1,17 +1,16 @@
 //! How instructions are decoded.
 
-ghost use Rattle.std.specs.Prelude.{◌≡◌, ◌<◌, ◌≤◌, ◌+◌, ◌==◌, ◌++◌, ◌&&◌, ℕ, true, length};
+ghost use Rattle.std.specs.Prelude.{◌≡◌, ◌<◌, ◌≤◌, ◌+◌, ◌==◌, [], ◌∷◌, ◌++◌, ◌&&◌, ℕ, true, None, length};
 ghost use Rattle.std.specs.Prelude.{slice_get};
 ghost use Rattle.std.specs.Prelude.{is_some, option_and_then, option_copied, option_map};
 ghost use Rattle.std.specs.Prelude.{option_to_list};
 ghost use Rattle.std.specs.Prelude.{IfOk, OnOk, IsTrue};
-ghost use Rattle.std.specs.List.{filter_map, AllByRecursion};
+ghost use Rattle.std.specs.List.{AllByRecursion};
 ghost use Rattle.tta_machine.specs.Effects.{KeptReg, KeptImm, KeptOperand, op_at, width_of};
-ghost use Rattle.tta_code.specs.Cycle.{moves_of};
 ghost use Rattle.tta_sim.specs.Places.{number_of};
 ghost use Rattle.tta_sim.specs.Decoded.{source_decoded, guard_decoded, reading_of, write_decoded};
 ghost use Rattle.tta_sim.specs.Decoded.{start_decoded, store_decoded, tell_decoded, is_nil};
-ghost use Rattle.tta_sim.specs.Decoded.{long_decoded, line_of, lines_from};
+ghost use Rattle.tta_sim.specs.Decoded.{long_decoded, line_of, lines_from, with_move};
 
 use crate::control::Kind;
 use crate::decoded::{
@@ -191,34 +190,6 @@ fn add<T: Drop>(list: &mut Items<T>, value: Option<T>) -> Result<(), AllocError>
     Ok(())
 }
 
-/// The writes of an instruction.
-fn writes_in(
-    alloc: Global,
-    m: &Machine,
-    back: u32,
-    i: &Instruction,
-) -> Result<Items<DecodedWrite>, AllocError>
-    ensures { IfOk result (λ list. list ≡ (line_of m.now back i.now).writes) }
-{
-    let mut list = Items::new(alloc);
-    for slot in i.moves.as_slice() {
-        add(&mut list, write_in(m, back, slot))?;
-    }
-    add(&mut list, write_long(m, i.long))?;
-    Ok(list)
-}
-
-/// The starts of an instruction.
-fn starts_in(alloc: Global, m: &Machine, i: &Instruction) -> Result<Items<DecodedStart>, AllocError>
-    ensures { IfOk result (λ list. list ≡ filter_map (start_decoded m.now) (moves_of i.now)) }
-{
-    let mut list = Items::new(alloc);
-    for slot in i.moves.as_slice() {
-        add(&mut list, start_in(m, slot))?;
-    }
-    Ok(list)
-}
-
 /// The start of a move, if it starts an operation that shows no result.
 fn store_in(m: &Machine, slot: &Option<Move>) -> Option<DecodedStart>
     ensures { result ≡ option_and_then (store_decoded m.now) slot.now }
@@ -229,26 +200,25 @@ fn store_in(m: &Machine, slot: &Option<Move>) -> Option<DecodedStart>
     }
 }
 
-/// The starts of an instruction whose operations show no result.
-fn stores_in(alloc: Global, m: &Machine, i: &Instruction) -> Result<Items<DecodedStart>, AllocError>
-    ensures { IfOk result (λ list. list ≡ filter_map (store_decoded m.now) (moves_of i.now)) }
+/// Adds what a move does.
+fn add_move(line: &mut Line, m: &Machine, back: u32, slot: &Option<Move>) -> Result<(), AllocError>
+    ensures { OnOk result (line.new ≡ with_move m.now back line.old slot.now) }
 {
-    let mut list = Items::new(alloc);
-    for slot in i.moves.as_slice() {
-        add(&mut list, store_in(m, slot))?;
-    }
-    Ok(list)
+    add(&mut line.writes, write_in(m, back, slot))?;
+    add(&mut line.starts, start_in(m, slot))?;
+    add(&mut line.stores, store_in(m, slot))?;
+    add(&mut line.tells, tell_in(slot))
 }
 
-/// What an instruction tells control.
-fn tells_in(alloc: Global, m: &Machine, i: &Instruction) -> Result<Items<DecodedTell>, AllocError>
-    ensures { IfOk result (λ list. list ≡ filter_map tell_decoded (moves_of i.now)) }
+/// Adds what the moves and the long immediate of an instruction do.
+fn add_moves(line: &mut Line, m: &Machine, back: u32, i: &Instruction) -> Result<(), AllocError>
+    requires { line.old ≡ line_of m.now back (record { moves = []; long = None }) }
+    ensures { OnOk result (line.new ≡ record (line_of m.now back i.now) { quiet = true }) }
 {
-    let mut list = Items::new(alloc);
     for slot in i.moves.as_slice() {
-        add(&mut list, tell_in(slot))?;
+        add_move(line, m, back, slot)?;
     }
-    Ok(list)
+    add(&mut line.writes, write_long(m, i.long))
 }
 
 /// Whether there are neither stores nor tells.
@@ -262,18 +232,34 @@ fn are_none(stores: &Items<DecodedStart>, tells: &Items<DecodedTell>) -> bool
 fn line(alloc: Global, m: &Machine, back: u32, i: &Instruction) -> Result<Line, AllocError>
     ensures { IfOk result (λ l. l ≡ line_of m.now back i.now) }
 {
-    let writes = writes_in(alloc, m, back, i)?;
-    let starts = starts_in(alloc, m, i)?;
-    let stores = stores_in(alloc, m, i)?;
-    let tells = tells_in(alloc, m, i)?;
-    let quiet = are_none(&stores, &tells);
-    Ok(Line {
-        writes,
-        starts,
-        stores,
-        tells,
-        quiet,
-    })
+    let mut line = Line {
+        writes: Items::new(alloc),
+        starts: Items::new(alloc),
+        stores: Items::new(alloc),
+        tells: Items::new(alloc),
+        quiet: true,
+    };
+    let Ok(()) = add_moves(&mut line, m, back, i) else {
+        drop(line);
+        return Err(AllocError);
+    };
+    line.quiet = are_none(&line.stores, &line.tells);
+    Ok(line)
+}
+
+/// Adds an instruction, decoded.
+fn add_line(
+    lines: &mut Items<Line>,
+    alloc: Global,
+    m: &Machine,
+    back: u32,
+    i: &Instruction,
+) -> Result<(), AllocError>
+    ensures { OnOk result (lines.new ≡ lines.old ++ line_of m.now back i.now ∷ []) }
+{
+    let line = line(alloc, m, back, i)?;
+    lines.push(line)?;
+    Ok(())
 }
 
 /// The instructions of code, decoded.
@@ -285,7 +271,10 @@ pub fn decode(alloc: Global, m: &Machine, code: &Code) -> Result<Items<Line>, Al
     let mut lines = Items::new(alloc);
     let mut back = 1 + u32::from(m.control.delay);
     for i in code.words.as_slice() {
-        lines.push(line(alloc, m, back, i)?)?;
+        let Ok(()) = add_line(&mut lines, alloc, m, back, i) else {
+            drop(lines);
+            return Err(AllocError);
+        };
         back += 1;
     }
     Ok(lines)

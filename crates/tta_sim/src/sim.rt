@@ -16,10 +16,7 @@ use crate::carry::carry;
 use crate::control::{Control, Phase};
 use crate::decode::decode;
 use crate::decoded::Line;
-use crate::places::Places;
-use crate::results::Results;
-use crate::short::Short;
-use crate::spaces::{load, zeros};
+use crate::spaces::load;
 use crate::store::{Doings, Store};
 use std::alloc::{AllocError, Global};
 use std::marker::Model;
@@ -72,17 +69,18 @@ impl Sim {
         ensures start { IfOk result (λ r. Stands r (start m.now memory.items)) }
         ensures loaded { IfOk result (λ r. IsRunOf m.now code.now r) }
     {
-        let store = Store {
-            places: Places::unset(alloc)?,
-            results: Results::none(alloc, m.units.len())?,
-            memory,
-            frame: zeros(alloc, m.frame_words as usize)?,
+        let units = m.units.len();
+        let Ok(store) = Store::unset(alloc, units, m.frame_words as usize, memory) else {
+            return Err(AllocError);
         };
-        let lines = decode(alloc, m, code)?;
-        let doings = Doings {
-            writes: Short::new(alloc)?,
-            arrivals: Short::new(alloc)?,
-            starts: Short::new(alloc)?,
+        let Ok(lines) = decode(alloc, m, code) else {
+            drop(store);
+            return Err(AllocError);
+        };
+        let Ok(doings) = Doings::none(alloc) else {
+            drop(store);
+            drop(lines);
+            return Err(AllocError);
         };
         Ok(Sim {
             store,
