@@ -16,7 +16,7 @@ use tta_code::Move;
 use tta_machine::Dest;
 
 /// A word that a move brings.
-#[derive(Clone, Copy, Debug)]
+#[derive(Clone, Copy)]
 pub struct Arrival {
     pub dst: Dest,
     pub word: u32,

@@ -6,7 +6,7 @@ ghost use Rattle.tta_sim.specs.Starts.{told_of};
 ghost use Rattle.tta_sim.specs.Controls.{underway, controlled, pending_with, outcome_of};
 
 /// What control can be told.
-#[derive(Clone, Copy, Debug)]
+#[derive(Clone, Copy)]
 pub enum Kind {
     Jump,
     Call,
@@ -14,21 +14,21 @@ pub enum Kind {
 }
 
 /// What a move tells control, with the moved word.
-#[derive(Clone, Copy, Debug)]
+#[derive(Clone, Copy)]
 pub struct Told {
     pub kind: Kind,
     pub word: u32,
 }
 
 /// A control move that has not taken effect, and the cycle in which it does.
-#[derive(Clone, Copy, Debug)]
+#[derive(Clone, Copy)]
 pub struct Pending {
     pub time: u64,
     pub told: Told,
 }
 
 /// How a run stands.
-#[derive(Clone, Copy, Debug)]
+#[derive(Clone, Copy)]
 pub enum Phase {
     Running,
     Halted,
@@ -36,7 +36,7 @@ pub enum Phase {
 }
 
 /// The address of the next instruction, the control move under way, and how the run stands.
-#[derive(Clone, Copy, Debug)]
+#[derive(Clone, Copy)]
 pub struct Control {
     pub pc: u32,
     pub pending: Option<Pending>,

@@ -8,7 +8,7 @@ use tta_list::Items;
 use tta_machine::UnitOp;
 
 /// Where a move takes its word from.
-#[derive(Clone, Copy, Debug)]
+#[derive(Clone, Copy)]
 pub enum DecodedSource {
     Word(u32),
     /// The place with this number in the row of places.
@@ -18,21 +18,21 @@ pub enum DecodedSource {
 }
 
 /// A guard: the number of its register's place, and whether it lets a move act where that is 0.
-#[derive(Clone, Copy, Debug)]
+#[derive(Clone, Copy)]
 pub struct DecodedGuard {
     pub place: u32,
     pub inverted: bool,
 }
 
 /// What a move reads.
-#[derive(Clone, Copy, Debug)]
+#[derive(Clone, Copy)]
 pub struct Reading {
     pub guard: Option<DecodedGuard>,
     pub src: DecodedSource,
 }
 
 /// A move that writes a place, which keeps only the low bit where it is narrow.
-#[derive(Clone, Copy, Debug)]
+#[derive(Clone, Copy)]
 pub struct DecodedWrite {
     pub reading: Reading,
     pub place: u32,
@@ -40,7 +40,7 @@ pub struct DecodedWrite {
 }
 
 /// A move that starts an operation of a unit.
-#[derive(Clone, Copy, Debug)]
+#[derive(Clone, Copy)]
 pub struct DecodedStart {
     pub reading: Reading,
     pub unit: u8,
@@ -48,7 +48,7 @@ pub struct DecodedStart {
 }
 
 /// A move that tells control something.
-#[derive(Clone, Copy, Debug)]
+#[derive(Clone, Copy)]
 pub struct DecodedTell {
     pub reading: Reading,
     pub kind: Kind,

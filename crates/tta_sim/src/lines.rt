@@ -19,14 +19,14 @@ use crate::starts::{Start, clashes};
 use tta_machine::UnitOp;
 
 /// A word that is brought to a place.
-#[derive(Clone, Copy, Debug)]
+#[derive(Clone, Copy)]
 pub struct Write {
     pub place: usize,
     pub word: u32,
 }
 
 /// What is read for a move.
-#[derive(Clone, Copy, Debug)]
+#[derive(Clone, Copy)]
 pub enum Read {
     /// The move does not act.
     Nothing,

@@ -30,7 +30,7 @@ pub fn read(places: &Places, results: &Results, src: Source) -> Option<u32>
 }
 
 /// What a guard says of its move.
-#[derive(Clone, Copy, Debug)]
+#[derive(Clone, Copy)]
 pub enum Verdict {
     Acts,
     Rests,
@@ -63,7 +63,7 @@ fn ask(places: &Places, guard: Option<GuardRef>) -> Verdict
 }
 
 /// What a move takes.
-#[derive(Clone, Copy, Debug)]
+#[derive(Clone, Copy)]
 pub enum Taken {
     /// The move does not act.
     Nothing,
