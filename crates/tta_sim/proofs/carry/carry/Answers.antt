@@ -1,4 +1,4 @@
-use Rattle.std.proofs.Common.{◌+◌, IsTrue, length, map, None, refl, sym, ap, ◌∙◌, subst, append_assoc}
+use Rattle.std.proofs.Common.{◌+◌, IsTrue, length, map, None, refl, sym, ap, ◌∙◌, subst, arith, append_assoc}
 use Rattle.std.specs.Prelude.{is_some, option_map, fold}
 use Rattle.std.specs.List.{filter_map, find, AllByRecursion}
 use Rattle.tta_ops.specs.Set.{stated}
@@ -160,3 +160,63 @@ returns-clause-carried g c = λ lines s same.
     (c.go_on-2.ensures.cycle ∙ ap (λ r. r.cycle + 1) grown)
     (c.go_on-2.ensures.data ∙ words) (c.go_on-2.ensures.frame ∙ others) (c.put_out-word.ensures ∙ ap (λ ts. option_map (λ t. t.word) (find puts ts)) stores ∙ ap (option_map (λ t. t.word)) (puts_alone starts))
     tells c.advance-2.ensures
+
+pub find_fault-requires-clause-legal : goal.find_fault-requires-clause-legal
+find_fault-requires-clause-legal g c = c.requires.legal
+
+pub find_fault-requires-clause-line : goal.find_fault-requires-clause-line
+find_fault-requires-clause-line g c = c.requires.line
+
+pub find_fault-requires-clause-units : goal.find_fault-requires-clause-units
+find_fault-requires-clause-units g c = c.requires.units
+
+pub find_fault-requires-clause-few : goal.find_fault-requires-clause-few
+find_fault-requires-clause-few g c = omega (arith, c.requires.few)
+
+pub returns-in-Some-clause-units : goal.returns-in-Some-clause-units
+returns-in-Some-clause-units g c = ap (λ r. length r.shown) (c.find_fault.ensures.kept (ap is_some c.in-Some.is))
+
+pub returns-in-Some-clause-data : goal.returns-in-Some-clause-data
+returns-in-Some-clause-data g c = ap length c.find_fault.ensures.data
+
+pub returns-in-Some-clause-frame : goal.returns-in-Some-clause-frame
+returns-in-Some-clause-frame g c = ap length c.find_fault.ensures.frame
+
+pub returns-in-Some-clause-counted : goal.returns-in-Some-clause-counted
+returns-in-Some-clause-counted g c = omega (arith, ap (λ r. r.cycle) (c.find_fault.ensures.kept (ap is_some c.in-Some.is)))
+
+pub go_on-requires-clause-few : goal.go_on-requires-clause-few
+go_on-requires-clause-few g c = omega (arith, c.requires.few, ap (λ r. r.cycle) (c.find_fault.ensures.begun c.in_default.is))
+
+pub advance-requires-clause-within : goal.advance-requires-clause-within
+advance-requires-clause-within g c = omega (arith, c.requires.within)
+
+pub advance-requires-clause-few : goal.advance-requires-clause-few
+advance-requires-clause-few g c = omega (arith, c.requires.few, c.cycle.ensures, c.go_on.ensures.cycle, ap (λ r. r.cycle) (c.find_fault.ensures.begun c.in_default.is))
+
+pub returns-then-line-clause-units : goal.returns-then-line-clause-units
+returns-then-line-clause-units g c = c.go_on.ensures.units ∙ ap (λ r. length r.shown) (c.find_fault.ensures.begun c.in_default.is)
+
+pub returns-then-line-clause-data : goal.returns-then-line-clause-data
+returns-then-line-clause-data g c = ap length (c.go_on.ensures.data ∙ c.find_fault.ensures.data)
+
+pub returns-then-line-clause-frame : goal.returns-then-line-clause-frame
+returns-then-line-clause-frame g c = ap length (c.go_on.ensures.frame ∙ c.find_fault.ensures.frame)
+
+pub returns-then-line-clause-counted : goal.returns-then-line-clause-counted
+returns-then-line-clause-counted g c = c.go_on.ensures.cycle ∙ ap (λ r. r.cycle + 1) (c.find_fault.ensures.begun c.in_default.is)
+
+pub go_on-requires-2-clause-few : goal.go_on-requires-2-clause-few
+go_on-requires-2-clause-few g c = omega (arith, c.requires.few, ap (λ r. r.cycle) (c.find_fault.ensures.begun c.in_default.is))
+
+pub advance-requires-2-clause-within : goal.advance-requires-2-clause-within
+advance-requires-2-clause-within g c = omega (arith, c.requires.within)
+
+pub advance-requires-2-clause-few : goal.advance-requires-2-clause-few
+advance-requires-2-clause-few g c = omega (arith, c.requires.few, c.cycle-2.ensures, c.go_on-2.ensures.cycle, ap (λ r. r.cycle) (c.find_fault.ensures.begun c.in_default.is))
+
+pub returns-clause-units : goal.returns-clause-units
+returns-clause-units g c = c.go_on-2.ensures.units ∙ ap (λ r. length r.shown) (c.find_fault.ensures.begun c.in_default.is)
+
+pub returns-clause-counted : goal.returns-clause-counted
+returns-clause-counted g c = c.go_on-2.ensures.cycle ∙ ap (λ r. r.cycle + 1) (c.find_fault.ensures.begun c.in_default.is)
