@@ -3,7 +3,8 @@ use Rattle.std.proofs.Common.{◌≡◌, ℕ, zero, suc, ◌+◌, ◌<◌, ◌�
 use Rattle.std.specs.Prelude.{is_some, slice_get, option_map, option_and_then, if◌then◌else◌}
 use Rattle.std.specs.Option.{option_map_or}
 use Rattle.std.specs.List.{list_any, list_all, filter_map, AllByRecursion}
-use Rattle.std.proofs.lemmas.Bool.{and_parts, eqb-true, ltb-true}
+use Rattle.std.proofs.lemmas.Bool.{and_parts, and_from, eqb-true, ltb-true, lt-ltb}
+use Rattle.tta_machine.specs.declared.parts.Socket.{Socket}
 use Rattle.tta_machine.specs.declared.parts.File.{File}
 use Rattle.tta_machine.specs.declared.parts.ImmUnit.{ImmUnit}
 use Rattle.tta_machine.specs.declared.parts.Guard.{Guard}
@@ -14,10 +15,11 @@ use Rattle.tta_machine.specs.declared.ends.Source.TheVariants as source
 use Rattle.tta_machine.specs.declared.ends.Dest.{Dest}
 use Rattle.tta_machine.specs.declared.ends.Dest.TheVariants as dest
 use Rattle.tta_machine.specs.Machine.{Machine}
-use Rattle.tta_machine.specs.Joins.{within, source_socket, dest_socket, has_socket, is_source_on, is_dest_on, has_guard, joins, is_same_guard}
+use Rattle.tta_machine.specs.Joins.{within, source_socket, dest_socket, has_socket, is_source_on, is_dest_on, has_guard, joins, is_same, is_same_guard}
 use Rattle.tta_machine.specs.Legal.{all_slots}
-use Rattle.tta_machine.specs.Rules.{IsMachine, is_file, is_imm, is_guard, is_template}
+use Rattle.tta_machine.specs.Rules.{IsMachine, is_from_to, is_socket, is_file, is_imm, is_guard, is_template}
 use Rattle.tta_machine.specs.Effects.{KeptReg, KeptImm}
+use Rattle.tta_machine.proofs.Facts.{from_to-greatest}
 use Rattle.tta_machine.proofs.Lists.{list_all_one}
 use Rattle.tta_code.specs.declared.code.Move.{Move}
 use Rattle.tta_code.specs.declared.code.Long.{Long}
@@ -65,21 +67,34 @@ some_within [] k within = absurd (omega (arith, within))
 some_within (x ∷ xs) zero within = refl
 some_within (x ∷ xs) (suc k) within = some_within xs k (omega (arith, within))
 
+-- a register within the bounds of its row has a place there
+place_from : (unit index units size : ℕ) → unit < units → index < size → (nat_lt unit units && nat_lt index size) ≡ true
+place_from unit index units size low inside = and_from (nat_lt unit units) (nat_lt index size) (lt-ltb unit units low) (lt-ltb index size inside)
+
+file_size : (sockets : List Socket) (f : File) → is_file sockets f ≡ true → f.size ≤ 64
+file_size sockets f is =
+    let five = and_parts _ (is_socket sockets true f.into) is in
+    let four = and_parts _ (is_socket sockets false f.out) five.0 in
+    let three = and_parts _ (is_from_to 1 16 f.write) four.0 in
+    let two = and_parts _ (is_from_to 1 16 f.read) three.0 in
+    from_to-greatest 1 64 f.size (and_parts _ (is_from_to 1 64 f.size) two.0).1
+
+imm_size : (sockets : List Socket) (u : ImmUnit) → is_imm sockets u ≡ true → u.size ≤ 16
+imm_size sockets u is = from_to-greatest 1 16 u.size (and_parts (is_from_to 1 16 u.size) (is_socket sockets false u.out) is).0
+
 module _ (m : Machine) (rules : IsMachine m) where
   -- a register of a file
   file_place : (f : File) (file index : ℕ) → slice_get m.files file ≡ Some f → file < length m.files → nat_lt index f.size ≡ true → is_place (KeptReg file index) ≡ true
   file_place f file index at within inside =
       let is : is_file m.sockets f ≡ true = list_all_one (is_file m.sockets) m.files file f rules.files at in
-      let size : f.size ≤ 64 = grind (arith, is) in
-      let few = rules.limits.files in
-      grind (arith, size, few, within, inside)
+      let size = file_size m.sockets f is in
+      place_from file index 8 64 (omega (arith, within, rules.limits.files)) (omega (arith, size, ltb-true index f.size inside))
 
   imm_place : (u : ImmUnit) (unit index : ℕ) → slice_get m.imms unit ≡ Some u → unit < length m.imms → nat_lt index u.size ≡ true → is_place (KeptImm unit index) ≡ true
   imm_place u unit index at within inside =
       let is : is_imm m.sockets u ≡ true = list_all_one (is_imm m.sockets) m.imms unit u rules.imms at in
-      let size : u.size ≤ 16 = grind (arith, is) in
-      let few = rules.limits.imms in
-      grind (arith, size, few, within, inside)
+      let size = imm_size m.sockets u is in
+      place_from unit index 4 16 (omega (arith, within, rules.limits.imms)) (omega (arith, size, ltb-true index u.size inside))
 
   -- ---- the ends of a move
 
@@ -92,7 +107,7 @@ module _ (m : Machine) (rules : IsMachine m) where
       imm_place f.item unit index f.at f.within (index_within index f.item.size f.item.out f.passes)
   source_there bus (source.Shown unit) on =
       let f = found (λ u. u.result) m.units unit (socket_there m false (source_socket m (source.Shown unit)) bus on) in
-      grind (arith, f.within)
+      lt-ltb unit (length m.units) f.within
   source_there bus source.Ra on = refl
   source_there bus (source.Value word) on = refl
 
@@ -102,11 +117,10 @@ module _ (m : Machine) (rules : IsMachine m) where
       file_place f.item file index f.at f.within (index_within index f.item.size f.item.into f.passes)
   dest_there bus (dest.Operand unit) on =
       let f = found (λ u. u.operand) m.units unit (socket_there m true (dest_socket m (dest.Operand unit)) bus on) in
-      let few = rules.limits.units in
-      grind (arith, f.within, few)
+      lt-ltb unit 32 (omega (arith, f.within, rules.limits.units))
   dest_there bus (dest.Trigger unit op) on =
       let f = found (λ u. within op (length u.ops) u.trigger) m.units unit (socket_there m true (dest_socket m (dest.Trigger unit op)) bus on) in
-      grind (arith, f.within)
+      lt-ltb unit (length m.units) f.within
   dest_there bus dest.Jump on = refl
   dest_there bus dest.Call on = refl
   dest_there bus dest.Halt on = refl
@@ -141,8 +155,11 @@ module _ (m : Machine) (rules : IsMachine m) where
       elim (g.bus == bus && is_same_guard g.on on) as (λ b. (g.bus == bus && is_same_guard g.on on) ≡ b → (b || list_any (λ g. g.bus == bus && is_same_guard g.on on) guards) ≡ true → is_place (KeptReg on.file on.index) ≡ true) [
         | true ↦ λ is any.
             let there = guard_there g both.0 in
-            let file : g.on.file ≡ on.file = grind (arith, is) in
-            let index : g.on.index ≡ on.index = grind (arith, is) in
+            let same = and_parts (g.bus == bus) (is_same_guard g.on on) is in
+            let ends = and_parts (g.on.file == on.file && g.on.index == on.index) (is_same g.on.inverted on.inverted) same.1 in
+            let two = and_parts (g.on.file == on.file) (g.on.index == on.index) ends.0 in
+            let file = eqb-true g.on.file on.file two.0 in
+            let index = eqb-true g.on.index on.index two.1 in
             subst (λ f. is_place (KeptReg f on.index) ≡ true) file (subst (λ i. is_place (KeptReg g.on.file i) ≡ true) index there)
         | false ↦ λ is any. some_guard bus on guards both.1 any
       ] refl any

@@ -3,7 +3,7 @@ use Rattle.std.proofs.Common.{◌≡◌, ℕ, zero, suc, ◌<◌, ◌≤◌, ◌
 use Rattle.std.specs.Prelude.{slice_get, option_map, option_and_then, option_to_list, fold, filter, if◌then◌else◌, nat_lt, nat_le}
 use Rattle.std.specs.Option.{option_map_or}
 use Rattle.std.specs.List.{list_any, list_all, filter_map, cons_option, find, AllByRecursion}
-use Rattle.std.proofs.lemmas.Bool.{and_parts}
+use Rattle.std.proofs.lemmas.Bool.{and_parts, and_from, or_parts, or_from, not-true}
 use Rattle.std.proofs.lemmas.Option.{slice_get_within}
 use Rattle.std.proofs.lemmas.List.{append-nil}
 use Rattle.tta_machine.specs.declared.parts.Unit.{Unit as OpUnit}
@@ -35,11 +35,11 @@ any_filter_map : {A B : Type 0} (same : A → A → Bool) (same' : B → B → B
     → (xs : List A) → list_any (same x) xs ≡ false → list_any (same' p) (filter_map f xs) ≡ false
 any_filter_map same same' f x p tells [] none = refl
 any_filter_map same same' f x p tells (y ∷ xs) none =
-    let rest = any_filter_map same same' f x p tells xs (grind arith) in
-    let other : same x y ≡ false = grind arith in
+    let both = or_parts (same x y) (list_any (same x) xs) none in
+    let rest = any_filter_map same same' f x p tells xs both.1 in
     elim (f y) as (λ o. f y ≡ o → list_any (same' p) (cons_option o (filter_map f xs)) ≡ false) [
       | None ↦ λ is. rest
-      | Some q ↦ λ is. let apart = tells y q is other in grind (arith, apart, rest)
+      | Some q ↦ λ is. or_from (same' p q) (list_any (same' p) (filter_map f xs)) (tells y q is both.0) rest
     ] refl
 
 -- where elements differ, what they give differs
@@ -48,13 +48,14 @@ pub apart_filter_map : {A B : Type 0} (same : A → A → Bool) (same' : B → B
     → (xs : List A) → are_different same xs ≡ true → are_different same' (filter_map f xs) ≡ true
 apart_filter_map same same' f tells [] apart = refl
 apart_filter_map same same' f tells (x ∷ xs) apart =
-    let rest = apart_filter_map same same' f tells xs (grind arith) in
-    let alone : list_any (same x) xs ≡ false = grind arith in
+    let both = and_parts (not (list_any (same x) xs)) (are_different same xs) apart in
+    let rest = apart_filter_map same same' f tells xs both.1 in
+    let alone = not-true (list_any (same x) xs) both.0 in
     elim (f x) as (λ o. f x ≡ o → are_different same' (cons_option o (filter_map f xs)) ≡ true) [
       | None ↦ λ is. rest
       | Some p ↦ λ is.
           let other = any_filter_map same same' f x p (λ y q gives differ. tells x y p q is gives differ) xs alone in
-          grind (arith, other, rest)
+          and_from (not (list_any (same' p) (filter_map f xs))) (are_different same' (filter_map f xs)) (ap not other) rest
     ] refl
 
 -- two moves into one place
