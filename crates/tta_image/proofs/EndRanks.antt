@@ -1,12 +1,11 @@
 -- The sources and the destinations of a machine stand in the order of their ranks.
-use Rattle.std.proofs.Common.{◌≡◌, ℕ, ◌+◌, ◌*◌, ◌≤◌, ◌==◌, Bool, true, false, ◌&&◌, ◌||◌, nat_le, List, [], ◌∷◌, ◌++◌, length, map, Option, Some, None, refl, arith}
+use Rattle.std.proofs.Common.{◌≡◌, ℕ, ◌+◌, ◌*◌, ◌≤◌, Bool, true, List, [], ◌∷◌, ◌++◌, length, map, Option, Some, None, refl, arith}
 use Rattle.std.specs.Option.{option_map_or}
 use Rattle.std.specs.List.{flat_map, enumerate_from, list_all, AllByRecursion}
-use Rattle.std.proofs.lemmas.Bool.{and_parts, leb-true}
+use Rattle.std.proofs.lemmas.Bool.{and_parts}
 use Rattle.tta_machine.specs.declared.parts.File.{File}
 use Rattle.tta_machine.specs.declared.parts.ImmUnit.{ImmUnit}
 use Rattle.tta_machine.specs.declared.parts.Unit.{Unit as OpUnit}
-use Rattle.tta_machine.specs.declared.parts.Socket.{Socket}
 use Rattle.tta_machine.specs.declared.ends.Source.{Source}
 use Rattle.tta_machine.specs.declared.ends.Source.TheVariants as source
 use Rattle.tta_machine.specs.declared.ends.Dest.{Dest}

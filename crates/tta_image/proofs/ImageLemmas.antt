@@ -1,7 +1,6 @@
 -- The parts of an image, and what legal code says of them.
-use Rattle.std.proofs.Common.{◌≡◌, ℕ, ◌^◌, ◌<◌, ◌≤◌, ◌==◌, Bool, true, false, ◌&&◌, List, [], ◌∷◌, ◌++◌, length, nat_le, codes, IsTrue, All, ap, ◌∙◌, arith}
+use Rattle.std.proofs.Common.{◌≡◌, ℕ, ◌^◌, ◌<◌, ◌≤◌, Bool, true, false, ◌&&◌, List, [], ◌∷◌, ◌++◌, length, nat_le, codes, IsTrue, All, ap, ◌∙◌, arith}
 use Rattle.std.specs.Int.{w32, to_be_bytes}
-use Rattle.std.specs.Option.{option_map_or}
 use Rattle.std.specs.List.{AllByRecursion}
 use Rattle.std.proofs.lemmas.Bool.{and_parts, leb-true, eqb-true}
 use Rattle.std.proofs.lemmas.Nat.{pow_below}
@@ -11,10 +10,9 @@ use Rattle.tta_machine.specs.declared.parts.Socket.{Socket}
 use Rattle.tta_machine.specs.Machine.{Machine}
 use Rattle.tta_machine.specs.Fields.{word_width}
 use Rattle.tta_machine.specs.Rules.{IsMachine, is_control, is_from_to, is_socket, is_port_socket}
-use Rattle.tta_machine.specs.Legal.{can_move}
 use Rattle.tta_code.specs.declared.code.Instruction.{Instruction}
 use Rattle.tta_code.specs.declared.code.Code.{Code}
-use Rattle.tta_code.specs.Legal.{is_legal, is_instruction, is_long, taken, slots_of, IsLegalCode}
+use Rattle.tta_code.specs.Legal.{is_legal, IsLegalCode}
 use Rattle.tta_code.proofs.LegalParts.{legal_parts}
 use Rattle.tta_image.specs.Image.{header, AreBytesOf}
 

@@ -37,10 +37,16 @@ fn read_word(
     requires room { at + layout.now.width ≤ 8 * length bytes.now }
     ensures { Answers result (decoded_word m.now layout.now word (drop at (bits_in bytes.now))) }
 {
-    let i = read_instruction(alloc, m, layout, bytes, at, word)?;
+    let i = match read_instruction(alloc, m, layout, bytes, at, word) {
+        Ok(i) => i,
+        Err(e) => return Err(e),
+    };
     match legal(m, net, &i) {
         Ok(()) => Ok(i),
-        Err(_) => Err(ImageRefusal::Illegal.of_word(word, 0)),
+        Err(_) => {
+            drop(i);
+            Err(ImageRefusal::Illegal.of_word(word, 0))
+        }
     }
 }
 
@@ -73,11 +79,21 @@ fn read_words(
     let mut words = Items::new(alloc);
     let mut at: usize = 0;
     for word in 0..count {
-        let i = read_word(alloc, m, layout, net, bytes, at, word)?;
-        words.push(i)?;
+        let i = match read_word(alloc, m, layout, net, bytes, at, word) {
+            Ok(i) => i,
+            Err(e) => {
+                drop(words);
+                return Err(e);
+            }
+        };
+        let Ok(()) = words.push(i) else {
+            drop(words);
+            return Err(ImageError::NoMemory);
+        };
         at += layout.width as usize;
     }
     if has_set_bit(bytes, at) {
+        drop(words);
         return Err(ImageRefusal::Padding.of_all());
     }
     Ok(words)
@@ -91,10 +107,37 @@ fn body_of(bytes: &[u8]) -> &[u8]
     &bytes[48..]
 }
 
+/// The code of an image, whose machine has this layout and this net.
+fn read_code(
+    alloc: Global,
+    bytes: &[u8],
+    m: &Machine,
+    layout: &Layout,
+    net: &Net,
+    digest: &[u8; 32],
+) -> Result<Code, ImageError>
+    requires layout { layout.now ≡ layout_of m.now }
+    requires net { IsNetOf net.now m.now }
+    ensures decoded { Answers result (decoded_image m.now digest.now bytes.now) }
+    ensures image { IfOk result (λ code. Image m.now digest.now code bytes.now) }
+    ensures refused { IfErr result
+        (λ e. e ≢ NoMemory → IsNoImage m.now digest.now bytes.now) }
+{
+    // An address has at most 16 bits by the rules of a machine, so the words are few.
+    let _control = &m.control;
+    let count = match read_header(m, layout.width(), digest, bytes) {
+        Ok(count) => count,
+        Err(e) => return Err(e),
+    };
+    match read_words(alloc, m, layout, net, body_of(bytes), count) {
+        Ok(words) => Ok(Code { words }),
+        Err(e) => Err(e),
+    }
+}
+
 /// The code of an image, or why the bytes are none: the first refusal of the header, else of the
 /// words one by one, else of the bits that fill up the last byte. The digest is that of the
 /// machine's text.
-#[tactic(auto, unfolding(crate::specs::Reading::decoded_image))]
 pub fn read_image(
     alloc: Global,
     bytes: &[u8],
@@ -106,11 +149,15 @@ pub fn read_image(
     ensures refused { IfErr result
         (λ e. e ≢ NoMemory → IsNoImage m.now digest.now bytes.now) }
 {
-    // An address has at most 16 bits by the rules of a machine, so the words are few.
-    let _control = &m.control;
-    let layout = Layout::of(alloc, m)?;
-    let net = Net::of(alloc, m)?;
-    let count = read_header(m, layout.width(), digest, bytes)?;
-    let words = read_words(alloc, m, &layout, &net, body_of(bytes), count)?;
-    Ok(Code { words })
+    let Ok(layout) = Layout::of(alloc, m) else {
+        return Err(ImageError::NoMemory);
+    };
+    let Ok(net) = Net::of(alloc, m) else {
+        drop(layout);
+        return Err(ImageError::NoMemory);
+    };
+    let code = read_code(alloc, bytes, m, &layout, &net, digest);
+    drop(layout);
+    drop(net);
+    code
 }

@@ -193,8 +193,17 @@ fn read_slots(
     let mut moves = Items::new(alloc);
     let mut at = at;
     for (bus, fields) in layout.buses.as_slice().iter().enumerate() {
-        let slot = read_bus(m, fields, bytes, at, word, taken, bus as u8)?;
-        moves.push(slot)?;
+        let slot = match read_bus(m, fields, bytes, at, word, taken, bus as u8) {
+            Ok(slot) => slot,
+            Err(e) => {
+                drop(moves);
+                return Err(e);
+            }
+        };
+        let Ok(()) = moves.push(slot) else {
+            drop(moves);
+            return Err(ImageError::NoMemory);
+        };
         at += fields.width as usize;
     }
     Ok(moves)
@@ -222,8 +231,13 @@ pub fn read_instruction(
         return Err(ImageRefusal::Field.of_word(word, buses));
     };
     let at = at + layout.template_width as usize;
-    let long = read_long(m, layout, bytes, at, word, template)?;
+    let long = match read_long(m, layout, bytes, at, word, template) {
+        Ok(long) => long,
+        Err(e) => return Err(e),
+    };
     let taken = taken_by(m, template);
-    let moves = read_slots(alloc, m, layout, bytes, at, word, taken)?;
-    Ok(Instruction { moves, long })
+    match read_slots(alloc, m, layout, bytes, at, word, taken) {
+        Ok(moves) => Ok(Instruction { moves, long }),
+        Err(e) => Err(e),
+    }
 }

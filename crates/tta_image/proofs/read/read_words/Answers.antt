@@ -14,8 +14,8 @@ loop-word-preserved c =
     record {
       at = let was = c.loop-word.invariant.at in omega arith;
       decoded = ap (λ (b : List Bool). with_front c.push.new.self (decoded_words c.args.m.now l (c.args.count - (word + 1)) (word + 1) b)) (sym (drop-drop l.width c.loop-word.at bits))
-          ∙ words_more c.args.m.now l (c.args.count - word) (c.args.count - (word + 1)) word (drop c.loop-word.at bits) c.in_ok-i.i c.loop-word.words c.push.new.self _ left
-          c.in_ok-i.ensures c.in_ok-push.ensures.ok c.loop-word.invariant.decoded;
+          ∙ words_more c.args.m.now l (c.args.count - word) (c.args.count - (word + 1)) word (drop c.loop-word.at bits) c.in-Ok.i c.loop-word.words c.push.new.self _ left
+          c.in-Ok.ensures c.in-Ok-push.ensures.ok c.loop-word.invariant.decoded;
     }
 
 pub returns : goal.returns
