@@ -43,6 +43,12 @@ words_stop m l left left' word bits e words all more said was =
     sym was ∙ ap (λ (n : ℕ). with_front words (decoded_words m l n word bits)) more
     ∙ ap (λ (r : Result Instruction ImageError). with_front words (r >>= λ i. decoded_words m l left' (word + 1) (drop l.width bits) >>= λ is. Ok (i ∷ is))) said
 
+pub words_refused : (m : Machine) (l : Layout) (left left' word : ℕ) (bits : List Bool) (e : ImageError) (words : List Instruction)
+    (all : Result (List Instruction) ImageError) → left ≡ suc left' → Answers {A = Instruction} (Err e) (decoded_word m l word bits)
+    → with_front words (decoded_words m l left word bits) ≡ all → Answers {A = List Instruction} (Err e) all
+words_refused m l left left' word bits NoMemory words all more said was = tt
+words_refused m l left left' word bits (Refused code w bus) words all more said was = words_stop m l left left' word bits (Refused code w bus) words all more said was
+
 -- no word is left
 pub words_end : (m : Machine) (l : Layout) (left word : ℕ) (bits : List Bool) (words : List Instruction) (all : Result (List Instruction) ImageError) → left ≡ 0
     → list_any (λ b. b) bits ≡ false → with_front words (decoded_words m l left word bits) ≡ all → all ≡ Ok words

@@ -3,7 +3,7 @@ use Rattle.std.proofs.lemmas.List.{drop-drop}
 use Rattle.tta_image.specs.Decoding.{bits_in}
 use Rattle.tta_image.specs.Reading.{decoded_words}
 use Rattle.tta_image.proofs.Walks.{with_front}
-use Rattle.tta_image.proofs.WordsRead.{words_more, words_end}
+use Rattle.tta_image.proofs.WordsRead.{words_more, words_refused, words_end, words_filled}
 use Rattle.tta_image.proofs.read.read_words.Goals as goal
 
 pub loop-word-preserved : goal.loop-word-preserved
@@ -22,3 +22,15 @@ pub returns : goal.returns
 returns c =
     words_end c.args.m.now c.args.layout.now (c.args.count - c.loop-word.word) c.loop-word.word (drop c.loop-word.at (bits_in c.args.bytes.now)) c.loop-word.words _ (omega arith)
     (sym c.has_set_bit.ensures ∙ c.if-has_set_bit.false) c.loop-word.invariant.decoded
+
+pub returns-in-Err : goal.returns-in-Err
+returns-in-Err c =
+    let word = c.loop-word.word in
+    let left : c.args.count - word ≡ suc (c.args.count - (word + 1)) = omega arith in
+    words_refused c.args.m.now c.args.layout.now (c.args.count - word) (c.args.count - (word + 1)) word (drop c.loop-word.at (bits_in c.args.bytes.now)) c.in-Err.e c.loop-word.words _ left
+    c.in-Err.ensures c.loop-word.invariant.decoded
+
+pub returns-then-has_set_bit : goal.returns-then-has_set_bit
+returns-then-has_set_bit c =
+    rw c.of_all.ensures (words_filled c.args.m.now c.args.layout.now (c.args.count - c.loop-word.word) c.loop-word.word (drop c.loop-word.at (bits_in c.args.bytes.now)) c.loop-word.words _ (omega arith)
+    (sym c.has_set_bit.ensures ∙ c.if-has_set_bit.true) c.loop-word.invariant.decoded)

@@ -1,0 +1,45 @@
+use Rattle.std.proofs.Common.{◌+◌, ◌<◌, ◌≤◌, Bool, List, Err, Ok, drop, length, sym, ap, ◌∙◌, arith}
+use Rattle.std.proofs.lemmas.List.{drop-drop, drop_all}
+use Rattle.tta_machine.specs.declared.layout.BusFields.{BusFields}
+use Rattle.tta_image.specs.Decoding.{bits_in, decoded_slots}
+use Rattle.tta_image.proofs.Walks.{answers_same, with_front, item_read, width_step, width_here, fields_step, slots_more, slots_stop, slots_end}
+use Rattle.tta_image.proofs.words.read_slots.Goals as goal
+
+pub returns-in-Err : goal.returns-in-Err
+returns-in-Err c =
+    let fs = c.args.layout.now.buses in let bus = c.loop-bus.bus in let f = c.fields-item.result in
+    let bits = drop c.loop-bus.at (bits_in c.args.bytes.now) in
+    let is = item_read c.as_slice-fields-items.result.now fs bus f c.as_slice-fields-items.ensures c.fields-item.is in
+    let inside : bus < length fs = let e = ap length c.as_slice-fields-items.ensures in omega arith in
+    answers_same _ _ (slots_stop c.args.m.now c.args.word c.args.taken bus f (drop (bus + 1) fs) bits c.in-Err.e c.loop-bus.moves _ (sym c.in-Err.ensures)
+    (ap (λ (l : List BusFields). with_front c.loop-bus.moves (decoded_slots c.args.m.now c.args.word c.args.taken bus l bits)) (sym (fields_step fs bus f inside is))
+    ∙ c.loop-bus.invariant.decoded))
+
+pub loop-bus-preserved : goal.loop-bus-preserved
+loop-bus-preserved c =
+    let fs = c.args.layout.now.buses in let bus = c.loop-bus.bus in let f = c.fields-item.result in
+    let bits = bits_in c.args.bytes.now in
+    let is = item_read c.as_slice-fields-items.result.now fs bus f c.as_slice-fields-items.ensures c.fields-item.is in
+    let inside : bus < length fs = let e = ap length c.as_slice-fields-items.ensures in omega arith in
+    record {
+      room = width_step fs bus f c.loop-bus.at _ inside is c.loop-bus.invariant.room;
+      decoded = ap (λ (l : List Bool). with_front c.push.new.self (decoded_slots c.args.m.now c.args.word c.args.taken (bus + 1) (drop (bus + 1) fs) l)) (sym (drop-drop f.width c.loop-bus.at bits))
+          ∙ slots_more c.args.m.now c.args.word c.args.taken bus f (drop (bus + 1) fs) (drop c.loop-bus.at bits) c.in-Ok.slot c.loop-bus.moves c.push.new.self _
+          (sym c.in-Ok.ensures) c.in-Ok-push.ensures.ok
+          (ap (λ (l : List BusFields). with_front c.loop-bus.moves (decoded_slots c.args.m.now c.args.word c.args.taken bus l (drop c.loop-bus.at bits))) (sym (fields_step fs bus f inside is))
+          ∙ c.loop-bus.invariant.decoded);
+    }
+
+pub returns : goal.returns
+returns c =
+    let fs = c.args.layout.now.buses in
+    let past : length fs ≤ c.loop-bus.bus = let e = ap length c.as_slice-fields-items.ensures in omega arith in
+    answers_same _ _ (slots_end c.args.m.now c.args.word c.args.taken c.loop-bus.bus (drop c.loop-bus.bus fs) (drop c.loop-bus.at (bits_in c.args.bytes.now)) c.loop-bus.moves _
+    (drop_all c.loop-bus.bus fs past) c.loop-bus.invariant.decoded)
+
+pub read_bus-requires-clause-room : goal.read_bus-requires-clause-room
+read_bus-requires-clause-room c =
+    let fs = c.args.layout.now.buses in let bus = c.loop-bus.bus in let f = c.fields-item.result in
+    let is = item_read c.as_slice-fields-items.result.now fs bus f c.as_slice-fields-items.ensures c.fields-item.is in
+    let inside : bus < length fs = let e = ap length c.as_slice-fields-items.ensures in omega arith in
+    width_here fs bus f c.loop-bus.at _ inside is c.loop-bus.invariant.room
