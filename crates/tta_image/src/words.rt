@@ -210,7 +210,6 @@ fn read_slots(
 }
 
 /// The instruction of a word that begins after so many bits.
-#[tactic(auto, unfolding(crate::specs::Decoding::decoded_instruction), using(crate::proofs::Walks::rest_after))]
 pub fn read_instruction(
     alloc: Global,
     m: &Machine,
