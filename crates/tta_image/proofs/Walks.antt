@@ -1,7 +1,8 @@
 -- Walks over the buses of a word, and over the words of an image, item by item.
-use Rattle.std.proofs.Common.{◌≡◌, ℕ, zero, suc, ◌+◌, ◌*◌, ◌^◌, ◌<◌, ◌≤◌, Bool, true, false, nat_lt, if◌then◌else◌, List, [], ◌∷◌, ◌++◌, length, get_or, take, drop, Option, Some, None, Result, Ok, Err, refl, sym, ap, ◌∙◌, subst, arith}
+use Rattle.std.proofs.Common.{◌≡◌, ℕ, zero, suc, ◌+◌, ◌*◌, ◌^◌, ◌<◌, ◌≤◌, Bool, true, false, nat_lt, ltb, if◌then◌else◌, List, [], ◌∷◌, ◌++◌, length, get_or, take, drop, Option, Some, None, Result, Ok, Err, refl, sym, ap, ◌∙◌, subst, arith}
+use Rattle.std.specs.Prelude.{slice_get}
 use Rattle.std.specs.List.{sum_by}
-use Rattle.std.proofs.lemmas.Option.{none-some, same_Some}
+use Rattle.std.proofs.lemmas.Option.{none-some, same_Some, slice_get_past, slice_get_read}
 use Rattle.std.proofs.lemmas.Bool.{le-ltb, lt-ltb, ltb-true, ltb-false}
 use Rattle.std.proofs.lemmas.List.{append_assoc, append-nil, length-append, length-take-le, drop-drop, drop_more}
 use Rattle.std.proofs.lemmas.List.Sums.{sum_by-drop_more}
@@ -183,6 +184,15 @@ long_refused m word fs template bits t taken bus value e is takes said none leas
     ∙ ap (λ (o : Option ℕ). after (of_word word Field) taken o) (sym none ∙ said)
     ∙ ap (λ (k : ℕ). after (of_word word Field) k (word_only (number_of (taken_bits k 0 fs bits)))) takes
     ∙ ap (λ (o : Option ℕ). decoded_long m word fs o bits) (sym is)
+
+-- what is looked up in items is what stands in them, or nothing
+pub item_there : {X : Type 0} (items xs : List X) (k n : ℕ) (x : X) → items ≡ xs → k ≡ n → true ≡ ltb k (length items) → x ≡ get_or items k x → slice_get xs n ≡ Some x
+item_there items xs k n x same at inside is =
+    ap (λ l. slice_get l n) (sym same) ∙ ap (slice_get items) (sym at) ∙ slice_get_read items (length items) k x refl (ltb-true k (length items) (sym inside)) is
+
+pub item_past : {X : Type 0} (items xs : List X) (k n : ℕ) → items ≡ xs → k ≡ n → false ≡ ltb k (length items) → slice_get xs n ≡ None
+item_past items xs k n same at past =
+    ap (λ l. slice_get l n) (sym same) ∙ ap (slice_get items) (sym at) ∙ slice_get_past items k (ltb-false k (length items) (sym past))
 
 -- the bits after some of the bits that are left
 pub rest_after : (bits : List Bool) (at width : ℕ) → drop width (drop at bits) ≡ drop (at + width) bits

@@ -9,7 +9,7 @@ ghost use Rattle.tta_machine.specs.Fields.{taken_width, word_width};
 ghost use Rattle.tta_machine.specs.Layout.{layout_of};
 ghost use Rattle.tta_code.specs.Legal.{IsLegalCode};
 ghost use Rattle.tta_image.specs.Bits.{bits_of, template_code, slots_bits, instruction_bits};
-ghost use Rattle.tta_image.specs.Image.{Image};
+ghost use Rattle.tta_image.specs.Image.{Image, AreBytesOf};
 ghost use Rattle.tta_image.specs.Ranks.{AreInOrder};
 ghost use Rattle.tta_image.specs.Fields.{buses_of, value_of};
 
@@ -143,6 +143,28 @@ fn count_words(code: &Code, m: &Machine) -> u32
     code.words.len() as u32
 }
 
+/// The bits of instructions as bytes, the last of them filled up with zero bits.
+fn pack_words(
+    alloc: Global,
+    layout: &Layout,
+    m: &Machine,
+    words: &[Instruction],
+) -> Result<Vec<u8>, AllocError>
+    requires layout { layout.now ≡ layout_of m.now }
+    requires order { AreInOrder layout.now.buses }
+    requires fits { word_width m.now < 2 ^ 32 }
+    requires slots { All (λ i. length i.moves ≡ length m.now.buses) words.now }
+    ensures { IfOk result (λ v.
+        AreBytesOf (flat_map (instruction_bits m.now) words.now) v.items) }
+{
+    let mut sink = BitSink::new(alloc);
+    let Ok(()) = push_words(layout, m, &mut sink, words) else {
+        drop(sink);
+        return Err(AllocError);
+    };
+    sink.into_bytes()
+}
+
 /// The image of code: a header with the digest of the machine's text, and the instructions bit by
 /// bit. The code must be legal for the machine. It fails only where there is no memory.
 pub fn write_image(
@@ -157,10 +179,23 @@ pub fn write_image(
     // The sources and destinations of a bus are in order by the rules of a machine.
     let _control = &m.control;
     let layout = Layout::of(alloc, m)?;
-    let mut sink = BitSink::new(alloc);
-    push_words(&layout, m, &mut sink, code.words.as_slice())?;
-    let body = sink.into_bytes()?;
-    let mut bytes = header(alloc, layout.width, count_words(code, m), digest)?;
-    bytes.extend_from_slice(body.as_slice())?;
-    Ok(bytes)
+    let width = layout.width;
+    let body = pack_words(alloc, &layout, m, code.words.as_slice());
+    drop(layout);
+    let Ok(body) = body else {
+        return Err(AllocError);
+    };
+    let Ok(mut bytes) = header(alloc, width, count_words(code, m), digest) else {
+        drop(body);
+        return Err(AllocError);
+    };
+    let extended = bytes.extend_from_slice(body.as_slice());
+    drop(body);
+    match extended {
+        Ok(()) => Ok(bytes),
+        Err(e) => {
+            drop(bytes);
+            Err(e)
+        }
+    }
 }
