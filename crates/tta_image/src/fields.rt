@@ -75,15 +75,13 @@ fn push_source(fields: &BusFields, sink: &mut BitSink, src: Source) -> Result<()
 {
     if let Source::Value(word) = src {
         sink.push(true)?;
-        sink.push_number(
+        return sink.push_number(
             low_bits(u64::from(word), fields.short_width),
             fields.payload_width,
-        )?;
-    } else {
-        sink.push(false)?;
-        sink.push_number(source_code(fields, src) as u64, fields.payload_width)?;
+        );
     }
-    Ok(())
+    sink.push(false)?;
+    sink.push_number(source_code(fields, src) as u64, fields.payload_width)
 }
 
 /// Puts the three fields of a slot at the end.
@@ -91,14 +89,12 @@ fn push_slot(fields: &BusFields, sink: &mut BitSink, slot: Option<Move>) -> Resu
     requires order { IsInOrder fields.now }
     ensures ok { OnOk result (sink.new ≡ sink.old ++ slot_field fields.now slot) }
 {
-    if let Some(v) = slot {
-        sink.push_number(guard_code(fields, v.guard) as u64, fields.guard_width)?;
-        push_source(fields, sink, v.src)?;
-        sink.push_number(dest_code(fields, v.dst) as u64, fields.dest_width)?;
-    } else {
-        sink.push_zeros(fields.width)?;
-    }
-    Ok(())
+    let Some(v) = slot else {
+        return sink.push_zeros(fields.width);
+    };
+    sink.push_number(guard_code(fields, v.guard) as u64, fields.guard_width)?;
+    push_source(fields, sink, v.src)?;
+    sink.push_number(dest_code(fields, v.dst) as u64, fields.dest_width)
 }
 
 /// Puts what the bus has in an instruction at the end: its slot, or the highest bits that are
