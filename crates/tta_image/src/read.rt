@@ -76,6 +76,7 @@ fn read_words(
     requires short { 8 * length bytes.now < count * layout.now.width + 8 }
     ensures { Answers result (decoded_words m.now layout.now count 0 (bits_in bytes.now)) }
 {
+    // What was taken so far is dropped by name, so that a way out is left with nothing.
     let mut words = Items::new(alloc);
     let mut at: usize = 0;
     for word in 0..count {
@@ -149,6 +150,7 @@ pub fn read_image(
     ensures refused { IfErr result
         (λ e. e ≢ NoMemory → IsNoImage m.now digest.now bytes.now) }
 {
+    // What was taken so far is dropped by name, so that a way out is left with nothing.
     let Ok(layout) = Layout::of(alloc, m) else {
         return Err(ImageError::NoMemory);
     };

@@ -190,6 +190,7 @@ fn read_slots(
     ensures { Answers result
         (decoded_slots m.now word taken 0 layout.now.buses (drop at (bits_in bytes.now))) }
 {
+    // What was taken so far is dropped by name, so that a way out is left with nothing.
     let mut moves = Items::new(alloc);
     let mut at = at;
     for (bus, fields) in layout.buses.as_slice().iter().enumerate() {

@@ -178,6 +178,7 @@ pub fn write_image(
 {
     // The sources and destinations of a bus are in order by the rules of a machine.
     let _control = &m.control;
+    // What was taken so far is dropped by name, so that a way out is left with nothing.
     let layout = Layout::of(alloc, m)?;
     let width = layout.width;
     let body = pack_words(alloc, &layout, m, code.words.as_slice());

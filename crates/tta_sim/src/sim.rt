@@ -69,6 +69,7 @@ impl Sim {
         ensures start { IfOk result (λ r. Stands r (start m.now memory.items)) }
         ensures loaded { IfOk result (λ r. IsRunOf m.now code.now r) }
     {
+        // What was taken so far is dropped by name, so that a way out is left with nothing.
         let units = m.units.len();
         let Ok(store) = Store::unset(alloc, units, m.frame_words as usize, memory) else {
             return Err(AllocError);

@@ -39,6 +39,7 @@ impl Store {
         ensures memory { IfOk result (λ s. s.memory.items ≡ memory.items) }
         ensures frame { IfOk result (λ s. s.frame.items ≡ replicate frame_words 0) }
     {
+        // What was taken so far is dropped by name, so that a way out is left with nothing.
         let Ok(places) = Places::unset(alloc) else {
             drop(memory);
             return Err(AllocError);
@@ -75,6 +76,7 @@ pub struct Doings {
 impl Doings {
     /// Nothing is done yet.
     pub fn none(alloc: Global) -> Result<Self, AllocError> {
+        // What was taken so far is dropped by name, so that a way out is left with nothing.
         let Ok(writes) = Short::new(alloc) else {
             return Err(AllocError);
         };
