@@ -185,15 +185,6 @@ long_refused m word fs template bits t taken bus value e is takes said none leas
     ∙ ap (λ (k : ℕ). after (of_word word Field) k (word_only (number_of (taken_bits k 0 fs bits)))) takes
     ∙ ap (λ (o : Option ℕ). decoded_long m word fs o bits) (sym is)
 
--- what is looked up in items is what stands in them, or nothing
-pub item_there : {X : Type 0} (items xs : List X) (k n : ℕ) (x : X) → items ≡ xs → k ≡ n → true ≡ ltb k (length items) → x ≡ get_or items k x → slice_get xs n ≡ Some x
-item_there items xs k n x same at inside is =
-    ap (λ l. slice_get l n) (sym same) ∙ ap (slice_get items) (sym at) ∙ slice_get_read items (length items) k x refl (ltb-true k (length items) (sym inside)) is
-
-pub item_past : {X : Type 0} (items xs : List X) (k n : ℕ) → items ≡ xs → k ≡ n → false ≡ ltb k (length items) → slice_get xs n ≡ None
-item_past items xs k n same at past =
-    ap (λ l. slice_get l n) (sym same) ∙ ap (slice_get items) (sym at) ∙ slice_get_past items k (ltb-false k (length items) (sym past))
-
 -- the bits after some of the bits that are left
 pub rest_after : (bits : List Bool) (at width : ℕ) → drop width (drop at bits) ≡ drop (at + width) bits
 rest_after bits at width = drop-drop width at bits

@@ -1,8 +1,9 @@
 -- What holds of all elements of a list, of each two, and of how many, when the list grows or one element changes.
-use Rattle.std.proofs.Common.{◌≡◌, ◌++◌, ◌∷◌, [], ℕ, Bool, List, Some, true, false, not, zero, suc, length, refl, sym, ap, subst, ◌∙◌, ◌⊎◌, inl, inr, ⊎_elim}
+use Rattle.std.proofs.Common.{◌≡◌, ◌++◌, ◌∷◌, [], ℕ, Bool, List, Some, None, true, false, not, zero, suc, length, ltb, get_or, refl, sym, ap, subst, ◌∙◌, ◌⊎◌, inl, inr, ⊎_elim}
 use Rattle.std.specs.Prelude.{◌&&◌, ◌||◌, slice_get, slice_set, filter, if◌then◌else◌}
 use Rattle.std.specs.List.{list_all, list_any, AllByRecursion}
-use Rattle.std.proofs.lemmas.Bool.{and_parts, and_from, or_parts, or_from, not-true, not_from_false}
+use Rattle.std.proofs.lemmas.Option.{slice_get_past, slice_get_read}
+use Rattle.std.proofs.lemmas.Bool.{ltb-true, ltb-false, and_parts, and_from, or_parts, or_from, not-true, not_from_false}
 use Rattle.std.proofs.lemmas.List.Folds.{list_all-append, list_any-append}
 use Rattle.tta_machine.specs.Rules.{are_different}
 
@@ -30,6 +31,17 @@ slice_get-changed (x ∷ xs) zero v zero y e = inr (refl, cc)
 slice_get-changed (x ∷ xs) zero v (suc k) y e = inl e
 slice_get-changed (x ∷ xs) (suc i) v zero y e = inl e
 slice_get-changed (x ∷ xs) (suc i) v (suc k) y e = ⊎_elim (λ h. inl h) (λ h. inr (ap suc h.0, h.1)) (slice_get-changed xs i v k y e)
+
+-- what is looked up in a list is what stands there, or nothing
+pub item_there : {X : Type 0} (items xs : List X) (k n : ℕ) (x : X) → items ≡ xs → k ≡ n → true ≡ ltb k (length items) → x ≡ get_or items k x
+    → slice_get xs n ≡ Some x
+item_there items xs k n x same at inside is =
+    ap (λ l. slice_get l n) (sym same) ∙ ap (slice_get items) (sym at)
+    ∙ slice_get_read items (length items) k x refl (ltb-true k (length items) (sym inside)) is
+
+pub item_past : {X : Type 0} (items xs : List X) (k n : ℕ) → items ≡ xs → k ≡ n → false ≡ ltb k (length items) → slice_get xs n ≡ None
+item_past items xs k n same at past =
+    ap (λ l. slice_get l n) (sym same) ∙ ap (slice_get items) (sym at) ∙ slice_get_past items k (ltb-false k (length items) (sym past))
 
 -- ---- a test of all elements
 

@@ -3,11 +3,10 @@ use Rattle.std.proofs.Common.{◌≡◌, ◌<◌, ◌≤◌, ◌+◌, ℕ, zero,
 use Rattle.std.specs.Prelude.{◌||◌, option_to_list, option_copied, slice_get}
 use Rattle.std.specs.Slice.{IsItemAt}
 use Rattle.std.specs.List.{filter_map, cons_option, list_any}
-use Rattle.std.proofs.lemmas.Bool.{ltb-true, ltb-false}
-use Rattle.std.proofs.lemmas.Option.{slice_get_past, slice_get_read}
 use Rattle.std.proofs.lemmas.List.{take_more, drop_more, length-take-le}
 use Rattle.std.proofs.lemmas.List.Elements.{filter_map-append}
 use Rattle.std.proofs.lemmas.List.Folds.{list_any-append}
+use Rattle.tta_machine.proofs.Lists.{item_there, item_past}
 
 pub filter_map-one : {A B : Type 0} (f : A → Option B) (x : A) → filter_map f (x ∷ []) ≡ option_to_list (f x)
 filter_map-one {A} {B} f x = elim (f x) as (λ o. cons_option o [] ≡ option_to_list o) [ None ↦ refl | Some y ↦ refl ]
@@ -72,14 +71,7 @@ any_here p xs i d all within before here = before ∙ ap (list_any p) (drop_more
 
 -- ---- looked up
 
-pub item_there : {X : Type 0} (xs ys : List X) (k n : ℕ) (x : X) → xs ≡ ys → k ≡ n → true ≡ ltb k (length xs) → x ≡ get_or xs k x → slice_get ys n ≡ Some x
-item_there xs ys k n x same at inside is =
-    ap (λ l. slice_get l n) (sym same) ∙ ap (slice_get xs) (sym at) ∙ slice_get_read xs (length xs) k x refl (ltb-true k (length xs) (sym inside)) is
-
-pub item_past : {X : Type 0} (xs ys : List X) (k n : ℕ) → xs ≡ ys → k ≡ n → false ≡ ltb k (length xs) → slice_get ys n ≡ None
-item_past xs ys k n same at past =
-    ap (λ l. slice_get l n) (sym same) ∙ ap (slice_get xs) (sym at) ∙ slice_get_past xs k (ltb-false k (length xs) (sym past))
-
+-- an element that is handed out is the one at its place
 pub item_copied : {X : Type 0} (xs : List X) (k : ℕ) (r : Option (Bor X)) → IsItemAt xs k r → option_copied r ≡ slice_get xs k
 item_copied xs k None at = sym (item_past xs xs k k refl refl at.0)
 item_copied xs k (Some x) at = sym (item_there xs xs k k x.now refl refl at.0 at.1)
