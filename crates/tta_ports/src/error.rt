@@ -2,6 +2,7 @@
 
 ghost use Rattle.std.specs.Prelude.{◌≡◌};
 ghost use Rattle.tta_ports.specs.declared.error.ReadError.TheVariants.{NoMemory as read_no_memory};
+ghost use Rattle.tta_ports.specs.declared.error.WriteError.TheVariants.{};
 ghost use Rattle.tta_ports.specs.declared.error.WriteError.TheVariants.{NoMemory as write_no_memory};
 
 use std::alloc::AllocError;

@@ -89,7 +89,8 @@ fn is_held(
 fn apply(calls: &mut Calls, units: &UnitSet, d: u32, op: OpId, a: Src, b: Src)
     requires { calls.old.top.at + 1 < 2 ^ 64 }
     ensures { let f = calls.old.top in
-        let value = (stated unit_meaning units.now).value op.0 (operand f.vars a) (operand f.vars b) in
+        let U = stated unit_meaning units.now in
+        let value = U.value op.0 (operand f.vars a) (operand f.vars b) in
         let g = record f { at = f.at + 1; vars = slice_set f.vars d value } in
         calls.new ≡ record calls.old { top = g } }
 {

@@ -1,7 +1,8 @@
 //! The declaration of an operation of a unit.
 
 ghost use Rattle.std.specs.Prelude.{◌≡◌, ◌==◌, ◌<◌, ◌&&◌, ◌||◌, map, true, false, not, is_none};
-ghost use Rattle.std.specs.Prelude.{length, nat_le, slice_get, slice_set, Some, Err, IfSome, OnOk, OnErr};
+ghost use Rattle.std.specs.Prelude.{length, nat_le, slice_get, slice_set, Some, Err, IfSome, OnOk};
+ghost use Rattle.std.specs.Prelude.{OnErr};
 ghost use Rattle.std.specs.List.{list_any};
 ghost use Rattle.std.specs.Option.{option_map_or};
 ghost use Rattle.tta_ops.specs.Set.{stated};

@@ -4,6 +4,7 @@ ghost use Rattle.std.specs.Prelude.{◌≡◌};
 ghost use Rattle.tta_machine.specs.Draft.{code_of};
 ghost use Rattle.tta_machine.specs.declared.reading.refusal.LineError.TheVariants.{NoMemory};
 ghost use Rattle.tta_machine.specs.declared.reading.refusal.LineError.TheVariants.{Refused};
+ghost use Rattle.tta_machine.specs.declared.reading.refusal.MachineError.TheVariants.{};
 ghost use Rattle.tta_machine.specs.declared.reading.refusal.MachineError.TheVariants.{NoMemory as no_memory};
 
 use std::alloc::{AllocError, AllocFailed};
