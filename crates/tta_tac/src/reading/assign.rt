@@ -71,19 +71,20 @@ fn apply_form<'w, 't>(
         ≡ spec.assign_form d.now (plain key.now ∷ plain a.now ∷ map plain others.now) }
 {
     match others {
-        [] => {
-            let op = free_name(key)?;
-            let b = operand_of(a)?;
-            let operands = Operands::One(b);
-            Some(Form::Apply { d, op, operands })
-        }
-        [b] => {
-            let op = free_name(key)?;
-            let a = operand_of(a)?;
-            let b = operand_of(b)?;
-            let operands = Operands::Two(a, b);
-            Some(Form::Apply { d, op, operands })
-        }
+        [] => match (free_name(key), operand_of(a)) {
+            (Some(op), Some(b)) => {
+                let operands = Operands::One(b);
+                Some(Form::Apply { d, op, operands })
+            }
+            _ => None,
+        },
+        [b] => match (free_name(key), operand_of(a), operand_of(b)) {
+            (Some(op), Some(a), Some(b)) => {
+                let operands = Operands::Two(a, b);
+                Some(Form::Apply { d, op, operands })
+            }
+            _ => None,
+        },
         _ => None,
     }
 }

@@ -48,24 +48,22 @@ pub fn step_of<'t>(
     ensures { option_map step_seen result
         ≡ step_of (stated unit_meaning units.now) vars.now (form_seen form.now) }
 {
-    match *form {
-        Form::Proc { .. } => None,
-        Form::Label { .. } => None,
-        Form::Copy { d, s } => Some(NamedStep::Plain(copy_step(vars, d, s))),
-        Form::Load { d, a } => Some(NamedStep::Plain(load_step(vars, d, a))),
-        Form::Apply { d, op, operands } => Some(NamedStep::Plain(apply_step(
-            units, vars, d, op, operands,
-        ))),
-        Form::Store { a, v } => Some(NamedStep::Plain(store_step(vars, a, v))),
-        Form::Put { v } => Some(NamedStep::Plain(Step::Put { v: src_of(vars, v) })),
-        Form::If { rel, a, b, label } => Some(if_step(vars, rel, a, b, label)),
-        Form::Goto { label } => Some(NamedStep::Goto { label }),
-        Form::When { rel, a, b, d, s } => Some(NamedStep::Plain(when_step(vars, rel, a, b, d, s))),
-        Form::Call { d, callee, args } => Some(call_step(alloc, vars, d, callee, args)),
-        Form::Return { s } => Some(NamedStep::Plain(return_step(vars, s))),
-        Form::Halt => Some(NamedStep::Plain(Step::Halt)),
-        Form::End => Some(NamedStep::Plain(Step::End)),
-    }
+    let step = match *form {
+        Form::Proc { .. } | Form::Label { .. } => return None,
+        Form::If { rel, a, b, label } => return Some(if_step(vars, rel, a, b, label)),
+        Form::Goto { label } => return Some(NamedStep::Goto { label }),
+        Form::Call { d, callee, args } => return Some(call_step(alloc, vars, d, callee, args)),
+        Form::Copy { d, s } => copy_step(vars, d, s),
+        Form::Load { d, a } => load_step(vars, d, a),
+        Form::Apply { d, op, operands } => apply_step(units, vars, d, op, operands),
+        Form::Store { a, v } => store_step(vars, a, v),
+        Form::Put { v } => Step::Put { v: src_of(vars, v) },
+        Form::When { rel, a, b, d, s } => when_step(vars, rel, a, b, d, s),
+        Form::Return { s } => return_step(vars, s),
+        Form::Halt => Step::Halt,
+        Form::End => Step::End,
+    };
+    Some(NamedStep::Plain(step))
 }
 
 fn copy_step(vars: &Names<u32>, d: &[u8], s: Operand) -> Step

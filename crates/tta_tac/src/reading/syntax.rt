@@ -119,10 +119,10 @@ fn branch_of<'w, 't>(
         spec.free_name (plain label.now) >>? λ label. Some (spec.IfForm rel left right label)) }
 {
     let rel = rel_of(rel)?;
-    let a = operand_of(a)?;
-    let b = operand_of(b)?;
-    let label = free_name(label)?;
-    Some(Form::If { rel, a, b, label })
+    match (operand_of(a), operand_of(b), free_name(label)) {
+        (Some(a), Some(b), Some(label)) => Some(Form::If { rel, a, b, label }),
+        _ => None,
+    }
 }
 
 /// `goto NAME`
@@ -170,11 +170,10 @@ fn move_of<'w, 't>(
         Some (spec.WhenForm rel left right target value)) }
 {
     let rel = rel_of(rel)?;
-    let a = operand_of(a)?;
-    let b = operand_of(b)?;
-    let d = free_name(d)?;
-    let s = operand_of(s)?;
-    Some(Form::When { rel, a, b, d, s })
+    match (operand_of(a), operand_of(b), free_name(d), operand_of(s)) {
+        (Some(a), Some(b), Some(d), Some(s)) => Some(Form::When { rel, a, b, d, s }),
+        _ => None,
+    }
 }
 
 /// `return` and `return s`
