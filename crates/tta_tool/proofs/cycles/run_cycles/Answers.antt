@@ -1,9 +1,9 @@
-use Rattle.std.proofs.Common.{◌≡◌, ◌+◌, ◌-◌, suc, ◌++◌, false, sym, ap, ◌∙◌, subst, arith}
+use Rattle.std.proofs.Common.{◌≡◌, ◌+◌, ◌-◌, suc, ◌++◌, false, refl, sym, ap, ◌∙◌, subst, arith}
 use Rattle.std.specs.Io.KnownBytes.{append_known}
 use Rattle.tta_list.specs.Iterate.{iterate}
 use Rattle.tta_ops.specs.Set.{stated}
 use Rattle.tta_print.specs.Lines.{lines_text, word_lines}
-use Rattle.tta_print.proofs.Puts.{HasPut, put_part, part_is_put, append_known-twice}
+use Rattle.tta_print.proofs.Puts.{HasPut, put_part, part_is_put, append_known-nil, append_known-twice}
 use Rattle.tta_code.specs.Cycle.{next}
 use Rattle.tta_sim.specs.Held.{Stands}
 use Rattle.tta_tool.specs.Steps.{words_put}
@@ -11,6 +11,23 @@ use Rattle.tta_print.proofs.Reports.{lines_of_both}
 use Rattle.tta_tool.proofs.Runs.{next_lines, run_ended, output_after}
 use Rattle.tta_tool.proofs.CodeCycles.{cycle_grows}
 use Rattle.tta_tool.proofs.cycles.run_cycles.Goals as goal
+
+pub cycles-init : goal.cycles-init
+cycles-init g c =
+    let U = stated (λ v. (goal.OpUnit-dyn g v).unit_meaning v.1) c.args.units.now in
+    let f = next U c.args.machine.now c.args.code.now in
+    let old = g.S.Sink.taken c.args.sink.now in
+    let is : 0 ≡ c.args.bound - c.args.bound = omega arith in
+    record {
+      loaded = c.requires.loaded;
+      few = c.requires.few;
+      within = omega arith;
+      stands = λ s stands. subst (λ n. Stands c.args.sim.now (iterate n f s)) is stands;
+      put = λ s stands none.
+          sym (append_known-nil old) ∙ ap (λ o. append_known old (lines_text (word_lines o))) (sym none)
+          ∙ ap (λ n. append_known old (lines_text (word_lines (iterate n f s).output))) is;
+      faults = refl;
+    }
 
 pub returns-in_err-cycle-clause-puts : goal.returns-in_err-cycle-clause-puts
 returns-in_err-cycle-clause-puts g c = λ s stands none.

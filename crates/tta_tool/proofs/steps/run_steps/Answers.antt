@@ -1,4 +1,4 @@
-use Rattle.std.proofs.Common.{◌≡◌, ◌+◌, ◌-◌, suc, ◌++◌, false, sym, ap, ◌∙◌, subst, arith}
+use Rattle.std.proofs.Common.{◌≡◌, ◌+◌, ◌-◌, suc, ◌++◌, false, refl, sym, ap, ◌∙◌, subst, arith}
 use Rattle.std.specs.Io.KnownBytes.{append_known}
 use Rattle.tta_list.specs.Iterate.{iterate}
 use Rattle.tta_ops.specs.Set.{stated}
@@ -11,6 +11,24 @@ use Rattle.tta_print.proofs.Reports.{lines_of_both}
 use Rattle.tta_tool.proofs.Runs.{next_lines, run_ended, no_word, output_after}
 use Rattle.tta_tool.proofs.ProgramSteps.{program_grows, halted_stays}
 use Rattle.tta_tool.proofs.steps.run_steps.Goals as goal
+
+pub steps-init : goal.steps-init
+steps-init g c =
+    let U = stated (λ v. (goal.OpUnit-dyn g v).unit_meaning v.1) c.args.units.now in
+    let p = c.args.program.now in
+    let old = g.S.Sink.taken c.args.sink.now in
+    let is : 0 ≡ c.args.bound - c.args.bound = omega arith in
+    record {
+      loaded = c.requires.loaded;
+      space = refl;
+      few = c.requires.few;
+      within = omega arith;
+      stands = λ s stands. subst (λ n. Stands c.args.seq.now (iterate n (next U p) s)) is stands;
+      put = λ s stands none.
+          sym (append_known-nil old) ∙ ap (λ o. append_known old (lines_text (word_lines o))) (sym none)
+          ∙ ap (λ n. append_known old (lines_text (word_lines (iterate n (next U p) s).output))) is;
+      faults = refl;
+    }
 
 pub returns-in_err-step-clause-puts : goal.returns-in_err-step-clause-puts
 returns-in_err-step-clause-puts g c = λ s stands none.
