@@ -147,8 +147,6 @@ pub fn all_dests(alloc: Global, m: &Machine) -> Result<Vec<Dest>, AllocError>
     let mut list = Vec::new(alloc);
     push_all_written(&mut list, m.files.as_slice())?;
     push_units(&mut list, m.units.as_slice())?;
-    list.push(Dest::Jump)?;
-    list.push(Dest::Call)?;
-    list.push(Dest::Halt)?;
+    list.extend_from_slice(&[Dest::Jump, Dest::Call, Dest::Halt])?;
     Ok(list)
 }

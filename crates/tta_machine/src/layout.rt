@@ -73,9 +73,20 @@ impl BusFields {
         ensures value { IfOk result (λ f. f ≡ fields_of m.now bus) }
         ensures small { IfOk result (λ f. f.width ≤ 448) }
     {
-        let guards = Items::of(guards_on(alloc, m, bus)?);
-        let sources = Items::of(sources_on(alloc, m, bus, sources)?);
-        let dests = Items::of(dests_on(alloc, m, bus, dests)?);
+        let guards = guards_on(alloc, m, bus)?;
+        // What was taken before is dropped as a whole where the next cannot be had.
+        let Ok(sources) = sources_on(alloc, m, bus, sources) else {
+            drop(guards);
+            return Err(AllocError);
+        };
+        let Ok(dests) = dests_on(alloc, m, bus, dests) else {
+            drop(guards);
+            drop(sources);
+            return Err(AllocError);
+        };
+        let guards = Items::of(guards);
+        let sources = Items::of(sources);
+        let dests = Items::of(dests);
         let short_width = u32::from(m.buses.as_slice()[bus].short);
         let guard_width = width_for(1 + guards.len());
         let payload_width = short_width.max(width_for(sources.len()));
