@@ -44,17 +44,14 @@ impl Draft {
             short: form.short as u8,
             signed: form.signed,
         };
-        match add_part(
+        add_part(
             alloc,
             &mut self.names,
             &mut self.buses,
             form.name,
             place,
             bus,
-        ) {
-            Ok(()) => Ok(()),
-            Err(_) => Err(LineError::NoMemory),
-        }
+        )
     }
 
     /// Declares a socket by the words behind `socket`. It is refused as `Syntax` where they have
@@ -88,16 +85,13 @@ impl Draft {
         };
         let input = form.input;
         let socket = Socket { name, input, buses };
-        match add_part(
+        add_part(
             alloc,
             &mut self.names,
             &mut self.sockets,
             form.name,
             place,
             socket,
-        ) {
-            Ok(()) => Ok(()),
-            Err(_) => Err(LineError::NoMemory),
-        }
+        )
     }
 }

@@ -47,17 +47,14 @@ impl Draft {
             return Err(LineError::NoMemory);
         };
         let imm = ImmUnit { name, size, out };
-        match add_part(
+        add_part(
             alloc,
             &mut self.names,
             &mut self.imms,
             form.name,
             place,
             imm,
-        ) {
-            Ok(()) => Ok(()),
-            Err(_) => Err(LineError::NoMemory),
-        }
+        )
     }
 
     /// Declares a file by the words behind `file`. It is refused as `Syntax` where they have
@@ -96,17 +93,14 @@ impl Draft {
             out,
             into,
         };
-        match add_part(
+        add_part(
             alloc,
             &mut self.names,
             &mut self.files,
             form.name,
             place,
             file,
-        ) {
-            Ok(()) => Ok(()),
-            Err(_) => Err(LineError::NoMemory),
-        }
+        )
     }
 }
 

@@ -1,10 +1,11 @@
 //! What the names of a draft name.
 
 ghost use Rattle.std.specs.Prelude.{◌≡◌, ◌++◌, ◌∷◌, [], false, if◌then◌else◌};
-ghost use Rattle.std.specs.Prelude.{Some, None, option_map, OnOk};
+ghost use Rattle.std.specs.Prelude.{Some, None, option_map, OnOk, IfErr};
 ghost use Rattle.tta_reading.specs.Names.{named_in};
 ghost use Rattle.tta_reading.specs.Steps.{or_refuse};
 ghost use Rattle.tta_machine.specs.declared.reading.refusal.Refusal.TheVariants.{Unknown};
+ghost use Rattle.tta_machine.specs.declared.reading.refusal.LineError.TheVariants.{NoMemory};
 ghost use Rattle.tta_machine.specs.Draft.{nothing, is_taken};
 ghost use Rattle.tta_machine.specs.Draft.{bus_named, socket_named, file_named, imm_named};
 ghost use Rattle.tta_machine.specs.Draft.{unit_named};
@@ -14,7 +15,8 @@ ghost use Rattle.tta_machine.specs.Rules.{is_socket};
 use crate::parts::Socket;
 use crate::places::part_at;
 use crate::reading::draft::{Draft, Named};
-use std::alloc::{AllocError, Global};
+use crate::reading::refusal::LineError;
+use std::alloc::Global;
 use tta_list::Items;
 use tta_reading::Names;
 
@@ -120,10 +122,11 @@ pub fn add_part<T: Drop>(
     name: &[u8],
     named: Named,
     part: T,
-) -> Result<(), AllocError>
+) -> Result<(), LineError>
     requires { named_in names.old name.now ≡ None }
     ensures names { OnOk result (names.new ≡ names.old ++ (name.now, named) ∷ []) }
     ensures parts { OnOk result (parts.new ≡ parts.old ++ part ∷ []) }
+    ensures memory { IfErr result (λ e. e ≡ NoMemory) }
 {
     parts.push(part)?;
     names.add(alloc, name, named)?;

@@ -1,9 +1,11 @@
 //! The declaration of a template.
 
-ghost use Rattle.std.specs.Prelude.{◌≡◌, ◌<◌, false, length, map, option_map, slice_get, OnOk};
+ghost use Rattle.std.specs.Prelude.{◌≡◌, ◌<◌, false, length, map, option_map, slice_get};
+ghost use Rattle.std.specs.Prelude.{OnOk, IfErr};
 ghost use Rattle.tta_reading.specs.Lines.{plain};
 ghost use Rattle.tta_machine.specs.Forms.{template_form};
 ghost use Rattle.tta_machine.specs.Declarations.{take_template};
+ghost use Rattle.tta_machine.specs.declared.reading.refusal.LineError.TheVariants.{NoMemory};
 ghost use Rattle.tta_machine.specs.Draft.{is_taken};
 ghost use Rattle.tta_machine.specs.Kept.{IsDraft};
 ghost use Rattle.tta_machine.specs.Seen.{Declares, formed};
@@ -16,7 +18,7 @@ use crate::reading::limits::is_too_long;
 use crate::reading::lookups::add_part;
 use crate::reading::refusal::{LineError, Refusal};
 use crate::reading::syntax;
-use std::alloc::{AllocError, Global};
+use std::alloc::Global;
 use tta_list::Name;
 use tta_reading::Word;
 
@@ -58,10 +60,7 @@ impl Draft {
             return Err(LineError::Refused(Refusal::Range));
         }
         let reg = form.index as u8;
-        match self.add_template(alloc, line, form.name, imm, reg, buses) {
-            Ok(()) => Ok(()),
-            Err(_) => Err(LineError::NoMemory),
-        }
+        self.add_template(alloc, line, form.name, imm, reg, buses)
     }
 
     // puts a template behind the others, with its line and its name
@@ -73,10 +72,12 @@ impl Draft {
         imm: u8,
         reg: u8,
         buses: u16,
-    ) -> Result<(), AllocError>
+    ) -> Result<(), LineError>
         requires free { is_taken self.old name.now ≡ false }
         requires few { length self.old.templates < 8 }
-        ensures { OnOk result (self.new ≡ with_template self.old line name.now imm reg buses) }
+        ensures added { OnOk result
+            (self.new ≡ with_template self.old line name.now imm reg buses) }
+        ensures memory { IfErr result (λ e. e ≡ NoMemory) }
     {
         self.template_lines.push(line)?;
         let place = Named::Template(self.templates.len() as u8);

@@ -52,16 +52,13 @@ impl Draft {
             result,
             ops: Items::new(alloc),
         };
-        match add_part(
+        add_part(
             alloc,
             &mut self.names,
             &mut self.units,
             form.name,
             place,
             unit,
-        ) {
-            Ok(()) => Ok(()),
-            Err(_) => Err(LineError::NoMemory),
-        }
+        )
     }
 }
