@@ -1,5 +1,5 @@
 -- Instructions are found again by what is printed of them.
-use Rattle.std.proofs.Common.{◌≡◌, ℕ, ◌+◌, ◌^◌, ◌<◌, ◌==◌, Bool, true, false, List, [], ◌∷◌, length, map, refl, arith}
+use Rattle.std.proofs.Common.{◌≡◌, ℕ, ◌+◌, ◌^◌, ◌<◌, Bool, true, false, List, [], ◌∷◌, length, map, refl, arith}
 use Rattle.std.specs.Prelude.{◌&&◌, nat_lt, nat_le, Option, Some, None, option_map, slice_get, is_some, Ok}
 use Rattle.std.specs.Option.{option_map_or}
 use Rattle.std.proofs.lemmas.Bool.{false≢true, and_parts, ltb-true}
@@ -12,14 +12,13 @@ use Rattle.tta_machine.specs.declared.ends.Source.TheVariants as source
 use Rattle.tta_machine.specs.Machine.{Machine}
 use Rattle.tta_machine.specs.Joins.{is_source_on, is_dest_on, has_guard, joins}
 use Rattle.tta_machine.specs.Rules.{IsMachine}
-use Rattle.tta_machine.specs.Legal.{Ends, all_slots, keeps_taken, is_joined, has_reads, has_writes, are_apart, can_move}
-use Rattle.tta_machine.specs.Legal.{ends_of as all_ends}
+use Rattle.tta_machine.specs.Legal.{Ends, all_slots}
 use Rattle.tta_machine.proofs.Lists.{list_all_one}
 use Rattle.tta_code.specs.declared.code.Move.{Move}
 use Rattle.tta_code.specs.declared.code.Long.{Long}
 use Rattle.tta_code.specs.declared.code.Instruction.{Instruction}
-use Rattle.tta_code.specs.Legal.{ends_of, slots_of, taken, is_long, is_instruction, is_legal}
-use Rattle.tta_code.proofs.LegalParts.{LegalParts, legal_parts}
+use Rattle.tta_code.specs.Legal.{ends_of, is_long, is_legal}
+use Rattle.tta_code.proofs.LegalParts.{legal_parts}
 use Rattle.tta_asm.specs.Forms.{SlotForm}
 use Rattle.tta_asm.specs.Resolving.{fits_bus, move_of, action_of, long_of}
 use Rattle.tta_asm.specs.Assembly.{moves_of, longs_of, instruction_of}

@@ -7,9 +7,7 @@ use Rattle.std.proofs.Math.Nat.{lt-div-mul-add, pow-le-pow_right}
 use Rattle.std.proofs.lemmas.Bool.{false≢true, and_parts, eqb-true, ltb-true, leb-true, or_cases}
 use Rattle.std.proofs.lemmas.Nat.{pow_pos, pow-add}
 use Rattle.tta_machine.specs.declared.parts.Bus.{Bus}
-use Rattle.tta_machine.specs.declared.parts.Socket.{Socket}
 use Rattle.tta_machine.specs.declared.parts.File.{File as RegisterFile}
-use Rattle.tta_machine.specs.declared.parts.ImmUnit.{ImmUnit}
 use Rattle.tta_machine.specs.declared.parts.Guard.{Guard}
 use Rattle.tta_machine.specs.declared.ends.GuardRef.{GuardRef}
 use Rattle.tta_machine.specs.Machine.{Machine}

@@ -1,7 +1,10 @@
 -- What the code read of words, as the definitions see it.
-use Rattle.std.specs.Prelude.{ℕ, map, Result, Ok, Err}
+use Rattle.std.specs.Prelude.{ℕ, List, map, Result, Ok, Err}
 use Rattle.tta_asm.specs.declared.syntax.read.Read.{Read as WordsRead}
-use Rattle.tta_asm.specs.Syntax.{Reading}
+use Rattle.tta_reading.specs.Words.{name_of}
+use Rattle.tta_reading.specs.Steps.{◌>>=◌}
+use Rattle.tta_asm.specs.Pieces.{Placed}
+use Rattle.tta_asm.specs.Syntax.{Reading, read, next_word, behind_mark}
 use Rattle.tta_asm.specs.Seen.{placed_seen}
 
 -- a reading whose value is seen so
@@ -13,3 +16,7 @@ reading_seen seen (Err line) = Err line
 abbrev pub result_seen : {T A E : Type 0} → (T → A) → Result T E → Result A E
 result_seen seen (Ok x) = Ok (seen x)
 result_seen seen (Err e) = Err e
+
+-- the next word, where it is a name, with the words behind the mark that follows it
+abbrev pub name_before : (mark : List ℕ) → (end : ℕ) → List Placed → Reading (List ℕ)
+name_before mark end ws = next_word name_of end ws >>= λ name. behind_mark mark end name.rest >>= λ rest. read name.value rest

@@ -69,8 +69,7 @@ fn add_label(
         address,
         start: word.start,
     };
-    labels.add(alloc, word.name, label)?;
-    Ok(())
+    labels.add(alloc, word.name, label)
 }
 
 /// Adds the labels of the pieces that are left, the first of them at the begin of a text. An `Err`

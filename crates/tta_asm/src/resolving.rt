@@ -1,11 +1,14 @@
 //! What the names of a slot or a long immediate stand for in a machine.
 
-ghost use Rattle.std.specs.Prelude.{◌≡◌, IfOk, IfSome, is_some, option_map, slice_get, true};
+ghost use Rattle.std.specs.Prelude.{◌≡◌, IfOk, IfSome, Ok, is_some, not, option_map, slice_get};
+ghost use Rattle.std.specs.Prelude.{true};
 ghost use Rattle.tta_reading.specs.Names.{named_in};
-ghost use Rattle.tta_reading.specs.Steps.{◌>>?◌};
+ghost use Rattle.tta_reading.specs.Steps.{◌>>?◌, refuse_if};
 ghost use Rattle.tta_ops.specs.Set.{stated};
+ghost use Rattle.tta_machine.specs.Joins.{joins};
 ghost use Rattle.tta_connect.specs.Net.{IsNetOf};
 ghost use Rattle.tta_code.specs.Legal.{is_long};
+ghost use Rattle.tta_asm.specs.declared.refusal.AsmRefusal.TheVariants.{NoConnection, Range};
 ghost use Rattle.tta_asm.specs.Parts.{parts_of};
 ghost use Rattle.tta_asm.specs.Resolving.{guard_at, guard_of, fits_bus, move_of, action_of};
 ghost use Rattle.tta_asm.specs.Resolving.{template_at, long_of};
@@ -74,6 +77,22 @@ fn fits_bus(m: &Machine, bus: u8, src: Source) -> bool
     }
 }
 
+/// A move, unless its word does not fit this bus, which is refused as `Range`, or the bus does not
+/// join its ends or does not have its guard, which is refused as `NoConnection`.
+fn checked(m: &Machine, net: &Net, bus: u8, v: Move) -> Result<Move, AsmRefusal>
+    requires { IsNetOf net.now m.now }
+    ensures { result ≡ refuse_if (not (fits_bus m.now bus v.src)) Range
+        (refuse_if (not (joins m.now bus v.src v.dst v.guard)) NoConnection (Ok v)) }
+{
+    if !fits_bus(m, bus, v.src) {
+        return Err(AsmRefusal::Range);
+    }
+    if !net.joins(m, bus, &v.src, &v.dst, &v.guard) {
+        return Err(AsmRefusal::NoConnection);
+    }
+    Ok(v)
+}
+
 /// The move of a form on this bus.
 ///
 /// It is refused as `Unknown` where the machine has no such guard, then no such destination, then
@@ -95,16 +114,15 @@ fn move_of(
     ensures { result ≡ move_of (stated unit_meaning units.now) m.now labels.now bus
         (move_seen form.now) }
 {
-    let guard = guard_of(m, table, &form.guard).ok_or(AsmRefusal::Unknown)?;
-    let dst = dest_of(units, m, table, &form.dst).ok_or(AsmRefusal::Unknown)?;
-    let src = source_of(m, table, labels, &form.src)?;
-    if !fits_bus(m, bus, src) {
-        return Err(AsmRefusal::Range);
+    let guard = guard_of(m, table, &form.guard);
+    let dst = dest_of(units, m, table, &form.dst);
+    let (Some(guard), Some(dst)) = (guard, dst) else {
+        return Err(AsmRefusal::Unknown);
+    };
+    match source_of(m, table, labels, &form.src) {
+        Ok(src) => checked(m, net, bus, Move { guard, src, dst }),
+        Err(refusal) => Err(refusal),
     }
-    if !net.joins(m, bus, &src, &dst, &guard) {
-        return Err(AsmRefusal::NoConnection);
-    }
-    Ok(Move { guard, src, dst })
 }
 
 /// The move of a slot on this bus, if it has one. It is refused as `move_of` refuses it.

@@ -6,7 +6,7 @@ ghost use Rattle.tta_asm.specs.Seen.{placed_seen, dest_seen};
 ghost use Rattle.tta_asm.specs.Syntax as spec;
 ghost use Rattle.tta_asm.specs.WordsRead.{reading_seen};
 
-use super::read::{Read, begins_with_word, behind_first, behind_mark, next_name};
+use super::read::{Read, begins_with_word, behind_first, behind_mark, name_before, next_name};
 use crate::forms::DestForm;
 use crate::pieces::PlacedWord;
 use tta_reading::Word;
@@ -70,11 +70,10 @@ pub fn dest_form<'w, 't>(
 ) -> Result<Read<'w, 't, DestForm<'t>>, u32>
     ensures { reading_seen dest_seen result ≡ spec.dest_form end (map placed_seen words.now) }
 {
-    let name = next_name(end, words)?;
-    let rest = behind_mark(b".", end, name.rest)?;
-    if begins_with_word(b"t", rest) {
-        trigger_form(name.value, end, behind_first(rest))
+    let name = name_before(b".", end, words)?;
+    if begins_with_word(b"t", name.rest) {
+        trigger_form(name.value, end, behind_first(name.rest))
     } else {
-        next_dest_end(name.value, end, rest)
+        next_dest_end(name.value, end, name.rest)
     }
 }

@@ -7,7 +7,7 @@ ghost use Rattle.tta_asm.specs.Syntax as spec;
 ghost use Rattle.tta_asm.specs.WordsRead.{reading_seen};
 
 use super::dests::dest_form;
-use super::read::{Read, behind_mark, next_name, next_number};
+use super::read::{Read, behind_mark, name_before, next_number};
 use super::sources::source_form;
 use crate::forms::{GuardForm, MoveForm};
 use crate::pieces::PlacedWord;
@@ -35,17 +35,18 @@ fn guard_register<'w, 't>(
     ensures { reading_seen (λ g. option_map guard_seen g) result
         ≡ spec.guard_register inverted end (map placed_seen words.now) }
 {
-    let file = next_name(end, words)?;
-    let rest = behind_mark(b".", end, file.rest)?;
-    let index = next_number(end, rest)?;
-    Ok(Read {
-        value: Some(GuardForm {
-            file: file.value,
-            index: index.value,
-            inverted,
+    let file = name_before(b".", end, words)?;
+    match next_number(end, file.rest) {
+        Ok(index) => Ok(Read {
+            value: Some(GuardForm {
+                file: file.value,
+                index: index.value,
+                inverted,
+            }),
+            rest: index.rest,
         }),
-        rest: index.rest,
-    })
+        Err(line) => Err(line),
+    }
 }
 
 /// A guard, or none.

@@ -5,7 +5,7 @@ ghost use Rattle.tta_reading.specs.Lines.{plain};
 ghost use Rattle.tta_reading.specs.Words.{name_of, value_of};
 ghost use Rattle.tta_asm.specs.Seen.{placed_seen, value_seen};
 ghost use Rattle.tta_asm.specs.Syntax as spec;
-ghost use Rattle.tta_asm.specs.WordsRead.{reading_seen, result_seen};
+ghost use Rattle.tta_asm.specs.WordsRead.{name_before, reading_seen, result_seen};
 
 use crate::forms::ValueForm;
 use crate::pieces::PlacedWord;
@@ -32,6 +32,25 @@ pub fn next_name<'w, 't>(
             Some(value) => Ok(Read { value, rest }),
             None => Err(first.line),
         },
+    }
+}
+
+/// The next word, where it is a name, with the words behind the mark that has to follow it.
+pub fn name_before<'w, 't>(
+    mark: &[u8],
+    end: u32,
+    words: &'w [PlacedWord<'t>],
+) -> Result<Read<'w, 't, &'t [u8]>, u32>
+    ensures { reading_seen (λ n. n.now) result
+        ≡ name_before mark.now end (map placed_seen words.now) }
+{
+    let name = next_name(end, words)?;
+    match behind_mark(mark, end, name.rest) {
+        Ok(rest) => Ok(Read {
+            value: name.value,
+            rest,
+        }),
+        Err(line) => Err(line),
     }
 }
 

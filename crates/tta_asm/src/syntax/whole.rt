@@ -6,7 +6,7 @@ ghost use Rattle.tta_asm.specs.Syntax as spec;
 ghost use Rattle.tta_asm.specs.WordsRead.{reading_seen, result_seen};
 
 use super::moves::move_form;
-use super::read::{Read, begins_with, behind_first, behind_mark, line_of, next_name, next_value};
+use super::read::{Read, begins_with, behind_first, behind_mark, line_of, name_before, next_value};
 use crate::forms::{LongForm, PieceForm, SlotForm};
 use crate::pieces::{Close, PlacedWord};
 
@@ -25,14 +25,16 @@ fn slot_form<'w, 't>(
             rest: behind_first(words),
         });
     }
-    let action = move_form(end, words)?;
-    Ok(Read {
-        value: SlotForm {
-            line,
-            action: Some(action.value),
-        },
-        rest: action.rest,
-    })
+    match move_form(end, words) {
+        Ok(action) => Ok(Read {
+            value: SlotForm {
+                line,
+                action: Some(action.value),
+            },
+            rest: action.rest,
+        }),
+        Err(refused) => Err(refused),
+    }
 }
 
 /// A long immediate behind its `[`, which stands on this line.
@@ -44,18 +46,19 @@ fn long_behind<'w, 't>(
     ensures { reading_seen (λ l. option_map long_seen l) result
         ≡ spec.long_behind line end (map placed_seen words.now) }
 {
-    let template = next_name(end, words)?;
-    let rest = behind_mark(b"=", end, template.rest)?;
-    let value = next_value(end, rest)?;
-    let behind = behind_mark(b"]", end, value.rest)?;
-    Ok(Read {
-        value: Some(LongForm {
-            line,
-            template: template.value,
-            value: value.value,
+    let template = name_before(b"=", end, words)?;
+    let value = next_value(end, template.rest)?;
+    match behind_mark(b"]", end, value.rest) {
+        Ok(rest) => Ok(Read {
+            value: Some(LongForm {
+                line,
+                template: template.value,
+                value: value.value,
+            }),
+            rest,
         }),
-        rest: behind,
-    })
+        Err(line) => Err(line),
+    }
 }
 
 /// A long immediate, or none.
