@@ -9,7 +9,9 @@ use Rattle.tta_code.specs.declared.code.Move.{Move}
 use Rattle.tta_asm.specs.declared.forms.SlotForm.{SlotForm as SlotWords}
 use Rattle.tta_asm.specs.declared.labels.Label.{Label}
 use Rattle.tta_asm.specs.Assembly.{at_line, moves_of}
-use Rattle.tta_asm.specs.Refusals.{Refusal}
+use Rattle.tta_asm.specs.declared.refusal.AsmError.{AsmError}
+use Rattle.tta_asm.specs.declared.refusal.AsmError.TheVariants.{Refused, NoMemory}
+use Rattle.tta_asm.specs.Refusals.{Refusal, Answers}
 use Rattle.tta_asm.specs.Resolving.{action_of}
 use Rattle.tta_asm.specs.Seen.{move_seen, slot_seen}
 
@@ -49,3 +51,16 @@ pub slot_read : (u : Units) (m : Machine) (labels : Declared Label) (slots : Lis
 slot_read u m labels slots bus d moves more move all inside said pushed was =
     front_more moves more move _ (moves_of u m labels (bus + 1) (map slot_seen (drop (bus + 1) slots))) all said pushed
     (ap (with_front moves) (sym (slots_left u m labels slots bus d inside)) ∙ was)
+
+-- a slot that is refused
+pub slot_refused : (u : Units) (m : Machine) (labels : Declared Label) (slots : List SlotWords) (bus : ℕ) (d : SlotWords) (moves : List (Option Move)) (e : AsmError)
+    (all : Result (List (Option Move)) Refusal) → bus < length slots
+    → Answers (Err e) (at_line (get_or slots bus d).line (action_of u m labels bus (option_map move_seen (get_or slots bus d).action)))
+    → with_front moves (moves_of u m labels bus (map slot_seen (drop bus slots))) ≡ all → Answers (Err e) all
+slot_refused u m labels slots bus d moves NoMemory all inside said was = said
+slot_refused u m labels slots bus d moves (Refused line code) all inside said was = (
+  said.0,
+  said.1,
+  sym was ∙ ap (with_front moves) (slots_left u m labels slots bus d inside)
+      ∙ ap (λ (item : Result (Option Move) Refusal). with_front moves (with_item item (moves_of u m labels (bus + 1) (map slot_seen (drop (bus + 1) slots))))) said.2,
+)

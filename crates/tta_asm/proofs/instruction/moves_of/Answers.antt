@@ -3,7 +3,7 @@ use Rattle.tta_ops.specs.Set.{stated}
 use Rattle.tta_asm.specs.declared.forms.SlotForm.{SlotForm}
 use Rattle.tta_asm.specs.Assembly.{moves_of}
 use Rattle.tta_asm.specs.Seen.{slot_seen}
-use Rattle.tta_asm.proofs.SlotWalks.{slot_read}
+use Rattle.tta_asm.proofs.SlotWalks.{slot_read, slot_refused}
 use Rattle.tta_asm.proofs.instruction.moves_of.Goals as goal
 
 pub loop-bus-preserved : goal.loop-bus-preserved
@@ -16,3 +16,11 @@ loop-bus-preserved g c =
           (moves_of U c.args.m.now c.args.labels.now 0 (map slot_seen c.args.slots.now))
           c.loop-bus-test.true c.in-Ok.ensures c.in_ok-push.ensures.ok c.loop-bus.invariant.read;
     }
+
+pub returns-in-Err-clause-answer : goal.returns-in-Err-clause-answer
+returns-in-Err-clause-answer g c =
+    let U = stated (λ v. (goal.OpUnit-dyn g v).unit_meaning v.1) c.args.units.now in
+    let none : SlotForm = record { line = 0; action = None } in
+    slot_refused U c.args.m.now c.args.labels.now c.args.slots.now c.loop-bus.bus none c.loop-bus.moves c.in-Err.e
+    (moves_of U c.args.m.now c.args.labels.now 0 (map slot_seen c.args.slots.now))
+    c.loop-bus-test.true c.in-Err.ensures c.loop-bus.invariant.read
