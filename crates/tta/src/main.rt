@@ -30,13 +30,8 @@ fn words_of(rt: &(impl Env + AllocGlobal)) -> Result<Vec<String>, Status> {
     Ok(words)
 }
 
-// Carries out the words over the five standard units.
-fn run<F: Files, S: Sink>(
-    alloc: Global,
-    words: &Vec<String>,
-    files: &mut F,
-    sink: &mut S,
-) -> Result<Status, AllocError> {
+// The five standard units.
+fn standard_units(alloc: Global) -> Result<UnitSet, AllocError> {
     let arith: Box<dyn OpUnit> = Box::new(alloc, Arith)?;
     let logic: Box<dyn OpUnit> = Box::new(alloc, Logic)?;
     let shift: Box<dyn OpUnit> = Box::new(alloc, Shift)?;
@@ -45,11 +40,24 @@ fn run<F: Files, S: Sink>(
     let boxes = vec![in alloc; arith, logic, shift, compare, divide]?;
     if !UnitSet::fits(boxes.as_slice()) {
         drop(boxes);
-        return Ok(Status::NoMemory);
+        return Err(AllocError);
     }
     match UnitSet::new(alloc, boxes) {
-        Ok(units) => Ok(tool(alloc, words, &units, files, sink)),
-        Err(_) => Ok(Status::NoMemory),
+        Ok(units) => Ok(units),
+        Err(_) => Err(AllocError),
+    }
+}
+
+// Carries out the words over the five standard units.
+fn run<F: Files, S: Sink>(
+    alloc: Global,
+    words: &Vec<String>,
+    files: &mut F,
+    sink: &mut S,
+) -> Status {
+    match standard_units(alloc) {
+        Ok(units) => tool(alloc, words, &units, files, sink),
+        Err(_) => Status::NoMemory,
     }
 }
 
@@ -57,7 +65,7 @@ fn main(rt: HostRuntime) -> ExitCode {
     let mut files = RealFiles::new(&rt);
     let mut sink = RealSink::new(&rt);
     let status = match words_of(&rt) {
-        Ok(words) => run(rt.alloc(), &words, &mut files, &mut sink).unwrap_or(Status::NoMemory),
+        Ok(words) => run(rt.alloc(), &words, &mut files, &mut sink),
         Err(status) => status,
     };
     if status != Status::Ok {

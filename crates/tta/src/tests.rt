@@ -11,8 +11,7 @@ mod operations;
 mod programs;
 mod run;
 
-use host::Host;
-use std::alloc::{AllocError, Global};
+use host::{Case, Host};
 use std::test::Fail;
 use tta_tool::Status;
 
@@ -31,6 +30,31 @@ const LONG: &str = "proc main\nout 7\nout 7\nhalt\nend\n";
 /// The machines and the programs.
 const TEXTS: [(&str, &str); 4] = [("M", MACHINE), ("S", SMALL), ("P", PROGRAM), ("Q", LONG)];
 
+/// Commands that are refused.
+const REFUSALS: [Case; 5] = [
+    (&[], Status::Usage, ""),
+    (
+        &["build", "M", "M", "NEW"],
+        Status::BadProgram { line: 1, code: 20 },
+        "",
+    ),
+    (
+        &["build", "P", "P", "NEW"],
+        Status::BadMachine { line: 1, code: 10 },
+        "",
+    ),
+    (
+        &["build", "S", "Q", "NEW"],
+        Status::CodeFull { words: 3, have: 2 },
+        "",
+    ),
+    (
+        &["build", "M", "X", "NEW"],
+        Status::ReadFault { word: 2 },
+        "",
+    ),
+];
+
 #[test]
 fn constant_is_compiled(rt: HostRuntime) -> Result<(), Fail> {
     let host = Host::new(rt.alloc(), &TEXTS, b"");
@@ -40,29 +64,7 @@ fn constant_is_compiled(rt: HostRuntime) -> Result<(), Fail> {
     Ok(())
 }
 
-// Whether a program is refused so for a machine, and nothing is written.
-fn refuses(
-    alloc: Global,
-    machine: &str,
-    program: &str,
-    refusal: Status,
-) -> Result<bool, AllocError> {
-    let words = ["build", machine, program, "NEW"];
-    Host::new(alloc, &TEXTS, b"").prints(&words, refusal, "")
-}
-
 #[test]
 fn refusals_write_nothing(rt: HostRuntime) -> Result<(), Fail> {
-    let alloc = rt.alloc();
-    assert!(rt; Host::new(alloc, &TEXTS, b"").prints(&[], Status::Usage, "")?);
-    let refusals = [
-        ("M", "M", Status::BadProgram { line: 1, code: 20 }),
-        ("P", "P", Status::BadMachine { line: 1, code: 10 }),
-        ("S", "Q", Status::CodeFull { words: 3, have: 2 }),
-        ("M", "X", Status::ReadFault { word: 2 }),
-    ];
-    for (machine, program, refusal) in refusals {
-        assert!(rt; refuses(alloc, machine, program, refusal)?);
-    }
-    Ok(())
+    Host::new(rt.alloc(), &TEXTS, b"").passes(&REFUSALS)
 }

@@ -1,6 +1,6 @@
 //! Assembly is read into an image and an image shown as assembly, over files in memory.
 
-use super::host::Host;
+use super::host::{Case, Host};
 use std::alloc::{AllocError, Global};
 use std::test::Fail;
 use tta_tool::Status;
@@ -20,6 +20,27 @@ const TEXTS: [(&str, &str); 4] = [
     ("A", ASSEMBLY),
     ("C", CANONICAL),
     ("BAD", "7 -> OUT.t.out ;\n256 -> OUT.t.out ;\n"),
+];
+
+const NO_IMAGE: Status = Status::BadImage {
+    code: 40,
+    word: 0,
+    bus: 0,
+};
+
+/// Assembly, an image and a machine that are refused.
+const REFUSALS: [Case; 3] = [
+    (
+        &["asm", "M", "BAD", "NEW"],
+        Status::BadAsm { line: 2, code: 56 },
+        "",
+    ),
+    (&["dis", "M", "A", "NEW"], NO_IMAGE, ""),
+    (
+        &["dis", "A", "A", "NEW"],
+        Status::BadMachine { line: 2, code: 10 },
+        "",
+    ),
 ];
 
 // Whether an image is shown as the canonical text, and that text is read as the image.
@@ -49,16 +70,5 @@ fn image_is_shown_as_it_was_read(rt: HostRuntime) -> Result<(), Fail> {
 
 #[test]
 fn assembly_refusals_write_nothing(rt: HostRuntime) -> Result<(), Fail> {
-    let host = Host::new(rt.alloc(), &TEXTS, b"");
-    let refused = Status::BadAsm { line: 2, code: 56 };
-    assert!(rt; host.prints(&["asm", "M", "BAD", "NEW"], refused, "")?);
-    let image = Status::BadImage {
-        code: 40,
-        word: 0,
-        bus: 0,
-    };
-    assert!(rt; host.prints(&["dis", "M", "A", "NEW"], image, "")?);
-    let machine = Status::BadMachine { line: 2, code: 10 };
-    assert!(rt; host.prints(&["dis", "A", "A", "NEW"], machine, "")?);
-    Ok(())
+    Host::new(rt.alloc(), &TEXTS, b"").passes(&REFUSALS)
 }

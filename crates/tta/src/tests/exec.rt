@@ -1,7 +1,6 @@
 //! A program is run over files in memory, and what it puts out is taken by a sink in memory.
 
-use super::host::Host;
-use std::alloc::{AllocError, Global};
+use super::host::{Case, Host};
 use std::test::Fail;
 use tta_tool::Status;
 
@@ -21,54 +20,66 @@ const TEXTS: [(&str, &str); 5] = [
     ("MANY", "00000001\n00000001\n00000001\n00000001\n00000001\n"),
 ];
 
-// Whether the program ends so with this input and bound, and prints so.
-fn prints(
-    alloc: Global,
-    input: &str,
-    bound: &str,
-    ending: Status,
-    text: &str,
-) -> Result<bool, AllocError> {
-    let words = ["exec", "M", "P", input, bound];
-    Host::new(alloc, &TEXTS, b"").prints(&words, ending, text)
-}
+/// Runs to the halt, and to a bound before it.
+const RUNS: [Case; 4] = [
+    (
+        &["exec", "M", "P", "I", "1000"],
+        Status::Ok,
+        "10\nhalted\nmem 0 10\nmem 1 9\nsteps 4\n",
+    ),
+    (
+        &["exec", "M", "P", "I", "0"],
+        Status::Running,
+        "running\nmem 0 10\nsteps 0\n",
+    ),
+    (
+        &["exec", "M", "P", "I", "2"],
+        Status::Running,
+        "10\nrunning\nmem 0 10\nsteps 2\n",
+    ),
+    (
+        &["exec", "M", "P", "I", "3"],
+        Status::Running,
+        "10\nrunning\nmem 0 10\nmem 1 9\nsteps 3\n",
+    ),
+];
+
+/// Bounds and inputs that are refused.
+const REFUSALS: [Case; 6] = [
+    (
+        &["exec", "M", "P", "I", "281474976710656"],
+        Status::Usage,
+        "",
+    ),
+    (
+        &["exec", "M", "P", "I", "1000000000000000"],
+        Status::Usage,
+        "",
+    ),
+    (&["exec", "M", "P", "I", ""], Status::Usage, ""),
+    (
+        &["exec", "M", "P", "BAD", "9"],
+        Status::BadInput { line: 2 },
+        "",
+    ),
+    (
+        &["exec", "M", "P", "MANY", "9"],
+        Status::BadInput { line: 5 },
+        "",
+    ),
+    (
+        &["exec", "M", "P", "NONE", "9"],
+        Status::ReadFault { word: 3 },
+        "",
+    ),
+];
 
 #[test]
 fn program_runs_to_its_halt_or_bound(rt: HostRuntime) -> Result<(), Fail> {
-    let alloc = rt.alloc();
-    let runs = [
-        (
-            "1000",
-            Status::Ok,
-            "10\nhalted\nmem 0 10\nmem 1 9\nsteps 4\n",
-        ),
-        ("0", Status::Running, "running\nmem 0 10\nsteps 0\n"),
-        ("2", Status::Running, "10\nrunning\nmem 0 10\nsteps 2\n"),
-        (
-            "3",
-            Status::Running,
-            "10\nrunning\nmem 0 10\nmem 1 9\nsteps 3\n",
-        ),
-    ];
-    for (bound, ending, text) in runs {
-        assert!(rt; prints(alloc, "I", bound, ending, text)?, "{text}");
-    }
-    Ok(())
+    Host::new(rt.alloc(), &TEXTS, b"").passes(&RUNS)
 }
 
 #[test]
 fn refusals_put_nothing(rt: HostRuntime) -> Result<(), Fail> {
-    let alloc = rt.alloc();
-    let refusals = [
-        ("I", "281474976710656", Status::Usage),
-        ("I", "1000000000000000", Status::Usage),
-        ("I", "", Status::Usage),
-        ("BAD", "9", Status::BadInput { line: 2 }),
-        ("MANY", "9", Status::BadInput { line: 5 }),
-        ("NONE", "9", Status::ReadFault { word: 3 }),
-    ];
-    for (input, bound, refusal) in refusals {
-        assert!(rt; prints(alloc, input, bound, refusal, "")?, "{input}");
-    }
-    Ok(())
+    Host::new(rt.alloc(), &TEXTS, b"").passes(&REFUSALS)
 }

@@ -2,12 +2,16 @@
 
 use crate::run;
 use std::alloc::{AllocError, Global};
+use std::test::Fail;
 use tta_ops::UnitSet;
 use tta_ports::{MemFiles, MemSink};
 use tta_tool::{Status, tool};
 
 /// What `OUT` holds before a command.
 pub const BEFORE: &[u8] = b"before";
+
+/// The words of a command, how it ends, and what it puts out.
+pub type Case = (&'static [&'static str], Status, &'static str);
 
 /// Files of these texts, `IMG` with this image, and `OUT`, where the call of the files and the put
 /// of a line with these numbers fail. They are counted from 1, so that 0 stands for none. The
@@ -20,6 +24,15 @@ pub struct Host<'a> {
     pub units: Option<&'a UnitSet>,
     pub failing_call: u64,
     pub failing_put: u64,
+}
+
+/// Fails where a case ends otherwise, and tells its place.
+pub fn none_other(first_other: Result<Option<usize>, AllocError>) -> Result<(), Fail> {
+    match first_other {
+        Ok(None) => Ok(()),
+        Ok(Some(i)) => Err(Fail::new(format_args!("case {i} ends otherwise"))),
+        Err(e) => Err(Fail::from(e)),
+    }
 }
 
 /// A machine `M`, a program `P` and an input `I`.
@@ -35,10 +48,18 @@ fn add_texts(files: &mut MemFiles, texts: &[(&str, &str)]) -> Result<(), AllocEr
     Ok(())
 }
 
+// Whether a file of this name holds these bytes.
+fn holds(files: &MemFiles, name: &str, bytes: &[u8]) -> bool {
+    match files.get(name) {
+        Some(held) => held == bytes,
+        None => false,
+    }
+}
+
 // Whether the files hold their texts still.
 fn hold_texts(files: &MemFiles, texts: &[(&str, &str)]) -> bool {
     for (name, text) in texts {
-        if files.get(name) != Some(text.as_bytes()) {
+        if !holds(files, name, text.as_bytes()) {
             return false;
         }
     }
@@ -48,7 +69,10 @@ fn hold_texts(files: &MemFiles, texts: &[(&str, &str)]) -> bool {
 // Puts the words at the end.
 fn add_words(alloc: Global, strings: &mut Vec<String>, words: &[&str]) -> Result<(), AllocError> {
     for word in words {
-        strings.push(String::from_str(alloc, word)?)?;
+        let string = String::from_str(alloc, word)?;
+        if strings.push(string).is_err() {
+            return Err(AllocError);
+        }
     }
     Ok(())
 }
@@ -65,7 +89,7 @@ fn carry_out(
     add_words(alloc, &mut strings, words)?;
     match units {
         Some(units) => Ok(tool(alloc, &strings, units, files, sink)),
-        None => run(alloc, &strings, files, sink),
+        None => Ok(run(alloc, &strings, files, sink)),
     }
 }
 
@@ -91,18 +115,14 @@ impl<'a> Host<'a> {
 
     // Whether `OUT` holds this, and the other files are as they were before a command.
     fn are_left(&self, files: &MemFiles, out: &[u8]) -> bool {
-        files.get("OUT") == Some(out) && self.are_kept(files)
+        holds(files, "OUT", out) && self.are_kept(files)
     }
 
     // Whether all files but `OUT` are as they were, and none came to be.
     fn are_kept(&self, files: &MemFiles) -> bool {
-        if files.get("IMG") != Some(self.image) {
-            return false;
-        }
-        if files.get("NEW").is_some() {
-            return false;
-        }
-        hold_texts(files, self.texts)
+        holds(files, "IMG", self.image)
+            && files.get("NEW").is_none()
+            && hold_texts(files, self.texts)
     }
 
     // The files before a command.
@@ -148,6 +168,22 @@ impl<'a> Host<'a> {
     /// Whether a command ends so, puts this out, and changes no file.
     pub fn prints(&self, words: &[&str], ending: Status, output: &str) -> Result<bool, AllocError> {
         self.leaves(words, ending, BEFORE, output.as_bytes())
+    }
+
+    // The place of the first case whose command does not end so, does not put this out, or
+    // changes a file.
+    fn first_other(&self, cases: &[Case]) -> Result<Option<usize>, AllocError> {
+        for (i, (words, ending, output)) in cases.iter().enumerate() {
+            if !self.prints(words, *ending, output)? {
+                return Ok(Some(i));
+            }
+        }
+        Ok(None)
+    }
+
+    /// Fails where a command does not end so, does not put this out, or changes a file.
+    pub fn passes(&self, cases: &[Case]) -> Result<(), Fail> {
+        none_other(self.first_other(cases))
     }
 
     /// What a command writes to `OUT`: `before` where it writes nothing, and no bytes where it does

@@ -1,7 +1,6 @@
 //! Worked programs are run, and what each prints is compared.
 
-use super::host::{Host, texts_of};
-use std::alloc::{AllocError, Global};
+use super::host::{Case, Host};
 use std::test::Fail;
 use tta_tool::Status;
 
@@ -9,101 +8,144 @@ use tta_tool::Status;
 const MACHINE: &str =
     "bus B short 8 unsigned\nsocket I in B\nsocket O out B\nunit OUT t I\nop OUT out\ncontrol delay 0 address 8 t I\nspace data 1024\n";
 
-// Whether a program ends so within a bound, from an input without words, and prints so.
-fn prints(
-    alloc: Global,
-    program: &str,
-    bound: &str,
-    ending: Status,
-    text: &str,
-) -> Result<bool, AllocError> {
-    let texts = texts_of(MACHINE, program, "");
-    let words = ["exec", "M", "P", "I", bound];
-    Host::new(alloc, &texts, b"").prints(&words, ending, text)
-}
+/// The machine, an input without words, and the programs.
+const TEXTS: [(&str, &str); 16] = [
+    ("M", MACHINE),
+    ("I", ""),
+    (
+        "CALLS",
+        "proc sq x\ny = mul x x\nreturn y\nend\nproc main\na = 3\nb = call sq a\nc = call sq 5\nd = add a b\nd = add d c\nout d\nhalt\nend\n",
+    ),
+    (
+        "WHEN",
+        "proc main\nx = 1\na = 5\nb = 5\ny = 9\nwhen ge a b x = y\nout x\nend\n",
+    ),
+    (
+        "NOT_WHEN",
+        "proc main\nx = 1\na = 5\nb = 6\ny = 9\nwhen ge a b x = y\nout x\nend\n",
+    ),
+    (
+        "STORES",
+        "proc main\nstore 1023 7\nstore 1024 8\na = load 1023\nb = load 1024\nout a\nout b\nend\n",
+    ),
+    ("UNSET", "proc main\nout x\nend\n"),
+    ("DIVIDES", "proc main\na = divu 7 2\nout a\nend\n"),
+    (
+        "RECURSION",
+        "proc main\ncall f\nend\nproc f\ncall g\nend\nproc g\ncall f\nend\n",
+    ),
+    ("NO_MAIN", "proc f\nend\n"),
+    ("NO_LABEL", "proc main\ngoto x\nend\n"),
+    ("NO_END", "proc main\nout 1\n"),
+    ("ONE_WORD", "proc main\na = add 1\nend\n"),
+    ("TOO_LARGE", "proc main\na = 4294967296\nend\n"),
+    ("NO_UNIT", "proc main\na = bitrev 1\nend\n"),
+    ("ENDLESS", "proc main\nl:\ngoto l\nend\n"),
+];
+
+/// What the programs print.
+const PRINTED: [Case; 6] = [
+    (
+        &["exec", "M", "CALLS", "I", "1000"],
+        Status::Ok,
+        "37\nhalted\nsteps 11\n",
+    ),
+    (
+        &["exec", "M", "WHEN", "I", "1000"],
+        Status::Ok,
+        "9\nhalted\nsteps 7\n",
+    ),
+    (
+        &["exec", "M", "NOT_WHEN", "I", "1000"],
+        Status::Ok,
+        "1\nhalted\nsteps 7\n",
+    ),
+    (
+        &["exec", "M", "STORES", "I", "1000"],
+        Status::Ok,
+        "7\n0\nhalted\nmem 1023 7\nsteps 7\n",
+    ),
+    (
+        &["exec", "M", "UNSET", "I", "1000"],
+        Status::Ok,
+        "0\nhalted\nsteps 2\n",
+    ),
+    (
+        &["exec", "M", "DIVIDES", "I", "1000"],
+        Status::Ok,
+        "3\nhalted\nsteps 3\n",
+    ),
+];
+
+/// The lines where programs are refused.
+const REFUSALS: [Case; 7] = [
+    (
+        &["exec", "M", "RECURSION", "I", "9"],
+        Status::BadProgram { line: 4, code: 26 },
+        "",
+    ),
+    (
+        &["exec", "M", "NO_MAIN", "I", "9"],
+        Status::BadProgram { line: 0, code: 27 },
+        "",
+    ),
+    (
+        &["exec", "M", "NO_LABEL", "I", "9"],
+        Status::BadProgram { line: 2, code: 21 },
+        "",
+    ),
+    (
+        &["exec", "M", "NO_END", "I", "9"],
+        Status::BadProgram { line: 3, code: 20 },
+        "",
+    ),
+    (
+        &["exec", "M", "ONE_WORD", "I", "9"],
+        Status::BadProgram { line: 2, code: 24 },
+        "",
+    ),
+    (
+        &["exec", "M", "TOO_LARGE", "I", "9"],
+        Status::BadProgram { line: 2, code: 20 },
+        "",
+    ),
+    (
+        &["exec", "M", "NO_UNIT", "I", "9"],
+        Status::BadProgram { line: 2, code: 22 },
+        "",
+    ),
+];
+
+/// Bounds at which the endless program stops.
+const BOUNDS: [Case; 3] = [
+    (
+        &["exec", "M", "ENDLESS", "I", "0"],
+        Status::Running,
+        "running\nsteps 0\n",
+    ),
+    (
+        &["exec", "M", "ENDLESS", "I", "1"],
+        Status::Running,
+        "running\nsteps 1\n",
+    ),
+    (
+        &["exec", "M", "ENDLESS", "I", "1000"],
+        Status::Running,
+        "running\nsteps 1000\n",
+    ),
+];
 
 #[test]
 fn programs_print_their_words(rt: HostRuntime) -> Result<(), Fail> {
-    let alloc = rt.alloc();
-    let programs = [
-        (
-            "proc sq x\ny = mul x x\nreturn y\nend\nproc main\na = 3\nb = call sq a\nc = call sq 5\nd = add a b\nd = add d c\nout d\nhalt\nend\n",
-            "37\nhalted\nsteps 11\n",
-        ),
-        (
-            "proc main\nx = 1\na = 5\nb = 5\ny = 9\nwhen ge a b x = y\nout x\nend\n",
-            "9\nhalted\nsteps 7\n",
-        ),
-        (
-            "proc main\nx = 1\na = 5\nb = 6\ny = 9\nwhen ge a b x = y\nout x\nend\n",
-            "1\nhalted\nsteps 7\n",
-        ),
-        (
-            "proc main\nstore 1023 7\nstore 1024 8\na = load 1023\nb = load 1024\nout a\nout b\nend\n",
-            "7\n0\nhalted\nmem 1023 7\nsteps 7\n",
-        ),
-        ("proc main\nout x\nend\n", "0\nhalted\nsteps 2\n"),
-        (
-            "proc main\na = divu 7 2\nout a\nend\n",
-            "3\nhalted\nsteps 3\n",
-        ),
-    ];
-    for (program, text) in programs {
-        assert!(rt; prints(alloc, program, "1000", Status::Ok, text)?, "{text}");
-    }
-    Ok(())
+    Host::new(rt.alloc(), &TEXTS, b"").passes(&PRINTED)
 }
 
 #[test]
 fn programs_are_refused_at_their_lines(rt: HostRuntime) -> Result<(), Fail> {
-    let alloc = rt.alloc();
-    let refusals = [
-        (
-            "proc main\ncall f\nend\nproc f\ncall g\nend\nproc g\ncall f\nend\n",
-            Status::BadProgram { line: 4, code: 26 },
-        ),
-        ("proc f\nend\n", Status::BadProgram { line: 0, code: 27 }),
-        (
-            "proc main\ngoto x\nend\n",
-            Status::BadProgram { line: 2, code: 21 },
-        ),
-        (
-            "proc main\nout 1\n",
-            Status::BadProgram { line: 3, code: 20 },
-        ),
-        (
-            "proc main\na = add 1\nend\n",
-            Status::BadProgram { line: 2, code: 24 },
-        ),
-        (
-            "proc main\na = 4294967296\nend\n",
-            Status::BadProgram { line: 2, code: 20 },
-        ),
-        (
-            "proc main\na = bitrev 1\nend\n",
-            Status::BadProgram { line: 2, code: 22 },
-        ),
-    ];
-    for (program, refusal) in refusals {
-        assert!(rt; prints(alloc, program, "9", refusal, "")?, "{program}");
-    }
-    Ok(())
+    Host::new(rt.alloc(), &TEXTS, b"").passes(&REFUSALS)
 }
 
 #[test]
 fn endless_program_stops_at_its_bound(rt: HostRuntime) -> Result<(), Fail> {
-    let alloc = rt.alloc();
-    let program = "proc main\nl:\ngoto l\nend\n";
-    let bounds = [
-        ("0", "running\nsteps 0\n"),
-        ("1", "running\nsteps 1\n"),
-        ("1000", "running\nsteps 1000\n"),
-    ];
-    for (bound, text) in bounds {
-        assert!(rt;
-            prints(alloc, program, bound, Status::Running, text)?,
-            "{bound}"
-        );
-    }
-    Ok(())
+    Host::new(rt.alloc(), &TEXTS, b"").passes(&BOUNDS)
 }

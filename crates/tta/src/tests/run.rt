@@ -1,8 +1,7 @@
 //! An image is built and run over files in memory, and what it puts out is taken by a sink in
 //! memory.
 
-use super::host::Host;
-use std::alloc::{AllocError, Global};
+use super::host::{Case, Host};
 use std::test::Fail;
 use tta_tool::Status;
 
@@ -16,48 +15,40 @@ const TEXTS: [(&str, &str); 3] = [
     ("I", ""),
 ];
 
-// Whether a run of the file, where `IMG` is this image, ends so within a bound, and prints so.
-fn prints_of(
-    alloc: Global,
-    image: &[u8],
-    file: &str,
-    bound: &str,
-    ending: Status,
-    text: &str,
-) -> Result<bool, AllocError> {
-    let words = ["run", "M", file, "I", bound];
-    Host::new(alloc, &TEXTS, image).prints(&words, ending, text)
-}
+const NO_IMAGE: Status = Status::BadImage {
+    code: 40,
+    word: 0,
+    bus: 0,
+};
 
-// The same, where `IMG` is the image of the program.
-fn prints(
-    alloc: Global,
-    file: &str,
-    bound: &str,
-    ending: Status,
-    text: &str,
-) -> Result<bool, AllocError> {
-    let image = Host::new(alloc, &TEXTS, b"").written(&["build", "M", "P", "OUT"])?;
-    prints_of(alloc, image.as_slice(), file, bound, ending, text)
-}
+/// Runs, where `IMG` is the image of the program.
+const RUNS: [Case; 5] = [
+    (
+        &["run", "M", "IMG", "I", "2"],
+        Status::Ok,
+        "7\nhalted\ncycles 2\n",
+    ),
+    (
+        &["run", "M", "IMG", "I", "1"],
+        Status::Running,
+        "7\nrunning\ncycles 1\n",
+    ),
+    (
+        &["run", "M", "IMG", "I", "281474976710656"],
+        Status::Usage,
+        "",
+    ),
+    (&["run", "M", "P", "I", "9"], NO_IMAGE, ""),
+    (
+        &["run", "M", "NONE", "I", "9"],
+        Status::ReadFault { word: 2 },
+        "",
+    ),
+];
 
 #[test]
 fn image_runs(rt: HostRuntime) -> Result<(), Fail> {
     let alloc = rt.alloc();
-    let no_image = Status::BadImage {
-        code: 40,
-        word: 0,
-        bus: 0,
-    };
-    let runs = [
-        ("IMG", "2", Status::Ok, "7\nhalted\ncycles 2\n"),
-        ("IMG", "1", Status::Running, "7\nrunning\ncycles 1\n"),
-        ("IMG", "281474976710656", Status::Usage, ""),
-        ("P", "9", no_image, ""),
-        ("NONE", "9", Status::ReadFault { word: 2 }, ""),
-    ];
-    for (file, bound, ending, text) in runs {
-        assert!(rt; prints(alloc, file, bound, ending, text)?);
-    }
-    Ok(())
+    let image = Host::new(alloc, &TEXTS, b"").written(&["build", "M", "P", "OUT"])?;
+    Host::new(alloc, &TEXTS, image.as_slice()).passes(&RUNS)
 }
