@@ -1,6 +1,6 @@
 //! A longer run: the dot product of two vectors of 64 words, and every line that it prints.
 
-use super::host::{Host, texts_of};
+use super::host::Host;
 use std::alloc::{AllocError, Global};
 use std::test::Fail;
 use tta_tool::Status;
@@ -22,6 +22,12 @@ fn add_vector(input: &mut String, line: &str) -> Result<(), AllocError> {
     Ok(())
 }
 
+// The line that tells a data word.
+fn add_word(alloc: Global, output: &mut String, at: usize, word: usize) -> Result<(), AllocError> {
+    let line = format!(in alloc; "mem {at} {word}\n")?;
+    output.push_str(line.as_str())
+}
+
 // The lines that tell this word of the data words from `from` on, to before `to`.
 fn add_words(
     alloc: Global,
@@ -31,37 +37,39 @@ fn add_words(
     word: usize,
 ) -> Result<(), AllocError> {
     for at in from..to {
-        let line = format!(in alloc; "mem {at} {word}\n")?;
-        output.push_str(line.as_str())?;
+        add_word(alloc, output, at, word)?;
     }
     Ok(())
 }
 
 // Two vectors, whose words are all 2 and all 3.
-fn vectors(alloc: Global) -> Result<String, AllocError> {
-    let mut input = String::new(alloc);
-    add_vector(&mut input, "00000002\n")?;
-    add_vector(&mut input, "00000003\n")?;
-    Ok(input)
+fn add_vectors(input: &mut String) -> Result<(), AllocError> {
+    add_vector(input, "00000002\n")?;
+    add_vector(input, "00000003\n")
 }
 
 // The word, the outcome, 129 data words and the count.
-fn lines(alloc: Global) -> Result<String, AllocError> {
-    let mut output = String::from_str(alloc, "384\nhalted\n")?;
-    add_words(alloc, &mut output, 0, 64, 2)?;
-    add_words(alloc, &mut output, 64, 128, 3)?;
-    output.push_str("mem 128 384\nsteps 453\n")?;
-    Ok(output)
+fn add_output(alloc: Global, output: &mut String) -> Result<(), AllocError> {
+    output.push_str("384\nhalted\n")?;
+    add_words(alloc, output, 0, 64, 2)?;
+    add_words(alloc, output, 64, 128, 3)?;
+    output.push_str("mem 128 384\nsteps 453\n")
+}
+
+// Whether the program prints so, from this input.
+fn prints(alloc: Global, input: &str, output: &str) -> Result<bool, AllocError> {
+    let texts = [("M", MACHINE), ("P", PROGRAM), ("I", input)];
+    let words = ["exec", "M", "P", "I", "1000"];
+    Host::new(alloc, &texts, b"").prints(&words, Status::Ok, output)
 }
 
 #[test]
 fn dot_product_of_64_words(rt: HostRuntime) -> Result<(), Fail> {
     let alloc = rt.alloc();
-    let input = vectors(alloc)?;
-    let output = lines(alloc)?;
-    let texts = texts_of(MACHINE, PROGRAM, input.as_str());
-    let words = ["exec", "M", "P", "I", "1000"];
-    let host = Host::new(alloc, &texts, b"");
-    assert!(rt; host.prints(&words, Status::Ok, output.as_str())?);
+    let mut input = String::new(alloc);
+    add_vectors(&mut input)?;
+    let mut output = String::new(alloc);
+    add_output(alloc, &mut output)?;
+    assert!(rt; prints(alloc, input.as_str(), output.as_str())?);
     Ok(())
 }

@@ -2,7 +2,7 @@
 //! the first fault, no file changes but the front of the one that is written, and the output has
 //! the lines before the fault and half of the next.
 
-use super::host::{BEFORE, Host};
+use super::host::{BEFORE, Host, none_other};
 use std::alloc::{AllocError, Global};
 use std::test::Fail;
 use tta_tool::Status;
@@ -36,6 +36,19 @@ const TEXTS: [(&str, &str); 6] = [
     ("I", "0000000a\n"),
     ("S", SMALL),
     ("C", "proc main\nout 7\nhalt\nend\n"),
+];
+
+/// The commands that write.
+const WRITING: [&[&str]; 3] = [
+    &["build", "S", "C", "OUT"],
+    &["asm", "M", "A", "OUT"],
+    &["dis", "M", "IMG", "OUT"],
+];
+
+/// The commands that print, and what each prints.
+const PRINTING: [(&[&str], &[&str]); 2] = [
+    (&["exec", "M", "P", "I", "9"], &PRINTED),
+    (&["run", "M", "IMG", "I", "20"], &SWAPPED),
 ];
 
 // The image of the swap.
@@ -137,33 +150,50 @@ fn fails_at_each_put(
     Ok(true)
 }
 
+// The place of the first command that writes and does not tell its calls so.
+fn first_other_call(alloc: Global, image: &[u8]) -> Result<Option<usize>, AllocError> {
+    for (i, words) in WRITING.iter().enumerate() {
+        if !fails_at_each_call(alloc, image, words)? {
+            return Ok(Some(i));
+        }
+    }
+    Ok(None)
+}
+
+// The place of the first command that prints and does not tell its reads so.
+fn first_other_read(alloc: Global, image: &[u8]) -> Result<Option<usize>, AllocError> {
+    for (i, (words, _)) in PRINTING.iter().enumerate() {
+        if !fails_at_each_read(alloc, image, words)? {
+            return Ok(Some(i));
+        }
+    }
+    Ok(None)
+}
+
+// The place of the first command that prints and does not tell its puts so.
+fn first_other_put(alloc: Global, image: &[u8]) -> Result<Option<usize>, AllocError> {
+    for (i, (words, lines)) in PRINTING.iter().enumerate() {
+        if !fails_at_each_put(alloc, image, words, lines)? {
+            return Ok(Some(i));
+        }
+    }
+    Ok(None)
+}
+
 #[test]
 fn writing_commands_fail_at_each_call(rt: HostRuntime) -> Result<(), Fail> {
-    let alloc = rt.alloc();
-    let image = swap_image(alloc)?;
-    let image = image.as_slice();
-    assert!(rt; fails_at_each_call(alloc, image, &["build", "S", "C", "OUT"])?);
-    assert!(rt; fails_at_each_call(alloc, image, &["asm", "M", "A", "OUT"])?);
-    assert!(rt; fails_at_each_call(alloc, image, &["dis", "M", "IMG", "OUT"])?);
-    Ok(())
+    let image = swap_image(rt.alloc())?;
+    none_other(first_other_call(rt.alloc(), image.as_slice()))
 }
 
 #[test]
 fn printing_commands_fail_at_each_call(rt: HostRuntime) -> Result<(), Fail> {
-    let alloc = rt.alloc();
-    let image = swap_image(alloc)?;
-    let image = image.as_slice();
-    assert!(rt; fails_at_each_read(alloc, image, &["exec", "M", "P", "I", "9"])?);
-    assert!(rt; fails_at_each_read(alloc, image, &["run", "M", "IMG", "I", "20"])?);
-    Ok(())
+    let image = swap_image(rt.alloc())?;
+    none_other(first_other_read(rt.alloc(), image.as_slice()))
 }
 
 #[test]
 fn printing_commands_fail_at_each_put(rt: HostRuntime) -> Result<(), Fail> {
-    let alloc = rt.alloc();
-    let image = swap_image(alloc)?;
-    let image = image.as_slice();
-    assert!(rt; fails_at_each_put(alloc, image, &["exec", "M", "P", "I", "9"], &PRINTED)?);
-    assert!(rt; fails_at_each_put(alloc, image, &["run", "M", "IMG", "I", "20"], &SWAPPED)?);
-    Ok(())
+    let image = swap_image(rt.alloc())?;
+    none_other(first_other_put(rt.alloc(), image.as_slice()))
 }

@@ -1,7 +1,7 @@
 //! A unit that is handed in, with one operation that no standard unit offers: it is found by its
 //! name, applied and run, and refused where it is handed in twice.
 
-use super::host::{Host, texts_of};
+use super::host::{Case, Host};
 use std::alloc::{AllocError, Global};
 use std::test::Fail;
 use tta_ops::{Arith, OpUnit, OpsError, UnitSet};
@@ -10,7 +10,17 @@ use tta_tool::Status;
 const MACHINE: &str =
     "bus B short 8 unsigned\nsocket I in B\nsocket O out B\nunit OUT t I r O\nop OUT out\nop OUT bitrev 1\ncontrol delay 0 address 8 t I\n";
 
-const PROGRAM: &str = "proc main\na = bitrev 1\nout a\nend\n";
+const TEXTS: [(&str, &str); 3] = [
+    ("M", MACHINE),
+    ("P", "proc main\na = bitrev 1\nout a\nend\n"),
+    ("I", ""),
+];
+
+const RUNS: [Case; 1] = [(
+    &["exec", "M", "P", "I", "100"],
+    Status::Ok,
+    "2147483648\nhalted\nsteps 3\n",
+)];
 
 /// One operation, which reverses the bits of a word.
 #[derive(Clone, Copy)]
@@ -51,9 +61,15 @@ fn add_units(
     boxes: &mut Vec<Box<dyn OpUnit>>,
     times: usize,
 ) -> Result<(), AllocError> {
-    boxes.push(Box::new(alloc, Arith)?)?;
+    let arith: Box<dyn OpUnit> = Box::new(alloc, Arith)?;
+    if boxes.push(arith).is_err() {
+        return Err(AllocError);
+    }
     for _ in 0..times {
-        boxes.push(Box::new(alloc, Bitrev)?)?;
+        let bitrev: Box<dyn OpUnit> = Box::new(alloc, Bitrev)?;
+        if boxes.push(bitrev).is_err() {
+            return Err(AllocError);
+        }
     }
     Ok(())
 }
@@ -61,40 +77,35 @@ fn add_units(
 // A set of these units.
 fn units_of(alloc: Global, times: usize) -> Result<UnitSet, OpsError> {
     let mut boxes: Vec<Box<dyn OpUnit>> = Vec::new(alloc);
-    add_units(alloc, &mut boxes, times)?;
-    if !UnitSet::fits(boxes.as_slice()) {
+    if add_units(alloc, &mut boxes, times).is_err() || !UnitSet::fits(boxes.as_slice()) {
+        drop(boxes);
         return Err(OpsError::NoMemory);
     }
     UnitSet::new(alloc, boxes)
 }
 
-// The number and arity of the operation that is handed in, and what it makes of a word.
-fn found(units: &UnitSet) -> Option<(u32, u8, u32)> {
-    let op = units.find("bitrev")?;
-    Some((op.0, units.arity(op), units.apply(op, 9, 0x0000_000d)))
+// Whether the operation that is handed in is found, with its number, its arity and its meaning.
+fn is_found(units: &UnitSet) -> bool {
+    match units.find("bitrev") {
+        Some(op) => {
+            op.0 == 5 && units.arity(op) == 1 && units.apply(op, 9, 0x0000_000d) == 0xb000_0000
+        }
+        None => false,
+    }
 }
 
-// The same in a set of these units.
-fn found_in_set(alloc: Global) -> Result<Option<(u32, u8, u32)>, OpsError> {
-    let units = units_of(alloc, 1)?;
-    Ok(found(&units))
-}
-
-// Whether the program prints so over a set of these units.
-fn prints(alloc: Global, text: &str) -> Result<bool, OpsError> {
-    let units = units_of(alloc, 1)?;
-    let texts = texts_of(MACHINE, PROGRAM, "");
-    let mut host = Host::new(alloc, &texts, b"");
-    host.units = Some(&units);
-    Ok(host.prints(&["exec", "M", "P", "I", "100"], Status::Ok, text)?)
+// Fails where the program prints otherwise over these units.
+fn passes_over(alloc: Global, units: &UnitSet) -> Result<(), Fail> {
+    let mut host = Host::new(alloc, &TEXTS, b"");
+    host.units = Some(units);
+    host.passes(&RUNS)
 }
 
 #[test]
 fn handed_in_operation_is_found_and_run(rt: HostRuntime) -> Result<(), Fail> {
-    let alloc = rt.alloc();
-    assert!(rt; found_in_set(alloc)? == Some((5, 1, 0xb000_0000)));
-    assert!(rt; prints(alloc, "2147483648\nhalted\nsteps 3\n")?);
-    Ok(())
+    let units = units_of(rt.alloc(), 1)?;
+    assert!(rt; is_found(&units));
+    passes_over(rt.alloc(), &units)
 }
 
 #[test]

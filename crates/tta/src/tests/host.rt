@@ -35,11 +35,6 @@ pub fn none_other(first_other: Result<Option<usize>, AllocError>) -> Result<(), 
     }
 }
 
-/// A machine `M`, a program `P` and an input `I`.
-pub fn texts_of<'a>(machine: &'a str, program: &'a str, input: &'a str) -> [(&'a str, &'a str); 3] {
-    [("M", machine), ("P", program), ("I", input)]
-}
-
 // Gives the files their texts.
 fn add_texts(files: &mut MemFiles, texts: &[(&str, &str)]) -> Result<(), AllocError> {
     for (name, text) in texts {

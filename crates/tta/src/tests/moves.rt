@@ -4,12 +4,14 @@ ghost use Rattle.std.specs.Prelude.{◌≡◌, ◌+◌, ◌<◌, ◌≤◌, ◌^
 ghost use Rattle.tta_code.specs.Legal.{IsLegalCode};
 ghost use Rattle.tta_sim.specs.Held.{IsRunOf};
 
+use super::host::none_other;
+use crate::standard_units;
 use std::alloc::{AllocError, Global};
 use std::test::Fail;
 use tta_asm::assemble;
 use tta_code::Code;
 use tta_machine::{Machine, read_machine};
-use tta_ops::{Arith, Compare, Logic, OpUnit, Shift, UnitSet};
+use tta_ops::UnitSet;
 use tta_sim::{CycleStep, Sim};
 
 /// A machine of three buses with two delay slots, whose products show after three cycles.
@@ -115,13 +117,17 @@ const NO_JUMP: &str = "0 -> G.0 , ... , ... ;\n\
 const UNENDED: &str = "4294967295 -> R.1 , ... , ... ;\n\
      ... , ... , ... [L=2147483648] ;\n";
 
-/// How a run ended.
-#[derive(Clone, Copy, PartialEq, Eq)]
-struct Outcome {
-    halted: bool,
-    fault: Option<u8>,
-    cycles: u64,
-}
+/// A program of moves, the words that it puts out, its fault, and the cycles that it ends after.
+type Run = (&'static str, &'static [u32], Option<u8>, u64);
+
+const RUNS: [Run; 6] = [
+    (SWAP, &[2, 1], None, 8),
+    (PRODUCT, &[30], None, 7),
+    (EARLY, &[], Some(61), 2),
+    (JUMP, &[10, 11, 13], None, 8),
+    (NO_JUMP, &[10, 11, 12], None, 8),
+    (UNENDED, &[], Some(65), 2),
+];
 
 // The code of an assembly text that is not too long.
 fn code_of(alloc: Global, text: &str, m: &Machine, units: &UnitSet) -> Result<Code, AllocError>
@@ -168,131 +174,80 @@ fn run_cycles(
     Ok(())
 }
 
-// The same, and how they end.
-fn outcome_after_cycles(
+// Whether a run that has put these words out is over, as it is told.
+fn is_over_so(sim: &Sim, output: &[u32], run: &Run) -> bool {
+    let (_, words, fault, cycles) = run;
+    sim.halted() == fault.is_none()
+        && sim.fault() == *fault
+        && sim.cycles() == *cycles
+        && output == *words
+}
+
+// Whether 20 cycles end so.
+fn cycles_end(
+    alloc: Global,
     sim: &mut Sim,
     m: &Machine,
     code: &Code,
     units: &UnitSet,
-    output: &mut Vec<u32>,
-) -> Result<Outcome, AllocError>
+    run: &Run,
+) -> Result<bool, AllocError>
     requires loaded { IsRunOf m.now code.now sim.old }
     requires fresh { sim.old.cycle ≡ 0 }
 {
-    run_cycles(sim, m, code, units, output)?;
-    Ok(Outcome {
-        halted: sim.halted(),
-        fault: sim.fault(),
-        cycles: sim.cycles(),
-    })
+    let mut output = Vec::new(alloc);
+    match run_cycles(sim, m, code, units, &mut output) {
+        Ok(()) => Ok(is_over_so(sim, output.as_slice(), run)),
+        Err(e) => Err(e),
+    }
 }
 
-// How 20 cycles of code end from these data words, with what they put out.
-fn run(
+// Whether code ends so, from data words that are all 0.
+fn code_ends(
     alloc: Global,
     m: &Machine,
     code: &Code,
     units: &UnitSet,
-    memory: Vec<u32>,
-    output: &mut Vec<u32>,
-) -> Result<Outcome, AllocError>
+    run: &Run,
+) -> Result<bool, AllocError>
     requires legal { IsLegalCode m.now code.now }
-    requires size { length memory.items ≡ m.now.data_words }
 {
-    let mut sim = Sim::load(alloc, m, code, memory)?;
-    outcome_after_cycles(&mut sim, m, code, units, output)
+    let memory = vec![in alloc; 0; m.data_words as usize]?;
+    match Sim::load(alloc, m, code, memory) {
+        Ok(mut sim) => cycles_end(alloc, &mut sim, m, code, units, run),
+        Err(e) => Err(e),
+    }
 }
 
-// The same of an assembly text, on a machine.
-fn outcome_on(
-    alloc: Global,
-    text: &str,
-    m: &Machine,
-    units: &UnitSet,
-    output: &mut Vec<u32>,
-) -> Result<Outcome, AllocError> {
-    let memory = vec![in alloc; 0; m.data_words as usize]?;
-    let code = code_of(alloc, text, m, units)?;
-    run(alloc, m, &code, units, memory, output)
+// Whether the program ends so.
+fn ends(alloc: Global, m: &Machine, units: &UnitSet, run: &Run) -> Result<bool, AllocError> {
+    match code_of(alloc, run.0, m, units) {
+        Ok(code) => code_ends(alloc, m, &code, units, run),
+        Err(e) => Err(e),
+    }
+}
+
+// The place of the first run on this machine that ends otherwise.
+fn first_other(alloc: Global, m: &Machine, units: &UnitSet) -> Result<Option<usize>, AllocError> {
+    for (i, run) in RUNS.iter().enumerate() {
+        if !ends(alloc, m, units, run)? {
+            return Ok(Some(i));
+        }
+    }
+    Ok(None)
 }
 
 // The same on the machine of three buses.
-fn outcome_of(
-    alloc: Global,
-    text: &str,
-    units: &UnitSet,
-    output: &mut Vec<u32>,
-) -> Result<Outcome, AllocError> {
-    let Ok(m) = read_machine(alloc, MACHINE.as_bytes(), units) else {
-        return Err(AllocError);
-    };
-    outcome_on(alloc, text, &m, units, output)
-}
-
-// Whether an assembly text ends so, and these words are put out.
-fn ends(
-    alloc: Global,
-    text: &str,
-    units: &UnitSet,
-    outcome: Outcome,
-    words: &[u32],
-) -> Result<bool, AllocError> {
-    let mut output = Vec::new(alloc);
-    let ended = outcome_of(alloc, text, units, &mut output)?;
-    Ok(ended == outcome && output.as_slice() == words)
-}
-
-// Puts the standard units that the machine offers at the end.
-fn add_units(alloc: Global, boxes: &mut Vec<Box<dyn OpUnit>>) -> Result<(), AllocError> {
-    boxes.push(Box::new(alloc, Arith)?)?;
-    boxes.push(Box::new(alloc, Logic)?)?;
-    boxes.push(Box::new(alloc, Shift)?)?;
-    boxes.push(Box::new(alloc, Compare)?)?;
-    Ok(())
-}
-
-// A set of these units.
-fn standard_units(alloc: Global) -> Result<UnitSet, AllocError> {
-    let mut boxes: Vec<Box<dyn OpUnit>> = Vec::new(alloc);
-    add_units(alloc, &mut boxes)?;
-    if !UnitSet::fits(boxes.as_slice()) {
-        return Err(AllocError);
+fn first_other_on_machine(alloc: Global, units: &UnitSet) -> Result<Option<usize>, AllocError> {
+    match read_machine(alloc, MACHINE.as_bytes(), units) {
+        Ok(m) => first_other(alloc, &m, units),
+        Err(_) => Err(AllocError),
     }
-    UnitSet::new(alloc, boxes).ok().ok_or(AllocError)
-}
-
-// The same over the standard units.
-fn ends_over_standard(
-    alloc: Global,
-    text: &str,
-    outcome: Outcome,
-    words: &[u32],
-) -> Result<bool, AllocError> {
-    let units = standard_units(alloc)?;
-    ends(alloc, text, &units, outcome, words)
 }
 
 #[test]
 fn programs_of_moves_run(rt: HostRuntime) -> Result<(), Fail> {
     let alloc = rt.alloc();
-    let runs = [
-        (SWAP, [2, 1, 0], 2, None, 8),
-        (PRODUCT, [30, 0, 0], 1, None, 7),
-        (EARLY, [0, 0, 0], 0, Some(61), 2),
-        (JUMP, [10, 11, 13], 3, None, 8),
-        (NO_JUMP, [10, 11, 12], 3, None, 8),
-        (UNENDED, [0, 0, 0], 0, Some(65), 2),
-    ];
-    for (text, words, count, fault, cycles) in runs {
-        let outcome = Outcome {
-            halted: fault.is_none(),
-            fault,
-            cycles,
-        };
-        assert!(rt;
-            ends_over_standard(alloc, text, outcome, &words[..count])?,
-            "{text}"
-        );
-    }
-    Ok(())
+    let units = standard_units(alloc)?;
+    none_other(first_other_on_machine(alloc, &units))
 }

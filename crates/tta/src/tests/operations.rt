@@ -39,24 +39,20 @@ impl OpUnit for Named {
     }
 }
 
-/// Puts a unit with the operation `n` and this number at the end.
-fn push_named(
-    alloc: Global,
-    boxes: &mut Vec<Box<dyn OpUnit>>,
-    number: usize,
-) -> Result<(), AllocError> {
+// A unit with the operation `n` and this number.
+fn unit_of(alloc: Global, number: usize) -> Result<Box<dyn OpUnit>, AllocError> {
     let name = format!(in alloc; "n{number}")?;
-    let unit = Box::new(alloc, Named { name })?;
-    match boxes.push(unit) {
-        Ok(()) => Ok(()),
-        Err(_) => Err(AllocError),
-    }
+    let unit: Box<dyn OpUnit> = Box::new(alloc, Named { name })?;
+    Ok(unit)
 }
 
 // Puts units with the operations `n0` to `n32` at the end.
 fn add_numbered(alloc: Global, boxes: &mut Vec<Box<dyn OpUnit>>) -> Result<(), AllocError> {
     for number in 0..33 {
-        push_named(alloc, boxes, number)?;
+        let unit = unit_of(alloc, number)?;
+        if boxes.push(unit).is_err() {
+            return Err(AllocError);
+        }
     }
     Ok(())
 }
@@ -74,11 +70,16 @@ fn numbered(alloc: Global) -> Result<UnitSet, AllocError> {
     Ok(units)
 }
 
+// Puts the line of an operation at the end.
+fn add_line(alloc: Global, text: &mut String, number: usize) -> Result<(), AllocError> {
+    let line = format!(in alloc; "op U n{number} 1\n")?;
+    text.push_str(line.as_str())
+}
+
 // Puts the lines of so many operations at the end.
 fn add_lines(alloc: Global, text: &mut String, count: usize) -> Result<(), AllocError> {
     for number in 0..count {
-        let line = format!(in alloc; "op U n{number} 1\n")?;
-        text.push_str(line.as_str())?;
+        add_line(alloc, text, number)?;
     }
     Ok(())
 }
@@ -101,7 +102,10 @@ fn read(alloc: Global, text: &[u8], units: &UnitSet) -> Result<(), (u32, u8)> {
         return Err((0, 0));
     }
     match read_machine(alloc, text, units) {
-        Ok(_) => Ok(()),
+        Ok(machine) => {
+            drop(machine);
+            Ok(())
+        }
         Err(MachineError::Refused { line, code }) => Err((line, code)),
         Err(_) => Err((0, 0)),
     }
@@ -118,11 +122,14 @@ fn is_read(
     Ok(read(alloc, text.as_bytes(), units) == ending)
 }
 
+// Whether 32 operations are read, and 33 are refused at the line of the last.
+fn at_most_32_are_read(alloc: Global, units: &UnitSet) -> Result<bool, AllocError> {
+    Ok(is_read(alloc, units, 32, Ok(()))? && is_read(alloc, units, 33, Err((37, 13)))?)
+}
+
 #[test]
 fn unit_has_at_most_32_operations(rt: HostRuntime) -> Result<(), Fail> {
-    let alloc = rt.alloc();
-    let units = numbered(alloc)?;
-    assert!(rt; is_read(alloc, &units, 32, Ok(()))?);
-    assert!(rt; is_read(alloc, &units, 33, Err((37, 13)))?);
+    let units = numbered(rt.alloc())?;
+    assert!(rt; at_most_32_are_read(rt.alloc(), &units)?);
     Ok(())
 }
