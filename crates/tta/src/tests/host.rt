@@ -125,11 +125,29 @@ impl<'a> Host<'a> {
         let mut files = MemFiles::new(self.alloc, vec![in self.alloc; self.failing_call]?);
         match self.add_files(&mut files) {
             Ok(()) => Ok(files),
+            Err(e) => {
+                drop(files);
+                Err(e)
+            }
+        }
+    }
+
+    // How a command over these files ends, if this is what it puts out into the sink.
+    fn ending_into(
+        &self,
+        words: &[&str],
+        files: &mut MemFiles,
+        sink: &mut MemSink,
+        output: &[u8],
+    ) -> Result<Option<Status>, AllocError> {
+        match carry_out(self.alloc, self.units, words, files, sink) {
+            Ok(status) if sink.bytes() == output => Ok(Some(status)),
+            Ok(_) => Ok(None),
             Err(e) => Err(e),
         }
     }
 
-    // How a command over these files ends, if this is what it puts out.
+    // The same into a sink of its own.
     fn ending_with(
         &self,
         words: &[&str],
@@ -137,10 +155,24 @@ impl<'a> Host<'a> {
         output: &[u8],
     ) -> Result<Option<Status>, AllocError> {
         let failing = vec![in self.alloc; self.failing_put]?;
-        let mut sink = MemSink::new(self.alloc, 2000, failing)?;
-        match carry_out(self.alloc, self.units, words, files, &mut sink) {
-            Ok(status) if sink.bytes() == output => Ok(Some(status)),
-            Ok(_) => Ok(None),
+        match MemSink::new(self.alloc, 2000, failing) {
+            Ok(mut sink) => self.ending_into(words, files, &mut sink, output),
+            Err(e) => Err(e),
+        }
+    }
+
+    // Whether a command over these files ends so, leaves `OUT` so, and puts this out.
+    fn leaves_in(
+        &self,
+        files: &mut MemFiles,
+        words: &[&str],
+        ending: Status,
+        out: &[u8],
+        output: &[u8],
+    ) -> Result<bool, AllocError> {
+        match self.ending_with(words, files, output) {
+            Ok(Some(ended)) => Ok(ended == ending && self.are_left(files, out)),
+            Ok(None) => Ok(false),
             Err(e) => Err(e),
         }
     }
@@ -153,9 +185,8 @@ impl<'a> Host<'a> {
         out: &[u8],
         output: &[u8],
     ) -> Result<bool, AllocError> {
-        let mut files = self.files()?;
-        match self.ending_with(words, &mut files, output) {
-            Ok(ended) => Ok(ended == Some(ending) && self.are_left(&files, out)),
+        match self.files() {
+            Ok(mut files) => self.leaves_in(&mut files, words, ending, out, output),
             Err(e) => Err(e),
         }
     }
@@ -181,13 +212,20 @@ impl<'a> Host<'a> {
         none_other(self.first_other(cases))
     }
 
+    // What a command over these files writes to `OUT`.
+    fn written_in(&self, files: &mut MemFiles, words: &[&str]) -> Result<Vec<u8>, AllocError> {
+        match self.ending_with(words, files, b"") {
+            Ok(Some(Status::Ok)) => Vec::from_slice(self.alloc, files.get("OUT").unwrap_or(b"")),
+            Ok(_) => Ok(Vec::new(self.alloc)),
+            Err(e) => Err(e),
+        }
+    }
+
     /// What a command writes to `OUT`: `before` where it writes nothing, and no bytes where it does
     /// not end well or puts something out.
     pub fn written(&self, words: &[&str]) -> Result<Vec<u8>, AllocError> {
-        let mut files = self.files()?;
-        match self.ending_with(words, &mut files, b"") {
-            Ok(Some(Status::Ok)) => Vec::from_slice(self.alloc, files.get("OUT").unwrap_or(b"")),
-            Ok(_) => Ok(Vec::new(self.alloc)),
+        match self.files() {
+            Ok(mut files) => self.written_in(&mut files, words),
             Err(e) => Err(e),
         }
     }

@@ -214,7 +214,11 @@ fn code_ends(
 {
     let memory = vec![in alloc; 0; m.data_words as usize]?;
     match Sim::load(alloc, m, code, memory) {
-        Ok(mut sim) => cycles_end(alloc, &mut sim, m, code, units, run),
+        Ok(mut sim) => {
+            let ended = cycles_end(alloc, &mut sim, m, code, units, run);
+            drop(sim);
+            ended
+        }
         Err(e) => Err(e),
     }
 }
@@ -240,7 +244,11 @@ fn first_other(alloc: Global, m: &Machine, units: &UnitSet) -> Result<Option<usi
 // The same on the machine of three buses.
 fn first_other_on_machine(alloc: Global, units: &UnitSet) -> Result<Option<usize>, AllocError> {
     match read_machine(alloc, MACHINE.as_bytes(), units) {
-        Ok(m) => first_other(alloc, &m, units),
+        Ok(m) => {
+            let other = first_other(alloc, &m, units);
+            drop(m);
+            other
+        }
         Err(_) => Err(AllocError),
     }
 }

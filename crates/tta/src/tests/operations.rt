@@ -1,5 +1,6 @@
 //! A unit that is handed in with more operations than a machine's unit may offer.
 
+use super::host::none_other;
 use std::alloc::{AllocError, Global};
 use std::test::Fail;
 use tta_machine::{MachineError, read_machine};
@@ -122,14 +123,21 @@ fn is_read(
     Ok(read(alloc, text.as_bytes(), units) == ending)
 }
 
-// Whether 32 operations are read, and 33 are refused at the line of the last.
-fn at_most_32_are_read(alloc: Global, units: &UnitSet) -> Result<bool, AllocError> {
-    Ok(is_read(alloc, units, 32, Ok(()))? && is_read(alloc, units, 33, Err((37, 13)))?)
+/// How a machine of so many operations is read.
+const COUNTS: [(usize, Result<(), (u32, u8)>); 2] = [(32, Ok(())), (33, Err((37, 13)))];
+
+// The place of the first count that is read otherwise.
+fn first_other(alloc: Global, units: &UnitSet) -> Result<Option<usize>, AllocError> {
+    for (i, (count, ending)) in COUNTS.iter().enumerate() {
+        if !is_read(alloc, units, *count, *ending)? {
+            return Ok(Some(i));
+        }
+    }
+    Ok(None)
 }
 
 #[test]
 fn unit_has_at_most_32_operations(rt: HostRuntime) -> Result<(), Fail> {
     let units = numbered(rt.alloc())?;
-    assert!(rt; at_most_32_are_read(rt.alloc(), &units)?);
-    Ok(())
+    none_other(first_other(rt.alloc(), &units))
 }
