@@ -70,6 +70,9 @@ fn dot_product_of_64_words(rt: HostRuntime) -> Result<(), Fail> {
     add_vectors(&mut input)?;
     let mut output = String::new(alloc);
     add_output(alloc, &mut output)?;
-    assert!(rt; prints(alloc, input.as_str(), output.as_str())?);
+    let is_printed = prints(alloc, input.as_str(), output.as_str());
+    drop(output);
+    drop(input);
+    assert!(rt; is_printed?);
     Ok(())
 }

@@ -104,8 +104,11 @@ fn passes_over(alloc: Global, units: &UnitSet) -> Result<(), Fail> {
 #[test]
 fn handed_in_operation_is_found_and_run(rt: HostRuntime) -> Result<(), Fail> {
     let units = units_of(rt.alloc(), 1)?;
-    assert!(rt; is_found(&units));
-    passes_over(rt.alloc(), &units)
+    let is_found = is_found(&units);
+    let passed = passes_over(rt.alloc(), &units);
+    drop(units);
+    assert!(rt; is_found);
+    passed
 }
 
 #[test]

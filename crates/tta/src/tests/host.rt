@@ -81,11 +81,16 @@ fn carry_out(
     sink: &mut MemSink,
 ) -> Result<Status, AllocError> {
     let mut strings = Vec::new(alloc);
-    add_words(alloc, &mut strings, words)?;
-    match units {
-        Some(units) => Ok(tool(alloc, &strings, units, files, sink)),
-        None => Ok(run(alloc, &strings, files, sink)),
+    if let Err(e) = add_words(alloc, &mut strings, words) {
+        drop(strings);
+        return Err(e);
     }
+    let status = match units {
+        Some(units) => tool(alloc, &strings, units, files, sink),
+        None => run(alloc, &strings, files, sink),
+    };
+    drop(strings);
+    Ok(status)
 }
 
 impl<'a> Host<'a> {
@@ -132,22 +137,7 @@ impl<'a> Host<'a> {
         }
     }
 
-    // How a command over these files ends, if this is what it puts out into the sink.
-    fn ending_into(
-        &self,
-        words: &[&str],
-        files: &mut MemFiles,
-        sink: &mut MemSink,
-        output: &[u8],
-    ) -> Result<Option<Status>, AllocError> {
-        match carry_out(self.alloc, self.units, words, files, sink) {
-            Ok(status) if sink.bytes() == output => Ok(Some(status)),
-            Ok(_) => Ok(None),
-            Err(e) => Err(e),
-        }
-    }
-
-    // The same into a sink of its own.
+    // How a command over these files ends, if this is what it puts out.
     fn ending_with(
         &self,
         words: &[&str],
@@ -155,24 +145,15 @@ impl<'a> Host<'a> {
         output: &[u8],
     ) -> Result<Option<Status>, AllocError> {
         let failing = vec![in self.alloc; self.failing_put]?;
-        match MemSink::new(self.alloc, 2000, failing) {
-            Ok(mut sink) => self.ending_into(words, files, &mut sink, output),
-            Err(e) => Err(e),
-        }
-    }
-
-    // Whether a command over these files ends so, leaves `OUT` so, and puts this out.
-    fn leaves_in(
-        &self,
-        files: &mut MemFiles,
-        words: &[&str],
-        ending: Status,
-        out: &[u8],
-        output: &[u8],
-    ) -> Result<bool, AllocError> {
-        match self.ending_with(words, files, output) {
-            Ok(Some(ended)) => Ok(ended == ending && self.are_left(files, out)),
-            Ok(None) => Ok(false),
+        let Ok(mut sink) = MemSink::new(self.alloc, 2000, failing) else {
+            return Err(AllocError);
+        };
+        let ended = carry_out(self.alloc, self.units, words, files, &mut sink);
+        let is_put = sink.bytes() == output;
+        drop(sink);
+        match ended {
+            Ok(status) if is_put => Ok(Some(status)),
+            Ok(_) => Ok(None),
             Err(e) => Err(e),
         }
     }
@@ -185,8 +166,13 @@ impl<'a> Host<'a> {
         out: &[u8],
         output: &[u8],
     ) -> Result<bool, AllocError> {
-        match self.files() {
-            Ok(mut files) => self.leaves_in(&mut files, words, ending, out, output),
+        let mut files = self.files()?;
+        let ended = self.ending_with(words, &mut files, output);
+        let is_left = self.are_left(&files, out);
+        drop(files);
+        match ended {
+            Ok(Some(ended)) => Ok(is_left && ended == ending),
+            Ok(None) => Ok(false),
             Err(e) => Err(e),
         }
     }
@@ -212,21 +198,16 @@ impl<'a> Host<'a> {
         none_other(self.first_other(cases))
     }
 
-    // What a command over these files writes to `OUT`.
-    fn written_in(&self, files: &mut MemFiles, words: &[&str]) -> Result<Vec<u8>, AllocError> {
-        match self.ending_with(words, files, b"") {
-            Ok(Some(Status::Ok)) => Vec::from_slice(self.alloc, files.get("OUT").unwrap_or(b"")),
-            Ok(_) => Ok(Vec::new(self.alloc)),
-            Err(e) => Err(e),
-        }
-    }
-
     /// What a command writes to `OUT`: `before` where it writes nothing, and no bytes where it does
     /// not end well or puts something out.
     pub fn written(&self, words: &[&str]) -> Result<Vec<u8>, AllocError> {
-        match self.files() {
-            Ok(mut files) => self.written_in(&mut files, words),
+        let mut files = self.files()?;
+        let written = match self.ending_with(words, &mut files, b"") {
+            Ok(Some(Status::Ok)) => Vec::from_slice(self.alloc, files.get("OUT").unwrap_or(b"")),
+            Ok(_) => Ok(Vec::new(self.alloc)),
             Err(e) => Err(e),
-        }
+        };
+        drop(files);
+        written
     }
 }
