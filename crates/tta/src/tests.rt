@@ -55,12 +55,15 @@ const REFUSALS: [Case; 5] = [
     ),
 ];
 
+// Whether an image has 51 bytes, and the bits of the code at its end.
+fn is_image(image: &[u8]) -> bool {
+    image.len() == 51 && image.ends_with(&[0x83, 0x98, 0x04])
+}
+
 #[test]
 fn constant_is_compiled(rt: HostRuntime) -> Result<(), Fail> {
-    let host = Host::new(rt.alloc(), &TEXTS, b"");
-    let image = host.written(&["build", "M", "P", "OUT"])?;
-    assert_eq!(rt; image.len(), 51);
-    assert!(rt; image.ends_with(&[0x83, 0x98, 0x04]));
+    let image = Host::new(rt.alloc(), &TEXTS, b"").written(&["build", "M", "P", "OUT"])?;
+    assert!(rt; is_image(image.as_slice()));
     Ok(())
 }
 

@@ -46,14 +46,11 @@ const REFUSALS: [Case; 3] = [
 // Whether an image is shown as the canonical text, and that text is read as the image.
 fn is_of_canonical(alloc: Global, image: &[u8]) -> Result<bool, AllocError> {
     let host = Host::new(alloc, &TEXTS, image);
-    let is_shown = host.leaves(
-        &["dis", "M", "IMG", "OUT"],
-        Status::Ok,
-        CANONICAL.as_bytes(),
-        b"",
-    )?;
-    let is_read = host.leaves(&["asm", "M", "C", "OUT"], Status::Ok, image, b"")?;
-    Ok(is_shown && is_read)
+    let canonical = CANONICAL.as_bytes();
+    if !host.leaves(&["dis", "M", "IMG", "OUT"], Status::Ok, canonical, b"")? {
+        return Ok(false);
+    }
+    host.leaves(&["asm", "M", "C", "OUT"], Status::Ok, image, b"")
 }
 
 // Whether the assembly is read into such an image.

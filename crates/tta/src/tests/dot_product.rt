@@ -14,6 +14,8 @@ const PROGRAM: &str =
     "proc main\ni = 0\ns = 0\nloop:\na = load i\nj = add i 64\nb = load j\np = mul a b\n\
 s = add s p\ni = add i 1\nif ltu i 64 goto loop\nstore 128 s\nout s\nhalt\nend\n";
 
+const WORDS: [&str; 5] = ["exec", "M", "P", "I", "1000"];
+
 // A line for each of 64 words.
 fn add_vector(input: &mut String, line: &str) -> Result<(), AllocError> {
     for _ in 0..64 {
@@ -59,8 +61,7 @@ fn add_output(alloc: Global, output: &mut String) -> Result<(), AllocError> {
 // Whether the program prints so, from this input.
 fn prints(alloc: Global, input: &str, output: &str) -> Result<bool, AllocError> {
     let texts = [("M", MACHINE), ("P", PROGRAM), ("I", input)];
-    let words = ["exec", "M", "P", "I", "1000"];
-    Host::new(alloc, &texts, b"").prints(&words, Status::Ok, output)
+    Host::new(alloc, &texts, b"").prints(&WORDS, Status::Ok, output)
 }
 
 #[test]

@@ -77,7 +77,11 @@ fn add_units(
 // A set of these units.
 fn units_of(alloc: Global, times: usize) -> Result<UnitSet, OpsError> {
     let mut boxes: Vec<Box<dyn OpUnit>> = Vec::new(alloc);
-    if add_units(alloc, &mut boxes, times).is_err() || !UnitSet::fits(boxes.as_slice()) {
+    if add_units(alloc, &mut boxes, times).is_err() {
+        drop(boxes);
+        return Err(OpsError::NoMemory);
+    }
+    if !UnitSet::fits(boxes.as_slice()) {
         drop(boxes);
         return Err(OpsError::NoMemory);
     }

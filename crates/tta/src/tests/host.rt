@@ -152,8 +152,7 @@ impl<'a> Host<'a> {
         let is_put = sink.bytes() == output;
         drop(sink);
         match ended {
-            Ok(status) if is_put => Ok(Some(status)),
-            Ok(_) => Ok(None),
+            Ok(status) => Ok(is_put.then_some(status)),
             Err(e) => Err(e),
         }
     }
@@ -166,13 +165,14 @@ impl<'a> Host<'a> {
         out: &[u8],
         output: &[u8],
     ) -> Result<bool, AllocError> {
-        let mut files = self.files()?;
+        let Ok(mut files) = self.files() else {
+            return Err(AllocError);
+        };
         let ended = self.ending_with(words, &mut files, output);
         let is_left = self.are_left(&files, out);
         drop(files);
         match ended {
-            Ok(Some(ended)) => Ok(is_left && ended == ending),
-            Ok(None) => Ok(false),
+            Ok(ended) => Ok(is_left && ended == Some(ending)),
             Err(e) => Err(e),
         }
     }
@@ -201,7 +201,9 @@ impl<'a> Host<'a> {
     /// What a command writes to `OUT`: `before` where it writes nothing, and no bytes where it does
     /// not end well or puts something out.
     pub fn written(&self, words: &[&str]) -> Result<Vec<u8>, AllocError> {
-        let mut files = self.files()?;
+        let Ok(mut files) = self.files() else {
+            return Err(AllocError);
+        };
         let written = match self.ending_with(words, &mut files, b"") {
             Ok(Some(Status::Ok)) => Vec::from_slice(self.alloc, files.get("OUT").unwrap_or(b"")),
             Ok(_) => Ok(Vec::new(self.alloc)),

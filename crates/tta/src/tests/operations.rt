@@ -61,14 +61,18 @@ fn add_numbered(alloc: Global, boxes: &mut Vec<Box<dyn OpUnit>>) -> Result<(), A
 // The operations `n0` to `n32`.
 fn numbered(alloc: Global) -> Result<UnitSet, AllocError> {
     let mut boxes: Vec<Box<dyn OpUnit>> = Vec::new(alloc);
-    add_numbered(alloc, &mut boxes)?;
+    if let Err(e) = add_numbered(alloc, &mut boxes) {
+        drop(boxes);
+        return Err(e);
+    }
     if !UnitSet::fits(boxes.as_slice()) {
+        drop(boxes);
         return Err(AllocError);
     }
-    let Ok(units) = UnitSet::new(alloc, boxes) else {
-        return Err(AllocError);
-    };
-    Ok(units)
+    match UnitSet::new(alloc, boxes) {
+        Ok(units) => Ok(units),
+        Err(_) => Err(AllocError),
+    }
 }
 
 // Puts the line of an operation at the end.
