@@ -30,8 +30,13 @@ fn words_of(rt: &(impl Env + AllocGlobal)) -> Result<Vec<String>, Status> {
     Ok(words)
 }
 
-// The five standard units.
-fn standard_units(alloc: Global) -> Result<UnitSet, AllocError> {
+// Carries out the words over the five standard units.
+fn run<F: Files, S: Sink>(
+    alloc: Global,
+    words: &Vec<String>,
+    files: &mut F,
+    sink: &mut S,
+) -> Result<Status, AllocError> {
     let arith: Box<dyn OpUnit> = Box::new(alloc, Arith)?;
     let logic: Box<dyn OpUnit> = Box::new(alloc, Logic)?;
     let shift: Box<dyn OpUnit> = Box::new(alloc, Shift)?;
@@ -40,24 +45,11 @@ fn standard_units(alloc: Global) -> Result<UnitSet, AllocError> {
     let boxes = vec![in alloc; arith, logic, shift, compare, divide]?;
     if !UnitSet::fits(boxes.as_slice()) {
         drop(boxes);
-        return Err(AllocError);
+        return Ok(Status::NoMemory);
     }
     match UnitSet::new(alloc, boxes) {
-        Ok(units) => Ok(units),
-        Err(_) => Err(AllocError),
-    }
-}
-
-// Carries out the words over the five standard units.
-fn run<F: Files, S: Sink>(
-    alloc: Global,
-    words: &Vec<String>,
-    files: &mut F,
-    sink: &mut S,
-) -> Status {
-    match standard_units(alloc) {
-        Ok(units) => tool(alloc, words, &units, files, sink),
-        Err(_) => Status::NoMemory,
+        Ok(units) => Ok(tool(alloc, words, &units, files, sink)),
+        Err(_) => Ok(Status::NoMemory),
     }
 }
 
@@ -65,7 +57,7 @@ fn main(rt: HostRuntime) -> ExitCode {
     let mut files = RealFiles::new(&rt);
     let mut sink = RealSink::new(&rt);
     let status = match words_of(&rt) {
-        Ok(words) => run(rt.alloc(), &words, &mut files, &mut sink),
+        Ok(words) => run(rt.alloc(), &words, &mut files, &mut sink).unwrap_or(Status::NoMemory),
         Err(status) => status,
     };
     if status != Status::Ok {

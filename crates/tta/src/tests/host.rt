@@ -86,11 +86,11 @@ fn carry_out(
         return Err(e);
     }
     let status = match units {
-        Some(units) => tool(alloc, &strings, units, files, sink),
+        Some(units) => Ok(tool(alloc, &strings, units, files, sink)),
         None => run(alloc, &strings, files, sink),
     };
     drop(strings);
-    Ok(status)
+    status
 }
 
 impl<'a> Host<'a> {

@@ -5,13 +5,12 @@ ghost use Rattle.tta_code.specs.Legal.{IsLegalCode};
 ghost use Rattle.tta_sim.specs.Held.{IsRunOf};
 
 use super::host::none_other;
-use crate::standard_units;
 use std::alloc::{AllocError, Global};
 use std::test::Fail;
 use tta_asm::assemble;
 use tta_code::Code;
 use tta_machine::{Machine, read_machine};
-use tta_ops::UnitSet;
+use tta_ops::{Arith, Compare, Logic, OpUnit, Shift, UnitSet};
 use tta_sim::{CycleStep, Sim};
 
 /// A machine of three buses with two delay slots, whose products show after three cycles.
@@ -241,7 +240,24 @@ fn first_other(alloc: Global, m: &Machine, units: &UnitSet) -> Result<Option<usi
     Ok(None)
 }
 
-// The same on the machine of three buses.
+// The standard units that the machine offers.
+fn standard_units(alloc: Global) -> Result<UnitSet, AllocError> {
+    let arith: Box<dyn OpUnit> = Box::new(alloc, Arith)?;
+    let logic: Box<dyn OpUnit> = Box::new(alloc, Logic)?;
+    let shift: Box<dyn OpUnit> = Box::new(alloc, Shift)?;
+    let compare: Box<dyn OpUnit> = Box::new(alloc, Compare)?;
+    let boxes = vec![in alloc; arith, logic, shift, compare]?;
+    if !UnitSet::fits(boxes.as_slice()) {
+        drop(boxes);
+        return Err(AllocError);
+    }
+    match UnitSet::new(alloc, boxes) {
+        Ok(units) => Ok(units),
+        Err(_) => Err(AllocError),
+    }
+}
+
+// The place of the first run on the machine of three buses that ends otherwise, if one does.
 fn first_other_on_machine(alloc: Global, units: &UnitSet) -> Result<Option<usize>, AllocError> {
     match read_machine(alloc, MACHINE.as_bytes(), units) {
         Ok(m) => {
