@@ -1,4 +1,4 @@
-use Rattle.std.proofs.Common.{◌≡◌, ◌<◌, ◌+◌, ◌-◌, ◌++◌, ◌∷◌, [], length, length-append, map, arith}
+use Rattle.std.proofs.Common.{rules, ◌≡◌, ◌<◌, ◌+◌, ◌-◌, ◌++◌, ◌∷◌, [], length, length-append, map, arith}
 use Rattle.std.specs.List.{range_with_len}
 use Rattle.std.proofs.lemmas.Result.{err_from_is_err_and}
 use Rattle.tta_ops.specs.Row.{names_of}
@@ -6,6 +6,9 @@ use Rattle.tta_ops.specs.Offers.{row_of, unit_rows}
 use Rattle.tta_ops.specs.Refusal.{first_refusal}
 use Rattle.tta_ops.proofs.Walk.{rest_of_unit, rows_later, refusal_next, cause_next}
 use Rattle.tta_ops.proofs.table.Table.add_unit.Goals as goal
+
+pub loop-index-init : goal.loop-index-init
+loop-index-init g c = search rules
 
 pub returns-in_err-add_from-clause-refusal : goal.returns-in_err-add_from-clause-refusal
 returns-in_err-add_from-clause-refusal g c =
