@@ -19,14 +19,14 @@ use Rattle.tta_image.specs.Image.{header, AreBytesOf}
 -- ---- the bytes
 
 -- the header and the body
-pub parts_from : (m : Machine) (digest : List ℕ) (words width count : ℕ) (first body body' bytes : List ℕ)
-    → first ≡ codes "TTAI" ++ (to_be_bytes w32 1 ++ (to_be_bytes w32 width ++ (to_be_bytes w32 count ++ digest)))
-    → bytes ≡ first ++ body' → body' ≡ body → width ≡ word_width m → count ≡ words → bytes ≡ header m digest words ++ body
-parts_from m digest words width count first body body' bytes begins joined same wide many =
+pub parts_from : (m : Machine) (digest : List ℕ) (words width count : ℕ) (body body' bytes : List ℕ)
+    → bytes ≡ (codes "TTAI" ++ (to_be_bytes w32 1 ++ (to_be_bytes w32 width ++ (to_be_bytes w32 count ++ digest)))) ++ body'
+    → body' ≡ body → width ≡ word_width m → count ≡ words → bytes ≡ header m digest words ++ body
+parts_from m digest words width count body body' bytes joined same wide many =
     let tail : List ℕ = to_be_bytes w32 count ++ digest in
-    joined ∙ ap (λ (l : List ℕ). first ++ l) same
+    joined ∙ ap (λ (l : List ℕ). (codes "TTAI" ++ (to_be_bytes w32 1 ++ (to_be_bytes w32 width ++ tail))) ++ l) same
     ∙ ap (λ (l : List ℕ). l ++ body)
-    (begins ∙ ap (λ (w : ℕ). codes "TTAI" ++ (to_be_bytes w32 1 ++ (to_be_bytes w32 w ++ tail))) wide
+    (ap (λ (w : ℕ). codes "TTAI" ++ (to_be_bytes w32 1 ++ (to_be_bytes w32 w ++ tail))) wide
     ∙ ap (λ (n : ℕ). codes "TTAI" ++ (to_be_bytes w32 1 ++ (to_be_bytes w32 (word_width m) ++ (to_be_bytes w32 n ++ digest)))) many)
 
 pub are_bytes_of_same : (shown bits : List Bool) (bytes : List ℕ) → shown ≡ bits → AreBytesOf shown bytes → AreBytesOf bits bytes

@@ -1,6 +1,6 @@
 //! The writer of images.
 
-ghost use Rattle.std.specs.Prelude.{◌≡◌, ◌<◌, ◌^◌, if◌then◌else◌, ◌++◌, length, codes, All, IfOk};
+ghost use Rattle.std.specs.Prelude.{◌≡◌, ◌<◌, ◌^◌, if◌then◌else◌, ◌++◌, [], length, codes, All, IfOk};
 ghost use Rattle.std.specs.Prelude.{OnOk};
 ghost use Rattle.std.specs.Int.{w32, to_be_bytes};
 ghost use Rattle.std.specs.List.{flat_map, sum_by};
@@ -116,21 +116,25 @@ fn push_words(
     Ok(())
 }
 
-/// The bytes before the instructions.
-fn header(alloc: Global, width: u32, words: u32, digest: &[u8; 32]) -> Result<Vec<u8>, AllocError>
-    ensures { IfOk result (λ v. v.items ≡ codes "TTAI"
+/// Puts the parts of an image, the last of which is the instructions, where nothing stands yet.
+fn push_parts(
+    bytes: &mut Vec<u8>,
+    width: u32,
+    words: u32,
+    digest: &[u8; 32],
+    body: &[u8],
+) -> Result<(), AllocError>
+    requires { bytes.old.items ≡ [] }
+    ensures { OnOk result (bytes.new.items ≡ (codes "TTAI"
         ++ (to_be_bytes w32 1
-        ++ (to_be_bytes w32 width ++ (to_be_bytes w32 words ++ digest.now)))) }
+        ++ (to_be_bytes w32 width ++ (to_be_bytes w32 words ++ digest.now)))) ++ body.now) }
 {
-    let version = 1u32.to_be_bytes();
-    let width = width.to_be_bytes();
-    let words = words.to_be_bytes();
-    let mut bytes = Vec::from_slice(alloc, b"TTAI")?;
-    bytes.extend_from_slice(&version)?;
-    bytes.extend_from_slice(&width)?;
-    bytes.extend_from_slice(&words)?;
+    bytes.extend_from_slice(b"TTAI")?;
+    bytes.extend_from_slice(&1u32.to_be_bytes())?;
+    bytes.extend_from_slice(&width.to_be_bytes())?;
+    bytes.extend_from_slice(&words.to_be_bytes())?;
     bytes.extend_from_slice(digest)?;
-    Ok(bytes)
+    bytes.extend_from_slice(body)
 }
 
 /// How many instructions code has.
@@ -186,13 +190,16 @@ pub fn write_image(
     let Ok(body) = body else {
         return Err(AllocError);
     };
-    let Ok(mut bytes) = header(alloc, width, count_words(code, m), digest) else {
-        drop(body);
-        return Err(AllocError);
-    };
-    let extended = bytes.extend_from_slice(body.as_slice());
+    let mut bytes = Vec::new(alloc);
+    let written = push_parts(
+        &mut bytes,
+        width,
+        count_words(code, m),
+        digest,
+        body.as_slice(),
+    );
     drop(body);
-    match extended {
+    match written {
         Ok(()) => Ok(bytes),
         Err(e) => {
             drop(bytes);

@@ -19,11 +19,11 @@ pack_words-body-requires-clause-order c =
     let rules = subst (λ (m : Machine). IsMachine m) c.m.view_is c.m.invariant in
     layout_in_order c.args.m.now c.in_ok-layout.layout rules c.in_ok-layout.ensures
 
-pub returns-in-Ok-extended : goal.returns-in-Ok-extended
-returns-in-Ok-extended c = record {
+pub returns-in-Ok-written : goal.returns-in-Ok-written
+returns-in-Ok-written c = record {
   body = c.in-Ok.body.items;
-  parts = parts_from c.args.m.now c.args.digest.now (length c.args.code.now.words) c.in_ok-layout.layout.width _ _ _ _ _
-      c.in-Ok-header.ensures c.in-Ok-extended.ensures.items c.as_slice-2.ensures.value (ap (λ (l : Layout). l.width) c.in_ok-layout.ensures) c.count_words.ensures;
+  parts = parts_from c.args.m.now c.args.digest.now (length c.args.code.now.words) c.in_ok-layout.layout.width _ _ _ _
+      c.in-Ok-written.ensures c.as_slice-2.ensures.value (ap (λ (l : Layout). l.width) c.in_ok-layout.ensures) c.count_words.ensures;
   words = are_bytes_of_same _ _ _ (ap (λ (l : List Instruction). flat_map (instruction_bits c.args.m.now) l) c.as_slice.ensures) c.in-Ok.ensures;
   legal = c.requires;
 }

@@ -1,5 +1,5 @@
 use Rattle.std.proofs.Common.{rules}
-use Rattle.tta_image.proofs.write.header.Goals as goal
+use Rattle.tta_image.proofs.write.push_parts.Goals as goal
 
 pub returns : goal.returns
 returns c = search rules
