@@ -47,14 +47,6 @@ pending_same m s now before told told' cycle same tells = ap (pending_with now m
       let p : ℕ → Option Underway = λ time. Some (record { time = time; kind = c.0; word = c.1 }) in
       ap p (ap (λ n. n + m.control.delay) cycle)
 
-lands_output : (s : State) (p : Option Underway) → (lands s p).output ≡ s.output
-lands_output s None = refl
-lands_output s (Some p) = elim (p.time == s.cycle) as (λ b. (if b then takes_effect s p else s).output ≡ s.output) [ true ↦ takes p.kind | false ↦ refl ] where
-  takes : (k : Kind) → (takes_effect s (record p { kind = k })).output ≡ s.output
-  takes Jumps = refl
-  takes Calls = refl
-  takes Halts = refl
-
 lands_runs : (s : State) (p : Option Underway) → s.outcome ≡ Running → is_fault (lands s p).outcome ≡ false
 lands_runs s None running = ap is_fault running
 lands_runs s (Some p) running = elim (p.time == s.cycle) as (λ b. is_fault (if b then takes_effect s p else s).outcome ≡ false) [ true ↦ takes p.kind | false ↦ ap is_fault running ] where

@@ -1,5 +1,5 @@
 -- Lists that grow by what a function gives of each element.
-use Rattle.std.proofs.Common.{◌≡◌, ◌<◌, ◌≤◌, ◌+◌, ℕ, zero, suc, Bool, true, false, List, [], ◌∷◌, ◌++◌, length, ltb, take, drop, get_or, Option, None, Some, Bor, refl, ap, sym, ◌∙◌, arith}
+use Rattle.std.proofs.Common.{◌≡◌, ◌<◌, ◌≤◌, ◌+◌, ℕ, suc, Bool, true, false, List, [], ◌∷◌, ◌++◌, length, take, drop, get_or, Option, None, Some, Bor, refl, ap, sym, ◌∙◌, arith}
 use Rattle.std.specs.Prelude.{◌||◌, option_to_list, option_copied, slice_get}
 use Rattle.std.specs.Slice.{IsItemAt}
 use Rattle.std.specs.List.{filter_map, cons_option, list_any}
@@ -25,12 +25,6 @@ length-filter_map f (x ∷ xs) =
     let rest = length-filter_map f xs in
     elim (f x) as (λ o. length (cons_option o (filter_map f xs)) ≤ suc (length xs)) [ None ↦ omega (arith, rest) | Some y ↦ omega (arith, rest) ]
 
--- a test that no element passes
-pub any_at : {A : Type 0} (p : A → Bool) (xs : List A) (i : ℕ) (d : A) → list_any p xs ≡ false → i < length xs → p (get_or xs i d) ≡ false
-any_at p [] i d none within = grind arith
-any_at p (x ∷ xs) zero d none within = grind arith
-any_at p (x ∷ xs) (suc i) d none within = any_at p xs i d (grind arith) (omega (arith, within))
-
 or_swap : (a b : Bool) → (a || b) ≡ (b || a)
 or_swap true true = refl
 or_swap true false = refl
@@ -43,16 +37,6 @@ pub any_grown : {A : Type 0} (p : A → Bool) (xs more all : List A) (old one ne
 any_grown p xs more all old one new before here joined grown =
     joined ∙ ap (λ b. b || old) here ∙ ap (λ b. list_any p more || b) before ∙ or_swap (list_any p more) (list_any p xs)
     ∙ sym (list_any-append p xs more) ∙ ap (list_any p) (sym grown)
-
-or_false : (a : Bool) → a ≡ (a || false)
-or_false true = refl
-or_false false = refl
-
--- a test of one element more
-pub any_more : {A : Type 0} (p : A → Bool) (xs : List A) (i : ℕ) (d : A) (old one new : Bool) → i < length xs → old ≡ list_any p (take i xs)
-    → one ≡ p (get_or xs i d) → new ≡ (one || old) → new ≡ list_any p (take (i + 1) xs)
-any_more p xs i d old one new within before here joined =
-    any_grown p (take i xs) (get_or xs i d ∷ []) (take (i + 1) xs) old one new before (here ∙ or_false (p (get_or xs i d))) joined (take_more xs i d within)
 
 -- a test that the next element does not pass is one of those behind it
 pub any_left : {A : Type 0} (p : A → Bool) (xs : List A) (i : ℕ) (d : A) (all : Bool) → i < length xs → all ≡ list_any p (drop i xs)

@@ -4,7 +4,6 @@ use Rattle.std.specs.Prelude.{filter, if◌then◌else◌}
 use Rattle.std.specs.List.{list_any, filter_map}
 use Rattle.tta_code.specs.Cycle.{Result'}
 use Rattle.tta_sim.specs.declared.decoded.DecodedWrite.{DecodedWrite}
-use Rattle.tta_sim.specs.declared.decoded.DecodedTell.{DecodedTell}
 use Rattle.tta_sim.specs.declared.decoded.Line.{Line}
 use Rattle.tta_sim.specs.declared.lines.Write.{Write}
 use Rattle.tta_sim.specs.Results.{Results, IsGrown}
@@ -21,13 +20,6 @@ pub quiet_parts : (q a b : Bool) → q ≡ (a && b) → q ≡ true → (a ≡ tr
 quiet_parts q true true is quiet = (refl, refl)
 quiet_parts q true false is quiet = cc
 quiet_parts q false b is quiet = cc
-
--- moves that tell control nothing
-pub told_nothing : (places : List (Option ℕ)) (shown : List (Option Result')) (p : Bool) (tells : List DecodedTell) → tells ≡ [] → tells_well places shown p tells ≡ true
-told_nothing places shown p tells none = ap (tells_well places shown p) none ∙ by p where
-  by : (p : Bool) → not (p && false) ≡ true
-  by true = refl
-  by false = refl
 
 -- a test that passes on some of the elements passes on one of all
 pub any_filtered : {A : Type 0} (p q : A → Bool) (xs : List A) → list_any p (filter q xs) ≡ true → list_any p xs ≡ true

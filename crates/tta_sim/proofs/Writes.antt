@@ -1,6 +1,6 @@
 -- Words that are written one by one.
-use Rattle.std.proofs.Common.{◌≡◌, ◌<◌, ◌≤◌, ◌+◌, ◌-◌, ℕ, zero, suc, Bool, true, false, List, [], ◌∷◌, ◌++◌, length, drop, get_or, Option, Some, refl, ap, sym, ◌∙◌, subst, arith}
-use Rattle.std.specs.Prelude.{◌||◌, not, if◌then◌else◌, filter, fold}
+use Rattle.std.proofs.Common.{◌≡◌, ◌<◌, ◌≤◌, ◌+◌, ◌-◌, ℕ, zero, suc, true, false, List, [], ◌∷◌, ◌++◌, length, drop, get_or, Option, Some, refl, ap, sym, ◌∙◌, subst, arith}
+use Rattle.std.specs.Prelude.{not, if◌then◌else◌, filter, fold}
 use Rattle.std.specs.List.{find}
 use Rattle.std.proofs.lemmas.List.{drop_more, length-set}
 use Rattle.tta_machine.specs.declared.parts.Op.{Op}
@@ -44,10 +44,6 @@ length-stored_frame words (t ∷ starts) = length-stored_frame (store_frame word
 
 -- ---- operations that all have results
 
-rest_of : (a b : Bool) → (a || b) ≡ false → b ≡ false
-rest_of true b is = cc
-rest_of false b is = is
-
 kept_data : (words : List ℕ) (t : Start) → is_resultless t ≡ false → store_data words t ≡ words
 kept_data words t shows = by t.does.op shows where
   by : (o : Op) → not (has_result o) ≡ false → store_data words (record t { does = record t.does { op = o } }) ≡ words
@@ -67,10 +63,6 @@ kept_frame words t shows = by t.does.op shows where
   by Stf shows = cc
   by Out shows = refl
   by (Set id) shows = refl
-
-first_of : (a b : Bool) → (a || b) ≡ false → a ≡ false
-first_of true b is = cc
-first_of false b is = refl
 
 kept_in : (t : Start) → is_resultless t ≡ false → puts t ≡ false
 kept_in t shows = by t.does.op shows where
