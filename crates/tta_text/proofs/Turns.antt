@@ -1,15 +1,25 @@
 -- Tokens of a text, one piece after another.
-use Rattle.std.proofs.Common.{◌≡◌, ℕ, zero, suc, ◌+◌, ◌-◌, ◌<◌, ◌≤◌, Bool, true, false, not, List, [], ◌∷◌, length, get_or, drop, refl, arith, add-zero, ap, inl, inr}
+use Rattle.std.proofs.Common.{◌≡◌, ℕ, zero, suc, ◌+◌, ◌-◌, ◌==◌, ◌<◌, ◌≤◌, Bool, true, false, not, List, [], ◌∷◌, length, get_or, drop, refl, arith, add-zero, ap, inl, inr}
 use Rattle.std.proofs.lemmas.Bool.{cases_Bool}
 use Rattle.std.proofs.lemmas.List.{drop_more, drop-drop, drop_all}
-use Rattle.tta_text.specs.Bytes.{is_newline}
+use Rattle.std.proofs.lemmas.Bool.Decides.{nat_tests}
+use Rattle.tta_text.specs.Bytes.{is_newline, is_blank, is_name_start, run_len}
 use Rattle.tta_text.specs.Tokens.{token, piece_at, piece_of, with_token, line_after, tokens_from}
-use Rattle.tta_text.specs.declared.lexeme.Kind.TheVariants.{Eol}
+use Rattle.tta_text.specs.declared.lexeme.Kind.TheVariants.{Name, Eol}
 
 -- a newline is a piece of its own
 pub piece_at-newline : (byte : ℕ) (rest : List ℕ) → is_newline byte ≡ true → piece_at byte rest ≡ token Eol 1
 unfolding piece_at
 piece_at-newline byte rest h = rw h refl
+
+-- a name goes on to the end of its run
+pub piece_at-name : (byte : ℕ) (rest : List ℕ) → is_name_start byte ≡ true → piece_at byte rest ≡ token Name (1 + run_len rest)
+unfolding piece_at
+piece_at-name byte rest h =
+    let newline : is_newline byte ≡ false = grind (arith, nat_tests) in
+    let blank : is_blank byte ≡ false = grind (arith, nat_tests) in
+    let comment : (byte == 35) ≡ false = grind (arith, nat_tests) in
+    rw (newline, blank, comment, h) refl
 
 -- bytes of an open line that are passed over
 pub tokens_from-skip : (skip : ℕ) (is_open : Bool) (line at : ℕ) (bytes : List ℕ) → skip ≤ length bytes

@@ -22,7 +22,7 @@ returns-then-value-limit c =
 pub digits-preserved : goal.digits-preserved
 digits-preserved c =
     let digit = value_from-digit c.args.base c.args.limit c.digits.value c.args.digits.now c.digits.byte-index c.digits-test.true in
-    grind (arith, common_steps)
+    record { below = c.if-value-limit.false; left = grind (arith, common_steps) }
 
 pub returns : goal.returns
 returns c =
