@@ -16,4 +16,3 @@ pub nothing_at : {A : Type 0} (n i : ℕ) → ◌≡◌ {A = Option A} (get_or (
 nothing_at zero i = refl
 nothing_at (suc n) zero = refl
 nothing_at (suc n) (suc i) = nothing_at n i
-

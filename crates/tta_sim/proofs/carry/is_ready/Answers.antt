@@ -33,3 +33,12 @@ returns-clause-begun g c = λ ready.
     c.as_slice-writes.ensures _ c.note_writes.ensures.read c.if-not-note_writes.false c.note_writes.ensures.writes in
     c.begin_line.ensures.begun ready
     ∙ ap (λ xs. record store.results { coming = store.results.coming ++ filter_map begins (filter_map (brought (operand_in store.places xs)) c.args.line.now.starts) }) noted
+
+pub returns-clause-places : goal.returns-clause-places
+returns-clause-places g c = c.begin_line.ensures.places
+
+pub returns-clause-data : goal.returns-clause-data
+returns-clause-data g c = c.begin_line.ensures.data
+
+pub returns-clause-frame : goal.returns-clause-frame
+returns-clause-frame g c = c.begin_line.ensures.frame

@@ -1,4 +1,4 @@
-use Rattle.std.proofs.Common.{arith}
+use Rattle.std.proofs.Common.{ap, arith}
 use Rattle.tta_sim.specs.Results.{due_after}
 use Rattle.tta_sim.proofs.Room.{has_room, room_push}
 use Rattle.tta_sim.proofs.results.Results.start.Goals as goal
@@ -18,3 +18,8 @@ invariant_of-self c =
     let pushed = rw c.from.ensures at c.push_reserved.ensures.items in
     room_push _ _ c.self.invariant _ next c.push_reserved.new.self.items c.push_reserved.ensures.capacity pushed
     (omega (arith, c.requires.later)) (omega (arith, c.requires.soon)) unit free
+
+pub returns : goal.returns
+returns c =
+    let pushed = rw c.from.ensures at c.push_reserved.ensures.items in
+    rw (← c.self.view_is) (ap (λ items. record { cycle = c.self.inside.cycle; shown = c.self.inside.shown.items; coming = items }) pushed)
