@@ -12,7 +12,7 @@ use Rattle.tta_tac.specs.declared.program.Proc.{Proc}
 use Rattle.tta_tac.specs.declared.reading.draft.NamedStep.{NamedStep}
 use Rattle.tta_tac.specs.declared.reading.draft.DraftProc.{DraftProc}
 use Rattle.tta_tac.specs.declared.reading.refusal.Refusal.{Refusal}
-use Rattle.tta_tac.specs.Draft.{Draft, step_seen, steps_seen, proc_seen, procs_seen}
+use Rattle.tta_tac.specs.Draft.{Draft, ProcDraft, step_seen, steps_seen, proc_seen, procs_seen}
 use Rattle.tta_tac.specs.Kept.{IsEnded}
 use Rattle.tta_tac.specs.declared.reading.refusal.TacError.{TacError}
 use Rattle.tta_tac.specs.declared.reading.refusal.TacError.TheVariants as tac_error
@@ -104,3 +104,13 @@ pub procs_told : (d : Draft) (procs : List DraftProc) (k : ℕ) (q : DraftProc) 
 procs_told d procs k q done tac_error.NoMemory below is told inv = tt
 procs_told d procs k q done (tac_error.Refused line code) below is told inv =
     (told.0, told.1, inv ∙ procs_refused d procs k q done (line, told.0) below is told.2)
+
+-- a procedure is refused as its steps are, and else has them
+pub proc_told : (d : Draft) (q : ProcDraft) (e : TacError) → Tells {A = List Step} (Err e) (link_steps d q.labels q.steps q.lines)
+    → Tells {A = Proc} (Err e) (link_proc d q)
+proc_told d q tac_error.NoMemory told = tt
+proc_told d q (tac_error.Refused line code) told = (told.0, told.1, rw told.2 refl)
+
+pub proc_linked : (d : Draft) (q : ProcDraft) (steps : List Step) → link_steps d q.labels q.steps q.lines ≡ Ok steps
+    → link_proc d q ≡ Ok (record { params = q.params; vars = length q.vars; steps = steps; lines = q.lines })
+proc_linked d q steps made = rw made refl

@@ -2,6 +2,7 @@
 
 ghost use Rattle.std.specs.Prelude.{◌≡◌, ℕ, List, ◌+◌, ◌<◌, ◌^◌, ◌∷◌, length};
 ghost use Rattle.std.specs.Prelude.{Some, OnSome, IsSome, option_copied, slice_index, slice_set};
+ghost use Rattle.std.specs.Option.{option_map_or};
 ghost use Rattle.tta_ops.specs.Set.{stated};
 ghost use Rattle.tta_tac.specs.Rules.{IsProgram};
 ghost use Rattle.tta_tac.specs.Sequential.{State, operand, holds, step_at, returns, carry_out};
@@ -68,6 +69,23 @@ fn give_back(calls: &mut Calls, p: &Program, value: u32) -> Phase
     }
     take_value(calls, p, value);
     Phase::Running
+}
+
+/// The innermost call ends with the word of an operand, and with 0 where there is none.
+fn give_back_of(calls: &mut Calls, p: &Program, s: Option<Src>) -> Phase
+    requires { AreCallsOf p.now calls.old }
+    ensures loaded { AreCallsOf p.now calls.new }
+    ensures returned { (memory output : List ℕ) (steps : ℕ)
+        → let running = state_of Phase.Running calls.old memory output steps in
+        let value = option_map_or (operand calls.old.top.vars) s 0 in
+        state_of result calls.new memory output steps
+        ≡ returns p.now running calls.old.below value }
+{
+    let value = match s {
+        Some(s) => calls.value(s),
+        None => 0,
+    };
+    give_back(calls, p, value)
 }
 
 /// Whether a condition holds on two operands of the innermost call.
@@ -166,11 +184,8 @@ pub fn carry(
             }
         }
         Step::Invoke { callee, args, .. } => calls.enter(*callee as usize, args.as_slice()),
-        Step::Return { s: Some(s) } => {
-            let value = calls.value(*s);
-            return (give_back(calls, p, value), None);
-        }
-        Step::Return { s: None } | Step::End => return (give_back(calls, p, 0), None),
+        Step::Return { s } => return (give_back_of(calls, p, *s), None),
+        Step::End => return (give_back(calls, p, 0), None),
         Step::Halt => return (Phase::Stopped, None),
     }
     (Phase::Running, word)

@@ -24,6 +24,12 @@ use tta_list::Items;
 use tta_ops::UnitSet;
 use tta_reading::{Names, Word};
 
+/// A procedure has at most this many parameters.
+const MOST_PARAMS: usize = 8;
+
+/// A procedure has at most this many variables, with its parameters.
+const MOST_VARS: usize = 4096;
+
 impl<'t> Draft<'t> {
     /// The draft before the first line. It takes no memory.
     pub fn new(alloc: Global) -> Self
@@ -113,7 +119,7 @@ impl<'t> Draft<'t> {
         if self.is_taken(alloc, name, params)? {
             return Err(LineError::Refused(Refusal::Twice));
         }
-        if self.lines >= 65536 || params.len() > 8 {
+        if self.lines >= 65536 || params.len() > MOST_PARAMS {
             return Err(LineError::Refused(Refusal::TooMany));
         }
         self.begin(alloc, line, name, params)?;
@@ -279,7 +285,7 @@ impl<'t> Draft<'t> {
             return Err(LineError::Refused(Refusal::TooMany));
         }
         declare_names(alloc, &mut proc.vars, form)?;
-        if proc.vars.len() > 4096 {
+        if proc.vars.len() > MOST_VARS {
             return Err(LineError::Refused(Refusal::TooMany));
         }
         let Some(step) = step_of(alloc, units, &proc.vars, form) else {
