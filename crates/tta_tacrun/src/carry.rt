@@ -88,6 +88,17 @@ fn give_back_of(calls: &mut Calls, p: &Program, s: Option<Src>) -> Phase
     give_back(calls, p, value)
 }
 
+/// The innermost call has come to the end of its procedure, which gives back 0.
+fn end_call(calls: &mut Calls, p: &Program) -> Phase
+    requires { AreCallsOf p.now calls.old }
+    ensures loaded { AreCallsOf p.now calls.new }
+    ensures returned { (memory output : List ℕ) (steps : ℕ)
+        → let s = state_of Phase.Running calls.old memory output steps in
+        state_of result calls.new memory output steps ≡ returns p.now s calls.old.below 0 }
+{
+    give_back(calls, p, 0)
+}
+
 /// Whether a condition holds on two operands of the innermost call.
 fn is_held(
     calls: &Calls,
@@ -185,7 +196,7 @@ pub fn carry(
         }
         Step::Invoke { callee, args, .. } => calls.enter(*callee as usize, args.as_slice()),
         Step::Return { s } => return (give_back_of(calls, p, *s), None),
-        Step::End => return (give_back(calls, p, 0), None),
+        Step::End => return (end_call(calls, p), None),
         Step::Halt => return (Phase::Stopped, None),
     }
     (Phase::Running, word)
