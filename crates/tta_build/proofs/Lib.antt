@@ -1,4 +1,5 @@
 pub mod Lists
+pub mod Pushed
 pub mod Steps
 pub mod Cycles
 pub mod Shapes
