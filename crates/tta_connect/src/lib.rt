@@ -5,6 +5,7 @@
 mod fields;
 mod guards;
 mod net;
+mod places;
 mod ports;
 mod sets;
 

@@ -7,6 +7,7 @@ ghost use Rattle.tta_connect.specs.Net.{buses_within};
 
 use crate::fields::{all_wide_buses, plain_bits, signed_bits};
 use crate::guards::{guard_buses, guard_table};
+use crate::places::entry_at;
 use crate::ports::{
     ControlBuses, FileBuses, ImmBuses, UnitBuses, all_file_buses, all_imm_buses, all_unit_buses,
     control_buses,
@@ -82,7 +83,7 @@ impl Net {
     fn read_buses(&self, file: u8, index: u8) -> u16
         ensures { result ≡ port_buses self.now (source.Reg file index) }
     {
-        match self.files.get(usize::from(file)) {
+        match entry_at(self.files.as_slice(), file) {
             None => 0,
             Some(f) => buses_within(usize::from(index), usize::from(f.size), f.out),
         }
@@ -92,7 +93,7 @@ impl Net {
     fn long_buses(&self, unit: u8, index: u8) -> u16
         ensures { result ≡ port_buses self.now (source.Imm unit index) }
     {
-        match self.imms.get(usize::from(unit)) {
+        match entry_at(self.imms.as_slice(), unit) {
             None => 0,
             Some(i) => buses_within(usize::from(index), usize::from(i.size), i.out),
         }
@@ -102,7 +103,7 @@ impl Net {
     fn result_buses(&self, unit: u8) -> u16
         ensures { result ≡ port_buses self.now (source.Shown unit) }
     {
-        match self.units.get(usize::from(unit)) {
+        match entry_at(self.units.as_slice(), unit) {
             None => 0,
             Some(u) => u.result,
         }
@@ -136,7 +137,7 @@ impl Net {
     fn write_buses(&self, file: u8, index: u8) -> u16
         ensures { result ≡ dest_buses self.now (dest.Reg file index) }
     {
-        match self.files.get(usize::from(file)) {
+        match entry_at(self.files.as_slice(), file) {
             None => 0,
             Some(f) => buses_within(usize::from(index), usize::from(f.size), f.into),
         }
@@ -146,7 +147,7 @@ impl Net {
     fn operand_buses(&self, unit: u8) -> u16
         ensures { result ≡ dest_buses self.now (dest.Operand unit) }
     {
-        match self.units.get(usize::from(unit)) {
+        match entry_at(self.units.as_slice(), unit) {
             None => 0,
             Some(u) => u.operand,
         }
@@ -156,7 +157,7 @@ impl Net {
     fn trigger_buses(&self, unit: u8, op: u8) -> u16
         ensures { result ≡ dest_buses self.now (dest.Trigger unit op) }
     {
-        match self.units.get(usize::from(unit)) {
+        match entry_at(self.units.as_slice(), unit) {
             None => 0,
             Some(u) => buses_within(usize::from(op), u.ops, u.trigger),
         }

@@ -5,6 +5,7 @@ ghost use Rattle.tta_machine.specs.Rules.{IsMachine};
 ghost use Rattle.tta_connect.specs.Ports.{socket_buses, file_buses, imm_buses, unit_buses};
 ghost use Rattle.tta_connect.specs.Ports.{control_buses};
 
+use crate::places::entry_at;
 use std::alloc::{AllocError, Global};
 use tta_machine::{File, ImmUnit, Machine, Unit};
 
@@ -57,7 +58,7 @@ fn socket_buses(m: &Machine, input: bool, socket: Option<u8>) -> u16
     let Some(k) = socket else {
         return 0;
     };
-    match m.sockets.as_slice().get(usize::from(k)) {
+    match entry_at(m.sockets.as_slice(), k) {
         None => 0,
         Some(s) => buses_where(s.input == input, s.buses),
     }
