@@ -1,4 +1,4 @@
--- Texts at each limit, which are read up to their end, where control is missing; and texts one past it, refused at the last line.
+-- Texts one past each limit: they are refused at the line past it, so all lines before it are read.
 use Rattle.std.specs.Prelude.{◌≡◌, ℕ, ◌+◌, ◌/◌, ◌%◌, List, [], ◌∷◌, ◌++◌, map, replicate, Err, refl, codes}
 use Rattle.std.proofs.Common.{lit<}
 use Rattle.tta_ops.specs.Units.{Units}
@@ -20,41 +20,21 @@ lines n front back = map (λ k. front ++ name k ++ back) (numbers n)
 abbrev start : List (List ℕ)
 start = codes "bus B short 32 signed" ∷ codes "socket I in B" ∷ codes "socket O out B" ∷ []
 
-buses-at_limit : read (lines 16 (codes "bus ") (codes " short 32 signed")) ≡ Err (0, Missing)
-unfolding read
-buses-at_limit = refl
-
 buses-past_limit : read (lines 17 (codes "bus ") (codes " short 32 signed")) ≡ Err (17, Range)
 unfolding read
 buses-past_limit = refl
-
-sockets-at_limit : read (start ++ lines 126 (codes "socket ") (codes " in B")) ≡ Err (0, Missing)
-unfolding read
-sockets-at_limit = refl
 
 sockets-past_limit : read (start ++ lines 127 (codes "socket ") (codes " in B")) ≡ Err (130, Range)
 unfolding read
 sockets-past_limit = refl
 
-files-at_limit : read (start ++ lines 8 (codes "file ") (codes " width 32 size 64 read 16 write 16 out O in I")) ≡ Err (0, Missing)
-unfolding read
-files-at_limit = refl
-
-files-past_limit : read (start ++ lines 9 (codes "file ") (codes " width 1 size 1 read 1 write 1 out O in I")) ≡ Err (12, Range)
+files-past_limit : read (start ++ lines 9 (codes "file ") (codes " width 32 size 64 read 16 write 16 out O in I")) ≡ Err (12, Range)
 unfolding read
 files-past_limit = refl
-
-imms-at_limit : read (start ++ lines 4 (codes "imm ") (codes " size 16 out O")) ≡ Err (0, Missing)
-unfolding read
-imms-at_limit = refl
 
 imms-past_limit : read (start ++ lines 5 (codes "imm ") (codes " size 16 out O")) ≡ Err (8, Range)
 unfolding read
 imms-past_limit = refl
-
-units-at_limit : read (start ++ lines 32 (codes "unit ") (codes " t I")) ≡ Err (0, Missing)
-unfolding read
-units-at_limit = refl
 
 units-past_limit : read (start ++ lines 33 (codes "unit ") (codes " t I")) ≡ Err (36, Range)
 unfolding read
@@ -67,17 +47,9 @@ guards = map (λ k. codes "guard B G." ++ digits k ++ codes " plain") (numbers 6
 abbrev conditions : List ℕ
 conditions = codes "file G width 1 size 64 read 1 write 1 out O in I"
 
-guards-at_limit : read (start ++ conditions ∷ guards) ≡ Err (0, Missing)
-unfolding read
-guards-at_limit = refl
-
 guards-past_limit : read (start ++ conditions ∷ guards ++ codes "guard B G.0 inverted" ∷ []) ≡ Err (69, Range)
 unfolding read
 guards-past_limit = refl
-
-templates-at_limit : read (start ++ codes "imm J size 1 out O" ∷ lines 8 (codes "template ") (codes " J.0 B")) ≡ Err (0, Missing)
-unfolding read
-templates-at_limit = refl
 
 templates-past_limit : read (start ++ codes "imm J size 1 out O" ∷ lines 9 (codes "template ") (codes " J.0 B")) ≡ Err (13, Range)
 unfolding read
@@ -96,10 +68,6 @@ many = record {
   paired = refl;
   few = lit< tt;
 }
-
-ops-at_limit : read_with many (start ++ codes "unit U t I r O" ∷ lines 32 (codes "op U ") (codes " 16")) ≡ Err (0, Missing)
-unfolding read_with
-ops-at_limit = refl
 
 ops-past_limit : read_with many (start ++ codes "unit U t I r O" ∷ lines 33 (codes "op U ") (codes " 16")) ≡ Err (37, Range)
 unfolding read_with
