@@ -5,7 +5,6 @@
 mod fields;
 mod guards;
 mod net;
-mod places;
 mod ports;
 mod sets;
 

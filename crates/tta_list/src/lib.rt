@@ -4,6 +4,8 @@
 
 mod items;
 mod name;
+mod places;
 
 pub use items::Items;
 pub use name::Name;
+pub use places::entry_at;

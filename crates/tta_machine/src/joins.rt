@@ -9,8 +9,8 @@ ghost use Rattle.tta_machine.specs.Layout.{has_source_socket};
 use crate::ends::{Dest, Source};
 use crate::machine::Machine;
 use crate::parts::Guard;
-use crate::places::part_at;
 use std::alloc::{AllocError, Global};
+use tta_list::entry_at;
 
 /// Whether a set of buses has this one. Bit k of the set stands for bus k.
 pub fn has_bus(buses: u16, bus: usize) -> bool
@@ -35,15 +35,15 @@ fn source_socket(m: &Machine, src: Source) -> Option<u8>
     ensures { result ≡ source_socket m.now src }
 {
     match src {
-        Source::Reg { file, index } => match part_at(m.files.as_slice(), file) {
+        Source::Reg { file, index } => match entry_at(m.files.as_slice(), file) {
             Some(f) => within(index, f.size, f.out),
             None => None,
         },
-        Source::Imm { unit, index } => match part_at(m.imms.as_slice(), unit) {
+        Source::Imm { unit, index } => match entry_at(m.imms.as_slice(), unit) {
             Some(u) => within(index, u.size, u.out),
             None => None,
         },
-        Source::Shown { unit } => match part_at(m.units.as_slice(), unit) {
+        Source::Shown { unit } => match entry_at(m.units.as_slice(), unit) {
             Some(u) => u.result,
             None => None,
         },
@@ -57,15 +57,15 @@ fn dest_socket(m: &Machine, dst: Dest) -> Option<u8>
     ensures { result ≡ dest_socket m.now dst }
 {
     match dst {
-        Dest::Reg { file, index } => match part_at(m.files.as_slice(), file) {
+        Dest::Reg { file, index } => match entry_at(m.files.as_slice(), file) {
             Some(f) => within(index, f.size, f.into),
             None => None,
         },
-        Dest::Operand { unit } => match part_at(m.units.as_slice(), unit) {
+        Dest::Operand { unit } => match entry_at(m.units.as_slice(), unit) {
             Some(u) => u.operand,
             None => None,
         },
-        Dest::Trigger { unit, op } => match part_at(m.units.as_slice(), unit) {
+        Dest::Trigger { unit, op } => match entry_at(m.units.as_slice(), unit) {
             Some(u) if (op as usize) < u.ops.len() => Some(u.trigger),
             _ => None,
         },
@@ -80,7 +80,7 @@ fn has_socket(m: &Machine, input: bool, socket: Option<u8>, bus: usize) -> bool
     let Some(k) = socket else {
         return false;
     };
-    match part_at(m.sockets.as_slice(), k) {
+    match entry_at(m.sockets.as_slice(), k) {
         None => false,
         Some(s) => s.input == input && has_bus(s.buses, bus),
     }

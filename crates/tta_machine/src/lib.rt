@@ -8,7 +8,6 @@ mod joins;
 mod layout;
 mod machine;
 mod parts;
-mod places;
 mod reading;
 mod word;
 

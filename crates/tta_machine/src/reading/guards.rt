@@ -13,11 +13,11 @@ ghost use Rattle.tta_machine.specs.Seen.{Declares, formed, guard_seen};
 
 use crate::ends::GuardRef;
 use crate::parts::{File, Guard};
-use crate::places::part_at;
 use crate::reading::draft::Draft;
 use crate::reading::forms::GuardForm;
 use crate::reading::refusal::{LineError, Refusal};
 use crate::reading::syntax;
+use tta_list::entry_at;
 use tta_reading::Word;
 
 impl Draft {
@@ -82,7 +82,7 @@ fn is_outside(width: u8, size: u8, index: u32, guards: &[Guard]) -> bool
 fn shape_at(files: &[File], place: u8) -> Option<(u8, u8)>
     ensures { result ≡ option_map (λ f. (f.width, f.size)) (slice_get files.now place) }
 {
-    match part_at(files, place) {
+    match entry_at(files, place) {
         Some(file) => Some((file.width, file.size)),
         None => None,
     }

@@ -13,11 +13,10 @@ ghost use Rattle.tta_machine.specs.Declarations.{port_named};
 ghost use Rattle.tta_machine.specs.Rules.{is_socket};
 
 use crate::parts::Socket;
-use crate::places::part_at;
 use crate::reading::draft::{Draft, Named};
 use crate::reading::refusal::LineError;
 use std::alloc::Global;
-use tta_list::Items;
+use tta_list::{Items, entry_at};
 use tta_reading::Names;
 
 impl Draft {
@@ -146,7 +145,7 @@ fn only_of_direction(sockets: &[Socket], input: bool, place: u8) -> Option<u8>
 fn is_socket(sockets: &[Socket], input: bool, place: u8) -> bool
     ensures { result ≡ is_socket sockets.now input place }
 {
-    match part_at(sockets, place) {
+    match entry_at(sockets, place) {
         Some(socket) => socket.input == input,
         None => false,
     }

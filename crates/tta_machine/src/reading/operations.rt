@@ -18,13 +18,13 @@ ghost use Rattle.tta_machine.specs.Seen.{Declares, formed};
 ghost use Rattle.tta_machine.specs.Services.{IsOffered};
 
 use crate::parts::{Op, Unit, UnitOp};
-use crate::places::part_at;
 use crate::reading::draft::Draft;
 use crate::reading::limits::is_from_to;
 use crate::reading::refusal::{LineError, Refusal};
 use crate::reading::services::is_served;
 use crate::reading::syntax;
 use std::alloc::AllocError;
+use tta_list::entry_at;
 use tta_ops::UnitSet;
 use tta_reading::Word;
 
@@ -47,7 +47,7 @@ impl Draft {
         let Some(place) = self.unit_named(form.unit) else {
             return Err(LineError::Refused(Refusal::Unknown));
         };
-        let Some(unit) = part_at(self.units.as_slice(), place) else {
+        let Some(unit) = entry_at(self.units.as_slice(), place) else {
             return Err(LineError::Refused(Refusal::Unknown));
         };
         let Some(op) = op_named(units, form.latency, form.operation) else {

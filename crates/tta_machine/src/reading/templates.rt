@@ -12,14 +12,13 @@ ghost use Rattle.tta_machine.specs.Seen.{Declares, formed};
 ghost use Rattle.tta_machine.specs.Templates.{with_template};
 
 use crate::parts::{ImmUnit, Template};
-use crate::places::part_at;
 use crate::reading::draft::{Draft, Named};
 use crate::reading::limits::is_too_long;
 use crate::reading::lookups::add_part;
 use crate::reading::refusal::{LineError, Refusal};
 use crate::reading::syntax;
 use std::alloc::Global;
-use tta_list::Name;
+use tta_list::{Name, entry_at};
 use tta_reading::Word;
 
 impl Draft {
@@ -102,7 +101,7 @@ impl Draft {
 fn size_at(imms: &[ImmUnit], place: u8) -> Option<u8>
     ensures { result ≡ option_map (λ i. i.size) (slice_get imms.now place) }
 {
-    match part_at(imms, place) {
+    match entry_at(imms, place) {
         Some(imm) => Some(imm.size),
         None => None,
     }
