@@ -97,6 +97,7 @@ sample = record {
       ∷ [];
 }
 
+-- the assembly text of this code, a line for each instruction
 abbrev sample_text : List ℕ
 sample_text = codes "!G.0 R.1 -> S.7 , ... , ... [L=2147483648] ;\nI.0 -> ALU.o , MUL.r -> IO.t.out , gcu.ra -> gcu.t.call ;\n"
 

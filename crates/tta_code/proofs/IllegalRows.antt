@@ -10,9 +10,11 @@ use Rattle.tta_code.specs.declared.code.Instruction.{Instruction}
 use Rattle.tta_code.specs.declared.legality.Illegal.TheVariants.{TakenBus, Unjoined, ReadPorts, WritePorts, TwoIntoOne}
 use Rattle.tta_code.specs.Illegal.{first_illegal}
 
+-- an unguarded move from a source to a destination
 abbrev go : Source → Dest → Option Move
 go src dst = Some (record { guard = None; src = src; dst = dst })
 
+-- an instruction with these three slots and without a long immediate
 abbrev three : Option Move → Option Move → Option Move → Instruction
 three a b c = record { moves = a ∷ b ∷ c ∷ []; long = None }
 
@@ -24,12 +26,15 @@ wide a b c = record { moves = a ∷ b ∷ c ∷ []; long = Some (record { templa
 abbrev r : ℕ → Source
 r i = source.Reg 0 i
 
+-- register i of the first file as the destination of a move
 abbrev into : ℕ → Dest
 into i = dest.Reg 0 i
 
+-- register i of the second file as the source of a move
 abbrev s : ℕ → Source
 s i = source.Reg 1 i
 
+-- register i of the second file as the destination of a move
 abbrev into_s : ℕ → Dest
 into_s i = dest.Reg 1 i
 

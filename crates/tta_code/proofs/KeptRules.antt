@@ -16,6 +16,7 @@ use Rattle.tta_code.proofs.PortLemmas.{reads_of, imms_of, writes_of, most_reads,
 
 -- ---- no rule is broken where each holds
 
+-- the moves of some buses keep each of the five rules of a cycle, while a template takes these buses
 pub record KeepsAll (m : Machine) (taken : ℕ) (slots : Slots) : Type 0 where
   pub untaken : keeps_taken taken slots ≡ true
   pub joined : is_joined m slots ≡ true
@@ -23,6 +24,7 @@ pub record KeepsAll (m : Machine) (taken : ℕ) (slots : Slots) : Type 0 where
   pub writes : has_writes m slots ≡ true
   pub apart : are_apart (ends_of slots) ≡ true
 
+-- all of the five rules hold
 abbrev AllTrue : (a b c d e : Bool) → Type 0
 AllTrue a b c d e = (a ≡ true) × (b ≡ true) × (c ≡ true) × (d ≡ true) × (e ≡ true)
 

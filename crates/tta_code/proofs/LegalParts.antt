@@ -8,6 +8,7 @@ use Rattle.tta_machine.specs.Legal.{ends_of as all_ends}
 use Rattle.tta_code.specs.declared.code.Instruction.{Instruction}
 use Rattle.tta_code.specs.Legal.{slots_of, taken, is_long, is_instruction, is_legal}
 
+-- the rules of a legal instruction one by one: a slot for each bus, a long immediate of the machine, and the five rules of a cycle
 pub record LegalParts (m : Machine) (i : Instruction) : Type 0 where
   pub count : (length i.moves == length m.buses) ≡ true
   pub long : option_map_or (is_long m) i.long true ≡ true

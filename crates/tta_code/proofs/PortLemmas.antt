@@ -43,18 +43,23 @@ dest_file m bus file index on = by (slice_get m.files file) refl on where
   by None at h = absurd (false≢true h)
   by (Some f) at h = slice_get_within m.files file f at
 
+-- how many of some moves read a register of this file
 abbrev pub reads_of : List Ends → ℕ → ℕ
 reads_of vs file = count_by (λ v. reads_file file v.src) vs
 
+-- how many of some moves read a register of this immediate unit
 abbrev pub imms_of : List Ends → ℕ → ℕ
 imms_of vs unit = count_by (λ v. reads_imm unit v.src) vs
 
+-- how many of some moves write a register of this file
 abbrev pub writes_of : List Ends → ℕ → ℕ
 writes_of vs file = count_by (λ v. writes_file file v.dst) vs
 
+-- how many moves of a cycle may read a file, none where the machine has no such file
 abbrev pub most_reads : Machine → ℕ → ℕ
 most_reads m file = option_map_or (λ f. f.read) (slice_get m.files file) 0
 
+-- how many moves of a cycle may write a file, none where the machine has no such file
 abbrev pub most_writes : Machine → ℕ → ℕ
 most_writes m file = option_map_or (λ f. f.write) (slice_get m.files file) 0
 
@@ -62,9 +67,11 @@ most_writes m file = option_map_or (λ f. f.write) (slice_get m.files file) 0
 abbrev pub has_file_reads : Machine → List Ends → Bool
 has_file_reads m vs = all_below (λ f. nat_le (reads_of vs f) (most_reads m f)) (length m.files)
 
+-- no immediate unit is read by two of the moves
 abbrev pub has_imm_reads : Machine → List Ends → Bool
 has_imm_reads m vs = all_below (λ u. nat_le (imms_of vs u) 1) (length m.imms)
 
+-- no file is written by more of the moves than may write it
 abbrev pub has_file_writes : Machine → List Ends → Bool
 has_file_writes m vs = all_below (λ f. nat_le (writes_of vs f) (most_writes m f)) (length m.files)
 
@@ -74,6 +81,7 @@ read_left m vs (source.Reg file index) = nat_lt (reads_of vs file) (most_reads m
 read_left m vs (source.Imm unit index) = nat_lt (imms_of vs unit) 1
 read_left m vs src = true
 
+-- whether moves leave room for one more write into the file of a destination, where it is a register
 abbrev pub write_left : Machine → List Ends → Dest → Bool
 write_left m vs (dest.Reg file index) = nat_lt (writes_of vs file) (most_writes m file)
 write_left m vs dst = true
@@ -138,6 +146,7 @@ writes_more m vs v bus dest.Halt is on files = file_writes-same m vs v (λ k. ap
 
 -- ---- moves as they stand in an instruction
 
+-- the buses of a cycle with the moves of an instruction on them
 abbrev pub slots_from : List (Option Move) → Slots
 slots_from moves = map (option_map move_ends) moves
 

@@ -17,29 +17,37 @@ use Rattle.tta_code.specs.Cycle.{cyc, Halted, Fault, next}
 pub record Multiplies (u : Units) : Type 0 where
   pub product : (a b : ℕ) → u.value 2 a b ≡ a * b % 2 ^ 32
 
+-- an unguarded move from a source to a destination
 abbrev go : Source → Dest → Option Move
 go src dst = Some (record { guard = None; src = src; dst = dst })
 
+-- an instruction with these three slots and without a long immediate
 abbrev three : Option Move → Option Move → Option Move → Instruction
 three a b c = record { moves = a ∷ b ∷ c ∷ []; long = None }
 
+-- an instruction with a slot on bus 0 and nothing on the other buses
 abbrev one : Option Move → Instruction
 one a = three a None None
 
+-- an instruction that moves nothing
 abbrev none : Instruction
 none = three None None None
 
+-- register i of the first file as the source of a move
 abbrev r : ℕ → Source
 r i = source.Reg 0 i
 
+-- register i of the first file as the destination of a move
 abbrev into : ℕ → Dest
 into i = dest.Reg 0 i
 
+-- the trigger port of the unit that puts words out
 abbrev out : Dest
 out = dest.Trigger 3 0
 
 -- ---- two registers change places, since all moves of a cycle read before any writes
 
+-- a program that exchanges the words 1 and 2 of two registers in one cycle and puts both out
 abbrev swap : Code
 swap = record {
   words = one (go (source.Value 1) (into 1))
@@ -69,6 +77,7 @@ swap-legal = refl
 
 -- ---- a product shows three cycles after its start, and not before
 
+-- a program that starts the product of 5 and 6, waits for as long as these instructions take, and puts out what the unit shows
 abbrev product : List Instruction → Code
 product waits = record {
   words = three (go (source.Value 5) (dest.Operand 1)) (go (source.Value 6) (dest.Trigger 1 0)) None
@@ -89,6 +98,7 @@ early-faults u = refl
 
 -- ---- a guarded jump with two delay slots
 
+-- a program whose guarded jump, taken where the condition is 1, decides between the outputs 12 and 13
 abbrev branch : ℕ → Code
 branch condition = record {
   words = one (go (source.Value condition) (dest.Reg 2 0))
@@ -121,6 +131,7 @@ branch-not_taken-ends u = refl
 
 -- ---- a word of -1 and a long immediate without moves; then the code ends
 
+-- a program of a short immediate of -1 and a long immediate, which does not halt
 abbrev pub wide : Code
 wide = record {
   words = one (go (source.Value 4294967295) (into 1))

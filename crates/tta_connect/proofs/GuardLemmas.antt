@@ -87,6 +87,7 @@ place_from_same a b same = (index, by a.inverted b.inverted whole.1) where
 
 -- ---- one guard more
 
+-- whether a guard of a machine is of this bus, and of the register and the sense that a move names
 abbrev pub is_for : GuardRef → (bus : ℕ) → Guard → Bool
 is_for on bus g = g.bus == bus && is_same_guard g.on on
 

@@ -93,6 +93,7 @@ same_guard_itself a =
       alike true = refl
       alike false = refl
 
+-- whether a guard is written for this bus
 abbrev of_bus : ℕ → Guard → Bool
 of_bus bus g = g.bus == bus
 

@@ -87,9 +87,11 @@ joined_at : (m : Machine) (bus : ℕ) (s : Option Move) → option_map_or (λ v.
 joined_at m bus None h = refl
 joined_at m bus (Some v) h = h
 
+-- the rule of one bus that it has no move where a template takes it
 abbrev keep_test : (taken : ℕ) → ℕ → Option Ends → Bool
 keep_test taken bus o = is_none o || not (has_bit taken bus)
 
+-- the rule of one bus that it joins the ends of its move, with its guard
 abbrev join_test : Machine → ℕ → Option Ends → Bool
 join_test m bus o = option_map_or (λ v. joins m bus v.src v.dst v.guard) o true
 
@@ -105,6 +107,7 @@ pub empty_where_taken : (taken bus : ℕ) (s : Option Move) → has_bit taken bu
 empty_where_taken taken bus None is kept = refl
 empty_where_taken taken bus (Some v) is kept = absurd (false≢true (rw is at kept))
 
+-- two instructions have the same bits of a long immediate and the same slots
 abbrev Same : List Bool → List Bool → List (Option Move) → List (Option Move) → Type 0
 Same long long' slots slots' = (long ≡ long') × (slots ≡ slots')
 
@@ -196,6 +199,7 @@ pub record IsWhole (m : Machine) (moves : List (Option Move)) (long : Option Lon
   pub template : option_map_or (is_long m) long true ≡ true
   pub slots : AreLegal m (takes m long) 0 moves
 
+-- the bits of the instruction that has these moves and this long immediate
 abbrev whole_bits : Machine → List (Option Move) → Option Long → List Bool
 whole_bits m moves long = bits_of (template_width m) (template_code long) ++ slots_bits m (takes m long) (long_bits m (takes m long) long) 0 moves
 

@@ -113,6 +113,7 @@ abbrev pub is_joined_slot : Machine → ℕ → Option Move → Bool
 is_joined_slot m bus None = true
 is_joined_slot m bus (Some v) = joins m bus v.src v.dst v.guard
 
+-- a bus can take the word of a move from its source, can bring it to its destination, and has its guard
 abbrev pub Joined : Machine → ℕ → Move → Type 0
 Joined m bus v = (is_source_on m bus v.src ≡ true) × (is_dest_on m bus v.dst ≡ true) × (has_guard m bus v.guard ≡ true)
 

@@ -26,6 +26,7 @@ pub passes : {A E : Type 0} (test : Bool) (e : E) (next : Result A E) (x : A) �
 passes true e next x h = absurd (cc)
 passes false e next x h = (refl, h)
 
+-- a machine can carry out each of these instructions
 abbrev pub AreLegalWords : Machine → List Instruction → Type 0
 AreLegalWords m is = AllByRecursion (λ i. IsTrue (is_legal m i)) is
 

@@ -75,6 +75,7 @@ set_bit bits at width n is all =
 
 -- ---- the whole image
 
+-- the code that consists of the instructions of an image, one from each word
 abbrev pub code_of_words : List Instruction → Code
 code_of_words words = record { words = words }
 

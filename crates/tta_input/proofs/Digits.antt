@@ -60,6 +60,7 @@ pub record Decodes (digits : List ℕ) (read : Result (List ℕ) FromHexError) :
   pub count : (bytes : List ℕ) → read ≡ Ok bytes → length digits ≡ 2 * length bytes
   pub other : (e : FromHexError) → read ≡ Err e → length digits % 2 ≡ 0 → list_all is_ascii_hexdigit digits ≡ false
 
+-- the bytes that digits were decoded to, or no bytes where they were refused
 abbrev bytes_of : Result (List ℕ) FromHexError → List ℕ
 bytes_of (Ok bytes) = bytes
 bytes_of (Err e) = []

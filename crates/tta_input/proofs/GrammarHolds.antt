@@ -19,10 +19,12 @@ record First (line : List ℕ) (lines : List (List ℕ)) (bytes : List ℕ) : Ty
   ends : IsLineEnd ending behind
   others : lines_of behind ≡ lines
 
+-- the first of some lines, or an empty one where there is none
 abbrev head_of : List (List ℕ) → List ℕ
 head_of [] = []
 head_of (line ∷ lines) = line
 
+-- the lines behind the first one
 abbrev tail_of : List (List ℕ) → List (List ℕ)
 tail_of [] = []
 tail_of (line ∷ lines) = lines
@@ -178,6 +180,7 @@ lines_are_words (word ∷ words) bytes (behind, l, rest) = one_more word words b
 
 -- ---- the memory
 
+-- the memory that the lines of an input fill, or no words where a line was refused
 abbrev memory_in : Result (List ℕ) ℕ → List ℕ
 memory_in (Ok memory) = memory
 memory_in (Err line) = []

@@ -27,6 +27,7 @@ pub record ByKind : Type 0 where
   pub controls : List ControlForm
   pub spaces : List SpaceForm
 
+-- the lines of a machine text, sorted into those of each kind
 abbrev pub by_kind : List Line → ByKind
 by_kind lines = record {
   all = list_all is_declaration lines;
@@ -70,6 +71,7 @@ one_line test words = record {
   space = only_if (test (codes "space")) (space_form words);
 }
 
+-- a line that declares nothing of any kind
 abbrev pub no_line : OneLine
 no_line = record { bus = None; socket = None; file = None; imm = None; unit = None; op = None; guard = None; template = None; control = None; space = None }
 

@@ -10,6 +10,7 @@ use Rattle.tta_machine.proofs.Readings.{read, read_with, distinct_from, arities_
 abbrev name : ℕ → List ℕ
 name k = 78 ∷ (65 + k / 16) ∷ (65 + k % 16) ∷ []
 
+-- a number below 100 in two decimal digits
 abbrev digits : ℕ → List ℕ
 digits k = (48 + k / 10) ∷ (48 + k % 10) ∷ []
 
@@ -17,6 +18,7 @@ digits k = (48 + k / 10) ∷ (48 + k % 10) ∷ []
 abbrev lines : (n : ℕ) → (front back : List ℕ) → List (List ℕ)
 lines n front back = map (λ k. front ++ name k ++ back) (numbers n)
 
+-- the lines of a bus and of a socket in each direction, on which the parts of these texts stand
 abbrev start : List (List ℕ)
 start = codes "bus B short 32 signed" ∷ codes "socket I in B" ∷ codes "socket O out B" ∷ []
 
@@ -44,6 +46,7 @@ units-past_limit = refl
 abbrev guards : List (List ℕ)
 guards = map (λ k. codes "guard B G." ++ digits k ++ codes " plain") (numbers 64)
 
+-- the line of a file of 64 registers of one bit, on which guards stand
 abbrev conditions : List ℕ
 conditions = codes "file G width 1 size 64 read 1 write 1 out O in I"
 

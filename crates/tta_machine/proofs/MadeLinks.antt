@@ -27,12 +27,15 @@ use Rattle.tta_machine.proofs.Steps.{then-ok, some-ok, refuse_if-ok, same_ok}
 
 -- ---- operations
 
+-- the operation that a line gives to a unit, with its number of words, and with latency 0 where the line has none
 abbrev pub unit_op : Units → Op → Option ℕ → UnitOp
 unit_op u o latency = record { op = o; arity = arity_of u o; latency = option_map_or (λ l. l) latency 0 }
 
+-- the draft whose k-th unit is this one with an operation more
 abbrev pub op_added : Draft → ℕ → OpUnit → UnitOp → Draft
 op_added d k unit o = record d { units = slice_set d.units k (with_op unit o) }
 
+-- what is known of a draft with the operation of a line added to its unit
 pub record OpMade (u : Units) (d e : Draft) (f : OpForm) : Type 0 where
   pub k : ℕ
   pub unit : OpUnit
@@ -69,12 +72,15 @@ take_op-made u d e f h =
 
 -- ---- guards and templates
 
+-- the guard of a line, written for this bus and on a register of this file
 abbrev pub guard_of : GuardForm → (bus file : ℕ) → Guard
 guard_of f bus file = record { bus = bus; on = record { file = file; index = f.index; inverted = f.inverted } }
 
+-- the draft with a guard more
 abbrev pub guard_added : Draft → Guard → Draft
 guard_added d guard = record d { guards = d.guards ++ guard ∷ [] }
 
+-- what is known of a draft with the guard of a line added
 pub record GuardMade (d e : Draft) (f : GuardForm) : Type 0 where
   pub bus : ℕ
   pub file : ℕ
@@ -106,9 +112,11 @@ take_guard-made d e f h =
       made = same_ok (guard_added d (guard_of f bus.0 file.0)) e range.1;
     }
 
+-- the template of a line, which takes these buses and writes a register of this immediate unit
 abbrev pub template_of : TemplateForm → (imm : ℕ) → List ℕ → Template
 template_of f imm buses = record { name = f.name; imm = imm; reg = f.index; buses = bus_set buses }
 
+-- the draft with the template of a line more, its name, and the number of that line
 abbrev pub template_added : (line : ℕ) → Draft → TemplateForm → (imm : ℕ) → List ℕ → Draft
 template_added line d f imm buses = record d {
   names = d.names ++ (f.name, place.Template (length d.templates)) ∷ [];
@@ -116,6 +124,7 @@ template_added line d f imm buses = record d {
   template_lines = d.template_lines ++ line ∷ [];
 }
 
+-- what is known of a draft with the template of a line added
 pub record TemplateMade (line : ℕ) (d e : Draft) (f : TemplateForm) : Type 0 where
   pub imm : ℕ
   pub unit : ImmUnit
@@ -152,12 +161,15 @@ take_template-made line d e f h =
 
 -- ---- control and spaces
 
+-- the control unit of a line, behind the sockets of its trigger port and of its return address, if that can be read
 abbrev pub control_of : ControlForm → (trigger : ℕ) → Option ℕ → Control
 control_of f trigger ra = record { delay = f.delay; address = f.address; trigger = trigger; ra = ra }
 
+-- the draft with its control unit
 abbrev pub control_added : Draft → Control → Draft
 control_added d control = record d { control = Some control }
 
+-- what is known of a draft with the control unit of a line added
 pub record ControlMade (d e : Draft) (f : ControlForm) : Type 0 where
   pub trigger : ℕ
   pub ra : Option ℕ
@@ -184,6 +196,7 @@ take_control-made d e f h =
       made = same_ok (control_added d (control_of f trigger.0 ra.0)) e range.1;
     }
 
+-- the draft with these sizes of its data space and its frame space, where they are declared
 abbrev pub spaces_added : Draft → (words frame : Option ℕ) → Draft
 spaces_added d words frame = record d { data_words = words; frame_words = frame }
 
@@ -194,6 +207,7 @@ pub record DataMade (d e : Draft) (f : SpaceForm) : Type 0 where
   pub few : f.size ≤ 2 ^ 20
   pub made : spaces_added d (Some f.size) d.frame_words ≡ e
 
+-- what is known of a draft with the frame space of a line added
 pub record FrameMade (d e : Draft) (f : SpaceForm) : Type 0 where
   pub of_frame : f.is_data ≡ false
   pub first : is_some d.frame_words ≡ false

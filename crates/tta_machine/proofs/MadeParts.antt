@@ -19,15 +19,18 @@ use Rattle.tta_machine.proofs.Steps.{then-ok, some-ok, refuse_if-ok, same_ok}
 
 -- ---- buses and sockets
 
+-- the bus that a line declares
 abbrev pub bus_of : BusForm → Bus
 bus_of f = record { name = f.name; short = f.short; signed = f.signed }
 
+-- the draft with the bus of a line more, and with its name
 abbrev pub bus_added : Draft → BusForm → Draft
 bus_added d f = record d {
   names = d.names ++ (f.name, place.Bus (length d.buses)) ∷ [];
   buses = d.buses ++ bus_of f ∷ [];
 }
 
+-- what is known of a draft with the bus of a line added
 pub record BusMade (d e : Draft) (f : BusForm) : Type 0 where
   pub free : is_taken d f.name ≡ false
   pub range : (not (is_from_to 1 32 f.short) || is_too_long f.name || nat_le 16 (length d.buses)) ≡ false
@@ -40,15 +43,18 @@ take_bus-made d e f h =
     let range = refuse_if-ok (not (is_from_to 1 32 f.short) || is_too_long f.name || nat_le 16 (length d.buses)) Range _ e free.1 in
     record { free = free.0; range = range.0; made = same_ok (bus_added d f) e range.1 }
 
+-- the socket that a line declares, which joins these buses
 abbrev pub socket_of : SocketForm → List ℕ → Socket
 socket_of f buses = record { name = f.name; input = f.input; buses = bus_set buses }
 
+-- the draft with the socket of a line more, and with its name
 abbrev pub socket_added : Draft → SocketForm → List ℕ → Draft
 socket_added d f buses = record d {
   names = d.names ++ (f.name, place.Socket (length d.sockets)) ∷ [];
   sockets = d.sockets ++ socket_of f buses ∷ [];
 }
 
+-- what is known of a draft with the socket of a line added
 pub record SocketMade (d e : Draft) (f : SocketForm) : Type 0 where
   pub buses : List ℕ
   pub found : buses_named d f.buses ≡ Some buses
@@ -75,9 +81,11 @@ take_socket-made d e f h =
 
 -- ---- files and immediate units
 
+-- the register file that a line declares, between its socket out and its socket in
 abbrev pub file_of : FileForm → (out into : ℕ) → File
 file_of f out into = record { name = f.name; width = f.width; size = f.size; read = f.read; write = f.write; out = out; into = into }
 
+-- the draft with the register file of a line more, and with its name
 abbrev pub file_added : Draft → FileForm → (out into : ℕ) → Draft
 file_added d f out into = record d {
   names = d.names ++ (f.name, place.File (length d.files)) ∷ [];
@@ -90,6 +98,7 @@ file_out_of_range d f =
     not (f.width == 1 || f.width == 32) || not (is_from_to 1 64 f.size) || not (is_from_to 1 16 f.read) || not (is_from_to 1 16 f.write)
     || is_too_long f.name || nat_le 8 (length d.files)
 
+-- what is known of a draft with the register file of a line added
 pub record FileMade (d e : Draft) (f : FileForm) : Type 0 where
   pub out : ℕ
   pub into : ℕ
@@ -108,15 +117,18 @@ take_file-made d e f h =
     let range = refuse_if-ok (file_out_of_range d f) Range _ e free.1 in
     record { out = out.0; into = into.0; found_out = out.1; found_into = into.1; free = free.0; range = range.0; made = same_ok (file_added d f out.0 into.0) e range.1 }
 
+-- the immediate unit that a line declares, behind its socket out
 abbrev pub imm_of : ImmForm → (out : ℕ) → ImmUnit
 imm_of f out = record { name = f.name; size = f.size; out = out }
 
+-- the draft with the immediate unit of a line more, and with its name
 abbrev pub imm_added : Draft → ImmForm → (out : ℕ) → Draft
 imm_added d f out = record d {
   names = d.names ++ (f.name, place.Imm (length d.imms)) ∷ [];
   imms = d.imms ++ imm_of f out ∷ [];
 }
 
+-- what is known of a draft with the immediate unit of a line added
 pub record ImmMade (d e : Draft) (f : ImmForm) : Type 0 where
   pub out : ℕ
   pub found : socket_named d false f.out ≡ Some out
@@ -134,15 +146,18 @@ take_imm-made d e f h =
 
 -- ---- units
 
+-- the unit that a line declares, with the sockets of its ports and without operations
 abbrev pub unit_of : UnitForm → (operand : Option ℕ) (trigger : ℕ) (result : Option ℕ) → OpUnit
 unit_of f operand trigger result = record { name = f.name; operand = operand; trigger = trigger; result = result; ops = [] }
 
+-- the draft with a unit more, and with its name
 abbrev pub unit_added : Draft → OpUnit → Draft
 unit_added d unit = record d {
   names = d.names ++ (unit.name, place.Unit (length d.units)) ∷ [];
   units = d.units ++ unit ∷ [];
 }
 
+-- what is known of a draft with the unit of a line added
 pub record UnitMade (d e : Draft) (f : UnitForm) : Type 0 where
   pub operand : Option ℕ
   pub trigger : ℕ

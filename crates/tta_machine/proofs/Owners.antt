@@ -11,6 +11,7 @@ use Rattle.tta_machine.specs.Rules.{has_one_owner}
 use Rattle.tta_machine.specs.Declarations.{has_op, has_other, with_op}
 use Rattle.tta_machine.proofs.Lists.{count_changed}
 
+-- the units that have an operation of this kind, and so serve its space or the output
 abbrev owners : (Op → Bool) → List OpUnit → List OpUnit
 owners kind units = filter (λ u. list_any (λ o. kind o.op) u.ops) units
 

@@ -53,18 +53,23 @@ name_among names k n e =
 
 -- ---- a draft
 
+-- the names of the buses of a draft, in the order of their lines
 abbrev pub bus_names_of : Draft → List (List ℕ)
 bus_names_of d = map (λ x. x.name) d.buses
 
+-- the names of its sockets, in that order
 abbrev pub socket_names_of : Draft → List (List ℕ)
 socket_names_of d = map (λ x. x.name) d.sockets
 
+-- the names of its register files, in that order
 abbrev pub file_names_of : Draft → List (List ℕ)
 file_names_of d = map (λ x. x.name) d.files
 
+-- the names of its immediate units, in that order
 abbrev pub imm_names_of : Draft → List (List ℕ)
 imm_names_of d = map (λ x. x.name) d.imms
 
+-- the names of its units, in that order
 abbrev pub unit_names_of : Draft → List (List ℕ)
 unit_names_of d = map (λ x. x.name) d.units
 

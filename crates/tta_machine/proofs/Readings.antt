@@ -42,11 +42,13 @@ arities_from arities h i within =
     let one : is_from_to 1 2 (get_or arities i 0) ≡ true = list_all_one (is_from_to 1 2) arities i (get_or arities i 0) h (slice_get-get_or arities i 0 within) in
     (from_to-least 1 2 (get_or arities i 0) one, (let most = from_to-greatest 1 2 (get_or arities i 0) one in omega arith))
 
+-- the names of the operations that the five standard units offer, in the order of their numbers
 abbrev standard_names : List (List ℕ)
 standard_names =
     codes "add" ∷ codes "sub" ∷ codes "mul" ∷ codes "mulhu" ∷ codes "neg" ∷ codes "and" ∷ codes "or" ∷ codes "xor" ∷ codes "not" ∷ codes "shl" ∷ codes "shr"
     ∷ codes "shru" ∷ codes "eq" ∷ codes "ne" ∷ codes "lt" ∷ codes "gt" ∷ codes "ltu" ∷ codes "gtu" ∷ codes "divu" ∷ codes "remu" ∷ []
 
+-- how many words each of these operations takes
 abbrev standard_arities : List ℕ
 standard_arities = 2 ∷ 2 ∷ 2 ∷ 2 ∷ 1 ∷ 2 ∷ 2 ∷ 2 ∷ 1 ∷ 2 ∷ 2 ∷ 2 ∷ 2 ∷ 2 ∷ 2 ∷ 2 ∷ 2 ∷ 2 ∷ 2 ∷ 2 ∷ []
 
@@ -83,6 +85,7 @@ read lines = read_with units lines
 
 -- ---- one bus
 
+-- the lines that declare the machine of one bus
 abbrev one_bus_lines : List (List ℕ)
 one_bus_lines =
     codes "bus B short 8 unsigned"
@@ -103,6 +106,7 @@ one_bus-blank_lines = refl
 
 -- ---- three buses
 
+-- the lines that declare the machine of three buses, up to its guards
 abbrev three_buses_front : List (List ℕ)
 three_buses_front =
     codes "bus B0 short 8 signed"
@@ -145,6 +149,7 @@ three_buses_front =
     ∷ codes "guard B1 G.0 inverted"
     ∷ []
 
+-- its lines behind the template: control and both spaces
 abbrev three_buses_back : List (List ℕ)
 three_buses_back =
     codes "control delay 2 address 12 t UI ra UO"

@@ -27,6 +27,7 @@ good_names (n ∷ ns) h =
 
 -- ---- one bus
 
+-- a machine of one bus and a unit that puts words out, without registers
 abbrev pub one_bus : Machine
 one_bus = record {
   buses = record { name = codes "B"; short = 8; signed = false } ∷ [];
@@ -53,21 +54,27 @@ one_bus-is_machine =
 
 -- ---- three buses
 
+-- a bus of the machine of three buses, by its name: with signed short immediates of 8 bits
 abbrev bus : List ℕ → Bus
 bus name = record { name = name; short = 8; signed = true }
 
+-- a socket that joins all three buses, by its name and direction
 abbrev socket : List ℕ → Bool → Socket
 socket name input = record { name = name; input = input; buses = 7 }
 
+-- a register file between the sockets of registers, RO and RI
 abbrev file : List ℕ → (width size read write : ℕ) → File
 file name width size read write = record { name = name; width = width; size = size; read = read; write = write; out = 1; into = 0 }
 
+-- an operation of the set of units, by its number, its number of words and its latency
 abbrev set : ℕ → ℕ → ℕ → UnitOp
 set id arity latency = record { op = Set (record { 0 = id }); arity = arity; latency = latency }
 
+-- a unit with an operand, a trigger and a result port, behind the sockets of units, UI and UO
 abbrev unit : List ℕ → List UnitOp → OpUnit
 unit name ops = record { name = name; operand = Some 2; trigger = 2; result = Some 3; ops = ops }
 
+-- a guard of a bus on the first condition, plain or inverted
 abbrev guard : ℕ → Bool → Guard
 guard b inverted = record { bus = b; on = record { file = 2; index = 0; inverted = inverted } }
 

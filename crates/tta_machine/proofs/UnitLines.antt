@@ -37,6 +37,7 @@ ops_one u f ops name o same is =
 abbrev pub with_ops : Units → List OpForm → OpUnit → OpUnit
 with_ops u ops unit = record unit { ops = unit.ops ++ ops_of u ops unit.name }
 
+-- a unit that has these operations in place of its own
 abbrev replaced : OpUnit → List UnitOp → OpUnit
 replaced unit ops = record unit { ops = ops }
 

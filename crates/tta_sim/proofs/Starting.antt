@@ -62,6 +62,7 @@ apart_filter_map same same' f tells (x ∷ xs) apart =
 abbrev meet_moves : Move → Move → Bool
 meet_moves v w = same_place v.dst w.dst
 
+-- two words that moves bring into one place
 abbrev meet_arrivals : Arrival → Arrival → Bool
 meet_arrivals a b = same_place a.dst b.dst
 

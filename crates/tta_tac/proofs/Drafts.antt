@@ -12,26 +12,33 @@ use Rattle.tta_tac.specs.Draft.{Unlinked, Plain, CallTo, ProcDraft, Draft, nothi
 use Rattle.tta_tac.specs.FirstPass.{take_form}
 use Rattle.tta_tac.proofs.Rows.{op, less, two}
 
+-- the name of the only parameter in these samples, which a label has too
 abbrev a : List ℕ
 a = codes "a"
 
+-- the name of a variable or of a label in these samples
 abbrev b : List ℕ
 b = codes "b"
 
+-- the name of a variable that one of these samples compares
 abbrev c : List ℕ
 c = codes "c"
 
+-- the name of the variable that a sample assigns
 abbrev d : List ℕ
 d = codes "d"
 
 -- ---- in a procedure f with the parameter a, after one line
 
+-- a sample procedure of one parameter that begins on line 1, with these variables, labels, steps and lines of steps
 abbrev begun : Declared ℕ → Declared ℕ → List Unlinked → List ℕ → ProcDraft
 begun vars labels steps lines = record { line = 1; params = 1; vars = vars; labels = labels; steps = steps; lines = lines }
 
+-- a draft after so many lines, in which a procedure f has begun and not ended
 abbrev inside : (lines : ℕ) → ProcDraft → Draft
 inside lines q = record { names = (codes "f", 0) ∷ []; procs = []; begun = Some q; lines = lines }
 
+-- the draft after the first line of f, which names its parameter a
 abbrev in_f : Draft
 in_f = inside 1 (begun ((a, 0) ∷ []) [] [] [])
 
@@ -103,9 +110,11 @@ operand-missing = refl
 
 -- ---- limits
 
+-- a draft in a procedure of so many variables, to reach their limit
 abbrev with_vars : ℕ → Draft
 with_vars n = inside 1 (begun (replicate n (a, 0)) [] [] [])
 
+-- why a line was refused, or none where it was taken
 abbrev taken : Result Draft Refusal → Option Refusal
 taken (Ok after) = None
 taken (Err e) = Some e

@@ -49,6 +49,7 @@ abbrev is_end : Step → Bool
 is_end step.End = true
 is_end s = false
 
+-- whether nothing is in a list, as behind the `end` of a procedure
 abbrev pub is_nil : {A : Type 0} → List A → Bool
 is_nil [] = true
 is_nil (x ∷ xs) = false

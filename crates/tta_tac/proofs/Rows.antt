@@ -11,17 +11,21 @@ use Rattle.tta_tac.specs.declared.program.Proc.{Proc}
 use Rattle.tta_tac.specs.Program.{Program}
 use Rattle.tta_tac.specs.Sequential.{seq, next, Halted, Running}
 
+-- the operation of a number in the set of units
 abbrev pub op : ℕ → OpId
 op id = record { 0 = id }
 
+-- a sample procedure of these steps, whose lines do not matter
 abbrev proc : (params vars : ℕ) → List Step → Proc
 proc params vars steps = record { params = params; vars = vars; steps = steps; lines = [] }
 
+-- a program of one procedure without parameters
 abbrev alone : ℕ → List Step → Program
 alone vars steps = record { procs = proc 0 vars steps ∷ []; main = 0 }
 
 -- ---- a call tree: the squares of 3 and 5, and 3, added up
 
+-- a program whose main adds the squares of 3 and 5 to 3, each square by a call, and puts out the sum
 abbrev squares : Program
 squares = record {
   procs = proc 1 2 (Apply 1 (op 2) (Var 0) (Var 0) ∷ Return (Some (Var 1)) ∷ End ∷ [])
@@ -46,6 +50,7 @@ squares-ends u = refl
 
 -- ---- a copy where a condition holds
 
+-- what lt gives of two small numbers: 1 where the first is less than the second, and else 0
 unfoldable pub less_value : ℕ → ℕ → ℕ
 less_value a b = if nat_lt a b then 1 else 0
 
@@ -53,6 +58,7 @@ pub less_value-word : (a b : ℕ) → less_value a b < 2 ^ 32
 unfolding less_value
 less_value-word a b = elim (nat_lt a b) as (λ t. (if t then 1 else 0) < 2 ^ 32) [ true ↦ lit< tt | false ↦ lit< tt ]
 
+-- how many words the one operation of these units takes, as the list of their arities
 unfoldable pub two : List ℕ
 two = 2 ∷ []
 
@@ -76,6 +82,7 @@ less = record {
   few = lit< tt;
 }
 
+-- a program that puts out 9 where 5 is at least b, and else 1
 abbrev guarded : ℕ → Program
 guarded b = alone 4 (
     Copy 0 (Word 1) ∷ Copy 1 (Word 5) ∷ Copy 2 (Word b) ∷ Copy 3 (Word 9) ∷ When Ge (Var 1) (Var 2) 0 (Var 3) ∷ Put (Var 0) ∷ End ∷ [])
@@ -107,6 +114,7 @@ forever-steps u = refl
 
 -- ---- a store and a load past the last word do nothing and give 0
 
+-- a program that stores into word 3 and word 4 of the data space, loads both, and puts them out
 abbrev edges : Program
 edges = alone 2 (
     Store (Word 3) (Word 7) ∷ Store (Word 4) (Word 8) ∷ Load 0 (Word 3) ∷ Load 1 (Word 4) ∷ Put (Var 0) ∷ Put (Var 1) ∷ End ∷ [])

@@ -14,11 +14,13 @@ record AddsAndMultiplies (u : Units) : Type 0 where
   sum : (a b : ℕ) → u.value 0 a b ≡ (a + b) % 2 ^ 32
   product : (a b : ℕ) → u.value 2 a b ≡ a * b % 2 ^ 32
 
+-- the operation of a number in the set of units
 abbrev op : ℕ → OpId
 op id = record { 0 = id }
 
 -- ---- a procedure that squares its parameter is called twice, and the squares are added up
 
+-- the procedure that returns the square of its parameter
 abbrev square : Proc
 square = record {
   params = 1;
@@ -27,6 +29,7 @@ square = record {
   lines = 2 ∷ 3 ∷ 4 ∷ [];
 }
 
+-- the procedure that adds the squares of 3 and 5 to 3 and puts out the sum
 abbrev adds_squares : Proc
 adds_squares = record {
   params = 0;
@@ -36,6 +39,7 @@ adds_squares = record {
   lines = 6 ∷ 7 ∷ 8 ∷ 9 ∷ 10 ∷ 11 ∷ 12 ∷ 13 ∷ [];
 }
 
+-- the program of both procedures, of which a run begins with the second
 abbrev squares : Program
 squares = record { procs = square ∷ adds_squares ∷ []; main = 1 }
 
@@ -59,6 +63,7 @@ squares-end u = refl
 
 -- ---- an assignment under a condition
 
+-- a program that puts out 9 where 5 is at least b, and else 1
 abbrev takes_where : ℕ → Program
 takes_where b = record {
   procs = record {
@@ -85,6 +90,7 @@ not-taken u less = rw (less) refl
 
 -- ---- at the end of the data space: a store behind it does nothing, and a load there gives 0
 
+-- a program that stores into the words 1023 and 1024 of the data space, loads both, and puts them out
 abbrev at_the_end : Program
 at_the_end = record {
   procs = record {

@@ -9,9 +9,11 @@ use Rattle.tta_tac.specs.declared.program.Proc.{Proc}
 use Rattle.tta_tac.specs.Program.{Program}
 use Rattle.tta_tac.specs.Rules.{IsProgram, IsProc, Reaches, ByCall, ByMore, calls}
 
+-- the operation of a number in the set of units
 abbrev op : ℕ → OpId
 op id = record { 0 = id }
 
+-- the procedure that puts out the squares of 3, 4 and 5, each after a call and by way of data word 0
 abbrev main : Proc
 main = record {
   params = 0;
@@ -21,6 +23,7 @@ main = record {
   lines = 2 ∷ 4 ∷ 5 ∷ 6 ∷ 7 ∷ 8 ∷ 9 ∷ 10 ∷ 11 ∷ [];
 }
 
+-- the procedure that returns the square of its parameter
 abbrev square : Proc
 square = record {
   params = 1;
@@ -29,6 +32,7 @@ square = record {
   lines = 13 ∷ 14 ∷ 15 ∷ [];
 }
 
+-- the program of both procedures, of which a run begins with the first
 abbrev pub squares : Program
 squares = record { procs = main ∷ square ∷ []; main = 0 }
 

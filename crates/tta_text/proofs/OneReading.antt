@@ -20,6 +20,7 @@ use Rattle.tta_text.proofs.Covering.{tokens_of-covers}
 abbrev is_skipped : ℕ → Bool
 is_skipped byte = is_blank byte || byte == 35
 
+-- whether some bytes end no line, since none of them is a newline
 abbrev is_quiet : List ℕ → Bool
 is_quiet bytes = list_all (λ byte. not (byte == 10)) bytes
 
