@@ -65,6 +65,7 @@ pub record Draft : Type 0 where
   pub slots : List SlotForm
   pub words : List Instruction
 
+-- nothing is read yet
 abbrev pub nothing : Draft
 nothing = record { slots = []; words = [] }
 

@@ -13,6 +13,7 @@ pub record LabelWord : Type 0 where
   pub line : ℕ
   pub start : ℕ
 
+-- a word that is a name, with the line and the place where it stands
 abbrev pub named_word : Placed → Option LabelWord
 named_word w = of (name_of w.word) where
   of : Option (List ℕ) → Option LabelWord
@@ -36,6 +37,7 @@ abbrev pub instructions_in : Close → ℕ
 instructions_in Semicolon = 1
 instructions_in close = 0
 
+-- a piece that a semicolon closes
 abbrev pub is_semicolon : Close → Bool
 is_semicolon Semicolon = true
 is_semicolon close = false

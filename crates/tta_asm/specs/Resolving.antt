@@ -129,6 +129,7 @@ abbrev pub template_at : Part → Option ℕ
 template_at (part.Template k) = Some k
 template_at other = None
 
+-- the long immediate of a form: the place of its template, and its word
 unfoldable pub long_of : Machine → Declared LabelPlace → LongForm → Result Long AsmRefusal
 long_of m labels l =
     or_refuse Unknown (named_in (parts_of m) l.template >>? template_at) >>= λ template.

@@ -31,32 +31,40 @@ piece_seen words close line = record { words = map placed_seen words; close = cl
 
 -- ---- forms
 
+-- a constant or a label's name
 abbrev pub value_seen : ValueWords → ValueForm
 value_seen (value_words.Constant n) = Constant n
 value_seen (value_words.Label name) = LabelName name.now
 
+-- where a move takes its word from
 abbrev pub source_seen : SourceWords → SourceForm
 source_seen (source_words.Value v) = Value (value_seen v)
 source_seen (source_words.Place name index) = source.Place name.now index
 source_seen (source_words.Shown unit) = Shown unit.now
 source_seen source_words.Ra = Ra
 
+-- where a move puts its word
 abbrev pub dest_seen : DestWords → DestForm
 dest_seen (dest_words.Place name index) = dest.Place name.now index
 dest_seen (dest_words.Operand unit) = Operand unit.now
 dest_seen (dest_words.Trigger unit op) = Trigger unit.now op.now
 
+-- the register of a guard, and its sense
 abbrev pub guard_seen : GuardWords → GuardForm
 guard_seen g = record { file = g.file.now; index = g.index; inverted = g.inverted }
 
+-- a move, with its guard if it has one
 abbrev pub move_seen : MoveWords → MoveForm
 move_seen v = record { guard = option_map guard_seen v.guard; src = source_seen v.src; dst = dest_seen v.dst }
 
+-- a slot, which holds a move or nothing, with its line
 abbrev pub slot_seen : SlotWords → SlotForm
 slot_seen s = record { line = s.line; action = option_map move_seen s.action }
 
+-- a long immediate with its line
 abbrev pub long_seen : LongWords → LongForm
 long_seen l = record { line = l.line; template = l.template.now; value = value_seen l.value }
 
+-- a slot, with the long immediate that stands behind it if one does
 abbrev pub form_seen : PieceWords → PieceForm
 form_seen f = record { slot = slot_seen f.slot; long = option_map long_seen f.long }

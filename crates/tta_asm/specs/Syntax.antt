@@ -23,6 +23,7 @@ pub record Read (A : Type 0) : Type 0 where
 abbrev pub Reading : Type 0 → Type 0
 Reading A = Result (Read A) ℕ
 
+-- a value was read, and these words are left
 abbrev pub read : {A : Type 0} → A → List Placed → Reading A
 read x ws = Ok (record { value = x; rest = ws })
 
@@ -68,6 +69,7 @@ source_behind (LabelName name) end ws =
     if begins_with (codes ".") ws then next_word (source_end name) end (drop 1 ws) else read (Value (LabelName name)) ws
 source_behind (Constant n) end ws = read (Value (Constant n)) ws
 
+-- a source: a value or the name of a part first, and what stands behind it
 unfoldable pub source_form : (end : ℕ) → List Placed → Reading SourceForm
 source_form end ws = next_word value_form end ws >>= λ first. source_behind first.value end first.rest
 
@@ -89,6 +91,7 @@ abbrev pub begins_with_word : (word : List ℕ) → List Placed → Bool
 begins_with_word word [] = false
 begins_with_word word (w ∷ ws) = is_keyword word w.word
 
+-- a destination: the name of a part, a point, and a port or a register of it
 unfoldable pub dest_form : (end : ℕ) → List Placed → Reading DestForm
 dest_form end ws =
     next_word name_of end ws >>= λ name.
@@ -119,6 +122,7 @@ guard_form end (w ∷ ws) = of (sense_of w.word) where
   of (Some inverted) = guard_register inverted end ws
   of None = read None (w ∷ ws)
 
+-- a move: a guard if there is one, a source, the arrow and a destination
 unfoldable pub move_form : (end : ℕ) → List Placed → Reading MoveForm
 move_form end ws =
     guard_form end ws >>= λ guard.

@@ -24,6 +24,7 @@ only_puts_out [] = false
 only_puts_out (o ∷ []) = same_op o.op Out
 only_puts_out (o ∷ p ∷ ops) = false
 
+-- a unit that has a trigger port alone and offers the output alone
 abbrev pub is_output_unit : OpUnit → Bool
 is_output_unit u = is_none u.operand && is_none u.result && only_puts_out u.ops
 

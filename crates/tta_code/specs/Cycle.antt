@@ -27,6 +27,7 @@ pub record Pending : Type 0 where
   pub kind : Kind
   pub word : ℕ
 
+-- a run goes on, has halted, or has met a fault of this number in this cycle
 pub data Outcome : Type 0 where
   Running : Outcome
   Halted : Outcome
@@ -177,6 +178,7 @@ carry_out u m s (Some i) =
     let ts = filter_map (start_of m written) bs in
     or_fault s (fault_of s effects bs ts) (acts u m s bs ts written)
 
+-- the state behind one more cycle, by how the run stands
 abbrev pub next_of : Units → Machine → Code → State → Outcome → State
 next_of u m code s Running = carry_out u m s (slice_get code.words s.pc)
 next_of u m code s Halted = s

@@ -1,9 +1,11 @@
 -- The lines of a file of bytes.
 use Rattle.std.specs.Prelude.{ℕ, Bool, false, ◌&&◌, ◌==◌, if◌then◌else◌, List, [], ◌∷◌}
 
+-- the byte that ends a line
 abbrev pub is_newline : ℕ → Bool
 is_newline byte = byte == 10
 
+-- a carriage return
 abbrev pub is_return : ℕ → Bool
 is_return byte = byte == 13
 

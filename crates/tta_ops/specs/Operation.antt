@@ -7,6 +7,7 @@ pub record Operation : Type 0 where
   pub arity : ℕ
   pub value : ℕ → ℕ → ℕ
 
+-- an operation by its name, how many words it takes, and its value
 abbrev pub operation : List ℕ → ℕ → (ℕ → ℕ → ℕ) → Operation
 operation name arity value = record { name = name; arity = arity; value = value }
 

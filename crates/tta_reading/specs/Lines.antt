@@ -15,6 +15,7 @@ pub record Lexeme : Type 0 where
 abbrev pub Line : Type 0
 Line = List Lexeme
 
+-- the kind of token that ends a line
 abbrev pub is_line_end : Kind → Bool
 is_line_end Eol = true
 is_line_end kind = false

@@ -6,10 +6,12 @@ use Rattle.tta_text.specs.declared.lexeme.Kind.TheVariants.{Name, Number, Negati
 use Rattle.tta_text.specs.Numbers.{number_of, negative_of}
 use Rattle.tta_reading.specs.Lines.{Lexeme}
 
+-- the kind of a name
 abbrev pub is_name_kind : Kind → Bool
 is_name_kind Name = true
 is_name_kind kind = false
 
+-- the kind of a mark
 abbrev pub is_mark_kind : Kind → Bool
 is_mark_kind Mark = true
 is_mark_kind kind = false

@@ -29,6 +29,7 @@ pub record Held : Type 0 where
   pub pending : Option Pending
   pub outcome : Outcome
 
+-- the results that a simulator holds, shown and coming
 abbrev pub results_held : Held → Results
 results_held h = record { cycle = h.cycle; shown = h.shown; coming = h.coming }
 

@@ -32,12 +32,15 @@ is_source_there units (decoded.Port unit) = nat_lt unit units
 abbrev pub is_reading_there : (units : ℕ) → Reading → Bool
 is_reading_there units r = option_map_or (λ g. nat_lt g.place 609) r.guard true && is_source_there units r.src
 
+-- a write whose source, guard and place are there
 abbrev pub is_write_there : (units : ℕ) → DecodedWrite → Bool
 is_write_there units w = is_reading_there units w.reading && nat_lt w.place 609
 
+-- a start whose source, guard and unit are there
 abbrev pub is_start_there : (units : ℕ) → DecodedStart → Bool
 is_start_there units s = is_reading_there units s.reading && is_place (KeptOperand s.unit)
 
+-- a word for control whose source and guard are there
 abbrev pub is_tell_there : (units : ℕ) → DecodedTell → Bool
 is_tell_there units t = is_reading_there units t.reading
 
@@ -89,6 +92,7 @@ word_of Nothing = None
 word_of (Word word) = Some word
 word_of Unset = None
 
+-- what was read was never written
 abbrev pub is_unset : Read → Bool
 is_unset Nothing = false
 is_unset (Word word) = false

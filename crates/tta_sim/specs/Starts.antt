@@ -136,6 +136,7 @@ kind_of told.Jump = Jumps
 kind_of told.Call = Calls
 kind_of told.Halt = Halts
 
+-- what a move tells control, with the word that it brings
 abbrev pub told_of : Told → Kind × ℕ
 told_of t = (kind_of t.kind, t.word)
 

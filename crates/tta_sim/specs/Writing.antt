@@ -12,6 +12,7 @@ use Rattle.tta_sim.specs.Places.{is_place, number_of}
 abbrev pub long_write : Machine → Long → Written
 long_write m l = option_map_or (λ t. (KeptImm t.imm t.reg, l.value) ∷ []) (slice_get m.templates l.template) []
 
+-- what the long immediate of an instruction writes, if it has one
 abbrev pub long_writes : Machine → Option Long → Written
 long_writes m long = option_map_or (long_write m) long []
 

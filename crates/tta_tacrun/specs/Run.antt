@@ -69,11 +69,13 @@ pub record IsRunOf (p : Program) (r : Run) : Type 0 where
 
 -- ---- how a run is kept
 
+-- the frames of a run, the topmost first, by its phase
 abbrev pub stack_of : Phase → Calls → List Frame
 stack_of GoesOn c = c.top ∷ c.below
 stack_of Stopped c = c.top ∷ c.below
 stack_of Returned c = []
 
+-- how a run stands, by its phase
 abbrev pub outcome_of : Phase → Outcome
 outcome_of GoesOn = Running
 outcome_of Stopped = Halted

@@ -15,6 +15,7 @@ is_word_byte byte = is_ascii_alphanumeric byte || byte == 95
 abbrev pub is_blank : ℕ → Bool
 is_blank byte = byte == 32 || byte == 9 || byte == 13
 
+-- the byte that ends a line
 abbrev pub is_newline : ℕ → Bool
 is_newline byte = byte == 10
 
@@ -30,6 +31,7 @@ run_len bytes = prefix_len is_word_byte bytes
 abbrev pub line_len : List ℕ → ℕ
 line_len bytes = prefix_len (λ byte. not (is_newline byte)) bytes
 
+-- a decimal digit stands first
 abbrev pub starts_with_digit : List ℕ → Bool
 starts_with_digit [] = false
 starts_with_digit (byte ∷ bytes) = is_ascii_digit byte

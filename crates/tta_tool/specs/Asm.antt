@@ -84,6 +84,7 @@ pub record ReadsAssembly (u : Units) (m : Machine) (A : List ℕ) (code : Code) 
   pub read : assembled u m text ≡ Ok code
   pub untouched : IsUntouched before after
 
+-- the code of the assembly was read, or it is refused
 abbrev pub AssemblyFileEnds : Units → Machine → (A : List ℕ) → (before after : World) → Result Code Status → Type 0
 AssemblyFileEnds u m A before after (Ok code) = ReadsAssembly u m A code before after
 AssemblyFileEnds u m A before after (Err s) = AssemblyFails u m A before after s
@@ -99,6 +100,7 @@ pub record MakesAssembled (u : Units) (A text : List ℕ) (m : Machine) (bytes :
   pub image : Image m (sha256 text) assembly.code bytes
   pub untouched : IsUntouched before after
 
+-- the image was made for that machine, or the command ends
 abbrev pub AssembleForEnds : {T : Type 0} → Units → (A text : List ℕ) → Machine → (before after : World) → (T → List ℕ) → Result T Status → Type 0
 AssembleForEnds u A text m before after items (Ok v) = MakesAssembled u A text m (items v) before after
 AssembleForEnds u A text m before after items (Err s) =

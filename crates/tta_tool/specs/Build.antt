@@ -88,13 +88,14 @@ abbrev pub CompileEnds : {T : Type 0} → Units → (M P : List ℕ) → (before
 CompileEnds u M P before after items (Ok v) = IsResult u before.contents M P (items v) × IsUntouched before after
 CompileEnds u M P before after items (Err s) = (OUT : List ℕ) → Builds u M P OUT before after s
 
--- the image of a program was made for a machine that was read, and no file was touched, or the command ends
+-- the image of a program was made for a machine that was read, and no file was touched
 pub record MakesImage (u : Units) (P text : List ℕ) (machine : Machine) (bytes : List ℕ) (before after : World) : Type 0 where
   pub program : HasProgram u before.contents P
   pub direct : is_direct machine program.program ≡ true
   pub untouched : IsUntouched before after
   pub image : IsImageOf machine program.program (sha256 text) bytes
 
+-- the image was made for a machine that can be compiled for, or the command ends
 abbrev pub CompileProgramEnds : {T : Type 0} → Units → (P text : List ℕ) → Machine → (before after : World) → (T → List ℕ) → Result T Status → Type 0
 CompileProgramEnds u P text machine before after items (Ok v) = MakesImage u P text machine (items v) before after
 CompileProgramEnds u P text machine before after items (Err s) =

@@ -93,11 +93,13 @@ InputFails space IN before after s = ⊥
 
 -- ---- a file was read and no file was touched, or it is refused
 
+-- the file holds this text, which describes this machine, and no file was touched
 pub record ReadsMachine (u : Units) (M text : List ℕ) (machine : Machine) (before after : World) : Type 0 where
   pub holds : Holds before.contents M text
   pub read : machine_of_text u text ≡ Ok machine
   pub untouched : IsUntouched before after
 
+-- the machine of a file was read, or it is refused
 abbrev pub MachineFileEnds : {T : Type 0} → Units → (M : List ℕ) → (before after : World) → (T → List ℕ) → (T → Machine) → Result T Status → Type 0
 MachineFileEnds u M before after text machine (Ok v) = ReadsMachine u M (text v) (machine v) before after
 MachineFileEnds u M before after text machine (Err s) = MachineFails u M before after s
@@ -107,32 +109,38 @@ abbrev pub DescribedEnds : {T : Type 0} → Units → (bytes : List ℕ) → (T 
 DescribedEnds u bytes text machine (Ok v) = (text v ≡ bytes) × (machine_of_text u bytes ≡ Ok (machine v))
 DescribedEnds u bytes text machine (Err s) = MachineEnds u bytes (Err s)
 
+-- the file holds the text of this program, and no file was touched
 pub record ReadsProgram (u : Units) (P : List ℕ) (program : Program) (before after : World) : Type 0 where
   pub text : List ℕ
   pub holds : Holds before.contents P text
   pub read : ProgramText u text program
   pub untouched : IsUntouched before after
 
+-- the program of a file was read, or it is refused
 abbrev pub ProgramFileEnds : Units → (P : List ℕ) → (before after : World) → Result Program Status → Type 0
 ProgramFileEnds u P before after (Ok program) = ReadsProgram u P program before after
 ProgramFileEnds u P before after (Err s) = ProgramFails u P before after s
 
+-- the file holds the image of this code for the machine, with the digest of its text, and no file was touched
 pub record ReadsCode (m : Machine) (digest IMG : List ℕ) (code : Code) (before after : World) : Type 0 where
   pub bytes : List ℕ
   pub holds : Holds before.contents IMG bytes
   pub image : Image m digest code bytes
   pub untouched : IsUntouched before after
 
+-- the code of an image was read, or it is refused
 abbrev pub CodeFileEnds : Machine → (digest : List ℕ) → (IMG : List ℕ) → (before after : World) → Result Code Status → Type 0
 CodeFileEnds m digest IMG before after (Ok code) = ReadsCode m digest IMG code before after
 CodeFileEnds m digest IMG before after (Err s) = CodeFails m digest IMG before after s
 
+-- the file holds the words that fill the data space so, and no file was touched
 pub record ReadsInput (space : ℕ) (IN memory : List ℕ) (before after : World) : Type 0 where
   pub bytes : List ℕ
   pub holds : Holds before.contents IN bytes
   pub fills : input_of space bytes ≡ Ok memory
   pub untouched : IsUntouched before after
 
+-- the data space was filled from a file, or that is refused
 abbrev pub InputFileEnds : {T : Type 0} → (space : ℕ) → (IN : List ℕ) → (before after : World) → (T → List ℕ) → Result T Status → Type 0
 InputFileEnds space IN before after items (Ok v) = ReadsInput space IN (items v) before after
 InputFileEnds space IN before after items (Err s) = InputFails space IN before after s

@@ -52,6 +52,7 @@ pub record MakesShown (u : Units) (IMG text : List ℕ) (m : Machine) (bytes : L
   pub shown : bytes ≡ canonical u m code.code
   pub untouched : IsUntouched before after
 
+-- the text was made for that machine, or the command ends
 abbrev pub ShowForEnds : {T : Type 0} → Units → (IMG text : List ℕ) → Machine → (before after : World) → (T → List ℕ) → Result T Status → Type 0
 ShowForEnds u IMG text m before after items (Ok v) = MakesShown u IMG text m (items v) before after
 ShowForEnds u IMG text m before after items (Err s) =

@@ -96,6 +96,7 @@ pub record Begins (u : Units) (M P IN : List ℕ) (program : Program) (memory : 
   pub same_memory : run.input.memory ≡ memory
   pub untouched : IsUntouched before after
 
+-- a run can begin, or the command ends
 abbrev pub BeginEnds : {T : Type 0} → Units → (M P IN : List ℕ) → (before after : World) → (T → Program) → (T → List ℕ) → Result T Status → Type 0
 BeginEnds u M P IN before after program memory (Ok v) = Begins u M P IN (program v) (memory v) before after
 BeginEnds u M P IN before after program memory (Err s) = BeginFails u M P IN before after s
@@ -108,6 +109,7 @@ pub record BeginsWith (u : Units) (P IN : List ℕ) (space : ℕ) (program : Pro
   pub same_memory : input.memory ≡ memory
   pub untouched : IsUntouched before after
 
+-- a run can begin with that data space, or the command ends
 abbrev pub BeginWithEnds : {T : Type 0} → Units → (P IN : List ℕ) → (space : ℕ) → (before after : World) → (T → Program) → (T → List ℕ) → Result T Status → Type 0
 BeginWithEnds u P IN space before after program memory (Ok v) = BeginsWith u P IN space (program v) (memory v) before after
 BeginWithEnds u P IN space before after program memory (Err s) =

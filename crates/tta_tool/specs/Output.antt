@@ -6,6 +6,7 @@ pub record Output : Type 0 where
   pub taken : Option (List ℕ)
   pub faults : ℕ
 
+-- an output by what it has taken and how many puts have failed
 abbrev pub output : Option (List ℕ) → ℕ → Output
 output taken faults = record { taken = taken; faults = faults }
 

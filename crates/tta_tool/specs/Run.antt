@@ -110,6 +110,7 @@ pub record BeginsWith (m : Machine) (digest IMG IN : List ℕ) (code : Code) (me
   pub same_memory : input.memory ≡ memory
   pub untouched : IsUntouched before after
 
+-- a run can begin on that machine, or the command ends
 abbrev pub BeginWithEnds : {T : Type 0} → Units → Machine → (text IMG IN : List ℕ) → (before after : World) → (T → Code) → (T → List ℕ) → Result T Status → Type 0
 BeginWithEnds u m text IMG IN before after code memory (Ok v) = BeginsWith m (sha256 text) IMG IN (code v) (memory v) before after
 BeginWithEnds u m text IMG IN before after code memory (Err s) =

@@ -39,12 +39,13 @@ abbrev pub ReadEnds : {T : Type 0} → (name : List ℕ) (word : ℕ) → (befor
 ReadEnds name word before after items (Ok v) = WasRead name (items v) before after
 ReadEnds name word before after items (Err s) = ReadFails name word before after s
 
--- a text is refused with this number at this line
+-- a text is refused as a machine with this number at this line
 pub record IsBadMachine (u : Units) (text : List ℕ) (line code : ℕ) : Type 0 where
   pub refusal : MachineRefusal
   pub refused : machine_of_text u text ≡ Err (line, refusal)
   pub told : code ≡ machine_code refusal
 
+-- a text is refused as a program with this number at this line
 pub record IsBadProgram (u : Units) (text : List ℕ) (line code : ℕ) : Type 0 where
   pub refusal : ProgramRefusal
   pub refused : IsRefusedAt u text line refusal

@@ -12,6 +12,7 @@ pub record World : Type 0 where
   pub faults : ℕ
   pub latest : Option Fault
 
+-- the files by what they hold, how many calls have failed, and the latest fault
 abbrev pub world : Option Store → ℕ → Option Fault → World
 world contents faults latest = record { contents = contents; faults = faults; latest = latest }
 
