@@ -1,4 +1,7 @@
-//! Parallel assembly: reading it into code, and showing code as its one canonical text.
+//! Parallel assembly: reading it into code, and showing code as its one canonical text. It stands
+//! on the code of `tta_code`, the machine of `tta_machine`, the joins of `tta_connect`, the
+//! operations of `tta_ops`, the words and names of `tta_reading`, the tokens of `tta_text`, and
+//! `tta_list`; the kit's `itoa` writes the numbers.
 //!
 //! A text is a list of labels and instructions. An instruction has one slot for each bus, a move or
 //! nothing, and at most one long immediate behind them.

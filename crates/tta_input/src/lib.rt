@@ -1,4 +1,5 @@
-//! The reader of input files, whose words fill the data space before a run.
+//! The reader of input files, whose words fill the data space before a run. It stands on the kit's
+//! `hex`, which reads the digits.
 //!
 //! A file is lines, and each line is one word: exactly eight hexadecimal digits of either case, the
 //! most significant first. A newline ends a line, a carriage return directly before it is dropped,

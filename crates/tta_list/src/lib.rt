@@ -1,5 +1,6 @@
 //! What every crate of the toolset stands on: lists and names that contracts see as plain lists,
-//! and the word for a step that is taken n times.
+//! the entry at a place of a list, and the word for a step that is taken n times. It stands on the
+//! standard library alone.
 #![tactic(auto)]
 
 mod items;

@@ -1,5 +1,6 @@
-//! What a machine is made of, which of its places a bus joins, and how its instructions are laid
-//! out.
+//! What a machine is made of, which of its places a bus joins, how its instructions are laid out,
+//! and the reader of machine texts. It stands on the words and names of `tta_reading`, the tokens
+//! of `tta_text`, the operations of `tta_ops`, and `tta_list`.
 #![tactic(auto)]
 
 mod codes;

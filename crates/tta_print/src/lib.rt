@@ -1,4 +1,6 @@
-//! The lines that commands print.
+//! The lines that commands print, each put in one call that takes no memory. It stands on the sink
+//! of `tta_ports` and on `tta_list`; the kit's `itoa` writes the numbers and its `arrayvec` holds
+//! the line.
 #![tactic(auto)]
 
 mod line;

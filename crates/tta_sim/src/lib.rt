@@ -1,4 +1,5 @@
-//! The cycle-by-cycle run of a machine's code.
+//! The cycle-by-cycle run of a machine's code. It stands on the code of `tta_code`, the machine of
+//! `tta_machine`, the operations of `tta_ops`, and `tta_list`.
 #![tactic(auto)]
 
 mod answer;

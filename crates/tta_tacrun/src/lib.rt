@@ -1,4 +1,5 @@
-//! The run of a three-address program by its sequential meaning, one step a call.
+//! The run of a three-address program by its sequential meaning, one step a call. It stands on the
+//! programs of `tta_tac`, the operations of `tta_ops`, and `tta_list`.
 #![tactic(auto)]
 
 mod answer;
