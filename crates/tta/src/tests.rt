@@ -10,17 +10,19 @@ mod moves;
 mod operations;
 mod programs;
 mod run;
+mod texts;
 
 use host::{Case, Host};
 use std::test::Fail;
+use texts::ONE_BUS;
 use tta_tool::Status;
 
-const MACHINE: &str =
-    "bus B short 8 unsigned\nsocket I in B\nunit OUT t I\nop OUT out\ncontrol delay 0 address 8 t I\n";
-
 /// A machine of two addresses.
-const SMALL: &str =
-    "bus B short 8 unsigned\nsocket I in B\nunit OUT t I\nop OUT out\ncontrol delay 0 address 1 t I\n";
+const SMALL: &str = "bus B short 8 unsigned\n\
+     socket I in B\n\
+     unit OUT t I\n\
+     op OUT out\n\
+     control delay 0 address 1 t I\n";
 
 const PROGRAM: &str = "proc main\nout 7\nhalt\nend\n";
 
@@ -28,7 +30,7 @@ const PROGRAM: &str = "proc main\nout 7\nhalt\nend\n";
 const LONG: &str = "proc main\nout 7\nout 7\nhalt\nend\n";
 
 /// The machines and the programs.
-const TEXTS: [(&str, &str); 4] = [("M", MACHINE), ("S", SMALL), ("P", PROGRAM), ("Q", LONG)];
+const TEXTS: [(&str, &str); 4] = [("M", ONE_BUS), ("S", SMALL), ("P", PROGRAM), ("Q", LONG)];
 
 /// Commands that are refused.
 const REFUSALS: [Case; 5] = [

@@ -1,12 +1,10 @@
 //! Assembly is read into an image and an image shown as assembly, over files in memory.
 
 use super::host::{Case, Host};
+use super::texts::ONE_BUS;
 use std::alloc::{AllocError, Global};
 use std::test::Fail;
 use tta_tool::Status;
-
-const MACHINE: &str =
-    "bus B short 8 unsigned\nsocket I in B\nunit OUT t I\nop OUT out\ncontrol delay 0 address 8 t I\n";
 
 /// A loop that puts 7 out for ever, with a label, a comment and a line end within an instruction.
 const ASSEMBLY: &str = "# for ever\nagain: 7\n -> OUT.t.out ;\nagain -> gcu.t.jump ;\n";
@@ -16,7 +14,7 @@ const CANONICAL: &str = "7 -> OUT.t.out ;\n0 -> gcu.t.jump ;\n";
 
 /// A machine, its assembly, the same as it is shown, and one with a refusal in line 2.
 const TEXTS: [(&str, &str); 4] = [
-    ("M", MACHINE),
+    ("M", ONE_BUS),
     ("A", ASSEMBLY),
     ("C", CANONICAL),
     ("BAD", "7 -> OUT.t.out ;\n256 -> OUT.t.out ;\n"),

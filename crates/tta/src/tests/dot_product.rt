@@ -6,13 +6,29 @@ use std::test::Fail;
 use tta_tool::Status;
 
 /// A machine of 256 data words.
-const MACHINE: &str =
-    "bus B short 8 unsigned\nsocket I in B\nunit OUT t I\nop OUT out\ncontrol delay 0 address 8 t I\nspace data 256\n";
+const MACHINE: &str = "bus B short 8 unsigned\n\
+     socket I in B\n\
+     unit OUT t I\n\
+     op OUT out\n\
+     control delay 0 address 8 t I\n\
+     space data 256\n";
 
 /// The vectors stand from 0 and from 64 on, and the product comes to 128.
-const PROGRAM: &str =
-    "proc main\ni = 0\ns = 0\nloop:\na = load i\nj = add i 64\nb = load j\np = mul a b\n\
-s = add s p\ni = add i 1\nif ltu i 64 goto loop\nstore 128 s\nout s\nhalt\nend\n";
+const PROGRAM: &str = "proc main\n\
+     i = 0\n\
+     s = 0\n\
+     loop:\n\
+     a = load i\n\
+     j = add i 64\n\
+     b = load j\n\
+     p = mul a b\n\
+     s = add s p\n\
+     i = add i 1\n\
+     if ltu i 64 goto loop\n\
+     store 128 s\n\
+     out s\n\
+     halt\n\
+     end\n";
 
 const WORDS: [&str; 5] = ["exec", "M", "P", "I", "1000"];
 

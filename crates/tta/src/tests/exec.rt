@@ -5,8 +5,12 @@ use std::test::Fail;
 use tta_tool::Status;
 
 /// A machine of four data words.
-const MACHINE: &str =
-    "bus B short 8 unsigned\nsocket I in B\nunit OUT t I\nop OUT out\ncontrol delay 0 address 8 t I\nspace data 4\n";
+const MACHINE: &str = "bus B short 8 unsigned\n\
+     socket I in B\n\
+     unit OUT t I\n\
+     op OUT out\n\
+     control delay 0 address 8 t I\n\
+     space data 4\n";
 
 /// Puts the first data word out, and stores 9 in the second.
 const PROGRAM: &str = "proc main\na = load 0\nout a\nstore 1 9\nhalt\nend\n";

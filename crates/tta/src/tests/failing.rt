@@ -3,19 +3,24 @@
 //! the lines before the fault and half of the next.
 
 use super::host::{BEFORE, Host, none_other};
+use super::texts::{ONE_BUS, SWAP};
 use std::alloc::{AllocError, Global};
 use std::test::Fail;
 use tta_tool::Status;
 
 /// Three buses, each of which joins the registers and the output.
-const MACHINE: &str =
-    "bus B0 short 8 signed\nbus B1 short 8 signed\nbus B2 short 8 signed\nsocket I in B0 B1 B2\nsocket O out B0 B1 B2\nfile R width 32 size 8 read 2 write 2 out O in I\nunit IO t I\nop IO out\ncontrol delay 2 address 12 t I\nspace data 4\n";
+const MACHINE: &str = "bus B0 short 8 signed\n\
+     bus B1 short 8 signed\n\
+     bus B2 short 8 signed\n\
+     socket I in B0 B1 B2\n\
+     socket O out B0 B1 B2\n\
+     file R width 32 size 8 read 2 write 2 out O in I\n\
+     unit IO t I\n\
+     op IO out\n\
+     control delay 2 address 12 t I\n\
+     space data 4\n";
 
-/// Two registers change places and are put out.
-const SWAP: &str =
-    "1 -> R.1 , ... , ... ;\n2 -> R.2 , ... , ... ;\nR.1 -> R.2 , R.2 -> R.1 , ... ;\nR.1 -> IO.t.out , ... , ... ;\nR.2 -> IO.t.out , ... , ... ;\n0 -> gcu.t.halt , ... , ... ;\n... , ... , ... ;\n... , ... , ... ;\n";
-
-/// What its run prints, a line a put.
+/// What the run of the swapped registers prints, a line a put.
 const SWAPPED: [&str; 5] = ["2\n", "1\n", "halted\n", "mem 0 10\n", "cycles 8\n"];
 
 /// Puts the first data word out, and stores 9 in the second.
@@ -24,17 +29,13 @@ const PROGRAM: &str = "proc main\na = load 0\nout a\nstore 1 9\nhalt\nend\n";
 /// What it prints, a line a put.
 const PRINTED: [&str; 5] = ["10\n", "halted\n", "mem 0 10\n", "mem 1 9\n", "steps 4\n"];
 
-/// A machine of one bus.
-const SMALL: &str =
-    "bus B short 8 unsigned\nsocket I in B\nunit OUT t I\nop OUT out\ncontrol delay 0 address 8 t I\n";
-
 /// The texts that the commands read.
 const TEXTS: [(&str, &str); 6] = [
     ("M", MACHINE),
     ("A", SWAP),
     ("P", PROGRAM),
     ("I", "0000000a\n"),
-    ("S", SMALL),
+    ("S", ONE_BUS),
     ("C", "proc main\nout 7\nhalt\nend\n"),
 ];
 

@@ -7,8 +7,13 @@ use std::test::Fail;
 use tta_ops::{Arith, OpUnit, OpsError, UnitSet};
 use tta_tool::Status;
 
-const MACHINE: &str =
-    "bus B short 8 unsigned\nsocket I in B\nsocket O out B\nunit OUT t I r O\nop OUT out\nop OUT bitrev 1\ncontrol delay 0 address 8 t I\n";
+const MACHINE: &str = "bus B short 8 unsigned\n\
+     socket I in B\n\
+     socket O out B\n\
+     unit OUT t I r O\n\
+     op OUT out\n\
+     op OUT bitrev 1\n\
+     control delay 0 address 8 t I\n";
 
 const TEXTS: [(&str, &str); 3] = [
     ("M", MACHINE),

@@ -1,6 +1,7 @@
 //! Small programs of moves: each is read as assembly, and its image is run over files in memory.
 
 use super::host::{Host, none_other};
+use super::texts::SWAP;
 use std::alloc::{AllocError, Global};
 use std::test::Fail;
 use tta_tool::Status;
@@ -48,16 +49,6 @@ const MACHINE: &str = "bus B0 short 8 signed\n\
      control delay 2 address 12 t UI ra UO\n\
      space data 1024\n\
      space frame 64\n";
-
-/// Two registers change places.
-const SWAP: &str = "1 -> R.1 , ... , ... ;\n\
-     2 -> R.2 , ... , ... ;\n\
-     R.1 -> R.2 , R.2 -> R.1 , ... ;\n\
-     R.1 -> IO.t.out , ... , ... ;\n\
-     R.2 -> IO.t.out , ... , ... ;\n\
-     0 -> gcu.t.halt , ... , ... ;\n\
-     ... , ... , ... ;\n\
-     ... , ... , ... ;\n";
 
 /// A product is read as soon as it shows.
 const PRODUCT: &str = "5 -> MUL.o , 6 -> MUL.t.mul , ... ;\n\

@@ -5,8 +5,13 @@ use std::test::Fail;
 use tta_tool::Status;
 
 /// A machine of 1024 data words.
-const MACHINE: &str =
-    "bus B short 8 unsigned\nsocket I in B\nsocket O out B\nunit OUT t I\nop OUT out\ncontrol delay 0 address 8 t I\nspace data 1024\n";
+const MACHINE: &str = "bus B short 8 unsigned\n\
+     socket I in B\n\
+     socket O out B\n\
+     unit OUT t I\n\
+     op OUT out\n\
+     control delay 0 address 8 t I\n\
+     space data 1024\n";
 
 /// The machine, an input without words, and the programs.
 const TEXTS: [(&str, &str); 16] = [
@@ -14,7 +19,19 @@ const TEXTS: [(&str, &str); 16] = [
     ("I", ""),
     (
         "CALLS",
-        "proc sq x\ny = mul x x\nreturn y\nend\nproc main\na = 3\nb = call sq a\nc = call sq 5\nd = add a b\nd = add d c\nout d\nhalt\nend\n",
+        "proc sq x\n\
+         y = mul x x\n\
+         return y\n\
+         end\n\
+         proc main\n\
+         a = 3\n\
+         b = call sq a\n\
+         c = call sq 5\n\
+         d = add a b\n\
+         d = add d c\n\
+         out d\n\
+         halt\n\
+         end\n",
     ),
     (
         "WHEN",

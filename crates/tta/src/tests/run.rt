@@ -2,15 +2,13 @@
 //! memory.
 
 use super::host::{Case, Host};
+use super::texts::ONE_BUS;
 use std::test::Fail;
 use tta_tool::Status;
 
-const MACHINE: &str =
-    "bus B short 8 unsigned\nsocket I in B\nunit OUT t I\nop OUT out\ncontrol delay 0 address 8 t I\n";
-
 /// The machine, a program, and an input without words.
 const TEXTS: [(&str, &str); 3] = [
-    ("M", MACHINE),
+    ("M", ONE_BUS),
     ("P", "proc main\nout 7\nhalt\nend\n"),
     ("I", ""),
 ];
