@@ -40,14 +40,3 @@ seven-header = refl
 seven-legal : IsLegalCode one_bus seven
 unfolding is_legal can_move
 seven-legal = record { words = (refl, (refl, tt)); room = lit≤ tt }
-
--- the same, put together word by word
-pub seven-from : (none one two words : List Instruction) (a b : Instruction) → none ≡ [] → one ≡ none ++ a ∷ [] → two ≡ one ++ b ∷ [] → words ≡ two
-    → a ≡ record { moves = Some (record { guard = None; src = source.Value 7; dst = dest.Trigger 0 0 }) ∷ []; long = None }
-    → b ≡ record { moves = Some (record { guard = None; src = source.Value 0; dst = dest.Halt }) ∷ []; long = None }
-    → IsLegalCode one_bus (record { words = words })
-seven-from none one two words a b empty first second same is_a is_b =
-    let e : words ≡ seven.words =
-    same ∙ second ∙ ap (λ (l : List Instruction). l ++ b ∷ []) (first ∙ ap (λ (l : List Instruction). l ++ a ∷ []) empty)
-    ∙ ap (λ (x : Instruction). x ∷ b ∷ []) is_a ∙ ap (λ (x : Instruction). record { moves = Some (record { guard = None; src = source.Value 7; dst = dest.Trigger 0 0 }) ∷ []; long = None } ∷ x ∷ []) is_b in
-    subst (λ (l : List Instruction). IsLegalCode one_bus (record { words = l })) (sym e) seven-legal

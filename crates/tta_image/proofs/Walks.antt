@@ -59,10 +59,6 @@ fields_step fs i f h is = drop_more fs i f h ∙ ap (λ (x : BusFields). x ∷ d
 abbrev pub with_front : {A E : Type 0} → List A → Result (List A) E → Result (List A) E
 with_front front r = r >>= λ xs. Ok (front ++ xs)
 
-pub front_none : {A E : Type 0} (r : Result (List A) E) → with_front [] r ≡ r
-front_none (Ok xs) = refl
-front_none (Err e) = refl
-
 pub front_more : {A E : Type 0} (front : List A) (x : A) (r : Result (List A) E) → with_front front (r >>= λ xs. Ok (x ∷ xs)) ≡ with_front (front ++ x ∷ []) r
 front_more {A = A} front x (Ok xs) = ap (λ (l : List A). Ok l) (sym (append_assoc front (x ∷ []) xs))
 front_more front x (Err e) = refl

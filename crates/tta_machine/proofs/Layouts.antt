@@ -70,10 +70,6 @@ width_more m start width f n is was =
 abbrev pub width_at : (set : ℕ) → ℕ × BusFields → ℕ
 width_at set b = if has_bit set b.0 then b.1.width else 0
 
-part_le : (b : Bool) (n w : ℕ) → w ≡ (if b then n else 0) → w ≤ n
-part_le true n w is = omega arith
-part_le false n w is = omega arith
-
 -- the buses of a set by the machine's own widths
 abbrev pub set_width_at : Machine → (set : ℕ) → ℕ → ℕ
 set_width_at m set bus = if has_bit set bus then bus_width m bus else 0

@@ -20,10 +20,6 @@ pub some-ok : {A B E : Type 0} (e : E) (o : Option A) (f : A → Result B E) (y 
 some-ok e None f y h = cc
 some-ok e (Some x) f y h = (x, refl, h)
 
-pub or_refuse-ok : {A E : Type 0} (e : E) (o : Option A) (x : A) → or_refuse e o ≡ Ok x → o ≡ Some x
-or_refuse-ok e None x h = cc
-or_refuse-ok e (Some y) x h = cc
-
 pub then-some : {A B : Type 0} (o : Option A) (f : A → Option B) (y : B) → (o >>? f) ≡ Some y → (x : A) × (o ≡ Some x) × (f x ≡ Some y)
 then-some None f y h = cc
 then-some (Some x) f y h = (x, refl, h)

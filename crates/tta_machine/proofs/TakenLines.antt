@@ -169,12 +169,3 @@ complete-ok d m h = with_control d.control refl (opened d.control h) where
   with_control : (o : Option Control) → d.control ≡ o → option_map_or (ended_with d) o (Err (0, Missing)) ≡ Ok m → IsComplete d m
   with_control None is t = cc
   with_control (Some c) is t = with_bus c is (nat_lt 0 (length d.buses)) refl t
-
--- what a text is read as is a machine
-pub machine-kept : (u : Units) (text : List ℕ) (m : Machine) → machine_of_text u text ≡ Ok m → IsMachine m
-unfolding machine_of_text
-machine-kept u text m h =
-    let read = then-ok (take_lines u 1 nothing (lines_of text)) complete m h in
-    let kept : IsDraft read.0 = take_lines-keeps u 1 nothing read.0 (lines_of text) nothing-kept read.1 in
-    let whole = complete-ok read.0 m read.2 in
-    subst IsMachine whole.made (is_machine read.0 whole.control kept whole.has_control whole.has_bus whole.wide)

@@ -35,10 +35,6 @@ put_more old new newer whole piece left has more = record {
   parts = has.parts ∙ sym (append_assoc has.done piece left);
 }
 
--- all has been put where nothing is left
-pub put_all : (old new : Option (List ℕ)) (whole : List ℕ) → HasPut old new whole [] → new ≡ append_known old whole
-put_all old new whole has = has.taken ∙ ap (append_known old) (sym (has.parts ∙ append-nil has.done))
-
 -- a front of the next piece was put, and so was a front of the whole
 pub put_part : (old new newer : Option (List ℕ)) (whole piece left : List ℕ) (count : ℕ)
     → HasPut old new whole (piece ++ left) → newer ≡ append_known new (take count piece)

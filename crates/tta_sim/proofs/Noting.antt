@@ -36,13 +36,6 @@ any_filtered p q (x ∷ xs) some = elim (q x) as (λ b. list_any p (if b then x 
   second true c some = refl
   second false c some = some
 
--- the results that there were before
-pub kept_all : (r q : Results) → IsGrown r q → (count : ℕ) → count ≡ length r.coming → record q { coming = take count q.coming } ≡ r
-kept_all r q grown count is =
-    ap {A = ℕ} (λ n. record q { cycle = n; coming = take count q.coming }) grown.cycle
-    ∙ ap (λ xs. record r { shown = xs; coming = take count q.coming }) grown.shown
-    ∙ ap {A = List Result'} (λ xs. record r { coming = xs }) (ap (λ n. take n q.coming) is ∙ grown.first)
-
 module _ (places : List (Option ℕ)) (r : Results) (p : Bool) (l : Line) (noted writes : List Write) (ws : List DecodedWrite)
     (ws_are : ws ≡ l.writes) (writes_are : noted ≡ writes) (read : Bool)
     (reads : read ≡ not (list_any (λ w. is_unread places r.shown w.reading) ws)) (could : read ≡ true)
