@@ -1,8 +1,8 @@
 -- The code of a text is legal.
 use Rattle.std.proofs.Common.{◌≡◌, ℕ, List, Ok, subst}
+use Rattle.tta_reading.proofs.Steps.{then-ok, same_ok}
 use Rattle.tta_ops.specs.Units.{Units}
 use Rattle.tta_machine.specs.Machine.{Machine}
-use Rattle.tta_machine.proofs.Steps.{then-ok, same_ok}
 use Rattle.tta_code.specs.declared.code.Code.{Code}
 use Rattle.tta_code.specs.Legal.{IsLegalCode}
 use Rattle.tta_asm.specs.Labels.{labels_of}

@@ -1,10 +1,11 @@
 -- The names of a machine's parts and of its units' operations.
-use Rattle.std.proofs.Common.{◌≡◌, ℕ, zero, suc, ◌+◌, ◌<◌, ◌≤◌, Bool, true, false, nat_lt, List, [], ◌∷◌, ◌++◌, length, map, drop, get_or, Option, Some, refl, sym, ap, ◌∙◌, subst, arith}
+use Rattle.std.proofs.Common.{◌≡◌, ℕ, ◌+◌, ◌<◌, ◌≤◌, Bool, true, false, nat_lt, List, [], ◌∷◌, ◌++◌, length, map, drop, get_or, Option, Some, refl, sym, ap, ◌∙◌, subst, arith}
 use Rattle.std.specs.Prelude.{slice_get}
 use Rattle.std.proofs.lemmas.Bool.{ltb-true, ltb-false}
 use Rattle.std.proofs.lemmas.List.{drop_all, get_or_default}
 use Rattle.std.proofs.lemmas.List.Elements.{All-get_or}
 use Rattle.std.proofs.lemmas.Option.{slice_get_past, slice_get_read}
+use Rattle.tta_list.proofs.Lists.{slice_get-front}
 use Rattle.tta_reading.specs.Names.{Declared, named_in}
 use Rattle.tta_reading.specs.Steps.{◌>>?◌}
 use Rattle.tta_ops.specs.Units.{Units}
@@ -59,12 +60,6 @@ ops_end u q items i old names same past was =
 
 -- ---- units
 
--- an item in front of others, and the one behind them
-item_before : {A : Type 0} (xs ys : List A) (k : ℕ) → k < length xs → slice_get (xs ++ ys) k ≡ slice_get xs k
-item_before [] ys k h = absurd (omega arith)
-item_before (x ∷ xs) ys zero h = refl
-item_before (x ∷ xs) ys (suc k) h = item_before xs ys k (omega arith)
-
 item_behind : {A : Type 0} (xs : List A) (y : A) → slice_get (xs ++ y ∷ []) (length xs) ≡ Some y
 item_behind [] y = refl
 item_behind (x ∷ xs) y = item_behind xs y
@@ -98,7 +93,7 @@ units_more u m all more ops q i pushed count there same was unit name h = by (na
   by true is =
       let below = ltb-true unit i is in
       ap (λ (l : List (Declared ℕ)). named_at l unit name) pushed
-      ∙ ap look (item_before all (ops ∷ []) unit (omega arith)) ∙ was unit name below
+      ∙ ap look (slice_get-front all (ops ∷ []) unit (omega arith)) ∙ was unit name below
   by false is =
       let past = ltb-false unit i is in
       let last : unit ≡ length all = omega arith in

@@ -4,9 +4,9 @@ use Rattle.tta_text.specs.Tokens.{tokens_of, tokens_from, piece_at, number_piece
 use Rattle.tta_text.specs.Numbers.{number_of, negative_of, digits_of, value_below}
 use Rattle.tta_ops.specs.Units.{Units}
 use Rattle.tta_machine.specs.Legal.{can_move}
-use Rattle.tta_machine.proofs.Samples.{one_bus, three_buses}
 use Rattle.tta_machine.specs.declared.ends.Source.TheVariants as source
 use Rattle.tta_machine.specs.declared.ends.Dest.TheVariants as dest
+use Rattle.tta_machine.proofs.Samples.{one_bus, three_buses}
 use Rattle.tta_code.specs.declared.code.Code.{Code}
 use Rattle.tta_code.specs.Legal.{is_legal}
 use Rattle.tta_asm.specs.declared.refusal.AsmRefusal.TheVariants.{Syntax, Unknown, NoConnection, Illegal, Slots, Label, Range}

@@ -5,6 +5,7 @@ use Rattle.std.specs.Option.{option_map_or}
 use Rattle.std.specs.List.{list_all, AllByRecursion}
 use Rattle.std.specs.Str.{bytes_eq}
 use Rattle.std.proofs.lemmas.Bool.{false≢true, and_parts, ltb-true}
+use Rattle.tta_list.proofs.Lists.{list_all_one}
 use Rattle.tta_text.specs.Words.{is_name}
 use Rattle.tta_ops.specs.Units.{Units}
 use Rattle.tta_machine.specs.declared.parts.Bus.{Bus}
@@ -21,12 +22,11 @@ use Rattle.tta_machine.specs.declared.ends.Dest.TheVariants as dest
 use Rattle.tta_machine.specs.Machine.{Machine}
 use Rattle.tta_machine.specs.Joins.{within, is_source_on, is_dest_on, has_guard, holds_word}
 use Rattle.tta_machine.specs.Rules.{IsMachine, IsMachineName, are_different, is_bus, is_file, is_imm, is_guard}
-use Rattle.tta_machine.proofs.Lists.{list_all_one}
+use Rattle.tta_machine.proofs.Sizes.{small_file, small_imm}
 use Rattle.tta_asm.specs.Parts.{op_name}
 use Rattle.tta_asm.specs.Resolving.{source_of, dest_of, guard_of}
 use Rattle.tta_asm.specs.Readable.{StandsOver, is_called, has_called_ops}
 use Rattle.tta_asm.proofs.ShownNames.{file_named, imm_named, unit_named, op_named}
-use Rattle.tta_machine.proofs.Sizes.{small_file, small_imm}
 use Rattle.tta_asm.proofs.ShownParts.{held_word_small, there, below, port_there, element_there, guard_there, GuardPlace, guard_place}
 use Rattle.tta_asm.proofs.ShownScanned.{GuardFits, SourceFits, DestFits}
 use Rattle.tta_asm.proofs.ShownForms.{guard_said, source_said, dest_said}

@@ -1,10 +1,10 @@
 -- Code and its canonical text determine each other.
 use Rattle.std.proofs.Common.{◌≡◌, ℕ, List, ap, sym, ◌∙◌}
 use Rattle.std.specs.Prelude.{Ok}
+use Rattle.tta_reading.proofs.Steps.{same_ok}
 use Rattle.tta_ops.specs.Units.{Units}
 use Rattle.tta_machine.specs.Machine.{Machine}
 use Rattle.tta_machine.specs.Rules.{IsMachine}
-use Rattle.tta_machine.proofs.Steps.{same_ok}
 use Rattle.tta_code.specs.declared.code.Code.{Code}
 use Rattle.tta_code.specs.Legal.{IsLegalCode}
 use Rattle.tta_asm.specs.Assembly.{assembled}

@@ -1,9 +1,10 @@
 -- A template that a name stands for is one of the machine's.
-use Rattle.std.proofs.Common.{◌≡◌, ℕ, zero, suc, ◌+◌, ◌<◌, Bool, true, false, if◌then◌else◌, List, [], ◌∷◌, ◌++◌, length, map, Option, Some, None, is_some, refl, sym, ap, ◌∙◌, arith}
+use Rattle.std.proofs.Common.{◌≡◌, ℕ, ◌+◌, ◌<◌, Bool, true, false, if◌then◌else◌, List, [], ◌∷◌, ◌++◌, length, map, Option, Some, None, is_some, refl, sym, ap, ◌∙◌, arith}
 use Rattle.std.specs.Prelude.{IfSome, slice_get}
 use Rattle.std.specs.Str.{bytes_eq}
 use Rattle.std.proofs.lemmas.List.{length-map}
 use Rattle.std.proofs.lemmas.Option.{none-some, same_Some}
+use Rattle.tta_list.proofs.Lists.{some_within}
 use Rattle.tta_reading.specs.Names.{named_in}
 use Rattle.tta_reading.specs.Steps.{◌>>?◌}
 use Rattle.tta_machine.specs.declared.parts.Template.{Template}
@@ -13,12 +14,6 @@ use Rattle.tta_asm.specs.declared.parts.Part.TheVariants as part
 use Rattle.tta_asm.specs.Parts.{by_place, parts_of}
 use Rattle.tta_asm.specs.Resolving.{template_at}
 use Rattle.tta_asm.proofs.NameLists.{either, named_in-append}
-
--- a place within a list has an item
-some_within : {A : Type 0} (xs : List A) (k : ℕ) → k < length xs → is_some (slice_get xs k) ≡ true
-some_within [] k h = absurd (omega arith)
-some_within (x ∷ xs) zero h = refl
-some_within (x ∷ xs) (suc k) h = some_within xs k (omega arith)
 
 -- names of parts that are no templates name none
 no_template : (at : ℕ → Part) → ((k : ℕ) → template_at (at k) ≡ None) → (place : ℕ) (names : List (List ℕ)) (name : List ℕ)

@@ -1,11 +1,11 @@
 -- A set of units keeps the words of the language's operations.
-use Rattle.std.proofs.Common.{◌≡◌, ℕ, Bool, true, false, not, List, [], ◌∷◌, ◌++◌, Option, Some, None, refl, sym, ap, ◌∙◌}
+use Rattle.std.proofs.Common.{◌≡◌, ℕ, Bool, true, false, not, List, [], ◌∷◌, ◌++◌, Some, None, refl, sym, ap, ◌∙◌}
 use Rattle.std.specs.Prelude.{codes, if◌then◌else◌, is_some}
 use Rattle.std.specs.Str.{bytes_eq}
 use Rattle.std.specs.List.{list_all}
-use Rattle.std.specs.Option.{option_or}
 use Rattle.std.proofs.lemmas.Bool.{and_from, or_from, not_from_false, false≢true, false_from_ne_true}
 use Rattle.std.proofs.lemmas.Slice.Eq.{bytes_eq-Decides}
+use Rattle.tta_list.proofs.Tests.{option_or-none}
 use Rattle.tta_ops.specs.declared.error.OpsError.TheVariants.{Twice, Reserved}
 use Rattle.tta_ops.specs.Row.{Row, names_of}
 use Rattle.tta_ops.specs.Refusal.{is_reserved, refusal_of, first_refusal}
@@ -26,11 +26,6 @@ free-word name free =
     (or_from (bytes_eq name (codes "stf")) _ (not-word name (codes "stf") free refl)
     (or_from (bytes_eq name (codes "out")) false (not-word name (codes "out") free refl) refl))))
 
--- neither is there where the first that is there is none
-both-none : {A : Type 0} (a b : Option A) → option_or a b ≡ None → (a ≡ None) × (b ≡ None)
-both-none None b e = (refl, e)
-both-none (Some x) b e = cc
-
 -- an operation that was not refused is not reserved
 free-row : (before : List (List ℕ)) (row : Row) → refusal_of before row ≡ None → is_reserved row.name ≡ false
 free-row before row e = by (is_reserved row.name) refl e where
@@ -46,7 +41,7 @@ rows-kept : (before : List (List ℕ)) (rows : List Row) → first_refusal befor
     → list_all (λ name. not (is_op_word name)) (names_of rows) ≡ true
 rows-kept before [] e = refl
 rows-kept before (row ∷ rows) e =
-    let parts = both-none (refusal_of before row) (first_refusal (before ++ row.name ∷ []) rows) e in
+    let parts = option_or-none (refusal_of before row) (first_refusal (before ++ row.name ∷ []) rows) e in
     and_from (not (is_op_word row.name)) (list_all (λ name. not (is_op_word name)) (names_of rows))
     (not_from_false (is_op_word row.name) (free-word row.name (free-row before row parts.0)))
     (rows-kept (before ++ row.name ∷ []) rows parts.1)

@@ -7,6 +7,7 @@ use Rattle.std.specs.List.{list_all, list_any, AllByRecursion}
 use Rattle.std.proofs.lemmas.Bool.{and_parts, and_from, or_parts, or_from, not-true, not_from_false, lt-ltb, eq-eqb, false≢true, false_from_ne_true}
 use Rattle.std.proofs.lemmas.Option.{get_or_from_slice_get, slice_get_within}
 use Rattle.std.proofs.lemmas.Slice.Eq.{bytes_eq-Decides}
+use Rattle.tta_list.proofs.Lists.{list_all_one}
 use Rattle.tta_text.specs.Words.{is_name}
 use Rattle.tta_ops.specs.Units.{Units, named}
 use Rattle.tta_ops.proofs.Named.{named_get, get_named}
@@ -17,7 +18,6 @@ use Rattle.tta_machine.specs.Rules.{are_different, same_op}
 use Rattle.tta_machine.specs.Declarations.{op_named, timed_op, untimed_op, arity_of}
 use Rattle.tta_machine.specs.Forms.{OpForm}
 use Rattle.tta_machine.specs.Grammar.{op_made}
-use Rattle.tta_machine.proofs.Lists.{list_all_one}
 use Rattle.tta_asm.specs.Parts.{op_name}
 use Rattle.tta_asm.specs.Readable.{is_called, is_op_word, KeepsReserved}
 use Rattle.tta_asm.proofs.TextForms.{Gives, gives-none, gives-some, OpNamed}

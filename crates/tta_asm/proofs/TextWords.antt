@@ -2,6 +2,7 @@
 use Rattle.std.proofs.Common.{◌≡◌, ℕ, ◌+◌, Bool, true, false, List, [], ◌∷◌, ◌++◌, length, append_assoc, refl, sym, ap, subst, ◌∙◌}
 use Rattle.std.specs.Prelude.{Some, slice_range, if◌then◌else◌}
 use Rattle.std.specs.List.{AllByRecursion}
+use Rattle.tta_list.proofs.Lists.{all_append, all_push}
 use Rattle.tta_text.specs.declared.lexeme.Kind.{Kind}
 use Rattle.tta_text.specs.declared.lexeme.Kind.TheVariants.{Name, Number, Negative, Mark, Eol, Bad}
 use Rattle.tta_text.specs.declared.lexeme.Token.{Token}
@@ -11,7 +12,6 @@ use Rattle.tta_text.specs.Covers.{is_open, newlines, IsToken, Follow, last_end}
 use Rattle.tta_text.proofs.Covering.{tokens_of-covers}
 use Rattle.tta_reading.specs.Lines.{Lexeme, Line, is_line_end, lexeme_of, lines_from, lines_of}
 use Rattle.tta_reading.specs.Words.{name_of}
-use Rattle.tta_machine.proofs.Lists.{all_append, all_push}
 use Rattle.tta_asm.proofs.ShownScan.{slice-between}
 
 -- where a word is a name, the name is a name token

@@ -2,7 +2,6 @@
 use Rattle.std.proofs.Common.{◌≡◌, ◌≢◌, ◌<◌, ◌≤◌, ◌+◌, ◌*◌, ◌^◌, ◌∷◌, [], ℕ, List, Some, None, true, false, length, drop, map, replicate, nat_le, refl, sym, ap, subst, ◌∙◌, arith, length-append}
 use Rattle.std.specs.List.{list_all}
 use Rattle.std.proofs.lemmas.Option.{slice_get_within}
-use Rattle.tta_tac.specs.declared.step.Step.TheVariants.{Halt}
 use Rattle.std.proofs.lemmas.List.{take-append-drop, length-map, length-replicate, append-nil}
 use Rattle.std.proofs.lemmas.Bool.Decides.{nat_tests}
 use Rattle.std.proofs.lemmas.Bool.{and_parts}
@@ -10,6 +9,7 @@ use Rattle.tta_ops.specs.Units.{Units}
 use Rattle.tta_machine.specs.Machine.{Machine}
 use Rattle.tta_machine.specs.Effects.{op_at}
 use Rattle.tta_machine.specs.Rules.{IsMachine}
+use Rattle.tta_tac.specs.declared.step.Step.TheVariants.{Halt}
 use Rattle.tta_tac.specs.declared.program.Proc.{Proc}
 use Rattle.tta_tac.specs.Program.{Program, step_count}
 use Rattle.tta_tac.specs.Rules.{IsProgram}
@@ -28,9 +28,11 @@ use Rattle.tta_build.proofs.Shapes.{first, first-parts, first-alone}
 use Rattle.tta_build.proofs.Legal.{puts-out, constants-legal}
 
 module _ (u : Units) (m : Machine) (puts_out : op_at m 0 0 ≡ Some out_op) (q : Proc) (no_variables : q.vars ≡ 0) (only : only_constants q.steps ≡ true) where
+  -- the words that the procedure puts out, in their order
   abbrev words : List ℕ
   words = puts q.steps
 
+  -- the code that puts these words out and halts
   abbrev code : Code
   code = constants_code m words
 

@@ -4,6 +4,7 @@ use Rattle.std.specs.Prelude.{slice_get, ◌==◌, option_map}
 use Rattle.std.proofs.lemmas.Option.{slice_get-get_or, slice_get-map}
 use Rattle.std.proofs.lemmas.List.{take_all, take-append-drop, length-map}
 use Rattle.std.proofs.lemmas.Bool.Decides.{nat_tests}
+use Rattle.tta_list.proofs.Lists.{slice_get-back, slice_get-front}
 use Rattle.tta_ops.specs.Units.{Units}
 use Rattle.tta_machine.specs.declared.parts.UnitOp.{UnitOp}
 use Rattle.tta_machine.specs.declared.parts.Op.TheVariants.{Out}
@@ -13,7 +14,7 @@ use Rattle.tta_code.specs.declared.code.Instruction.{Instruction}
 use Rattle.tta_code.specs.Cycle.{State, Pending, Running, Halted, next, cyc, lands}
 use Rattle.tta_code.specs.Agrees.{IsPrefixOf}
 use Rattle.tta_build.specs.Constants.{on_bus, put_instruction, halt_instruction, constants_code}
-use Rattle.tta_build.proofs.Lists.{slice_get-front, slice_get-back, slice_get-replicate, take-one_more}
+use Rattle.tta_build.proofs.Lists.{slice_get-replicate, take-one_more}
 
 -- the operation that puts a word out
 abbrev pub out_op : UnitOp
@@ -44,6 +45,7 @@ module _ (u : Units) (m : Machine) (puts_out : op_at m 0 0 ≡ Some out_op) (wor
 
   -- ---- the instructions
 
+  -- the instructions of the code: one for each word, the halt, and those of its delay
   abbrev instructions : List Instruction
   instructions = (constants_code m words).words
 
@@ -96,6 +98,7 @@ module _ (u : Units) (m : Machine) (puts_out : op_at m 0 0 ≡ Some out_op) (wor
 
   -- ---- the run
 
+  -- the state of the machine after so many cycles
   abbrev after : ℕ → State
   after n = cyc u m (constants_code m words) memory n
 

@@ -1,10 +1,11 @@
 -- On a machine of the first path, a constant is joined to the output unit where the bus holds it.
-use Rattle.std.proofs.Common.{◌≡◌, ◌∷◌, [], ℕ, List, Some, Bool, true, false, zero, suc, length, refl, ap, subst, ◌∙◌, arith}
+use Rattle.std.proofs.Common.{◌≡◌, ◌∷◌, [], ℕ, List, Some, Bool, true, false, length, refl, ap, subst, ◌∙◌, arith}
 use Rattle.std.specs.Prelude.{slice_get, ◌&&◌, is_none, nat_lt}
 use Rattle.std.specs.List.{list_all}
 use Rattle.std.proofs.lemmas.Bool.{and_parts}
 use Rattle.std.proofs.lemmas.Bool.Decides.{nat_tests}
 use Rattle.std.proofs.lemmas.Option.{same_Some}
+use Rattle.tta_list.proofs.Lists.{list_all_one}
 use Rattle.tta_machine.specs.declared.parts.Bus.{Bus}
 use Rattle.tta_machine.specs.declared.parts.Socket.{Socket}
 use Rattle.tta_machine.specs.declared.parts.Unit.{Unit as OpUnit}
@@ -18,14 +19,9 @@ use Rattle.tta_build.specs.First.{is_first_machine, is_first_program, is_direct,
 use Rattle.tta_build.proofs.Shapes.{first, first-parts}
 use Rattle.tta_build.proofs.Legal.{socket-leads}
 
-all-at : {A : Type 0} (test : A → Bool) (xs : List A) (k : ℕ) (x : A) → list_all test xs ≡ true → slice_get xs k ≡ Some x → test x ≡ true
-all-at test [] k x all e = cc
-all-at test (y ∷ ys) zero x all e = let same : y ≡ x = cc in rw (← same) (and_parts (test y) (list_all test ys) all).0
-all-at test (y ∷ ys) (suc k) x all e = all-at test ys k x (and_parts (test y) (list_all test ys) all).1 e
-
 -- the first bus keeps the rules of buses
 pub first_bus : (m : Machine) (b : Bus) → IsMachine m → slice_get m.buses 0 ≡ Some b → is_bus b ≡ true
-first_bus m b rules e = all-at is_bus m.buses 0 b rules.buses e
+first_bus m b rules e = list_all_one is_bus m.buses 0 b rules.buses e
 
 -- one operation stands at place 0
 has-first : (ops : List UnitOp) → only_puts_out ops ≡ true → nat_lt 0 (length ops) ≡ true

@@ -70,6 +70,7 @@ zero-held b = elim b.signed as (λ signed. (if signed then (0 / 2 ^ (b.short - 1
 -- ---- legality
 
 module _ (b : Bus) (s : Socket) (unit : OpUnit) (c : Control) where
+  -- the machine of this bus, this socket and this unit alone, with this control
   abbrev machine : Machine
   machine = first b s unit c
 

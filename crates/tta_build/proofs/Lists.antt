@@ -1,19 +1,6 @@
 -- Elements and fronts of lists.
-use Rattle.std.proofs.Common.{◌≡◌, ◌<◌, ◌+◌, ◌++◌, ◌∷◌, [], ℕ, List, Some, zero, suc, length, take, replicate, refl, sym, ap, arith, add-one, append_assoc}
+use Rattle.std.proofs.Common.{◌≡◌, ◌<◌, ◌+◌, ◌++◌, ◌∷◌, [], ℕ, List, Some, zero, suc, take, replicate, refl, sym, ap, arith, add-one, append_assoc}
 use Rattle.std.specs.Prelude.{slice_get}
-
--- an element of the first of two lists
-pub slice_get-front : {A : Type 0} (xs ys : List A) (k : ℕ) → k < length xs → slice_get (xs ++ ys) k ≡ slice_get xs k
-slice_get-front [] ys k h = absurd (omega arith)
-slice_get-front (x ∷ xs) ys zero h = refl
-slice_get-front (x ∷ xs) ys (suc k) h = slice_get-front xs ys k (omega arith)
-
--- an element of the second
-pub slice_get-back : {A : Type 0} (xs ys : List A) (k : ℕ) → slice_get (xs ++ ys) (length xs + k) ≡ slice_get ys k
-slice_get-back [] ys k = ap (slice_get ys) (omega arith)
-slice_get-back (x ∷ xs) ys k =
-    let e : suc (length xs) + k ≡ suc (length xs + k) = omega arith in
-    rw e (slice_get-back xs ys k)
 
 pub slice_get-replicate : {A : Type 0} (n : ℕ) (a : A) (k : ℕ) → k < n → slice_get (replicate n a) k ≡ Some a
 slice_get-replicate zero a k h = absurd (omega arith)

@@ -9,32 +9,17 @@ use Rattle.tta_code.specs.declared.code.Move.{Move}
 use Rattle.tta_code.specs.declared.code.Instruction.{Instruction}
 use Rattle.tta_code.specs.declared.legality.Illegal.TheVariants.{TakenBus, Unjoined, ReadPorts, WritePorts, TwoIntoOne}
 use Rattle.tta_code.specs.Illegal.{first_illegal}
+use Rattle.tta_code.proofs.Rows.{go, three, r, into}
 
--- an unguarded move from a source to a destination
-abbrev go : Source → Dest → Option Move
-go src dst = Some (record { guard = None; src = src; dst = dst })
-
--- an instruction with these three slots and without a long immediate
-abbrev three : Option Move → Option Move → Option Move → Instruction
-three a b c = record { moves = a ∷ b ∷ c ∷ []; long = None }
-
--- with a long immediate, whose template takes buses 1 and 2
+-- an instruction with these three slots and a long immediate, whose template takes buses 1 and 2
 abbrev wide : Option Move → Option Move → Option Move → Instruction
 wide a b c = record { moves = a ∷ b ∷ c ∷ []; long = Some (record { template = 0; value = 1 }) }
 
--- register i of the first file, which two moves may read and two may write, and of the second, which one may
-abbrev r : ℕ → Source
-r i = source.Reg 0 i
-
--- register i of the first file as the destination of a move
-abbrev into : ℕ → Dest
-into i = dest.Reg 0 i
-
--- register i of the second file as the source of a move
+-- register i of the second file, which one move of a cycle may read, as the source of a move
 abbrev s : ℕ → Source
 s i = source.Reg 1 i
 
--- register i of the second file as the destination of a move
+-- register i of the second file, which one move of a cycle may write, as the destination of a move
 abbrev into_s : ℕ → Dest
 into_s i = dest.Reg 1 i
 

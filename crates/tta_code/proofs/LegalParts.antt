@@ -1,5 +1,5 @@
 -- What each rule says of an instruction that a machine can carry out.
-use Rattle.std.proofs.Common.{◌≡◌, ◌==◌, Bool, true, false, ◌&&◌, length}
+use Rattle.std.proofs.Common.{◌≡◌, ◌==◌, true, ◌&&◌, length}
 use Rattle.std.specs.Option.{option_map_or}
 use Rattle.std.proofs.lemmas.Bool.{and_parts}
 use Rattle.tta_machine.specs.Machine.{Machine}

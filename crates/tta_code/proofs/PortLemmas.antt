@@ -5,11 +5,11 @@ use Rattle.std.specs.Option.{option_map, option_map_or}
 use Rattle.std.specs.List.{list_any}
 use Rattle.std.proofs.lemmas.Bool.{and_from, eq-eqb, ne_eqb, false≢true}
 use Rattle.std.proofs.lemmas.Option.{slice_get_within}
+use Rattle.std.proofs.lemmas.List.Sums.{sum_by-cons}
 use Rattle.tta_machine.specs.declared.ends.Source.{Source}
 use Rattle.tta_machine.specs.declared.ends.Source.TheVariants as source
 use Rattle.tta_machine.specs.declared.ends.Dest.{Dest}
 use Rattle.tta_machine.specs.declared.ends.Dest.TheVariants as dest
-use Rattle.std.proofs.lemmas.List.Sums.{sum_by-cons}
 use Rattle.tta_machine.specs.declared.parts.File.{File}
 use Rattle.tta_machine.specs.declared.parts.ImmUnit.{ImmUnit}
 use Rattle.tta_machine.specs.Machine.{Machine}
@@ -63,7 +63,7 @@ most_reads m file = option_map_or (λ f. f.read) (slice_get m.files file) 0
 abbrev pub most_writes : Machine → ℕ → ℕ
 most_writes m file = option_map_or (λ f. f.write) (slice_get m.files file) 0
 
--- the rules of reads and writes over a list of moves
+-- no file is read by more of the moves than may read it
 abbrev pub has_file_reads : Machine → List Ends → Bool
 has_file_reads m vs = all_below (λ f. nat_le (reads_of vs f) (most_reads m f)) (length m.files)
 
@@ -75,7 +75,7 @@ has_imm_reads m vs = all_below (λ u. nat_le (imms_of vs u) 1) (length m.imms)
 abbrev pub has_file_writes : Machine → List Ends → Bool
 has_file_writes m vs = all_below (λ f. nat_le (writes_of vs f) (most_writes m f)) (length m.files)
 
--- what moves leave, over a list of moves
+-- whether moves leave room for one more read of the file or the immediate unit of a source, where it is a register
 abbrev pub read_left : Machine → List Ends → Source → Bool
 read_left m vs (source.Reg file index) = nat_lt (reads_of vs file) (most_reads m file)
 read_left m vs (source.Imm unit index) = nat_lt (imms_of vs unit) 1

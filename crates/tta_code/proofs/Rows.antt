@@ -1,5 +1,5 @@
 -- Small programs of moves, and what the definitions make of them.
-use Rattle.std.specs.Prelude.{◌≡◌, ℕ, ◌*◌, ◌%◌, ◌^◌, List, [], ◌∷◌, ◌++◌, true, false, Some, None, Option, refl}
+use Rattle.std.specs.Prelude.{◌≡◌, ℕ, List, [], ◌∷◌, ◌++◌, true, false, Some, None, Option, refl}
 use Rattle.tta_ops.specs.Units.{Units}
 use Rattle.tta_machine.specs.declared.ends.Source.{Source}
 use Rattle.tta_machine.specs.declared.ends.Source.TheVariants as source
@@ -13,16 +13,12 @@ use Rattle.tta_code.specs.declared.code.Code.{Code}
 use Rattle.tta_code.specs.Legal.{is_legal}
 use Rattle.tta_code.specs.Cycle.{cyc, Halted, Fault, next}
 
--- any units whose operation 2 is the product
-pub record Multiplies (u : Units) : Type 0 where
-  pub product : (a b : ℕ) → u.value 2 a b ≡ a * b % 2 ^ 32
-
 -- an unguarded move from a source to a destination
-abbrev go : Source → Dest → Option Move
+abbrev pub go : Source → Dest → Option Move
 go src dst = Some (record { guard = None; src = src; dst = dst })
 
 -- an instruction with these three slots and without a long immediate
-abbrev three : Option Move → Option Move → Option Move → Instruction
+abbrev pub three : Option Move → Option Move → Option Move → Instruction
 three a b c = record { moves = a ∷ b ∷ c ∷ []; long = None }
 
 -- an instruction with a slot on bus 0 and nothing on the other buses
@@ -34,11 +30,11 @@ abbrev none : Instruction
 none = three None None None
 
 -- register i of the first file as the source of a move
-abbrev r : ℕ → Source
+abbrev pub r : ℕ → Source
 r i = source.Reg 0 i
 
 -- register i of the first file as the destination of a move
-abbrev into : ℕ → Dest
+abbrev pub into : ℕ → Dest
 into i = dest.Reg 0 i
 
 -- the trigger port of the unit that puts words out

@@ -4,6 +4,7 @@ use Rattle.std.specs.Prelude.{◌==◌, nat_le}
 use Rattle.std.specs.Option.{option_map, option_or}
 use Rattle.std.proofs.lemmas.Bool.{and_parts, and_from, le-leb, eqb-true, false_from_ne_true}
 use Rattle.std.proofs.lemmas.List.{append_assoc, length-take-le, map-append, take_more, drop_more, drop_all}
+use Rattle.tta_list.proofs.Tests.{option_or-none}
 use Rattle.tta_machine.specs.declared.parts.Template.{Template}
 use Rattle.tta_machine.specs.Machine.{Machine}
 use Rattle.tta_machine.specs.Rules.{IsMachine}
@@ -18,16 +19,12 @@ use Rattle.tta_code.proofs.KeptRules.{KeepsAll, keeps_from_broken, broken_from_k
 
 -- ---- the walk
 
-option_or-parts : {A : Type 0} (o p : Option A) → option_or o p ≡ None → (o ≡ None) × (p ≡ None)
-option_or-parts None p e = (refl, e)
-option_or-parts (Some x) p e = absurd (some_none e)
-
 -- where nothing is told, all buses keep the rules
 keeps-from_first : (m : Machine) (taken : ℕ) (walked further : Slots) → KeepsAll m taken walked → first_broken m taken walked further ≡ None
     → KeepsAll m taken (walked ++ further)
 keeps-from_first m taken walked [] keeps none = subst (KeepsAll m taken) (sym (append-nil walked)) keeps
 keeps-from_first m taken walked (o ∷ os) keeps none =
-    let parts = option_or-parts (broken m taken (walked ++ o ∷ [])) (first_broken m taken (walked ++ o ∷ []) os) none in
+    let parts = option_or-none (broken m taken (walked ++ o ∷ [])) (first_broken m taken (walked ++ o ∷ []) os) none in
     subst (KeepsAll m taken) (append_assoc walked (o ∷ []) os)
     (keeps-from_first m taken (walked ++ o ∷ []) os (keeps_from_broken m taken (walked ++ o ∷ []) parts.0) parts.1)
 

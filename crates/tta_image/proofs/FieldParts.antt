@@ -3,8 +3,8 @@ use Rattle.std.proofs.Common.{◌≡◌, ℕ, zero, suc, ◌+◌, ◌-◌, ◌*�
 use Rattle.std.proofs.lemmas.List.{length-drop, length-take-le, drop-drop, drop-append-le, take-append-le}
 use Rattle.std.proofs.Math.Seq.{drop-append-add, take-add}
 use Rattle.std.proofs.lemmas.Nat.{shr_high, mod_low}
-use Rattle.tta_image.specs.Bits.{bits_of}
 use Rattle.tta_machine.specs.declared.layout.BusFields.{BusFields}
+use Rattle.tta_image.specs.Bits.{bits_of}
 use Rattle.tta_image.specs.declared.slots.SlotNumbers.{SlotNumbers}
 use Rattle.tta_image.specs.Decoding.{bits_in, number_of, field, slot_numbers}
 use Rattle.tta_image.proofs.BitLemmas.{take_left, drop_left}
@@ -84,7 +84,7 @@ front_low bits n a b room is =
     let e : 0 + a ≡ a = omega arith in
     ap (λ (k : ℕ). k % 2 ^ b) is ∙ field_low bits 0 a b (omega arith) ∙ ap (λ (k : ℕ). field k b bits) e
 
-same_numbers : (n k : SlotNumbers) → n.guard ≡ k.guard → n.is_short ≡ k.is_short → n.payload ≡ k.payload → n.dest ≡ k.dest → n ≡ k
+pub same_numbers : (n k : SlotNumbers) → n.guard ≡ k.guard → n.is_short ≡ k.is_short → n.payload ≡ k.payload → n.dest ≡ k.dest → n ≡ k
 same_numbers n k a b c d =
     ap (λ (x : ℕ). let r : SlotNumbers = record { guard = x; is_short = n.is_short; payload = n.payload; dest = n.dest } in r) a
     ∙ ap (λ (x : Bool). let r : SlotNumbers = record { guard = k.guard; is_short = x; payload = n.payload; dest = n.dest } in r) b

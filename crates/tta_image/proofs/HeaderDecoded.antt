@@ -7,6 +7,7 @@ use Rattle.std.proofs.lemmas.Bool.{and_parts, and_from, leb-true, le-leb, eqb-tr
 use Rattle.std.proofs.lemmas.List.{length-append, length-drop, length-take-le, drop-drop, take-append-drop, take_at}
 use Rattle.std.proofs.lemmas.Nat.{from_be_bytes-to_be_bytes_4, be_bytes_4}
 use Rattle.tta_reading.specs.Steps.{refuse_if}
+use Rattle.tta_reading.proofs.Steps.{refuse_if-ok}
 use Rattle.tta_machine.specs.Machine.{Machine}
 use Rattle.tta_machine.specs.Fields.{word_width}
 use Rattle.tta_image.specs.declared.refusal.ImageError.{ImageError}
@@ -14,7 +15,6 @@ use Rattle.tta_image.specs.declared.refusal.ImageRefusal.TheVariants.{Magic, Ver
 use Rattle.tta_image.specs.Refusals.{of_all}
 use Rattle.tta_image.specs.Image.{header}
 use Rattle.tta_image.specs.Reading.{stands_at, bytes_for, word_count, has_length, decoded_header}
-use Rattle.tta_image.proofs.WordsDecoded.{passes}
 
 -- ---- pieces
 
@@ -66,11 +66,11 @@ all_checked m digest bytes words decoded =
     let three : Result ℕ ImageError = refuse_if (not (stands_at 8 (to_be_bytes w32 (word_width m)) bytes)) (of_all Width) four in
     let two : Result ℕ ImageError = refuse_if (not (stands_at 16 digest bytes)) (of_all WrongMachine) three in
     let one : Result ℕ ImageError = refuse_if (not (stands_at 4 (to_be_bytes w32 1) bytes)) (of_all Version) two in
-    let magic = passes (not (stands_at 0 (codes "TTAI") bytes)) (of_all Magic) one words decoded in
-    let version = passes (not (stands_at 4 (to_be_bytes w32 1) bytes)) (of_all Version) two words magic.1 in
-    let machine = passes (not (stands_at 16 digest bytes)) (of_all WrongMachine) three words version.1 in
-    let wide = passes (not (stands_at 8 (to_be_bytes w32 (word_width m)) bytes)) (of_all Width) four words machine.1 in
-    let long = passes (not length_ok) (of_all Length) (Ok (word_count bytes)) words wide.1 in
+    let magic = refuse_if-ok (not (stands_at 0 (codes "TTAI") bytes)) (of_all Magic) one words decoded in
+    let version = refuse_if-ok (not (stands_at 4 (to_be_bytes w32 1) bytes)) (of_all Version) two words magic.1 in
+    let machine = refuse_if-ok (not (stands_at 16 digest bytes)) (of_all WrongMachine) three words version.1 in
+    let wide = refuse_if-ok (not (stands_at 8 (to_be_bytes w32 (word_width m)) bytes)) (of_all Width) four words machine.1 in
+    let long = refuse_if-ok (not length_ok) (of_all Length) (Ok (word_count bytes)) words wide.1 in
     let is : word_count bytes ≡ words = let e = long.1 in cc in
     let both = and_parts (nat_le (word_count bytes) (2 ^ m.control.address)) (length bytes == 48 + bytes_for (word_count bytes * word_width m)) (not-false length_ok long.0) in
     record {

@@ -3,6 +3,7 @@ use Rattle.std.proofs.Common.{◌≡◌, ℕ, ◌+◌, ◌-◌, ◌*◌, ◌/◌
 use Rattle.std.specs.List.{flat_map, AllByRecursion}
 use Rattle.std.proofs.lemmas.List.{length-append, length-replicate, length-drop, drop_at}
 use Rattle.tta_reading.specs.Steps.{◌>>=◌}
+use Rattle.tta_reading.proofs.Steps.{same_ok, then-ok}
 use Rattle.tta_machine.specs.Machine.{Machine}
 use Rattle.tta_machine.specs.Fields.{word_width}
 use Rattle.tta_machine.specs.Layout.{layout_of}
@@ -19,7 +20,6 @@ use Rattle.tta_image.specs.Reading.{decoded_header, decoded_words, decoded_image
 use Rattle.tta_image.proofs.Unique.{length-bytes}
 use Rattle.tta_image.proofs.ImageLemmas.{words_fit}
 use Rattle.tta_image.proofs.InstructionLemmas.{length-instruction_bits}
-use Rattle.tta_image.proofs.InstructionDecoded.{goes_on, same_Ok}
 use Rattle.tta_image.proofs.WordsDecoded.{AreLegalWords, words_have, decoded_words-bits}
 use Rattle.tta_image.proofs.HeaderDecoded.{all_checked, header_has, decoded_header-header, small_drop}
 
@@ -62,10 +62,10 @@ unfolding decoded_image
 image_of_decoded m digest code bytes rules many small said =
     let body : List ℕ = drop 48 bytes in
     let bits : List Bool = bits_in body in
-    let count = goes_on (decoded_header m digest bytes) (λ count. decoded_words m (layout_of m) count 0 bits >>= λ words. Ok (record { words = words })) code said in
-    let words = goes_on (decoded_words m (layout_of m) count.0 0 bits) (λ words. Ok (record { words = words })) code count.2 in
+    let count = then-ok (decoded_header m digest bytes) (λ count. decoded_words m (layout_of m) count 0 bits >>= λ words. Ok (record { words = words })) code said in
+    let words = then-ok (decoded_words m (layout_of m) count.0 0 bits) (λ words. Ok (record { words = words })) code count.2 in
     let c : Code = record { words = words.0 } in
-    let e : c ≡ code = same_Ok c code words.2 in
+    let e : c ≡ code = same_ok c code words.2 in
     let head = all_checked m digest bytes count.0 count.1 in
     let long = head.long in
     let d = length-drop 48 bytes in

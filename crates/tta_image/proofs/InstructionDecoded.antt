@@ -1,5 +1,5 @@
 -- What the bits of a word decode to is the instruction that has these bits.
-use Rattle.std.proofs.Common.{◌≡◌, ℕ, zero, suc, ◌+◌, ◌-◌, ◌^◌, ◌<◌, ◌≤◌, ◌==◌, Bool, true, false, nat_lt, if◌then◌else◌, List, [], ◌∷◌, ◌++◌, length, map, take, drop, Option, Some, None, Result, Ok, Err, refl, sym, ap, ◌∙◌, subst, arith}
+use Rattle.std.proofs.Common.{◌≡◌, ℕ, zero, suc, ◌+◌, ◌-◌, ◌^◌, ◌<◌, ◌≤◌, ◌==◌, Bool, true, false, nat_lt, if◌then◌else◌, List, [], ◌∷◌, ◌++◌, length, map, take, drop, Option, Some, None, Ok, refl, sym, ap, ◌∙◌, subst, arith}
 use Rattle.std.specs.List.{sum_by, range_with_len}
 use Rattle.std.proofs.Math.Seq.{take-add}
 use Rattle.std.proofs.lemmas.Bool.{eqb-true, both_ways, eq-eqb}
@@ -7,6 +7,7 @@ use Rattle.std.proofs.lemmas.Option.{none-some, same_Some}
 use Rattle.std.proofs.lemmas.List.{length-append, length-drop, length-take-le, take_at, drop_at, nil_from_length}
 use Rattle.std.proofs.lemmas.List.Sums.{sum_by-cons}
 use Rattle.tta_reading.specs.Steps.{◌>>=◌, or_refuse}
+use Rattle.tta_reading.proofs.Steps.{then-ok, same_ok}
 use Rattle.tta_machine.specs.declared.layout.BusFields.{BusFields}
 use Rattle.tta_machine.specs.Machine.{Machine}
 use Rattle.tta_machine.specs.Joins.{has_bit}
@@ -27,13 +28,6 @@ use Rattle.tta_image.proofs.InstructionLemmas.{left_from, left_taken, left_kept}
 use Rattle.tta_image.proofs.SlotsDecoded.{pieces_of_slot, decoded_slot-bits}
 
 -- ---- results that go on
-
-pub goes_on : {A B E : Type 0} (r : Result A E) (f : A → Result B E) (y : B) → (r >>= f) ≡ Ok y → (x : A) × (r ≡ Ok x) × (f x ≡ Ok y)
-goes_on (Ok x) f y h = (x, refl, h)
-goes_on (Err e) f y h = absurd (cc)
-
-pub same_Ok : {A E : Type 0} (x y : A) → ◌≡◌ {A = Result A E} (Ok x) (Ok y) → x ≡ y
-same_Ok x y h = cc
 
 pub not_refused : {A E : Type 0} (e : E) (o : Option A) (x : A) → or_refuse e o ≡ Ok x → o ≡ Some x
 not_refused e None x h = absurd (cc)
@@ -104,15 +98,15 @@ slots_have_by m word taken bus count bits slot slots false rules h enough is sai
 
 pub slots_have : (m : Machine) (word taken bus count : ℕ) (bits : List Bool) (slots : List (Option Move)) → IsMachine m → bus + count ≤ length m.buses
     → width_of m bus count ≤ length bits → decoded_slots m word taken bus (fields_from m bus count) bits ≡ Ok slots → SlotsHave m taken bus count bits slots
-slots_have m word taken bus zero bits slots rules h enough said = let e : [] ≡ slots = same_Ok [] slots said in rw (← e) (refl, refl)
+slots_have m word taken bus zero bits slots rules h enough said = let e : [] ≡ slots = same_ok [] slots said in rw (← e) (refl, refl)
 slots_have m word taken bus (suc count) bits slots rules h enough said =
     let w : ℕ = bus_width m bus in
     let s = sum_by-cons (bus_width m) bus (range_with_len (bus + 1) count) in
     let d = length-drop w bits in
-    let slot = goes_on (decoded_bus m word taken bus (fields_of m bus) bits)
+    let slot = then-ok (decoded_bus m word taken bus (fields_of m bus) bits)
     (λ slot. decoded_slots m word taken (bus + 1) (fields_from m (bus + 1) count) (drop w bits) >>= λ slots. Ok (slot ∷ slots)) slots said in
-    let rest = goes_on (decoded_slots m word taken (bus + 1) (fields_from m (bus + 1) count) (drop w bits)) (λ slots. Ok (slot.0 ∷ slots)) slots slot.2 in
-    let e : slot.0 ∷ rest.0 ≡ slots = same_Ok (slot.0 ∷ rest.0) slots rest.2 in
+    let rest = then-ok (decoded_slots m word taken (bus + 1) (fields_from m (bus + 1) count) (drop w bits)) (λ slots. Ok (slot.0 ∷ slots)) slots slot.2 in
+    let e : slot.0 ∷ rest.0 ≡ slots = same_ok (slot.0 ∷ rest.0) slots rest.2 in
     let more = slots_have m word taken (bus + 1) count (drop w bits) rest.0 rules (omega arith) (omega arith) rest.1 in
     subst (λ (l : List (Option Move)). SlotsHave m taken bus (suc count) bits l) e
     (slots_have_by m word taken bus count bits slot.0 rest.0 (has_bit taken bus) rules (omega arith) enough refl slot.1 more)
@@ -153,7 +147,7 @@ long_has : (m : Machine) (word : ℕ) (template : Option ℕ) (bits : List Bool)
     → decoded_long m word (fields_from m 0 (length m.buses)) template bits ≡ Ok long
     → LongHas m template (taken_bits (taken_by m template) 0 (fields_from m 0 (length m.buses)) bits) long
 long_has m word None bits long enough said =
-    let e : None ≡ long = same_Ok None long said in
+    let e : None ≡ long = same_ok None long said in
     let many = length-taken_bits m 0 0 (length m.buses) bits enough in
     let none = no_bus_in_none m (numbers (length m.buses)) in
     let nil = nil_from_length (taken_bits 0 0 (fields_from m 0 (length m.buses)) bits) (many ∙ none) in
@@ -161,11 +155,11 @@ long_has m word None bits long enough said =
 long_has m word (Some t) bits long enough said =
     let taken : ℕ = taken_by m (Some t) in
     let own : List Bool = taken_bits taken 0 (fields_from m 0 (length m.buses)) bits in
-    let value = goes_on (or_refuse (of_word word Field (least_bus m taken)) (word_only (number_of own))) (λ value. Ok (Some (record { template = t; value = value }))) long said in
+    let value = then-ok (or_refuse (of_word word Field (least_bus m taken)) (word_only (number_of own))) (λ value. Ok (Some (record { template = t; value = value }))) long said in
     let some = not_refused (of_word word Field (least_bus m taken)) (word_only (number_of own)) value.0 value.1 in
     let is = word_only_is (number_of own) value.0 some in
     let l : Long = record { template = t; value = value.0 } in
-    let e : Some l ≡ long = same_Ok (Some l) long value.2 in
+    let e : Some l ≡ long = same_ok (Some l) long value.2 in
     let many = length-taken_bits m taken 0 (length m.buses) bits enough in
     rw (← e) (record { code = refl; takes = refl; value = bits_of-number_of own (taken_width m taken) value.0 many (sym is) })
 
@@ -181,13 +175,13 @@ instruction_has m word bits i rules enough said =
     let rest : List Bool = drop tw bits in
     let fs : List BusFields = fields_from m 0 (length m.buses) in
     let d = length-drop tw bits in
-    let template = goes_on (or_refuse (of_word word Field (length m.buses)) (decoded_template m code))
+    let template = then-ok (or_refuse (of_word word Field (length m.buses)) (decoded_template m code))
     (λ template. decoded_long m word fs template rest >>= λ long. decoded_slots m word (taken_by m template) 0 fs rest >>= λ moves. Ok (record { moves = moves; long = long })) i said in
-    let long = goes_on (decoded_long m word fs template.0 rest)
+    let long = then-ok (decoded_long m word fs template.0 rest)
     (λ long. decoded_slots m word (taken_by m template.0) 0 fs rest >>= λ moves. Ok (record { moves = moves; long = long })) i template.2 in
-    let moves = goes_on (decoded_slots m word (taken_by m template.0) 0 fs rest) (λ moves. Ok (record { moves = moves; long = long.0 })) i long.2 in
+    let moves = then-ok (decoded_slots m word (taken_by m template.0) 0 fs rest) (λ moves. Ok (record { moves = moves; long = long.0 })) i long.2 in
     let j : Instruction = record { moves = moves.0; long = long.0 } in
-    let e : j ≡ i = same_Ok j i moves.2 in
+    let e : j ≡ i = same_ok j i moves.2 in
     let t = template_number_of m code template.0 (not_refused (of_word word Field (length m.buses)) (decoded_template m code) template.0 template.1) in
     let l = long_has m word template.0 rest long.0 (omega arith) long.1 in
     let s = slots_have m word (taken_by m template.0) 0 (length m.buses) rest moves.0 rules (omega arith) (omega arith) moves.1 in

@@ -1,26 +1,28 @@
 -- The bits of an instruction tell it.
-use Rattle.std.proofs.Common.{◌≡◌, ℕ, zero, suc, ◌+◌, ◌^◌, ◌<◌, ◌≤◌, Bool, true, false, not, ◌||◌, nat_lt, is_none, is_some, IsTrue, List, [], ◌∷◌, ◌++◌, length, map, take, drop, slice_get, Option, Some, None, option_map, refl, sym, ap, ◌∙◌, subst, arith}
+use Rattle.std.proofs.Common.{◌≡◌, ℕ, suc, ◌+◌, ◌^◌, ◌<◌, ◌≤◌, Bool, true, false, not, ◌||◌, nat_lt, is_none, is_some, IsTrue, List, [], ◌∷◌, ◌++◌, length, map, take, drop, slice_get, Option, Some, None, option_map, refl, sym, ap, ◌∙◌, subst, arith}
 use Rattle.std.specs.Option.{option_map_or}
 use Rattle.std.specs.List.{sum_by, range_with_len, flat_map, AllByRecursion}
 use Rattle.std.proofs.lemmas.Bool.{false≢true, and_parts, eqb-true, ltb-true}
-use Rattle.std.proofs.lemmas.Option.{none-some, same_Some, slice_get_within}
+use Rattle.std.proofs.lemmas.Option.{slice_get_within}
 use Rattle.std.proofs.lemmas.List.{length-append, length-take-le, length-drop, take-append-drop, append_assoc, nil_from_length}
 use Rattle.std.proofs.lemmas.List.Sums.{sum_by-cons}
+use Rattle.tta_list.proofs.Lists.{all_one}
 use Rattle.tta_machine.specs.declared.parts.Template.{Template}
 use Rattle.tta_machine.specs.Machine.{Machine}
 use Rattle.tta_machine.specs.Joins.{has_bit, joins}
 use Rattle.tta_machine.specs.Fields.{template_width, bus_width, taken_width, word_width}
 use Rattle.tta_machine.specs.Legal.{Ends, all_slots}
 use Rattle.tta_machine.specs.Rules.{IsMachine}
+use Rattle.tta_machine.proofs.Layouts.{set_width_at, no_bus_in_none}
+use Rattle.tta_machine.proofs.Widths.{pow_le}
 use Rattle.tta_code.specs.declared.code.Move.{Move}
 use Rattle.tta_code.specs.declared.code.Long.{Long}
 use Rattle.tta_code.specs.declared.code.Instruction.{Instruction}
 use Rattle.tta_code.specs.Legal.{ends_of, taken, is_long, is_legal}
-use Rattle.tta_image.specs.Bits.{bits_of, slot_bits, slots_bits, template_code, long_bits, instruction_bits}
-use Rattle.tta_machine.proofs.Layouts.{set_width_at, no_bus_in_none}
 use Rattle.tta_code.proofs.LegalParts.{legal_parts}
+use Rattle.tta_image.specs.Bits.{bits_of, slot_bits, slots_bits, template_code, long_bits, instruction_bits}
+use Rattle.tta_image.specs.Fields.{buses_of}
 use Rattle.tta_image.proofs.Unique.{split_same, length-bits_of, same_number}
-use Rattle.tta_machine.proofs.Widths.{pow_le}
 use Rattle.tta_image.proofs.SlotLemmas.{length-slot_bits, is_joined_slot, slot_bits_tell, code_tells}
 
 -- how many bits of a long immediate the buses from this one on have
@@ -153,18 +155,9 @@ slots_tell m taken bus long long' (s ∷ ss) (s' ∷ ss') rules same many many' 
 
 -- ---- the template and the long immediate
 
--- the buses that a long immediate's template takes
-abbrev pub takes : Machine → Option Long → ℕ
-takes m long = option_map_or (λ l. option_map_or (λ t. t.buses) (slice_get m.templates l.template) 0) long 0
-
 some_of : {X : Type 0} (o : Option X) → is_some o ≡ true → (x : X) × (o ≡ Some x)
 some_of None h = absurd (false≢true h)
 some_of (Some x) h = (x, refl)
-
-item_holds : {X : Type 0} (P : X → Type 0) (xs : List X) (k : ℕ) (x : X) → AllByRecursion P xs → slice_get xs k ≡ Some x → P x
-item_holds P [] k x all at = absurd (none-some x at)
-item_holds P (y ∷ ys) zero x all at = subst P (same_Some y x at) all.0
-item_holds P (y ∷ ys) (suc k) x all at = item_holds P ys k x all.1 at
 
 pub template_inside : (m : Machine) (long : Option Long) → option_map_or (is_long m) long true ≡ true → template_code long < 1 + length m.templates
 template_inside m None h = omega arith
@@ -175,21 +168,21 @@ template_inside m (Some l) h =
     omega arith
 
 -- the word of a long immediate fits the buses that are taken
-pub value_fits : (m : Machine) (l : Long) → IsMachine m → is_long m l ≡ true → l.value < 2 ^ taken_width m (takes m (Some l))
+pub value_fits : (m : Machine) (l : Long) → IsMachine m → is_long m l ≡ true → l.value < 2 ^ taken_width m (buses_of m (Some l))
 value_fits m l rules h =
     let both = and_parts (is_some (slice_get m.templates l.template)) (nat_lt l.value (2 ^ 32)) h in
     let t = some_of (slice_get m.templates l.template) both.0 in
-    let wide : 32 ≤ taken_width m t.0.buses = item_holds (λ (x : Template). 32 ≤ taken_width m x.buses) m.templates l.template t.0 rules.wide t.1 in
-    let same : takes m (Some l) ≡ t.0.buses = ap (λ (o : Option Template). option_map_or (λ x. x.buses) o 0) t.1 in
+    let wide : 32 ≤ taken_width m t.0.buses = all_one (λ (x : Template). 32 ≤ taken_width m x.buses) m.templates l.template t.0 rules.wide t.1 in
+    let same : buses_of m (Some l) ≡ t.0.buses = ap (λ (o : Option Template). option_map_or (λ x. x.buses) o 0) t.1 in
     let small = ltb-true l.value (2 ^ 32) both.1 in
     let more = pow_le 32 (taken_width m t.0.buses) wide in
     let fits : l.value < 2 ^ taken_width m t.0.buses = omega arith in
     rw same fits
 
-pub length-long_bits : (m : Machine) (long : Option Long) (count : ℕ) → count ≡ length m.buses → length (long_bits m (takes m long) long) ≡ left_from m (takes m long) 0 count
+pub length-long_bits : (m : Machine) (long : Option Long) (count : ℕ) → count ≡ length m.buses → length (long_bits m (buses_of m long) long) ≡ left_from m (buses_of m long) 0 count
 length-long_bits m None count e = sym (no_bus_in_none m (range_with_len 0 count))
 length-long_bits m (Some l) count e =
-    length-bits_of (taken_width m (takes m (Some l))) l.value ∙ ap (λ (n : ℕ). left_from m (takes m (Some l)) 0 n) (sym e)
+    length-bits_of (taken_width m (buses_of m (Some l))) l.value ∙ ap (λ (n : ℕ). left_from m (buses_of m (Some l)) 0 n) (sym e)
 
 -- ---- whole instructions
 
@@ -197,11 +190,11 @@ length-long_bits m (Some l) count e =
 pub record IsWhole (m : Machine) (moves : List (Option Move)) (long : Option Long) : Type 0 where
   pub count : length moves ≡ length m.buses
   pub template : option_map_or (is_long m) long true ≡ true
-  pub slots : AreLegal m (takes m long) 0 moves
+  pub slots : AreLegal m (buses_of m long) 0 moves
 
 -- the bits of the instruction that has these moves and this long immediate
 abbrev whole_bits : Machine → List (Option Move) → Option Long → List Bool
-whole_bits m moves long = bits_of (template_width m) (template_code long) ++ slots_bits m (takes m long) (long_bits m (takes m long) long) 0 moves
+whole_bits m moves long = bits_of (template_width m) (template_code long) ++ slots_bits m (buses_of m long) (long_bits m (buses_of m long) long) 0 moves
 
 long_from : (a b : Long) → a.template ≡ b.template → a.value ≡ b.value → a ≡ b
 long_from a b t v =
@@ -210,10 +203,10 @@ long_from a b t v =
 
 slots_of_whole : (m : Machine) (moves moves' : List (Option Move)) (long long' : Option Long) → IsWhole m moves long → IsWhole m moves' long' → whole_bits m moves long ≡ whole_bits m moves' long'
     → (template_code long ≡ template_code long')
-    × (slots_bits m (takes m long) (long_bits m (takes m long) long) 0 moves ≡ slots_bits m (takes m long') (long_bits m (takes m long') long') 0 moves')
+    × (slots_bits m (buses_of m long) (long_bits m (buses_of m long) long) 0 moves ≡ slots_bits m (buses_of m long') (long_bits m (buses_of m long') long') 0 moves')
 slots_of_whole m moves moves' long long' h h' same =
     let parts = split_same (bits_of (template_width m) (template_code long)) (bits_of (template_width m) (template_code long'))
-    (slots_bits m (takes m long) (long_bits m (takes m long) long) 0 moves) (slots_bits m (takes m long') (long_bits m (takes m long') long') 0 moves')
+    (slots_bits m (buses_of m long) (long_bits m (buses_of m long) long) 0 moves) (slots_bits m (buses_of m long') (long_bits m (buses_of m long') long') 0 moves')
     (length-bits_of (template_width m) (template_code long) ∙ sym (length-bits_of (template_width m) (template_code long'))) same in (
       code_tells (1 + length m.templates) (template_width m) (template_code long) (template_code long') (template_inside m long h.template) (template_inside m long' h'.template) (omega arith) parts.0,
       parts.1,
@@ -236,8 +229,8 @@ whole_tells m moves moves' (Some l) (Some l') rules h h' same =
     let code = parts.0 in
     let template : l.template ≡ l'.template = omega arith in
     let many = h.count in let many' = h'.count in
-    let mask : ℕ = takes m (Some l) in
-    let one : takes m (Some l') ≡ mask = ap (λ (n : ℕ). option_map_or (λ t. t.buses) (slice_get m.templates n) 0) (sym template) in
+    let mask : ℕ = buses_of m (Some l) in
+    let one : buses_of m (Some l') ≡ mask = ap (λ (n : ℕ). option_map_or (λ t. t.buses) (slice_get m.templates n) 0) (sym template) in
     let legal' : AreLegal m mask 0 moves' = subst (λ (t : ℕ). AreLegal m t 0 moves') one h'.slots in
     let wide : length (bits_of (taken_width m mask) l.value) ≡ left_from m mask 0 (length moves) = length-long_bits m (Some l) (length moves) many in
     let wide' : length (bits_of (taken_width m mask) l'.value) ≡ left_from m mask 0 (length moves) =
@@ -273,8 +266,8 @@ length-instruction_bits m i h =
     let whole = whole_of m i h in
     let count = whole.count in
     let template = length-bits_of (template_width m) (template_code i.long) in
-    let slots = slots_length m (takes m i.long) 0 (long_bits m (takes m i.long) i.long) i.moves (length-long_bits m i.long (length i.moves) count) in
-    let both = length-append (bits_of (template_width m) (template_code i.long)) (slots_bits m (takes m i.long) (long_bits m (takes m i.long) i.long) 0 i.moves) in
+    let slots = slots_length m (buses_of m i.long) 0 (long_bits m (buses_of m i.long) i.long) i.moves (length-long_bits m i.long (length i.moves) count) in
+    let both = length-append (bits_of (template_width m) (template_code i.long)) (slots_bits m (buses_of m i.long) (long_bits m (buses_of m i.long) i.long) 0 i.moves) in
     let buses = ap (λ (n : ℕ). sum_by (bus_width m) (range_with_len 0 n)) count in
     omega arith
 

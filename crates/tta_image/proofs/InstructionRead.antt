@@ -30,6 +30,7 @@ module _ (m : Machine) (l : Layout) (word : ℕ) (bits : List Bool) where
   template_refused none = answers_same _ _ (sym (whole None none))
 
   module _ (template : Option ℕ) (after : List Bool) (is : Some template ≡ decoded_template m (field 0 l.template_width bits)) (rest : drop l.template_width bits ≡ after) where
+    -- what the answer is where the long immediate decodes to this
     abbrev with_long : Result (Option Long) ImageError → Result Instruction ImageError
     with_long r = r >>= λ long. decoded_slots m word (taken_by m template) 0 l.buses after >>= λ moves. Ok (record { moves = moves; long = long })
 

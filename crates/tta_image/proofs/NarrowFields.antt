@@ -4,6 +4,7 @@ use Rattle.std.specs.Option.{option_map_or}
 use Rattle.std.specs.List.{range_with_len}
 use Rattle.std.proofs.lemmas.Bool.{le-leb, lt-leb, cases_lt, and_parts, leb-true}
 use Rattle.std.proofs.lemmas.List.Sums.{length-filter, count_by-le-length}
+use Rattle.tta_list.proofs.Lists.{list_all_one}
 use Rattle.tta_machine.specs.declared.parts.Bus.{Bus}
 use Rattle.tta_machine.specs.declared.parts.Guard.{Guard}
 use Rattle.tta_machine.specs.declared.layout.Layout.{Layout}
@@ -14,7 +15,6 @@ use Rattle.tta_machine.specs.Layout.{fields_of, layout_of}
 use Rattle.tta_image.specs.Narrow.{IsNarrow, AreNarrow}
 use Rattle.tta_image.specs.Ranks.{source_rank, dest_rank}
 use Rattle.tta_image.proofs.Rising.{rising-length}
-use Rattle.tta_image.proofs.ShortWords.{item_passes}
 use Rattle.tta_image.proofs.EndRanks.{sources_on-rise, dests_on-rise}
 
 width_from-most : (tries v codes width : ℕ) → v ≤ width → width ≤ v + tries → codes ≤ 2 ^ width → width_from tries v codes ≤ width
@@ -59,7 +59,7 @@ short_range m bus rules h = by (slice_get m.buses bus) refl where
   by : (o : Option Bus) → slice_get m.buses bus ≡ o → (0 < option_map_or (λ b. b.short) o 0) × (option_map_or (λ b. b.short) o 0 ≤ 32)
   by None at = absurd (inside m.buses bus h at)
   by (Some b) at =
-      let range = and_parts (nat_le 1 b.short) (nat_le b.short 32) (item_passes is_bus m.buses bus b rules.buses at) in
+      let range = and_parts (nat_le 1 b.short) (nat_le b.short 32) (list_all_one is_bus m.buses bus b rules.buses at) in
       let least = leb-true 1 b.short range.0 in let most = leb-true b.short 32 range.1 in
       (omega arith, most)
 

@@ -1,13 +1,12 @@
 -- The bits and the bytes of small images.
 use Rattle.std.specs.Prelude.{◌≡◌, [], ◌∷◌, ◌++◌, false, None, Some, refl, replicate}
-use Rattle.std.proofs.Common.{List, sym, ap, ◌∙◌, subst, lit≤}
+use Rattle.std.proofs.Common.{lit≤}
 use Rattle.std.specs.List.{flat_map}
 use Rattle.tta_machine.specs.declared.ends.Source.TheVariants as source
 use Rattle.tta_machine.specs.declared.ends.Dest.TheVariants as dest
 use Rattle.tta_machine.specs.Fields.{width_for}
-use Rattle.tta_machine.proofs.Samples.{one_bus, three_buses}
 use Rattle.tta_machine.specs.Legal.{can_move}
-use Rattle.tta_code.specs.declared.code.Instruction.{Instruction}
+use Rattle.tta_machine.proofs.Samples.{one_bus, three_buses}
 use Rattle.tta_code.specs.declared.code.Code.{Code}
 use Rattle.tta_code.specs.Legal.{is_legal, IsLegalCode}
 use Rattle.tta_code.proofs.Rows.{wide}

@@ -4,6 +4,7 @@ use Rattle.std.specs.Option.{option_map_or}
 use Rattle.std.specs.List.{list_all}
 use Rattle.std.proofs.lemmas.Bool.{false≢true, and_parts, leb-true, ltb-true, le-leb, lt-leb}
 use Rattle.std.proofs.lemmas.Nat.{pow_pos, pow-add, shr_split, mod-pow-add, mod_below, mod_low}
+use Rattle.tta_list.proofs.Lists.{list_all_one}
 use Rattle.tta_machine.specs.declared.parts.Bus.{Bus}
 use Rattle.tta_machine.specs.declared.ends.Source.TheVariants as source
 use Rattle.tta_machine.specs.Machine.{Machine}
@@ -13,7 +14,7 @@ use Rattle.tta_machine.specs.Rules.{is_bus}
 use Rattle.tta_machine.proofs.Widths.{pow_le}
 use Rattle.tta_image.specs.Decoding.{short_word, is_signed}
 use Rattle.tta_image.proofs.BitLemmas.{low_whole}
-use Rattle.tta_image.proofs.ShortWords.{IsHigh, is_high, odd_full, item_passes}
+use Rattle.tta_image.proofs.ShortWords.{IsHigh, is_high, odd_full}
 
 -- a product with one factor made smaller by one
 one_less : (q p : ℕ) → 0 < q → (q - 1) * p ≡ q * p - p
@@ -79,5 +80,5 @@ value_decoded m bus x all h = by (slice_get m.buses bus) refl h where
       → short_word (option_map_or (λ b. b.signed) o false) (option_map_or (λ b. b.short) o 0) (x % 2 ^ option_map_or (λ b. b.short) o 0) ≡ x
   by None at held = absurd (false≢true held)
   by (Some b) at held =
-      let range = and_parts (nat_le 1 b.short) (nat_le b.short 32) (item_passes is_bus m.buses bus b all at) in
+      let range = and_parts (nat_le 1 b.short) (nat_le b.short 32) (list_all_one is_bus m.buses bus b all at) in
       short_word-low_bits b x (leb-true 1 b.short range.0) (leb-true b.short 32 range.1) held

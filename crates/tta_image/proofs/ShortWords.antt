@@ -1,10 +1,10 @@
 -- A short word is told by the low bits that its field holds.
-use Rattle.std.proofs.Common.{◌≡◌, ℕ, zero, suc, ◌+◌, ◌-◌, ◌*◌, ◌/◌, ◌%◌, ◌^◌, ◌<◌, ◌≤◌, ◌==◌, ◌⊎◌, Bool, true, false, ◌||◌, nat_lt, nat_le, if◌then◌else◌, List, [], ◌∷◌, slice_get, Option, Some, None, refl, sym, ap, ◌∙◌, inl, inr, arith}
+use Rattle.std.proofs.Common.{◌≡◌, ℕ, zero, suc, ◌+◌, ◌-◌, ◌*◌, ◌/◌, ◌%◌, ◌^◌, ◌<◌, ◌≤◌, ◌==◌, ◌⊎◌, Bool, true, false, ◌||◌, nat_lt, nat_le, if◌then◌else◌, slice_get, Option, Some, None, refl, sym, ap, ◌∙◌, inl, inr, arith}
 use Rattle.std.specs.Option.{option_map_or}
 use Rattle.std.specs.List.{list_all}
 use Rattle.std.proofs.lemmas.Nat.{pow_pos, shr_split, mod-pow-add, mod_below, same_from_place}
 use Rattle.std.proofs.lemmas.Bool.{false≢true, and_parts, or_cases, eqb-true, leb-true, ltb-true}
-use Rattle.std.proofs.lemmas.Option.{none-some, same_Some}
+use Rattle.tta_list.proofs.Lists.{list_all_one}
 use Rattle.tta_machine.specs.declared.parts.Bus.{Bus}
 use Rattle.tta_machine.specs.declared.ends.Source.TheVariants as source
 use Rattle.tta_machine.specs.Machine.{Machine}
@@ -54,12 +54,6 @@ word_tells b x y least most hx hy same = by b.signed hx hy where
   by false px py =
       sym (low_whole x b.short b.short (ltb-true x (2 ^ b.short) px) (omega arith)) ∙ same ∙ low_whole y b.short b.short (ltb-true y (2 ^ b.short) py) (omega arith)
 
--- an item of a list that all pass
-pub item_passes : {X : Type 0} (p : X → Bool) (xs : List X) (k : ℕ) (x : X) → list_all p xs ≡ true → slice_get xs k ≡ Some x → p x ≡ true
-item_passes p [] k x all at = absurd (none-some x at)
-item_passes p (y ∷ ys) zero x all at = ap p (sym (same_Some y x at)) ∙ (and_parts (p y) (list_all p ys) all).0
-item_passes p (y ∷ ys) (suc k) x all at = item_passes p ys k x (and_parts (p y) (list_all p ys) all).1 at
-
 -- short words of one bus with the same low bits are one
 pub value_tells : (m : Machine) (bus x y : ℕ) → list_all is_bus m.buses ≡ true → is_source_on m bus (source.Value x) ≡ true → is_source_on m bus (source.Value y) ≡ true
     → x % 2 ^ short_width m bus ≡ y % 2 ^ short_width m bus → x ≡ y
@@ -68,5 +62,5 @@ value_tells m bus x y all hx hy same = by (slice_get m.buses bus) refl hx hy sam
       → x % 2 ^ option_map_or (λ b. b.short) o 0 ≡ y % 2 ^ option_map_or (λ b. b.short) o 0 → x ≡ y
   by None at px py e = absurd (false≢true px)
   by (Some b) at px py e =
-      let range = and_parts (nat_le 1 b.short) (nat_le b.short 32) (item_passes is_bus m.buses bus b all at) in
+      let range = and_parts (nat_le 1 b.short) (nat_le b.short 32) (list_all_one is_bus m.buses bus b all at) in
       word_tells b x y (leb-true 1 b.short range.0) (leb-true b.short 32 range.1) px py e

@@ -1,5 +1,5 @@
 -- The bits of a slot tell its move.
-use Rattle.std.proofs.Common.{◌≡◌, ℕ, zero, suc, ◌+◌, ◌/◌, ◌%◌, ◌^◌, ◌<◌, ◌≤◌, ◌⊎◌, Bool, true, false, ◌&&◌, List, ◌∷◌, ◌++◌, length, replicate, Option, Some, None, lit<, refl, sym, ap, ◌∙◌, inl, inr, arith}
+use Rattle.std.proofs.Common.{◌≡◌, ℕ, ◌+◌, ◌%◌, ◌^◌, ◌<◌, ◌≤◌, ◌⊎◌, Bool, true, false, ◌&&◌, List, ◌∷◌, ◌++◌, length, replicate, Option, Some, None, refl, sym, ap, ◌∙◌, inl, inr, arith}
 use Rattle.std.proofs.lemmas.Bool.{false≢true, and_parts}
 use Rattle.std.proofs.lemmas.List.{length-append, length-replicate, replicate-append-replicate, append_assoc}
 use Rattle.std.proofs.lemmas.Nat.{mod_below, pow_pos}
@@ -11,14 +11,14 @@ use Rattle.tta_machine.specs.Machine.{Machine}
 use Rattle.tta_machine.specs.Joins.{joins, is_source_on, is_dest_on, has_guard}
 use Rattle.tta_machine.specs.Fields.{width_for, sources_on, dests_on, guards_on, short_width, guard_width, payload_width, dest_width, bus_width, source_code, dest_code, guard_code}
 use Rattle.tta_machine.specs.Rules.{IsMachine}
+use Rattle.tta_machine.specs.Layout.{has_source_socket}
+use Rattle.tta_machine.proofs.Widths.{width_for-enough, pow_le}
 use Rattle.tta_code.specs.declared.code.Move.{Move}
 use Rattle.tta_image.specs.Bits.{bits_of, source_bits, slot_bits}
-use Rattle.tta_machine.specs.Layout.{has_source_socket}
-use Rattle.tta_machine.proofs.Widths.{no_high}
 use Rattle.tta_image.proofs.Unique.{split_same, length-bits_of, same_number}
-use Rattle.tta_machine.proofs.Widths.{width_for-enough, pow_le}
 use Rattle.tta_image.proofs.ShortWords.{value_tells}
 use Rattle.tta_image.proofs.EndsLemmas.{source_code_inside, source_code_tells, dest_code_inside, dest_code_tells, guard_code_inside, guard_code_tells}
+use Rattle.tta_image.proofs.BitParts.{bits_of-zero}
 
 -- codes below a number of codes are told by so many bits
 pub code_tells : (codes width a b : ℕ) → a < codes → b < codes → width_for codes ≤ width → bits_of width a ≡ bits_of width b → a ≡ b
@@ -26,10 +26,6 @@ code_tells codes width a b ha hb wide same =
     let enough = width_for-enough codes in
     let more = pow_le (width_for codes) width wide in
     same_number width a b (omega arith) (omega arith) same
-
-pub zero_bits : (w : ℕ) → bits_of w 0 ≡ replicate w false
-zero_bits zero = refl
-zero_bits (suc w) = let none : 0 / 2 ^ w ≡ 0 = no_high 0 0 w (lit< tt) (omega arith) in rw none (ap (λ l. false ∷ l) (zero_bits w))
 
 pub length-source_bits : (m : Machine) (bus : ℕ) (src : Source) → length (source_bits m bus src) ≡ 1 + payload_width m bus
 length-source_bits m bus (source.Reg f i) = let e = length-bits_of (payload_width m bus) (source_code m bus (source.Reg f i)) in omega arith
@@ -158,7 +154,7 @@ move_is_not_empty m bus v j same =
     (length-bits_of gw (guard_code m bus v.guard) ∙ sym (length-replicate gw false)) (same ∙ cut) in
     let two = split_same (source_bits m bus v.src) (replicate sw false) dst (replicate dw false) (length-source_bits m bus v.src ∙ sym (length-replicate sw false)) one.1 in
     let none : dest_code m bus v.dst ≡ 0 = code_tells (1 + length (dests_on m bus)) dw (dest_code m bus v.dst) 0
-    (dest_code_inside m bus v.dst j.1) (omega arith) (omega arith) (two.1 ∙ sym (zero_bits dw)) in
+    (dest_code_inside m bus v.dst j.1) (omega arith) (omega arith) (two.1 ∙ sym (bits_of-zero dw)) in
     omega arith
 
 -- slots with the same bits are one

@@ -5,6 +5,7 @@ use Rattle.std.proofs.lemmas.Bool.{and_parts, eqb-true, not-true, ltb-true}
 use Rattle.std.proofs.lemmas.Option.{none-some, same_Some}
 use Rattle.std.proofs.lemmas.List.{append_assoc, length-append, length-drop, length-take-le, drop-drop, take_at, drop_at, replicate-append-replicate}
 use Rattle.tta_reading.specs.Steps.{◌>>?◌}
+use Rattle.tta_reading.proofs.Steps.{then-some}
 use Rattle.tta_machine.specs.declared.ends.Source.{Source}
 use Rattle.tta_machine.specs.declared.ends.Source.TheVariants as source
 use Rattle.tta_machine.specs.declared.layout.BusFields.{BusFields}
@@ -18,10 +19,11 @@ use Rattle.tta_image.specs.Bits.{bits_of, source_bits, slot_bits}
 use Rattle.tta_image.specs.Decoding.{number_of, field, slot_numbers, decoded_guard, short_word, decoded_source, decoded_dest, decoded_move, decoded_slot, is_signed}
 use Rattle.tta_image.proofs.Unique.{length-bits_of}
 use Rattle.tta_image.proofs.Numbers.{bits_of-number_of, number_of-bits_of_small}
-use Rattle.tta_image.proofs.SlotLemmas.{zero_bits}
+use Rattle.tta_image.proofs.BitParts.{bits_of-zero}
 use Rattle.tta_image.proofs.CodesDecoded.{guard_code-decoded, source_code_at, no_value_at, dest_code-decoded}
 use Rattle.tta_image.proofs.ShortDecoded.{short_word-low}
 use Rattle.tta_image.proofs.NarrowFields.{narrow}
+use Rattle.tta_image.proofs.FieldParts.{same_numbers}
 
 -- ---- numbers and bits
 
@@ -75,13 +77,6 @@ middle front own rest all at w n is begins long tells =
     ap (λ (l : List Bool). number_of (take w (drop at l))) is ∙ ap (λ (l : List Bool). number_of (take w l)) (drop_at front (own ++ rest) at begins)
     ∙ ap number_of (take_at own rest w long) ∙ tells
 
-numbers_from : (a b : SlotNumbers) → a.guard ≡ b.guard → a.is_short ≡ b.is_short → a.payload ≡ b.payload → a.dest ≡ b.dest → a ≡ b
-numbers_from a b guard short payload dst =
-    ap (λ (x : ℕ). let n : SlotNumbers = record { guard = x; is_short = a.is_short; payload = a.payload; dest = a.dest } in n) guard
-    ∙ ap (λ (x : Bool). let n : SlotNumbers = record { guard = b.guard; is_short = x; payload = a.payload; dest = a.dest } in n) short
-    ∙ ap (λ (x : ℕ). let n : SlotNumbers = record { guard = b.guard; is_short = b.is_short; payload = x; dest = a.dest } in n) payload
-    ∙ ap (λ (x : ℕ). let n : SlotNumbers = record { guard = b.guard; is_short = b.is_short; payload = b.payload; dest = x } in n) dst
-
 -- the numbers in the fields are those whose bits they have
 pub numbers_of_bits : (f : BusFields) (n : SlotNumbers) (rest : List Bool) → Fit f n → slot_numbers f (bits_of_numbers f n ++ rest) ≡ n
 numbers_of_bits f n rest fit =
@@ -99,14 +94,9 @@ numbers_of_bits f n rest fit =
     let tag = middle g t (p ++ (d ++ rest)) all f.guard_width 1 (number_of t) one lg refl refl in
     let payload = middle (g ++ t) p (d ++ rest) all (f.guard_width + 1) f.payload_width n.payload two lgt lp (number_of-bits_of_small f.payload_width n.payload fit.payload) in
     let dst = middle ((g ++ t) ++ p) d rest all (f.guard_width + 1 + f.payload_width) f.dest_width n.dest three lgtp ld (number_of-bits_of_small f.dest_width n.dest fit.dest) in
-    numbers_from (slot_numbers f all) n guard (ap (λ (k : ℕ). k == 1) tag ∙ tag_by n.is_short) payload dst
+    same_numbers (slot_numbers f all) n guard (ap (λ (k : ℕ). k == 1) tag ∙ tag_by n.is_short) payload dst
 
 -- ---- what is said has the bits
-
--- the parts of an option that goes on
-pub going_on : {A B : Type 0} (o : Option A) (f : A → Option B) (y : B) → (o >>? f) ≡ Some y → (x : A) × (o ≡ Some x) × (f x ≡ Some y)
-going_on None f y h = absurd (none-some y h)
-going_on (Some x) f y h = (x, refl, h)
 
 -- a source that is no short word has a tag bit 0 and its code
 code_bits_by : (m : Machine) (bus : ℕ) (src : Source) → ((w : ℕ) → src ≡ source.Value w → ⊥)
@@ -136,9 +126,9 @@ decoded_move-bits : (m : Machine) (bus : ℕ) (n : SlotNumbers) (v : Move) → I
     → decoded_move (fields_of m bus) (is_signed m bus) n ≡ Some v → slot_bits m bus (Some v) ≡ bits_of_numbers (fields_of m bus) n
 decoded_move-bits m bus n v rules h some said =
     let f : BusFields = fields_of m bus in
-    let guard = going_on (decoded_guard f n.guard) (λ guard. decoded_source f (is_signed m bus) n.is_short n.payload >>? λ src. decoded_dest f n.dest >>? λ dst. Some (record { guard = guard; src = src; dst = dst })) v said in
-    let src = going_on (decoded_source f (is_signed m bus) n.is_short n.payload) (λ src. decoded_dest f n.dest >>? λ dst. Some (record { guard = guard.0; src = src; dst = dst })) v guard.2 in
-    let dst = going_on (decoded_dest f n.dest) (λ dst. Some (record { guard = guard.0; src = src.0; dst = dst })) v src.2 in
+    let guard = then-some (decoded_guard f n.guard) (λ guard. decoded_source f (is_signed m bus) n.is_short n.payload >>? λ src. decoded_dest f n.dest >>? λ dst. Some (record { guard = guard; src = src; dst = dst })) v said in
+    let src = then-some (decoded_source f (is_signed m bus) n.is_short n.payload) (λ src. decoded_dest f n.dest >>? λ dst. Some (record { guard = guard.0; src = src; dst = dst })) v guard.2 in
+    let dst = then-some (decoded_dest f n.dest) (λ dst. Some (record { guard = guard.0; src = src.0; dst = dst })) v src.2 in
     let w : Move = record { guard = guard.0; src = src.0; dst = dst.0 } in
     ap (λ (x : Move). slot_bits m bus (Some x)) (sym (same_Some w v dst.2))
     ∙ ap (λ (k : ℕ). bits_of (guard_width m bus) k ++ (source_bits m bus src.0 ++ bits_of (dest_width m bus) (dest_code m bus dst.0))) (guard_code-decoded m bus n.guard guard.0 rules guard.1)
@@ -152,11 +142,11 @@ empty_bits m bus n guard short payload dst =
     let gw : ℕ = guard_width m bus in let pw : ℕ = payload_width m bus in let dw : ℕ = dest_width m bus in
     sym (replicate-append-replicate (gw + (1 + pw)) dw false) ∙ ap (λ (l : List Bool). l ++ replicate dw false) (sym (replicate-append-replicate gw (1 + pw) false))
     ∙ append_assoc (replicate gw false) (replicate (1 + pw) false) (replicate dw false)
-    ∙ ap (λ (l : List Bool). l ++ (replicate (1 + pw) false ++ replicate dw false)) (sym (zero_bits gw) ∙ ap (λ (k : ℕ). bits_of gw k) (sym guard))
+    ∙ ap (λ (l : List Bool). l ++ (replicate (1 + pw) false ++ replicate dw false)) (sym (bits_of-zero gw) ∙ ap (λ (k : ℕ). bits_of gw k) (sym guard))
     ∙ ap (λ (k : ℕ). bits_of gw n.guard ++ (replicate k false ++ replicate dw false)) (let e : 1 + pw ≡ suc pw = omega arith in e)
     ∙ ap (λ (b : Bool). bits_of gw n.guard ++ ((b ∷ replicate pw false) ++ replicate dw false)) (sym short)
-    ∙ ap (λ (l : List Bool). bits_of gw n.guard ++ ((n.is_short ∷ l) ++ replicate dw false)) (sym (zero_bits pw) ∙ ap (λ (k : ℕ). bits_of pw k) (sym payload))
-    ∙ ap (λ (l : List Bool). bits_of gw n.guard ++ ((n.is_short ∷ bits_of pw n.payload) ++ l)) (sym (zero_bits dw) ∙ ap (λ (k : ℕ). bits_of dw k) (sym dst))
+    ∙ ap (λ (l : List Bool). bits_of gw n.guard ++ ((n.is_short ∷ l) ++ replicate dw false)) (sym (bits_of-zero pw) ∙ ap (λ (k : ℕ). bits_of pw k) (sym payload))
+    ∙ ap (λ (l : List Bool). bits_of gw n.guard ++ ((n.is_short ∷ bits_of pw n.payload) ++ l)) (sym (bits_of-zero dw) ∙ ap (λ (k : ℕ). bits_of dw k) (sym dst))
 
 -- the slot that numbers decode to has their bits
 pub decoded_slot-bits : (m : Machine) (bus : ℕ) (n : SlotNumbers) (slot : Option Move) → IsMachine m → bus < length m.buses

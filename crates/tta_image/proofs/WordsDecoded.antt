@@ -1,9 +1,10 @@
 -- What the bits of words decode to is the instructions that have these bits, and the bits of legal instructions decode to these.
-use Rattle.std.proofs.Common.{◌≡◌, ℕ, zero, suc, ◌+◌, ◌-◌, ◌*◌, ◌≤◌, Bool, true, false, not, List, [], ◌∷◌, ◌++◌, length, replicate, drop, Result, Ok, IsTrue, refl, sym, ap, ◌∙◌, subst, arith}
+use Rattle.std.proofs.Common.{◌≡◌, ℕ, zero, suc, ◌+◌, ◌-◌, ◌*◌, ◌≤◌, Bool, false, not, List, [], ◌∷◌, ◌++◌, length, replicate, drop, Result, Ok, IsTrue, refl, sym, ap, ◌∙◌, subst, arith}
 use Rattle.std.specs.List.{flat_map, list_any, AllByRecursion}
 use Rattle.std.proofs.lemmas.Bool.{not-false}
 use Rattle.std.proofs.lemmas.List.{append_assoc, length-drop, drop_at, take-append-drop}
 use Rattle.tta_reading.specs.Steps.{◌>>=◌, refuse_if}
+use Rattle.tta_reading.proofs.Steps.{same_ok, refuse_if-ok, then-ok}
 use Rattle.tta_machine.specs.Machine.{Machine}
 use Rattle.tta_machine.specs.Fields.{word_width}
 use Rattle.tta_machine.specs.Layout.{layout_of}
@@ -18,13 +19,8 @@ use Rattle.tta_image.specs.Decoding.{decoded_instruction}
 use Rattle.tta_image.specs.Reading.{decoded_word, decoded_words}
 use Rattle.tta_image.proofs.Numbers.{list_any-zeros, zeros_from}
 use Rattle.tta_image.proofs.InstructionLemmas.{length-instruction_bits}
-use Rattle.tta_image.proofs.InstructionDecoded.{goes_on, same_Ok, instruction_has}
+use Rattle.tta_image.proofs.InstructionDecoded.{instruction_has}
 use Rattle.tta_image.proofs.InstructionEncoded.{decoded_instruction-bits}
-
--- what is not refused by a test goes on
-pub passes : {A E : Type 0} (test : Bool) (e : E) (next : Result A E) (x : A) → refuse_if test e next ≡ Ok x → (test ≡ false) × (next ≡ Ok x)
-passes true e next x h = absurd (cc)
-passes false e next x h = (refl, h)
 
 -- a machine can carry out each of these instructions
 abbrev pub AreLegalWords : Machine → List Instruction → Type 0
@@ -39,18 +35,18 @@ pub record WordsHave (m : Machine) (count : ℕ) (bits : List Bool) (is : List I
 pub words_have : (m : Machine) (count word : ℕ) (bits : List Bool) (is : List Instruction) → IsMachine m → count * word_width m ≤ length bits
     → decoded_words m (layout_of m) count word bits ≡ Ok is → WordsHave m count bits is
 words_have m zero word bits is rules enough said =
-    let p = passes (list_any (λ b. b) bits) (of_all Padding) (Ok []) is said in
-    let e : [] ≡ is = same_Ok [] is p.1 in
+    let p = refuse_if-ok (list_any (λ b. b) bits) (of_all Padding) (Ok []) is said in
+    let e : [] ≡ is = same_ok [] is p.1 in
     rw (← e) (record { many = refl; legal = tt; same = zeros_from bits (length bits - 0 * word_width m) (omega arith) p.0 })
 words_have m (suc count) word bits is rules enough said =
     let w : ℕ = word_width m in
     let more : suc count * w ≡ w + count * w = grind arith in
-    let first = goes_on (decoded_word m (layout_of m) word bits) (λ i. decoded_words m (layout_of m) count (word + 1) (drop w bits) >>= λ is. Ok (i ∷ is)) is said in
-    let rest = goes_on (decoded_words m (layout_of m) count (word + 1) (drop w bits)) (λ is. Ok (first.0 ∷ is)) is first.2 in
-    let e : first.0 ∷ rest.0 ≡ is = same_Ok (first.0 ∷ rest.0) is rest.2 in
-    let own = goes_on (decoded_instruction m (layout_of m) word bits) (λ i. refuse_if (not (is_legal m i)) (of_word word Illegal 0) (Ok i)) first.0 first.1 in
-    let legal = passes (not (is_legal m own.0)) (of_word word Illegal 0) (Ok own.0) first.0 own.2 in
-    let i : own.0 ≡ first.0 = same_Ok own.0 first.0 legal.1 in
+    let first = then-ok (decoded_word m (layout_of m) word bits) (λ i. decoded_words m (layout_of m) count (word + 1) (drop w bits) >>= λ is. Ok (i ∷ is)) is said in
+    let rest = then-ok (decoded_words m (layout_of m) count (word + 1) (drop w bits)) (λ is. Ok (first.0 ∷ is)) is first.2 in
+    let e : first.0 ∷ rest.0 ≡ is = same_ok (first.0 ∷ rest.0) is rest.2 in
+    let own = then-ok (decoded_instruction m (layout_of m) word bits) (λ i. refuse_if (not (is_legal m i)) (of_word word Illegal 0) (Ok i)) first.0 first.1 in
+    let legal = refuse_if-ok (not (is_legal m own.0)) (of_word word Illegal 0) (Ok own.0) first.0 own.2 in
+    let i : own.0 ≡ first.0 = same_ok own.0 first.0 legal.1 in
     let bits_own = instruction_has m word bits own.0 rules (omega arith) own.1 in
     let d = length-drop w bits in
     let after = words_have m count (word + 1) (drop w bits) rest.0 rules (omega arith) rest.1 in

@@ -1,6 +1,6 @@
 //! Instructions as bits, and code as the bytes of an image: the writer and the reader. It stands on
 //! the code of `tta_code`, the machine of `tta_machine`, the joins of `tta_connect`, the
-//! definitions of `tta_reading` and `tta_ops`, and `tta_list`.
+//! definitions of `tta_reading`, and `tta_list`.
 #![tactic(auto)]
 
 mod bits;

@@ -2,6 +2,7 @@
 use Rattle.std.proofs.Common.{◌≡◌, ◌++◌, ◌∷◌, [], ℕ, List, Some, Ok, zero, suc, length, map, refl, sym, ap, subst, ◌∙◌, ◌⊎◌, inl, inr}
 use Rattle.std.specs.Prelude.{slice_get, slice_set}
 use Rattle.std.proofs.lemmas.List.{map-append}
+use Rattle.tta_list.proofs.Lists.{slice_get-longer}
 use Rattle.tta_reading.specs.Lines.{Line, Lexeme}
 use Rattle.tta_reading.specs.Names.{named_in}
 use Rattle.tta_ops.specs.Units.{Units}
@@ -13,9 +14,9 @@ use Rattle.tta_machine.specs.Draft.{nothing}
 use Rattle.tta_machine.specs.Forms.{OpForm}
 use Rattle.tta_machine.specs.Declarations.{with_op}
 use Rattle.tta_machine.specs.Text.{take_line, take_lines}
-use Rattle.tta_machine.proofs.Lists.{slice_get-longer}
+use Rattle.tta_machine.specs.Grammar.{bus_made}
 use Rattle.tta_machine.proofs.Naming.{named_in-push}
-use Rattle.tta_machine.proofs.MadeParts.{bus_of, bus_added, socket_of, socket_added, file_of, file_added, imm_of, imm_added, unit_of, unit_added}
+use Rattle.tta_machine.proofs.MadeParts.{bus_added, socket_of, socket_added, file_of, file_added, imm_of, imm_added, unit_of, unit_added}
 use Rattle.tta_machine.proofs.MadeLinks.{unit_op, op_added, OpMade, guard_of, guard_added, template_of, template_added, control_of, control_added, spaces_added}
 use Rattle.tta_machine.proofs.Taken.{Taken, TakenBus, TakenSocket, TakenFile, TakenImm, TakenUnit, TakenOp, TakenGuard, TakenTemplate, TakenControl, TakenSpace, line_keeps, lines_keep}
 
@@ -95,7 +96,7 @@ op_borne u d e f r m =
 taken-borne : (u : Units) (line : ℕ) (d e : Draft) (key : Lexeme) (words : Line) → AreBorne d → Taken u line d e key words → AreBorne e
 taken-borne u line d e key words r (TakenBus f is said m) =
     subst AreBorne m.made (borne_more d (bus_added d f) f.name (place.Bus (length d.buses)) r refl
-    (assumption (longer (λ x. x.name) d.buses (bus_of f))) (last_bears (λ x. x.name) d.buses (bus_of f)))
+    (assumption (longer (λ x. x.name) d.buses (bus_made f))) (last_bears (λ x. x.name) d.buses (bus_made f)))
 taken-borne u line d e key words r (TakenSocket f is said m) =
     subst AreBorne m.made (borne_more d (socket_added d f m.buses) f.name (place.Socket (length d.sockets)) r refl
     (assumption (longer (λ x. x.name) d.sockets (socket_of f m.buses))) (last_bears (λ x. x.name) d.sockets (socket_of f m.buses)))

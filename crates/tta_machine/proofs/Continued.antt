@@ -3,6 +3,7 @@ use Rattle.std.proofs.Common.{◌≡◌, ◌++◌, ◌∷◌, [], ◌⊎◌, inl
 use Rattle.std.specs.List.{list_all, list_any, cons_option}
 use Rattle.std.specs.Str.{bytes_eq}
 use Rattle.std.proofs.lemmas.Bool.{and_from}
+use Rattle.tta_list.proofs.Tests.{none_from_is_some}
 use Rattle.tta_reading.specs.Names.{named_in}
 use Rattle.tta_reading.specs.Steps.{only_if}
 use Rattle.tta_ops.specs.Units.{Units}
@@ -16,9 +17,9 @@ use Rattle.tta_machine.specs.Forms.{BusForm, SocketForm, FileForm, ImmForm, Unit
 use Rattle.tta_machine.specs.Declarations.{bus_set}
 use Rattle.tta_machine.specs.Kept.{IsDraft}
 use Rattle.tta_machine.specs.Grammar.{is_known_op, place_of, bus_made, socket_made, file_made, imm_made, op_made, ops_of, unit_made, guard_made, template_made, control_made, data_size, frame_size}
-use Rattle.tta_machine.proofs.Naming.{named_in-longer, none_from_is_some}
+use Rattle.tta_machine.proofs.Naming.{named_in-longer}
 use Rattle.tta_machine.proofs.Lookups.{unit_named-some}
-use Rattle.tta_machine.proofs.MadeParts.{bus_of, bus_added, BusMade, socket_of, socket_added, SocketMade, file_of, file_added, FileMade, imm_of, imm_added, ImmMade, unit_of, unit_added, UnitMade}
+use Rattle.tta_machine.proofs.MadeParts.{bus_added, BusMade, socket_of, socket_added, SocketMade, file_of, file_added, FileMade, imm_of, imm_added, ImmMade, unit_of, unit_added, UnitMade}
 use Rattle.tta_machine.proofs.MadeLinks.{unit_op, op_added, OpMade, guard_of, guard_added, GuardMade, template_of, template_added, TemplateMade, control_of, control_added, ControlMade, spaces_added, DataMade, FrameMade}
 use Rattle.tta_machine.proofs.KindLines.{ByKind, Adds, adds_one}
 use Rattle.tta_machine.proofs.UnitLines.{AddsUnits, with_ops, units_one, units_op}
@@ -54,7 +55,7 @@ bus_continues u d next e lines f m later =
     let ih : Continues u (bus_added d f) e lines = subst (λ x. Continues u x e lines) (sym m.made) later in
     assumption (
       stay_before d (bus_added d f) e f.name (place.Bus (length d.buses)) refl ih.names,
-      adds_one d.buses e.buses (bus_of f) bus_made f lines.buses ih.buses refl,
+      adds_one d.buses e.buses (bus_made f) bus_made f lines.buses ih.buses refl,
     )
 
 pub socket_continues : (u : Units) (d next e : Draft) (lines : ByKind) (f : SocketForm) → HasPlaces e → SocketMade d next f → Continues u next e lines

@@ -5,6 +5,7 @@ use Rattle.std.specs.List.{list_any, AllByRecursion}
 use Rattle.std.proofs.lemmas.Bool.{and_parts, and_from, or_from, not-true, not_from_false, false_from_ne_true}
 use Rattle.std.proofs.lemmas.List.Folds.{list_any-append}
 use Rattle.std.proofs.lemmas.Slice.Eq.{bytes_eq-Decides}
+use Rattle.tta_list.proofs.Lists.{all_append, all_weaker}
 use Rattle.tta_reading.specs.Names.{Declared, named_in}
 use Rattle.tta_machine.specs.declared.reading.draft.Named.{Named}
 use Rattle.tta_machine.specs.declared.reading.draft.Named.TheVariants as place
@@ -15,7 +16,6 @@ use Rattle.tta_machine.specs.declared.parts.Template.{Template}
 use Rattle.tta_machine.specs.Machine.{Machine}
 use Rattle.tta_machine.specs.Draft.{machine_of}
 use Rattle.tta_machine.specs.Kept.{AreNamed, IsDraft}
-use Rattle.tta_machine.proofs.Lists.{all_append, all_weaker}
 
 -- ---- two lists
 

@@ -4,6 +4,8 @@ use Rattle.std.specs.Prelude.{◌&&◌, ◌||◌, ◌==◌, nat_lt, nat_le, slic
 use Rattle.std.specs.Option.{option_map_or}
 use Rattle.std.specs.List.{list_all}
 use Rattle.std.proofs.lemmas.Bool.{and_parts, and_from, ltb-true, lt-ltb}
+use Rattle.tta_list.proofs.Lists.{slice_get-longer}
+use Rattle.tta_list.proofs.Tests.{and_map}
 use Rattle.tta_reading.specs.Names.{named_in}
 use Rattle.tta_machine.specs.declared.reading.draft.Named.{Named}
 use Rattle.tta_machine.specs.declared.reading.draft.Named.TheVariants as place
@@ -18,7 +20,6 @@ use Rattle.tta_machine.specs.declared.parts.Control.{Control}
 use Rattle.tta_machine.specs.Joins.{is_same}
 use Rattle.tta_machine.specs.Rules.{IsMachineName, IsBusSet, is_socket, is_port_socket, is_from_to, is_file, is_imm, is_unit, is_unit_op, same_op, are_different, is_guard, is_template, is_control}
 use Rattle.tta_machine.specs.Kept.{NamesAreThere}
-use Rattle.tta_machine.proofs.Lists.{slice_get-longer}
 use Rattle.tta_machine.proofs.Naming.{named_in-push}
 
 -- ---- names
@@ -99,10 +100,6 @@ is_guard-more_buses n m files g le h =
     and_from (nat_lt g.bus m) rest (lt-ltb g.bus m (omega arith)) parts.1
 
 -- ---- more sockets
-
--- two tests hold where two others do from which they follow
-pub and_map : {a b c d : Bool} → (a ≡ true → c ≡ true) → (b ≡ true → d ≡ true) → (a && b) ≡ true → (c && d) ≡ true
-and_map {a} {b} {c} {d} left right h = let parts = and_parts a b h in and_from c d (left parts.0) (right parts.1)
 
 -- a test of an element that is there holds in a longer list
 test_longer : {A : Type 0} (p : A → Bool) (xs more : List A) (k : ℕ) → option_map_or p (slice_get xs k) false ≡ true → option_map_or p (slice_get (xs ++ more) k) false ≡ true

@@ -1,6 +1,6 @@
 -- A line is of one kind alone, and adds to the lines of that kind.
-use Rattle.std.proofs.Common.{◌≡◌, ◌+◌, ◌++◌, ◌∷◌, [], ℕ, Bool, List, Option, None, true, suc, length, map, sym, ap, ap₂, ◌∙◌, arith, append_assoc, append-nil, codes}
-use Rattle.std.specs.Prelude.{◌&&◌, ◌||◌, slice_get, is_some}
+use Rattle.std.proofs.Common.{◌≡◌, ◌++◌, ◌∷◌, [], ℕ, Bool, List, Option, None, true, map, sym, ap, ap₂, ◌∙◌, append_assoc, append-nil, codes}
+use Rattle.std.specs.Prelude.{◌&&◌, ◌||◌, is_some}
 use Rattle.std.specs.List.{list_all, cons_option}
 use Rattle.std.specs.Str.{bytes_eq}
 use Rattle.std.proofs.lemmas.Bool.{and_parts}
@@ -118,10 +118,3 @@ adds_none earlier made = sym (append-nil earlier)
 pub adds_one : {A F : Type 0} (earlier later : List A) (x : A) (made : F → A) (f : F) (forms : List F)
     → Adds (earlier ++ x ∷ []) later made forms → made f ≡ x → Adds earlier later made (f ∷ forms)
 adds_one earlier later x made f forms h is = h ∙ append_assoc earlier (x ∷ []) (map made forms) ∙ ap (λ y. earlier ++ y ∷ map made forms) (sym is)
-
--- an element behind the first list
-pub slice_get-behind : {A : Type 0} (xs ys : List A) (k : ℕ) → slice_get (xs ++ ys) (length xs + k) ≡ slice_get ys k
-slice_get-behind [] ys k = let e : 0 + k ≡ k = omega arith in ap (slice_get ys) e
-slice_get-behind (x ∷ xs) ys k =
-    let e : suc (length xs) + k ≡ suc (length xs + k) = omega arith in
-    ap (slice_get (x ∷ xs ++ ys)) e ∙ slice_get-behind xs ys k

@@ -5,7 +5,6 @@ pub mod Names
 pub mod Pieces
 pub mod Samples
 pub mod Lists
-pub mod Steps
 pub mod Naming
 pub mod Growth
 pub mod Lookups

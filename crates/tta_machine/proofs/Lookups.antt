@@ -6,6 +6,7 @@ use Rattle.std.specs.List.{AllByRecursion}
 use Rattle.std.proofs.lemmas.Option.{cond_some}
 use Rattle.tta_reading.specs.Names.{named_in}
 use Rattle.tta_reading.specs.Steps.{or_refuse}
+use Rattle.tta_reading.proofs.Steps.{same_ok, then-some}
 use Rattle.tta_machine.specs.declared.reading.refusal.Refusal.TheVariants.{Unknown}
 use Rattle.tta_machine.specs.declared.reading.draft.Named.{Named}
 use Rattle.tta_machine.specs.declared.reading.draft.Named.TheVariants as place
@@ -14,7 +15,6 @@ use Rattle.tta_machine.specs.Rules.{is_socket, is_port_socket}
 use Rattle.tta_machine.specs.Draft.{bus_place, socket_place, file_place, imm_place, unit_place, bus_named, socket_named, file_named, imm_named, unit_named}
 use Rattle.tta_machine.specs.Declarations.{buses_named, port_named}
 use Rattle.tta_machine.specs.Kept.{NamesAreThere}
-use Rattle.tta_machine.proofs.Steps.{same_ok, then-some}
 
 -- ---- parts of one name
 

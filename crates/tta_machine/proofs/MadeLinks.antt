@@ -6,6 +6,7 @@ use Rattle.std.specs.Option.{option_map_or}
 use Rattle.std.specs.List.{list_any}
 use Rattle.std.proofs.lemmas.Bool.{or_parts, not-false, ltb-false}
 use Rattle.tta_reading.specs.Steps.{refuse_if}
+use Rattle.tta_reading.proofs.Steps.{then-ok, some-ok, refuse_if-ok, same_ok}
 use Rattle.tta_ops.specs.Units.{Units}
 use Rattle.tta_machine.specs.declared.reading.refusal.Refusal.TheVariants.{Unknown, Twice, Range, Missing}
 use Rattle.tta_machine.specs.declared.reading.draft.Named.TheVariants as place
@@ -23,7 +24,6 @@ use Rattle.tta_machine.specs.Rules.{is_from_to, are_different, same_op, same_gua
 use Rattle.tta_machine.specs.Forms.{OpForm, GuardForm, TemplateForm, ControlForm, SpaceForm}
 use Rattle.tta_machine.specs.Draft.{is_taken, is_too_long, bus_named, socket_named, file_named, imm_named, unit_named}
 use Rattle.tta_machine.specs.Declarations.{take_op, take_guard, take_template, take_control, take_space, buses_named, bus_set, port_named, op_named, arity_of, is_latency, is_served, with_op}
-use Rattle.tta_machine.proofs.Steps.{then-ok, some-ok, refuse_if-ok, same_ok}
 
 -- ---- operations
 
@@ -200,7 +200,7 @@ take_control-made d e f h =
 abbrev pub spaces_added : Draft → (words frame : Option ℕ) → Draft
 spaces_added d words frame = record d { data_words = words; frame_words = frame }
 
--- a line of the data space, and one of the frame space
+-- what is known of a draft with the data space of a line added
 pub record DataMade (d e : Draft) (f : SpaceForm) : Type 0 where
   pub of_data : f.is_data ≡ true
   pub first : is_some d.data_words ≡ false

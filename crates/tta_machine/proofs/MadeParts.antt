@@ -3,10 +3,10 @@
 use Rattle.std.proofs.Common.{◌≡◌, ◌++◌, ◌∷◌, []}
 use Rattle.std.specs.Prelude.{ℕ, Bool, true, false, not, ◌||◌, ◌==◌, nat_le, List, length, Option, Some, Ok}
 use Rattle.std.proofs.lemmas.Bool.{or_parts, not-false}
+use Rattle.tta_reading.proofs.Steps.{then-ok, some-ok, refuse_if-ok, same_ok}
 use Rattle.tta_machine.specs.declared.reading.refusal.Refusal.TheVariants.{Unknown, Twice, Range}
 use Rattle.tta_machine.specs.declared.reading.draft.Named.TheVariants as place
 use Rattle.tta_machine.specs.declared.reading.draft.Draft.{Draft}
-use Rattle.tta_machine.specs.declared.parts.Bus.{Bus}
 use Rattle.tta_machine.specs.declared.parts.Socket.{Socket}
 use Rattle.tta_machine.specs.declared.parts.File.{File}
 use Rattle.tta_machine.specs.declared.parts.ImmUnit.{ImmUnit}
@@ -15,19 +15,15 @@ use Rattle.tta_machine.specs.Rules.{is_from_to, are_different}
 use Rattle.tta_machine.specs.Forms.{BusForm, SocketForm, FileForm, ImmForm, UnitForm}
 use Rattle.tta_machine.specs.Draft.{is_taken, is_too_long, socket_named}
 use Rattle.tta_machine.specs.Declarations.{take_bus, take_socket, take_file, take_imm, take_unit, buses_named, bus_set, port_named}
-use Rattle.tta_machine.proofs.Steps.{then-ok, some-ok, refuse_if-ok, same_ok}
+use Rattle.tta_machine.specs.Grammar.{bus_made}
 
 -- ---- buses and sockets
-
--- the bus that a line declares
-abbrev pub bus_of : BusForm → Bus
-bus_of f = record { name = f.name; short = f.short; signed = f.signed }
 
 -- the draft with the bus of a line more, and with its name
 abbrev pub bus_added : Draft → BusForm → Draft
 bus_added d f = record d {
   names = d.names ++ (f.name, place.Bus (length d.buses)) ∷ [];
-  buses = d.buses ++ bus_of f ∷ [];
+  buses = d.buses ++ bus_made f ∷ [];
 }
 
 -- what is known of a draft with the bus of a line added

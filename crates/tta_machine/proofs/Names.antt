@@ -4,10 +4,9 @@ use Rattle.std.specs.Prelude.{Some, None, map, if◌then◌else◌}
 use Rattle.std.specs.List.{list_all}
 use Rattle.std.proofs.lemmas.Bool.{cases_Bool}
 use Rattle.tta_reading.specs.declared.word.Word.{Word}
-use Rattle.tta_reading.specs.Lines.{plain}
+use Rattle.tta_reading.specs.Lines.{plain, texts}
 use Rattle.tta_reading.specs.Words.{is_name_kind}
 use Rattle.tta_machine.specs.Forms.{names_alone}
-use Rattle.tta_machine.specs.Seen.{texts}
 
 pub names_alone_of : (words : List Word)
     → names_alone (map plain words) ≡ (if list_all (λ w. is_name_kind w.kind) words then Some (texts words) else None)

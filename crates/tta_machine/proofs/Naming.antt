@@ -4,6 +4,8 @@ use Rattle.std.specs.Prelude.{if◌then◌else◌, slice_get, slice_set}
 use Rattle.std.specs.Str.{bytes_eq}
 use Rattle.std.proofs.lemmas.Bool.{or_parts}
 use Rattle.std.proofs.lemmas.Slice.Eq.{bytes_eq-Decides}
+use Rattle.tta_list.proofs.Lists.{slice_get-push, slice_get-changed}
+use Rattle.tta_list.proofs.Tests.{none_from_is_some}
 use Rattle.tta_reading.specs.Names.{Declared, named_in}
 use Rattle.tta_reading.proofs.Found.{named_in-new}
 use Rattle.tta_machine.specs.declared.reading.draft.Named.{Named}
@@ -12,7 +14,6 @@ use Rattle.tta_machine.specs.declared.reading.draft.Draft.{Draft}
 use Rattle.tta_machine.specs.Draft.{is_taken, is_too_long}
 use Rattle.tta_machine.specs.Rules.{IsMachineName}
 use Rattle.tta_machine.specs.Kept.{AreNamed, PartsAreNamed}
-use Rattle.tta_machine.proofs.Lists.{slice_get-push, slice_get-changed}
 
 -- ---- one name
 
@@ -40,10 +41,6 @@ named_in-push (d ∷ ds) new p name q e = by (named_in-push ds new p name q) (by
   by later false e = later e
 
 -- ---- names that can be declared
-
-pub none_from_is_some : {A : Type 0} (o : Option A) → is_some o ≡ false → o ≡ None
-none_from_is_some None e = refl
-none_from_is_some (Some x) e = cc
 
 -- a name that is not taken names nothing yet
 pub not_taken : (d : Draft) (name : List ℕ) → is_taken d name ≡ false → named_in d.names name ≡ None

@@ -7,6 +7,7 @@ use Rattle.std.proofs.lemmas.Bool.{and_parts, not-true, both_ways}
 use Rattle.std.proofs.lemmas.List.Folds.{list_any_at}
 use Rattle.std.proofs.lemmas.Option.{slice_get-get_or}
 use Rattle.std.proofs.lemmas.Slice.Eq.{bytes_eq-Decides}
+use Rattle.tta_list.proofs.Lists.{list_all_one}
 use Rattle.tta_text.specs.Numbers.{number_of, digits_of, value_below}
 use Rattle.tta_text.specs.Tokens.{tokens_of, tokens_from, piece_at, number_piece, mark_piece}
 use Rattle.tta_reading.specs.Lines.{lines_of}
@@ -20,7 +21,6 @@ use Rattle.tta_machine.specs.Machine.{Machine}
 use Rattle.tta_machine.specs.Grammar.{IsMachineText}
 use Rattle.tta_machine.specs.Text.{take_line, machine_of_text, Refused}
 use Rattle.tta_machine.proofs.Facts.{from_to-least, from_to-greatest}
-use Rattle.tta_machine.proofs.Lists.{list_all_one}
 use Rattle.tta_machine.proofs.Samples.{one_bus, three_buses}
 
 -- ---- units

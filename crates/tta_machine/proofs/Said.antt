@@ -5,17 +5,18 @@ use Rattle.std.specs.List.{list_all}
 use Rattle.std.specs.Str.{bytes_eq}
 use Rattle.tta_reading.specs.Lines.{Line, Lexeme, lines_of}
 use Rattle.tta_reading.specs.Words.{is_keyword}
+use Rattle.tta_reading.specs.Steps.{at_line}
+use Rattle.tta_reading.proofs.Steps.{same_ok, then-ok, at_line-ok}
 use Rattle.tta_ops.specs.Units.{Units}
 use Rattle.tta_machine.specs.declared.reading.draft.Draft.{Draft}
 use Rattle.tta_machine.specs.declared.parts.Control.{Control}
 use Rattle.tta_machine.specs.Machine.{Machine}
 use Rattle.tta_machine.specs.Draft.{nothing, machine_of}
 use Rattle.tta_machine.specs.Forms.{bus_form, socket_form, file_form, imm_form, unit_form, op_form, guard_form, template_form, control_form, space_form}
-use Rattle.tta_machine.specs.Text.{take_line, at_line, take_lines, complete, machine_of_text}
+use Rattle.tta_machine.specs.Text.{take_line, take_lines, complete, machine_of_text}
 use Rattle.tta_machine.specs.Kept.{IsDraft}
 use Rattle.tta_machine.specs.Grammar.{IsMachineText, IsSize, bus_lines, socket_lines, file_lines, imm_lines, unit_lines, op_lines, guard_lines, template_lines, control_lines, space_lines, bus_names, socket_names, file_names, imm_names, unit_names, is_known_op, bus_made, socket_made, file_made, imm_made, unit_made, guard_made, template_made, control_made, data_size, frame_size}
-use Rattle.tta_machine.proofs.Steps.{same_ok, then-ok}
-use Rattle.tta_machine.proofs.Taken.{Taken, TakenBus, TakenSocket, TakenFile, TakenImm, TakenUnit, TakenOp, TakenGuard, TakenTemplate, TakenControl, TakenSpace, declare-taken, at_line-ok}
+use Rattle.tta_machine.proofs.Taken.{Taken, TakenBus, TakenSocket, TakenFile, TakenImm, TakenUnit, TakenOp, TakenGuard, TakenTemplate, TakenControl, TakenSpace, declare-taken}
 use Rattle.tta_machine.proofs.TakenLines.{take_line-keeps, take_lines-keeps, nothing-kept, complete-ok}
 use Rattle.tta_machine.proofs.KindLines.{ByKind, by_kind, OneLine, one_line, no_line, in_front, by_word, adds_none}
 use Rattle.tta_machine.proofs.UnitLines.{units_none}

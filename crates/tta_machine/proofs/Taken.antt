@@ -1,17 +1,17 @@
 -- What a line that was taken declares: its kind, its form, and what that made of the draft.
-use Rattle.std.proofs.Common.{◌≡◌, ◌+◌, ◌∷◌, [], ℕ, Bool, true, false, List, Option, Some, Result, Ok, Err, refl, subst, codes, ◌⊎◌}
+use Rattle.std.proofs.Common.{◌≡◌, ◌+◌, ◌∷◌, [], ℕ, Bool, true, false, List, Option, Some, Result, Ok, refl, subst, codes, ◌⊎◌}
 use Rattle.std.specs.Prelude.{if◌then◌else◌}
 use Rattle.tta_reading.specs.Lines.{Line, Lexeme}
 use Rattle.tta_reading.specs.Words.{is_keyword}
-use Rattle.tta_reading.specs.Steps.{◌>>=◌, or_refuse}
+use Rattle.tta_reading.specs.Steps.{◌>>=◌, or_refuse, at_line}
+use Rattle.tta_reading.proofs.Steps.{some-ok, same_ok, then-ok, at_line-ok}
 use Rattle.tta_ops.specs.Units.{Units}
 use Rattle.tta_machine.specs.declared.reading.refusal.Refusal.{Refusal}
 use Rattle.tta_machine.specs.declared.reading.refusal.Refusal.TheVariants.{Syntax}
 use Rattle.tta_machine.specs.declared.reading.draft.Draft.{Draft}
 use Rattle.tta_machine.specs.Forms.{BusForm, SocketForm, FileForm, ImmForm, UnitForm, OpForm, GuardForm, TemplateForm, ControlForm, SpaceForm, bus_form, socket_form, file_form, imm_form, unit_form, op_form, guard_form, template_form, control_form, space_form}
 use Rattle.tta_machine.specs.Declarations.{take_bus, take_socket, take_file, take_imm, take_unit, take_op, take_guard, take_template, take_control, take_space}
-use Rattle.tta_machine.specs.Text.{declare, take_line, at_line, take_lines}
-use Rattle.tta_machine.proofs.Steps.{some-ok, same_ok, then-ok}
+use Rattle.tta_machine.specs.Text.{declare, take_line, take_lines}
 use Rattle.tta_machine.proofs.MadeParts.{BusMade, SocketMade, FileMade, ImmMade, UnitMade, take_bus-made, take_socket-made, take_file-made, take_imm-made, take_unit-made}
 use Rattle.tta_machine.proofs.MadeLinks.{OpMade, GuardMade, TemplateMade, ControlMade, DataMade, FrameMade, take_op-made, take_guard-made, take_template-made, take_control-made, take_space-made}
 
@@ -52,10 +52,6 @@ declare-taken u line d e key words h =
       by false is t = later t
 
 -- ---- what lines keep
-
-pub at_line-ok : {A : Type 0} (line : ℕ) (r : Result A Refusal) (x : A) → at_line line r ≡ Ok x → r ≡ Ok x
-at_line-ok line (Ok y) x h = cc
-at_line-ok line (Err e) x h = cc
 
 -- what every declaration that is taken keeps, a line keeps
 pub line_keeps : (u : Units) (P : Draft → Type 0) → ((line : ℕ) (d e : Draft) (key : Lexeme) (words : Line) → P d → Taken u line d e key words → P e)

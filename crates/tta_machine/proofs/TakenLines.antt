@@ -4,9 +4,10 @@ use Rattle.std.specs.Prelude.{nat_lt, if◌then◌else◌}
 use Rattle.std.specs.Option.{option_map_or}
 use Rattle.std.specs.List.{AllByRecursion}
 use Rattle.std.proofs.lemmas.Bool.{ltb-true, ltb-false}
-use Rattle.tta_reading.specs.Lines.{Line, Lexeme, lines_of}
+use Rattle.tta_reading.specs.Lines.{Line, Lexeme}
 use Rattle.tta_reading.specs.Words.{name_of}
 use Rattle.tta_reading.specs.Words.{value_of, is_mark}
+use Rattle.tta_reading.proofs.Steps.{same_ok, then-some, only_if-some}
 use Rattle.tta_ops.specs.Units.{Units}
 use Rattle.tta_machine.specs.declared.reading.refusal.Refusal.TheVariants.{Missing, TooNarrow}
 use Rattle.tta_machine.specs.declared.reading.draft.Draft.{Draft}
@@ -17,9 +18,8 @@ use Rattle.tta_machine.specs.Fields.{taken_width}
 use Rattle.tta_machine.specs.Rules.{IsMachine, is_control}
 use Rattle.tta_machine.specs.Draft.{nothing, machine_of}
 use Rattle.tta_machine.specs.Forms.{one_of_two, names_alone, SocketForm, TemplateForm, socket_form, template_form}
-use Rattle.tta_machine.specs.Text.{take_line, Refused, take_lines, narrow_line, complete, machine_of_text}
+use Rattle.tta_machine.specs.Text.{take_line, Refused, take_lines, narrow_line, complete}
 use Rattle.tta_machine.specs.Kept.{IsDraft}
-use Rattle.tta_machine.proofs.Steps.{same_ok, then-ok, then-some, only_if-some}
 use Rattle.tta_machine.proofs.Growth.{names_there}
 use Rattle.tta_machine.proofs.Distinct.{names_good, names_different}
 use Rattle.tta_machine.proofs.Taken.{Taken, TakenBus, TakenSocket, TakenFile, TakenImm, TakenUnit, TakenOp, TakenGuard, TakenTemplate, TakenControl, TakenSpace, line_keeps, lines_keep}

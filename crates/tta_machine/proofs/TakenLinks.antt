@@ -4,6 +4,7 @@ use Rattle.std.specs.Prelude.{◌&&◌, ◌||◌, ◌==◌, ◌^◌, nat_lt, nat
 use Rattle.std.specs.Option.{option_map_or}
 use Rattle.std.proofs.lemmas.Bool.{or_parts, and_from, not-false, leb-false, lt-ltb}
 use Rattle.std.proofs.lemmas.List.{length_push}
+use Rattle.tta_list.proofs.Lists.{list_all_push, all_push}
 use Rattle.tta_reading.specs.Names.{Declared}
 use Rattle.tta_machine.specs.declared.reading.draft.Named.{Named}
 use Rattle.tta_machine.specs.declared.reading.draft.Named.TheVariants as place
@@ -16,7 +17,7 @@ use Rattle.tta_machine.specs.Forms.{GuardForm, TemplateForm, ControlForm, SpaceF
 use Rattle.tta_machine.specs.Draft.{is_too_long}
 use Rattle.tta_machine.specs.Declarations.{bus_set}
 use Rattle.tta_machine.specs.Kept.{IsDraft}
-use Rattle.tta_machine.proofs.Lists.{list_all_push, all_push, different_push}
+use Rattle.tta_machine.proofs.Lists.{different_push}
 use Rattle.tta_machine.proofs.Naming.{AreNamed-push, are_named_longer, not_taken, good_name}
 use Rattle.tta_machine.proofs.Growth.{Grows, there_more, there_still}
 use Rattle.tta_machine.proofs.Lookups.{bus_named-some, buses_named-some, is_socket-named, port_named-ok}

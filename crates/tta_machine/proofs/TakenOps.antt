@@ -7,6 +7,8 @@ use Rattle.std.specs.List.{list_any}
 use Rattle.std.proofs.lemmas.Bool.{or_parts, and_from, and_parts, not-false, leb-false, le-leb}
 use Rattle.std.proofs.lemmas.Bool.Decides.{nat_tests}
 use Rattle.std.proofs.lemmas.List.{length_push}
+use Rattle.tta_list.proofs.Lists.{list_all_push, list_all_changed, list_all_one}
+use Rattle.tta_list.proofs.Tests.{and_map}
 use Rattle.tta_ops.specs.Units.{Units, named, first_at}
 use Rattle.tta_machine.specs.declared.reading.draft.Named.TheVariants as place
 use Rattle.tta_machine.specs.declared.reading.draft.Draft.{Draft}
@@ -20,9 +22,9 @@ use Rattle.tta_machine.specs.Rules.{is_from_to, is_socket, is_port_socket, fits_
 use Rattle.tta_machine.specs.Forms.{OpForm}
 use Rattle.tta_machine.specs.Declarations.{op_named, timed_op, untimed_op, arity_of, is_latency, is_served, has_other, with_op}
 use Rattle.tta_machine.specs.Kept.{IsDraft}
-use Rattle.tta_machine.proofs.Lists.{list_all_push, list_all_changed, list_all_one, different_push}
+use Rattle.tta_machine.proofs.Lists.{different_push}
 use Rattle.tta_machine.proofs.Naming.{AreNamed-changed}
-use Rattle.tta_machine.proofs.Growth.{Grows, there_still, and_map}
+use Rattle.tta_machine.proofs.Growth.{Grows, there_still}
 use Rattle.tta_machine.proofs.Owners.{one_owner-more}
 use Rattle.tta_machine.proofs.MadeLinks.{unit_op, op_added, OpMade}
 

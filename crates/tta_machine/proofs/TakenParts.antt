@@ -6,6 +6,7 @@ use Rattle.std.specs.List.{list_any}
 use Rattle.std.proofs.lemmas.Bool.{or_parts, and_from, not-false, leb-false}
 use Rattle.std.proofs.lemmas.List.{length_push}
 use Rattle.std.proofs.lemmas.List.Elements.{filter-append}
+use Rattle.tta_list.proofs.Lists.{list_all_push, list_all_weaker, all_push, all_weaker}
 use Rattle.tta_reading.specs.Names.{Declared}
 use Rattle.tta_machine.specs.declared.reading.draft.Named.{Named}
 use Rattle.tta_machine.specs.declared.reading.draft.Named.TheVariants as place
@@ -22,12 +23,12 @@ use Rattle.tta_machine.specs.Forms.{BusForm, SocketForm, FileForm, ImmForm, Unit
 use Rattle.tta_machine.specs.Draft.{is_too_long}
 use Rattle.tta_machine.specs.Declarations.{bus_set}
 use Rattle.tta_machine.specs.Kept.{IsDraft}
-use Rattle.tta_machine.proofs.Lists.{list_all_push, list_all_weaker, all_push, all_weaker}
+use Rattle.tta_machine.specs.Grammar.{bus_made}
 use Rattle.tta_machine.proofs.Naming.{AreNamed-push, are_named_longer, not_taken, good_name}
 use Rattle.tta_machine.proofs.Growth.{Grows, there_more, IsBusSet-more, is_guard-more_buses, is_file-more_sockets, is_imm-more_sockets, is_unit-more_sockets, is_control-more_sockets, is_guard-more_files, is_template-more_imms}
 use Rattle.tta_machine.proofs.Lookups.{buses_named-some, is_socket-named, port_named-ok}
 use Rattle.tta_machine.proofs.BusSets.{IsBusSet-bus_set}
-use Rattle.tta_machine.proofs.MadeParts.{bus_of, bus_added, BusMade, socket_of, socket_added, SocketMade, file_of, file_added, FileMade, imm_of, imm_added, ImmMade, unit_of, unit_added, UnitMade}
+use Rattle.tta_machine.proofs.MadeParts.{bus_added, BusMade, socket_of, socket_added, SocketMade, file_of, file_added, FileMade, imm_of, imm_added, ImmMade, unit_of, unit_added, UnitMade}
 
 -- ---- buses
 
@@ -36,19 +37,19 @@ bus_kept d e f r m =
     let outer = or_parts (not (is_from_to 1 32 f.short) || is_too_long f.name) (nat_le 16 (length d.buses)) m.range in
     let inner = or_parts (not (is_from_to 1 32 f.short)) (is_too_long f.name) outer.0 in
     let room : length d.buses < 16 = leb-false 16 (length d.buses) outer.1 in
-    let more : length (d.buses ++ bus_of f ∷ []) ≡ length d.buses + 1 = length_push d.buses (bus_of f) in
-    let longer : length d.buses ≤ length (d.buses ++ bus_of f ∷ []) = omega arith in
+    let more : length (d.buses ++ bus_made f ∷ []) ≡ length d.buses + 1 = length_push d.buses (bus_made f) in
+    let longer : length d.buses ≤ length (d.buses ++ bus_made f ∷ []) = omega arith in
     let grows : Grows d (bus_added d f) = omega arith in
     let new : Declared Named = (f.name, place.Bus (length d.buses)) ∷ [] in
     let kept : IsDraft (bus_added d f) = record {
       limits = let l = r.limits in omega arith;
       there = there_more d (bus_added d f) f.name (place.Bus (length d.buses)) r.there refl grows (omega arith) (good_name d f.name m.free inner.1);
-      named = assumption (AreNamed-push (λ b. b.name) place.Bus d.names d.buses (bus_of f) r.named.buses (not_taken d f.name m.free), are_named_longer d new r.named);
+      named = assumption (AreNamed-push (λ b. b.name) place.Bus d.names d.buses (bus_made f) r.named.buses (not_taken d f.name m.free), are_named_longer d new r.named);
       rules = assumption (
-        list_all_push is_bus d.buses (bus_of f) r.rules.buses (not-false (is_from_to 1 32 f.short) inner.0),
-        all_weaker (λ s. IsBusSet (length d.buses) s.buses) (λ s. IsBusSet (length (d.buses ++ bus_of f ∷ [])) s.buses) d.sockets (λ s. IsBusSet-more _ _ s.buses longer) r.rules.sockets,
-        list_all_weaker (is_guard (length d.buses) d.files) (is_guard (length (d.buses ++ bus_of f ∷ [])) d.files) d.guards (λ g. is_guard-more_buses _ _ d.files g longer) r.rules.guards,
-        all_weaker (λ t. IsBusSet (length d.buses) t.buses) (λ t. IsBusSet (length (d.buses ++ bus_of f ∷ [])) t.buses) d.templates (λ t. IsBusSet-more _ _ t.buses longer) r.rules.template_buses,
+        list_all_push is_bus d.buses (bus_made f) r.rules.buses (not-false (is_from_to 1 32 f.short) inner.0),
+        all_weaker (λ s. IsBusSet (length d.buses) s.buses) (λ s. IsBusSet (length (d.buses ++ bus_made f ∷ [])) s.buses) d.sockets (λ s. IsBusSet-more _ _ s.buses longer) r.rules.sockets,
+        list_all_weaker (is_guard (length d.buses) d.files) (is_guard (length (d.buses ++ bus_made f ∷ [])) d.files) d.guards (λ g. is_guard-more_buses _ _ d.files g longer) r.rules.guards,
+        all_weaker (λ t. IsBusSet (length d.buses) t.buses) (λ t. IsBusSet (length (d.buses ++ bus_made f ∷ [])) t.buses) d.templates (λ t. IsBusSet-more _ _ t.buses longer) r.rules.template_buses,
       );
     } in
     subst IsDraft m.made kept

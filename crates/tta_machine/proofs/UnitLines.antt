@@ -7,6 +7,7 @@ use Rattle.std.proofs.lemmas.Bool.{false_from_ne_true}
 use Rattle.std.proofs.lemmas.List.{map-append, length-map}
 use Rattle.std.proofs.lemmas.Option.{slice_get-map, slice_get_within}
 use Rattle.std.proofs.lemmas.Slice.Eq.{bytes_eq-Decides}
+use Rattle.tta_list.proofs.Lists.{slice_get-back}
 use Rattle.tta_reading.specs.Names.{named_in}
 use Rattle.tta_ops.specs.Units.{Units}
 use Rattle.tta_machine.specs.declared.reading.draft.Named.TheVariants as place
@@ -17,7 +18,6 @@ use Rattle.tta_machine.specs.Forms.{UnitForm, OpForm}
 use Rattle.tta_machine.specs.Declarations.{with_op}
 use Rattle.tta_machine.specs.Kept.{IsDraft}
 use Rattle.tta_machine.specs.Grammar.{op_made, ops_of, unit_made}
-use Rattle.tta_machine.proofs.KindLines.{slice_get-behind}
 use Rattle.tta_machine.proofs.Borne.{AreBorne}
 
 -- ---- operations of a name
@@ -136,7 +136,7 @@ units_op u d end_draft sockets f k unit o ops forms r b end found found_later at
         let stands : slice_get (map (unit_made u sockets ops) forms) j ≡ Some (unit_made u sockets ops g) =
         slice_get-map (unit_made u sockets ops) forms j ∙ ap (option_map (unit_made u sockets ops)) e in
         let there : slice_get (front ++ map (unit_made u sockets ops) forms) (length front + j) ≡ Some (unit_made u sockets ops g) =
-        slice_get-behind front (map (unit_made u sockets ops) forms) j ∙ stands in
+        slice_get-back front (map (unit_made u sockets ops) forms) j ∙ stands in
         let last : slice_get end_draft.units (length front + j) ≡ Some (unit_made u sockets ops g) = ap (λ l. slice_get l (length front + j)) h ∙ there in
         let named : named_in end_draft.names g.name ≡ Some (place.Unit (length front + j)) = end.named.units (length front + j) (unit_made u sockets ops g) last in
         let one : Some (place.Unit k) ≡ Some (place.Unit (length front + j)) = sym found_later ∙ ap (named_in end_draft.names) n ∙ named in

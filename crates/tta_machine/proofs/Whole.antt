@@ -12,8 +12,6 @@ use Rattle.tta_machine.specs.Grammar.{IsMachineText}
 use Rattle.tta_machine.specs.Draft.{nothing}
 use Rattle.tta_machine.specs.Text.{take_line, take_lines, complete, machine_of_text, HasCause, Refused}
 use Rattle.tta_machine.specs.Whole.{DraftEnds, CompleteEnds, TakesAll}
-use Rattle.tta_machine.specs.Kept.{IsDraft}
-use Rattle.tta_machine.proofs.TakenLines.{take_line-keeps}
 use Rattle.tta_machine.proofs.Said.{machine-said}
 
 -- a line was taken, and the others are left
@@ -25,10 +23,6 @@ lines_taken u k d next line before rest e taken = rw (e, taken) refl
 pub lines_refused : (u : Units) (k : ℕ) (d : Draft) (line : Line) (before rest : List Line) (refusal : Refusal) → before ≡ line ∷ rest
     → take_line u k d line ≡ Err refusal → take_lines u k d before ≡ Err (k, refusal)
 lines_refused u k d line before rest refusal e refused = rw (e, refused) refl
-
--- a line that was taken keeps the rules of drafts
-pub line_kept : (u : Units) (k : ℕ) (d next : Draft) (line : Line) → IsDraft d → take_line u k d line ≡ Ok next → IsDraft next
-line_kept u k d next line kept taken = take_line-keeps u k d next line kept taken
 
 -- ---- the whole text
 

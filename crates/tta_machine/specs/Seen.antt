@@ -1,11 +1,9 @@
 -- What the code reads, as the definitions see it.
-use Rattle.std.specs.Prelude.{Option, ◌≡◌, ℕ, List, map, Result, Ok, Err, option_map}
-use Rattle.tta_reading.specs.declared.word.Word.{Word}
+use Rattle.std.specs.Prelude.{Option, Result, option_map}
+use Rattle.tta_reading.specs.Lines.{texts}
 use Rattle.tta_reading.specs.Steps.{◌>>=◌, or_refuse}
 use Rattle.tta_machine.specs.declared.reading.refusal.Refusal.{Refusal}
 use Rattle.tta_machine.specs.declared.reading.refusal.Refusal.TheVariants.{Syntax}
-use Rattle.tta_machine.specs.declared.reading.refusal.LineError.{LineError}
-use Rattle.tta_machine.specs.declared.reading.refusal.LineError.TheVariants as line_error
 use Rattle.tta_machine.specs.declared.reading.draft.Draft.{Draft}
 use Rattle.tta_machine.specs.declared.reading.forms.BusForm.{BusForm as BusWords}
 use Rattle.tta_machine.specs.declared.reading.forms.SocketForm.{SocketForm as SocketWords}
@@ -19,19 +17,9 @@ use Rattle.tta_machine.specs.declared.reading.forms.ControlForm.{ControlForm as 
 use Rattle.tta_machine.specs.declared.reading.forms.SpaceForm.{SpaceForm as SpaceWords}
 use Rattle.tta_machine.specs.Forms.{BusForm, SocketForm, FileForm, ImmForm, UnitForm, OpForm, GuardForm, TemplateForm, ControlForm, SpaceForm}
 
--- a line did to the draft what the definition says, or there was no memory
-abbrev pub Declares : {A : Type 0} → Draft → Result A LineError → Result Draft Refusal → Type 0
-Declares new (Ok x) said = said ≡ Ok new
-Declares new (Err (line_error.Refused e)) said = said ≡ Err e
-Declares new (Err line_error.NoMemory) said = Unit {0}
-
 -- what a line's words declare where they have the form of its kind
 abbrev pub formed : {F : Type 0} → Option F → (F → Result Draft Refusal) → Result Draft Refusal
 formed form take = or_refuse Syntax form >>= take
-
--- the texts of words
-abbrev pub texts : List Word → List (List ℕ)
-texts words = map (λ w. w.text.now) words
 
 -- what a bus line says
 abbrev pub bus_seen : BusWords → BusForm

@@ -3,7 +3,7 @@ use Rattle.std.specs.Prelude.{◌≡◌, ℕ, ◌+◌, nat_lt, if◌then◌else�
 use Rattle.std.specs.Option.{option_map_or}
 use Rattle.tta_reading.specs.Lines.{Line, Lexeme, lines_of}
 use Rattle.tta_reading.specs.Words.{is_keyword}
-use Rattle.tta_reading.specs.Steps.{◌>>=◌, or_refuse}
+use Rattle.tta_reading.specs.Steps.{◌>>=◌, or_refuse, at_line}
 use Rattle.tta_ops.specs.Units.{Units}
 use Rattle.tta_machine.specs.declared.reading.refusal.Refusal.{Refusal}
 use Rattle.tta_machine.specs.declared.reading.refusal.Refusal.TheVariants.{Syntax, Missing, TooNarrow}
@@ -45,11 +45,6 @@ take_line u line d (key ∷ words) = declare u line d key words
 -- a refusal with its line
 abbrev pub Refused : Type 0
 Refused = ℕ × Refusal
-
--- an answer as it is, and a refusal with its line
-abbrev pub at_line : {A : Type 0} → ℕ → Result A Refusal → Result A Refused
-at_line line (Ok x) = Ok x
-at_line line (Err e) = Err (line, e)
 
 -- the lines from this one on; the first that is refused is told
 abbrev pub take_lines : Units → (line : ℕ) → Draft → List Line → Result Draft Refused

@@ -1,9 +1,7 @@
 -- How many lines a text can have.
-use Rattle.std.proofs.Common.{ℕ, zero, suc, ◌+◌, ◌-◌, ◌≤◌, Bool, true, false, not, if◌then◌else◌, List, [], ◌∷◌, ◌++◌, length, Option, None, Some, arith}
-use Rattle.tta_text.specs.declared.lexeme.Kind.{Kind}
+use Rattle.std.proofs.Common.{ℕ, ◌+◌, ◌≤◌, Bool, true, false, if◌then◌else◌, List, [], ◌∷◌, ◌++◌, length, arith}
 use Rattle.tta_text.specs.declared.lexeme.Token.{Token}
-use Rattle.tta_text.specs.Tokens.{tokens_from, tokens_of, with_token, piece_of, line_after}
-use Rattle.tta_text.specs.Bytes.{is_newline}
+use Rattle.tta_text.specs.Tokens.{tokens_from, tokens_of}
 use Rattle.tta_text.proofs.Counted.{length-tokens_from}
 use Rattle.tta_reading.specs.Lines.{Line, is_line_end, lexeme_of, lines_from}
 

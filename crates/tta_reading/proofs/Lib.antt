@@ -2,3 +2,4 @@ pub mod Found
 mod Declared
 mod Counted
 mod Examples
+pub mod Steps

@@ -3,3 +3,4 @@ pub mod Names
 pub mod Calls
 pub mod Steps
 pub mod Words
+pub mod Taken

@@ -1,5 +1,5 @@
 -- The lines of a text: its tokens, cut at each end of a line.
-use Rattle.std.specs.Prelude.{ℕ, Bool, true, false, if◌then◌else◌, List, [], ◌∷◌, ◌++◌, slice_range}
+use Rattle.std.specs.Prelude.{ℕ, Bool, true, false, if◌then◌else◌, List, [], ◌∷◌, ◌++◌, slice_range, map}
 use Rattle.tta_text.specs.declared.lexeme.Kind.{Kind}
 use Rattle.tta_text.specs.declared.lexeme.Kind.TheVariants.{Eol}
 use Rattle.tta_text.specs.declared.lexeme.Token.{Token}
@@ -39,3 +39,7 @@ lines_of text = lines_from text [] (tokens_of text)
 -- a word of the code as a word of the text
 abbrev pub plain : Word → Lexeme
 plain w = record { kind = w.kind; text = w.text.now }
+
+-- the texts of words
+abbrev pub texts : List Word → List (List ℕ)
+texts words = map (λ w. w.text.now) words

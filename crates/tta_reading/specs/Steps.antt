@@ -1,5 +1,5 @@
 -- Reading step by step, up to the first refusal.
-use Rattle.std.specs.Prelude.{Bool, if◌then◌else◌, Option, Some, None, Result, Ok, Err}
+use Rattle.std.specs.Prelude.{ℕ, Bool, if◌then◌else◌, Option, Some, None, Result, Ok, Err}
 
 infixl 10 ◌>>=◌
 -- goes on with what was read, or stops at the refusal
@@ -15,6 +15,11 @@ or_refuse e (Some x) = Ok x
 -- a refusal where a test holds, and else what comes next
 abbrev pub refuse_if : {E A : Type 0} → Bool → E → Result A E → Result A E
 refuse_if test e next = if test then Err e else next
+
+-- an answer as it is, and a refusal with its line
+abbrev pub at_line : {E A : Type 0} → (line : ℕ) → Result A E → Result A (ℕ × E)
+at_line line (Ok x) = Ok x
+at_line line (Err e) = Err (line, e)
 
 infixl 10 ◌>>?◌
 -- goes on with a value, or has none

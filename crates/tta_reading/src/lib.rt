@@ -1,12 +1,15 @@
-//! What the readers of line-by-line texts share: the lines of a text as words, and names that were
-//! declared. It stands on the tokens of `tta_text`, and looks names up by the kit's `indexmap`.
+//! What the readers of line-by-line texts share: the lines of a text as words, names that were
+//! declared, and why a line could not be taken. It stands on the tokens of `tta_text`, and looks
+//! names up by the kit's `indexmap`.
 #![tactic(auto)]
 
+mod line_error;
 mod lines;
 mod names;
 mod word;
 mod wording;
 
+pub use line_error::LineError;
 pub use lines::Lines;
 pub use names::Names;
 pub use word::Word;

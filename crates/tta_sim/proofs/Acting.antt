@@ -59,21 +59,27 @@ lands_runs s (Some p) running = elim (p.time == s.cycle) as (λ b. is_fault (if 
 
 module _ (u : Units) (m : Machine) (rules : IsMachine m) (i : Instruction) (legal : is_legal m i ≡ true) (lines : List Line) (store : Store) (control : Control) (s : State)
     (size : length store.results.shown ≡ length m.units) (same : Stands (held_of lines store control) s) where
+  -- the word of each source, by what the simulator holds
   abbrev reads : Reads
   reads = reads_of store.places store.results.shown
 
+  -- the words that the moves of the instruction bring to their destinations
   abbrev arrivals : List Arrival
   arrivals = arrivals_of reads i.moves
 
+  -- the words that the instruction brings in the state, that of its long immediate among them
   abbrev bs : List Brought
   bs = filter_map (bring (read_source s)) (effects_of m i)
 
+  -- the address that a call of this cycle comes back to
   abbrev back : ℕ
   back = s.pc + 1 + m.control.delay
 
+  -- what was written into each place once the words of this cycle are there, the newest first
   abbrev written : Written
   written = filter_map (write_of m back) bs ++ s.written
 
+  -- the operations that the instruction starts in the state
   abbrev ts : List Start
   ts = filter_map (start_of m written) bs
 
@@ -126,9 +132,11 @@ module _ (u : Units) (m : Machine) (rules : IsMachine m) (i : Instruction) (lega
     starts_ts : starts' ≡ ts
     starts_ts = starts_are ∙ ap (starts_of m store.places) arrivals_are ∙ sym starting
 
+    -- the control move that is under way after the cycle
     abbrev pending : Option Underway
     pending = pending_after m s (first_some control_of bs)
 
+    -- the state after the cycle, before a control move whose time has come takes effect
     abbrev next : State
     next = record {
       written = written;

@@ -6,6 +6,7 @@ use Rattle.std.specs.List.{list_any, filter_map, cons_option, AllByRecursion}
 use Rattle.std.proofs.lemmas.Bool.{and_parts, ltb-true}
 use Rattle.std.proofs.lemmas.List.Elements.{filter_map-append}
 use Rattle.std.proofs.lemmas.List.Folds.{list_any-append}
+use Rattle.std.proofs.Math.Bool.{or-false}
 use Rattle.tta_machine.specs.declared.parts.Template.{Template}
 use Rattle.tta_machine.specs.declared.ends.GuardRef.{GuardRef}
 use Rattle.tta_machine.specs.declared.ends.Source.{Source}
@@ -79,6 +80,7 @@ module _ (places : List (Option ℕ)) (r : Results) (s : State) (units : ℕ) (w
         src = read_same v.src two.0;
       }
 
+  -- each slot is empty, or has a move whose ends are there
   abbrev Possible : List (Option Move) → Type 0
   Possible slots = AllByRecursion (λ slot. IsTrue (is_possible_slot units slot)) slots
 
@@ -140,22 +142,18 @@ module _ (m : Machine) (s : State) where
     by None = refl
     by (Some t) = refl
 
-or_false : (b : Bool) → (b || false) ≡ b
-or_false true = refl
-or_false false = refl
-
 module _ (places : List (Option ℕ)) (r : Results) (s : State) (units : ℕ) (written : HasWritten places s.written) (results : AreResultsOf s.started r)
     (cycle : r.cycle ≡ s.cycle) (size : length r.shown ≡ units) (m : Machine) (i : Instruction)
     (possible : AllByRecursion (λ slot. IsTrue (is_possible_slot units slot)) i.moves) where
   pub lacks_all : list_any (lacks_register (reads_of places r.shown)) (effects_in i.moves) ≡ list_any (reads_unset_register s) (effects_of m i)
   lacks_all =
-      lacks_in places r s units written results cycle size i.moves possible ∙ sym (or_false (list_any (reads_unset_register s) (effects_in i.moves)))
+      lacks_in places r s units written results cycle size i.moves possible ∙ sym (or-false (list_any (reads_unset_register s) (effects_in i.moves)))
       ∙ ap (λ b. list_any (reads_unset_register s) (effects_in i.moves) || b) (sym (long_lacks m s i.long))
       ∙ sym (list_any-append (reads_unset_register s) (effects_in i.moves) (long_effects m i.long))
 
   pub ports_all : list_any (has_unset (reads_of places r.shown) is_port) (effects_in i.moves) ≡ list_any (reads_unset_port s) (effects_of m i)
   ports_all =
-      ports_in places r s units written results cycle size i.moves possible ∙ sym (or_false (list_any (reads_unset_port s) (effects_in i.moves)))
+      ports_in places r s units written results cycle size i.moves possible ∙ sym (or-false (list_any (reads_unset_port s) (effects_in i.moves)))
       ∙ ap (λ b. list_any (reads_unset_port s) (effects_in i.moves) || b) (sym (long_ports m s i.long))
       ∙ sym (list_any-append (reads_unset_port s) (effects_in i.moves) (long_effects m i.long))
 

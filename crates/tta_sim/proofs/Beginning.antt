@@ -5,9 +5,9 @@ use Rattle.std.specs.Option.{option_or}
 use Rattle.std.specs.List.{filter_map, cons_option, list_any, AllByRecursion}
 use Rattle.std.proofs.lemmas.List.Elements.{filter_map-append}
 use Rattle.std.proofs.lemmas.List.Folds.{find-append}
+use Rattle.tta_ops.specs.Units.{Units}
 use Rattle.tta_machine.specs.Rules.{are_different}
 use Rattle.tta_machine.specs.Effects.{Start, has_result, result_word, lacks_operand}
-use Rattle.tta_ops.specs.Units.{Units}
 use Rattle.tta_code.specs.Cycle.{Result'}
 use Rattle.tta_sim.specs.Results.{Results, AreResultsOf, due_at, is_due}
 use Rattle.tta_sim.specs.declared.decoded.DecodedStart.{DecodedStart}
@@ -82,12 +82,15 @@ module _ (u : Units) (now : ℕ) (memory frame : List ℕ) where
 
   module _ (places : List (Option ℕ)) (operand : ℕ → Option ℕ) (r before : Results) (moves : List DecodedStart) (k : ℕ) (d : DecodedStart) (within : k < length moves)
       (so_far : before ≡ record r { coming = r.coming ++ filter_map (begun u now memory frame) (filter_map (start_brought places r.shown operand) (take k moves)) }) where
+    -- the operation that a move to a trigger port starts, if the move acts and its source has a word
     abbrev brought : DecodedStart → Option Start
     brought = start_brought places r.shown operand
 
+    -- the start whose turn it is
     abbrev s : DecodedStart
     s = get_or moves k d
 
+    -- the results, where those of operations that have begun stand behind the ones that were coming
     abbrev grown : List Start → Results
     grown starts = record r { coming = r.coming ++ filter_map (begun u now memory frame) starts }
 

@@ -4,6 +4,7 @@ use Rattle.std.specs.Prelude.{option_map, option_and_then, option_to_list, slice
 use Rattle.std.specs.Option.{option_map_or, option_or}
 use Rattle.std.specs.List.{list_any, filter_map, cons_option, find, AllByRecursion}
 use Rattle.std.proofs.lemmas.Bool.{ltb-true}
+use Rattle.tta_list.proofs.Tests.{or_swap}
 use Rattle.tta_machine.specs.declared.parts.Template.{Template}
 use Rattle.tta_machine.specs.declared.ends.Dest.{Dest}
 use Rattle.tta_machine.specs.declared.ends.Dest.TheVariants as dest
@@ -48,16 +49,12 @@ any_three p a b c (x ∷ xs) same =
     ap (λ t. t || list_any p xs) same.0 ∙ ap (λ t. (a x || (b x || c x)) || t) (any_three p a b c xs same.1)
     ∙ swap_three (a x) (b x) (c x) (list_any a xs) (list_any b xs) (list_any c xs)
 
-swap_two : (a b x y : Bool) → ((a || b) || (x || y)) ≡ ((a || x) || (b || y))
-swap_two true b x y = refl
-swap_two false true true y = refl
-swap_two false true false y = refl
-swap_two false false x y = refl
-
 module _ (m : Machine) (back : ℕ) (places : List (Option ℕ)) (r : Results) where
+  -- the word of each source, by the places and the results shown
   abbrev reads : Reads
   reads = reads_of places r.shown
 
+  -- whether a move lacks the word of its guard, or acts and lacks that of its source
   abbrev unread : Move → Bool
   unread v = is_unread places r.shown (reading_of v)
 
@@ -66,14 +63,17 @@ module _ (m : Machine) (back : ℕ) (places : List (Option ℕ)) (r : Results) w
   unread_moves [] = refl
   unread_moves (v ∷ ms) =
       ap (λ b. b || list_any unread ms) (unread_same places r.shown v) ∙ ap (λ b. (lacks_register reads (effect_of v) || has_unset reads is_port (effect_of v)) || b) (unread_moves ms)
-      ∙ swap_two (lacks_register reads (effect_of v)) (has_unset reads is_port (effect_of v)) (list_any (lacks_register reads) (map effect_of ms)) (list_any (has_unset reads is_port) (map effect_of ms))
+      ∙ or_swap (lacks_register reads (effect_of v)) (has_unset reads is_port (effect_of v)) (list_any (lacks_register reads) (map effect_of ms)) (list_any (has_unset reads is_port) (map effect_of ms))
 
+  -- whether any write of these moves, to a register, an operand port or the return address, cannot be read
   abbrev pub unread_writes : List Move → Bool
   unread_writes ms = list_any (λ w. is_unread places r.shown w.reading) (filter_map (write_decoded m back) ms)
 
+  -- whether any of these moves that goes to the trigger port of a unit cannot be read
   abbrev pub unread_starts : List Move → Bool
   unread_starts ms = list_any (λ s. is_unread places r.shown s.reading) (filter_map (start_decoded m) ms)
 
+  -- whether any of these moves that goes to control's trigger port cannot be read
   abbrev pub unread_tells : List Move → Bool
   unread_tells ms = list_any (λ t. is_unread places r.shown t.reading) (filter_map tell_decoded ms)
 
@@ -154,7 +154,7 @@ module _ (m : Machine) (back : ℕ) (places : List (Option ℕ)) (r : Results) w
       let here : Option Start = start_brought places r.shown operand s in
       let more = filter_map (start_brought places r.shown operand) starts in
       ap (λ b. (is_unread places r.shown s.reading || list_any (is_stopped r) (option_to_list here)) || b) (cannot_all operand starts)
-      ∙ swap_two (is_unread places r.shown s.reading) (list_any (is_stopped r) (option_to_list here)) (list_any (λ s. is_unread places r.shown s.reading) starts) (list_any (is_stopped r) more)
+      ∙ or_swap (is_unread places r.shown s.reading) (list_any (is_stopped r) (option_to_list here)) (list_any (λ s. is_unread places r.shown s.reading) starts) (list_any (is_stopped r) more)
       ∙ ap (λ b. (is_unread places r.shown s.reading || list_any (λ s. is_unread places r.shown s.reading) starts) || b) (joined here)
     where
       joined : (o : Option Start) → (list_any (is_stopped r) (option_to_list o) || list_any (is_stopped r) (filter_map (start_brought places r.shown operand) starts))
@@ -168,9 +168,11 @@ module _ (m : Machine) (back : ℕ) (places : List (Option ℕ)) (r : Results) w
 -- ---- operands
 
 module _ (m : Machine) (back : ℕ) (places : List (Option ℕ)) (unit : ℕ) where
+  -- where the operand port of the unit stands in the row of places
   abbrev number : ℕ
   number = number_of (KeptOperand unit)
 
+  -- the word that the operand port of the unit has kept from earlier cycles, if any was written
   abbrev kept : Option ℕ
   kept = word_at places (KeptOperand unit)
 

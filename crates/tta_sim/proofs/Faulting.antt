@@ -3,6 +3,7 @@ use Rattle.std.proofs.Common.{◌≡◌, ℕ, ◌<◌, ◌+◌, ◌==◌, Bool, 
 use Rattle.std.specs.Prelude.{is_some, slice_get, if◌then◌else◌}
 use Rattle.std.specs.Option.{option_map_or}
 use Rattle.std.specs.List.{list_any, find, AllByRecursion}
+use Rattle.tta_list.proofs.Tests.{or_swap}
 use Rattle.tta_machine.specs.declared.parts.Template.{Template}
 use Rattle.tta_machine.specs.Machine.{Machine}
 use Rattle.tta_machine.specs.Effects.{Imm, Kind, Start, Brought, has_result, lacks_operand, first_some, or_else, control_of, is_port, has_unset}
@@ -110,15 +111,8 @@ no_clash m places r is_pending i none =
 
 -- ---- each fault
 
-either_or : (a b x y : Bool) → ((a || b) || (x || y)) ≡ ((a || x) || (b || y))
-either_or true true x y = refl
-either_or true false x y = refl
-either_or false true true y = refl
-either_or false true false y = refl
-either_or false false x y = refl
-
 -- operations cannot start where one lacks its operand, or a result would be due at the time of another
 pub stopped_by : (r : Results) (ts : List Start) → list_any (is_stopped r) ts ≡ (list_any lacks_operand ts || list_any (clashes_with r) ts)
 stopped_by r [] = refl
 stopped_by r (t ∷ ts) =
-    ap (λ b. is_stopped r t || b) (stopped_by r ts) ∙ either_or (lacks_operand t) (clashes_with r t) (list_any lacks_operand ts) (list_any (clashes_with r) ts)
+    ap (λ b. is_stopped r t || b) (stopped_by r ts) ∙ or_swap (lacks_operand t) (clashes_with r t) (list_any lacks_operand ts) (list_any (clashes_with r) ts)

@@ -73,6 +73,7 @@ module _ {A B : Type 0} where
 -- ---- what a move reads
 
 module _ (places : List (Option ℕ)) (shown : List (Option Result')) where
+  -- the word of each source, by the places and the results shown
   abbrev reads : Reads
   reads = reads_of places shown
 

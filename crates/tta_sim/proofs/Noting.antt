@@ -1,12 +1,11 @@
 -- What was noted of a decoded instruction.
-use Rattle.std.proofs.Common.{◌≡◌, ℕ, Bool, true, false, not, ◌&&◌, ◌||◌, List, [], ◌∷◌, length, take, Option, refl, sym, ap, ◌∙◌, arith}
+use Rattle.std.proofs.Common.{◌≡◌, ℕ, Bool, true, false, not, ◌&&◌, ◌||◌, List, [], ◌∷◌, Option, refl, sym, ap, ◌∙◌, arith}
 use Rattle.std.specs.Prelude.{filter, if◌then◌else◌}
 use Rattle.std.specs.List.{list_any, filter_map}
-use Rattle.tta_code.specs.Cycle.{Result'}
 use Rattle.tta_sim.specs.declared.decoded.DecodedWrite.{DecodedWrite}
 use Rattle.tta_sim.specs.declared.decoded.Line.{Line}
 use Rattle.tta_sim.specs.declared.lines.Write.{Write}
-use Rattle.tta_sim.specs.Results.{Results, IsGrown}
+use Rattle.tta_sim.specs.Results.{Results}
 use Rattle.tta_sim.specs.Decoded.{is_nil}
 use Rattle.tta_sim.specs.Lines.{is_unread, write_brought, operand_in, cannot_start, is_store, tells_well, is_ready}
 

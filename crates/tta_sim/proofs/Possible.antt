@@ -1,10 +1,10 @@
 -- What is known of the instructions that a machine can carry out.
-use Rattle.std.proofs.Common.{◌≡◌, ℕ, zero, suc, ◌+◌, ◌<◌, ◌≤◌, ◌==◌, Bool, true, false, ◌&&◌, ◌||◌, nat_lt, IsTrue, List, [], ◌∷◌, length, map, Option, Some, None, refl, ap, ◌∙◌, subst, arith}
+use Rattle.std.proofs.Common.{◌≡◌, ℕ, zero, suc, ◌+◌, ◌<◌, ◌==◌, Bool, true, false, ◌&&◌, ◌||◌, nat_lt, IsTrue, List, [], ◌∷◌, length, map, Option, Some, None, refl, ap, ◌∙◌, subst, arith}
 use Rattle.std.specs.Prelude.{is_some, slice_get, option_map, option_and_then, if◌then◌else◌}
 use Rattle.std.specs.Option.{option_map_or}
 use Rattle.std.specs.List.{list_any, list_all, filter_map, AllByRecursion}
 use Rattle.std.proofs.lemmas.Bool.{and_parts, and_from, eqb-true, ltb-true, lt-ltb}
-use Rattle.tta_machine.specs.declared.parts.Socket.{Socket}
+use Rattle.tta_list.proofs.Lists.{list_all_one, some_within}
 use Rattle.tta_machine.specs.declared.parts.File.{File}
 use Rattle.tta_machine.specs.declared.parts.ImmUnit.{ImmUnit}
 use Rattle.tta_machine.specs.declared.parts.Guard.{Guard}
@@ -17,10 +17,9 @@ use Rattle.tta_machine.specs.declared.ends.Dest.TheVariants as dest
 use Rattle.tta_machine.specs.Machine.{Machine}
 use Rattle.tta_machine.specs.Joins.{within, source_socket, dest_socket, has_socket, is_source_on, is_dest_on, has_guard, joins, is_same, is_same_guard}
 use Rattle.tta_machine.specs.Legal.{all_slots}
-use Rattle.tta_machine.specs.Rules.{IsMachine, is_from_to, is_socket, is_file, is_imm, is_guard, is_template}
+use Rattle.tta_machine.specs.Rules.{IsMachine, is_file, is_imm, is_guard, is_template}
 use Rattle.tta_machine.specs.Effects.{KeptReg, KeptImm}
-use Rattle.tta_machine.proofs.Facts.{from_to-greatest}
-use Rattle.tta_machine.proofs.Lists.{list_all_one}
+use Rattle.tta_machine.proofs.Sizes.{small_file, small_imm}
 use Rattle.tta_code.specs.declared.code.Move.{Move}
 use Rattle.tta_code.specs.declared.code.Long.{Long}
 use Rattle.tta_code.specs.declared.code.Instruction.{Instruction}
@@ -62,38 +61,22 @@ socket_there : (m : Machine) (input : Bool) (o : Option ℕ) (bus : ℕ) → has
 socket_there m input None bus has = cc
 socket_there m input (Some k) bus has = refl
 
-some_within : {A : Type 0} (xs : List A) (k : ℕ) → k < length xs → is_some (slice_get xs k) ≡ true
-some_within [] k within = absurd (omega (arith, within))
-some_within (x ∷ xs) zero within = refl
-some_within (x ∷ xs) (suc k) within = some_within xs k (omega (arith, within))
-
 -- a register within the bounds of its row has a place there
 place_from : (unit index units size : ℕ) → unit < units → index < size → (nat_lt unit units && nat_lt index size) ≡ true
 place_from unit index units size low inside = and_from (nat_lt unit units) (nat_lt index size) (lt-ltb unit units low) (lt-ltb index size inside)
-
-file_size : (sockets : List Socket) (f : File) → is_file sockets f ≡ true → f.size ≤ 64
-file_size sockets f is =
-    let five = and_parts _ (is_socket sockets true f.into) is in
-    let four = and_parts _ (is_socket sockets false f.out) five.0 in
-    let three = and_parts _ (is_from_to 1 16 f.write) four.0 in
-    let two = and_parts _ (is_from_to 1 16 f.read) three.0 in
-    from_to-greatest 1 64 f.size (and_parts _ (is_from_to 1 64 f.size) two.0).1
-
-imm_size : (sockets : List Socket) (u : ImmUnit) → is_imm sockets u ≡ true → u.size ≤ 16
-imm_size sockets u is = from_to-greatest 1 16 u.size (and_parts (is_from_to 1 16 u.size) (is_socket sockets false u.out) is).0
 
 module _ (m : Machine) (rules : IsMachine m) where
   -- a register of a file
   file_place : (f : File) (file index : ℕ) → slice_get m.files file ≡ Some f → file < length m.files → nat_lt index f.size ≡ true → is_place (KeptReg file index) ≡ true
   file_place f file index at within inside =
       let is : is_file m.sockets f ≡ true = list_all_one (is_file m.sockets) m.files file f rules.files at in
-      let size = file_size m.sockets f is in
+      let size = small_file m.sockets f is in
       place_from file index 8 64 (omega (arith, within, rules.limits.files)) (omega (arith, size, ltb-true index f.size inside))
 
   imm_place : (u : ImmUnit) (unit index : ℕ) → slice_get m.imms unit ≡ Some u → unit < length m.imms → nat_lt index u.size ≡ true → is_place (KeptImm unit index) ≡ true
   imm_place u unit index at within inside =
       let is : is_imm m.sockets u ≡ true = list_all_one (is_imm m.sockets) m.imms unit u rules.imms at in
-      let size = imm_size m.sockets u is in
+      let size = small_imm m.sockets u is in
       place_from unit index 4 16 (omega (arith, within, rules.limits.imms)) (omega (arith, size, ltb-true index u.size inside))
 
   -- ---- the ends of a move

@@ -27,21 +27,27 @@ use Rattle.tta_sim.proofs.Brought.{all_false, unread_moves, unread_writes, unrea
 module _ (m : Machine) (back : ℕ) (places : List (Option ℕ)) (r : Results) (i : Instruction)
     (there : AllByRecursion (λ v. has_operation m v ≡ true) (moves_of i)) (units : length m.units ≤ 32)
     (reached : AreReachable (length m.units) (arrivals_of (reads_of places r.shown) i.moves)) (placed : is_long_place m i.long ≡ true) where
+  -- the moves of the instruction, without the empty slots
   abbrev ms : List Move
   ms = moves_of i
 
+  -- the words that these moves bring to their destinations
   abbrev arrivals : List Arrival
   arrivals = arrivals_of (reads_of places r.shown) i.moves
 
+  -- the instruction as it is decoded
   abbrev line : Line
   line = line_of m back i
 
+  -- the words that the instruction brings to registers, operand ports and the return address
   abbrev brought : List Write
   brought = filter_map (write_brought places r.shown) line.writes
 
+  -- the word in the operand port of a unit once these are written
   abbrev operand : ℕ → Option ℕ
   operand = operand_in places brought
 
+  -- whether any of the moves cannot be read
   abbrev pub all_unread : Bool
   all_unread = list_any (λ v. is_unread places r.shown (reading_of v)) ms
 
@@ -63,12 +69,15 @@ module _ (m : Machine) (back : ℕ) (places : List (Option ℕ)) (r : Results) (
 
   -- ---- faults
 
+  -- whether a register that was never written is read, guards included
   abbrev lacks : Bool
   lacks = list_any (lacks_register (reads_of places r.shown)) (map effect_of ms)
 
+  -- whether a result port is read that shows no result yet
   abbrev lacks_port : Bool
   lacks_port = list_any (has_unset (reads_of places r.shown) is_port) (map effect_of ms)
 
+  -- the operations that the instruction starts
   abbrev starts : List Start
   starts = starts_of m places arrivals
 
@@ -88,12 +97,15 @@ module _ (m : Machine) (back : ℕ) (places : List (Option ℕ)) (r : Results) (
       ∙ ap (λ b. not b && (not (list_any lacks_operand starts || list_any (clashes_with r) starts) && not (is_some (told_in arrivals) && is_pending))) (sym (unread_moves m back places r ms))
       ∙ ap (λ b. not all_unread && (not b && not (is_some (told_in arrivals) && is_pending))) (sym (stopped_by r starts))
 
+  -- whether any write of the moves, to a register, an operand port or the return address, cannot be read
   abbrev w : Bool
   w = unread_writes m back places r ms
 
+  -- whether any of the moves that goes to the trigger port of a unit cannot be read
   abbrev s : Bool
   s = unread_starts m back places r ms
 
+  -- whether any of the moves that goes to control's trigger port cannot be read
   abbrev t : Bool
   t = unread_tells m back places r ms
 

@@ -6,6 +6,7 @@ use Rattle.std.specs.List.{list_any, list_all, filter_map, cons_option, find, Al
 use Rattle.std.proofs.lemmas.Bool.{and_parts, and_from, or_parts, or_from, not-true}
 use Rattle.std.proofs.lemmas.Option.{slice_get_within}
 use Rattle.std.proofs.lemmas.List.{append-nil}
+use Rattle.tta_list.proofs.Lists.{list_all_one}
 use Rattle.tta_machine.specs.declared.parts.Unit.{Unit as OpUnit}
 use Rattle.tta_machine.specs.declared.parts.UnitOp.{UnitOp}
 use Rattle.tta_machine.specs.declared.parts.Op.{Op}
@@ -16,16 +17,15 @@ use Rattle.tta_machine.specs.Machine.{Machine}
 use Rattle.tta_machine.specs.Legal.{are_apart, same_place, ends_of as ends_in}
 use Rattle.tta_machine.specs.Rules.{IsMachine, is_unit, is_unit_op, fits_kind, same_op, are_different}
 use Rattle.tta_machine.specs.Effects.{Start, Reads, has_result, put_out, moved}
-use Rattle.tta_machine.proofs.Lists.{list_all_one}
 use Rattle.tta_code.specs.declared.code.Move.{Move}
 use Rattle.tta_code.specs.declared.code.Instruction.{Instruction}
 use Rattle.tta_code.specs.Cycle.{effect_of}
 use Rattle.tta_code.specs.Legal.{ends_of, is_legal}
+use Rattle.tta_code.proofs.LegalParts.{legal_parts}
 use Rattle.tta_sim.specs.declared.arrivals.Arrival.{Arrival}
 use Rattle.tta_sim.specs.Results.{Results}
 use Rattle.tta_sim.specs.Moves.{is_possible_slot, is_askable, is_readable, is_reachable, arrival_of, arrivals_of}
 use Rattle.tta_sim.specs.Starts.{triggered, start_by, is_fitting, puts, clashes_with, AreFitting, CanStart, AreReachable}
-use Rattle.tta_code.proofs.LegalParts.{legal_parts}
 
 -- ---- lists whose elements differ
 
@@ -58,11 +58,11 @@ apart_filter_map same same' f tells (x ∷ xs) apart =
           and_from (not (list_any (same' p) (filter_map f xs))) (are_different same' (filter_map f xs)) (ap not other) rest
     ] refl
 
--- two moves into one place
+-- whether two moves go into one place
 abbrev meet_moves : Move → Move → Bool
 meet_moves v w = same_place v.dst w.dst
 
--- two words that moves bring into one place
+-- whether two words that moves bring go into one place
 abbrev meet_arrivals : Arrival → Arrival → Bool
 meet_arrivals a b = same_place a.dst b.dst
 

@@ -11,6 +11,7 @@ use Rattle.tta_machine.specs.Machine.{Machine}
 use Rattle.tta_machine.specs.Rules.{are_different, same_op}
 use Rattle.tta_machine.specs.Effects.{KeptOperand, Start, Kind, Jumps, Calls, Halts, op_at, has_result, result_word, lacks_operand, first_some, control_of, is_port, has_unset}
 use Rattle.tta_code.specs.Cycle.{Result', first_fault}
+use Rattle.tta_code.specs.declared.code.Move.{Move}
 use Rattle.tta_sim.specs.declared.arrivals.Arrival.{Arrival}
 use Rattle.tta_sim.specs.declared.control.Told.{Told}
 use Rattle.tta_sim.specs.declared.control.Kind.{Kind as ToldKind}
@@ -18,7 +19,6 @@ use Rattle.tta_sim.specs.declared.control.Kind.TheVariants as told
 use Rattle.tta_sim.specs.Places.{word_at}
 use Rattle.tta_sim.specs.Results.{Results, due_at, due_after}
 use Rattle.tta_sim.specs.Moves.{is_reachable, reads_of, lacks_register, effects_in, arrivals_of, brought_of}
-use Rattle.tta_code.specs.declared.code.Move.{Move}
 
 -- ---- operations
 

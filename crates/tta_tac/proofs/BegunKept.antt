@@ -6,12 +6,12 @@ use Rattle.std.specs.List.{sum_by}
 use Rattle.std.specs.Cmp.Lexicographic.{nat_list_eq_equiv}
 use Rattle.std.proofs.lemmas.Bool.{ltb-false}
 use Rattle.std.proofs.lemmas.Option.{slice_get_within}
+use Rattle.tta_list.proofs.Tests.{none_from_is_some}
 use Rattle.tta_reading.specs.Names.{named_in}
 use Rattle.tta_tac.specs.Draft.{ProcDraft, Draft}
 use Rattle.tta_tac.specs.Kept.{IsOpen, all_procs, IsKept}
-use Rattle.tta_tac.proofs.Variables.{named_more, numbered_length, numbered_below}
-use Rattle.tta_tac.proofs.Tests.{none_from_is_some}
 use Rattle.tta_tac.specs.FirstPass.{fresh, with_fresh}
+use Rattle.tta_tac.proofs.Variables.{named_more, numbered_length, numbered_below}
 use Rattle.tta_tac.proofs.Taken.{ProcTaken}
 use Rattle.tta_tac.proofs.Growing.{sum_last, get_last}
 

@@ -3,14 +3,15 @@ use Rattle.std.proofs.Common.{◌≡◌, ℕ, ◌+◌, Bool, true, false, [], �
 use Rattle.std.specs.Prelude.{Option, Some, None, Result, Ok, Err}
 use Rattle.std.specs.Option.{IfSome, option_map_or}
 use Rattle.std.specs.Result.{OnOk}
+use Rattle.tta_reading.specs.declared.line_error.LineError.{LineError}
+use Rattle.tta_reading.specs.Taken.{Takes}
 use Rattle.tta_ops.specs.Units.{Units}
-use Rattle.tta_tac.specs.declared.reading.refusal.LineError.{LineError}
 use Rattle.tta_tac.specs.declared.reading.draft.DraftProc.{DraftProc}
-use Rattle.tta_tac.specs.Seen.{Says}
 use Rattle.tta_tac.specs.Forms.{Form}
 use Rattle.tta_tac.specs.Draft.{ProcDraft, Draft, proc_seen}
 use Rattle.tta_tac.specs.DraftRules.{IsBegun, IsDraft}
 use Rattle.tta_tac.specs.FirstPass.{vars_after, is_end, close_if, with_step, take_step, take_form, with_fresh}
+use Rattle.tta_tac.specs.declared.reading.refusal.Refusal.{Refusal}
 use Rattle.tta_tac.proofs.Variables.{numbered_length}
 use Rattle.tta_tac.proofs.Taken.{with_label, StepTaken, step_taken, Taken, ProcBegins, LabelIsPut, StepIsMade, form_taken}
 
@@ -50,14 +51,14 @@ taken_kept u d e line f kept (StepIsMade q is t) = step_kept u d e q line f kept
 
 module _ {A : Type 0} where
   -- where a result says what a line does, an accepted line keeps the rules
-  pub form_says_kept : (u : Units) (d e : Draft) (line : ℕ) (f : Form) (r : Result A LineError) → IsDraft d
-      → Says e r (take_form u d line f) → OnOk r (IsDraft e)
+  pub form_says_kept : (u : Units) (d e : Draft) (line : ℕ) (f : Form) (r : Result A (LineError Refusal)) → IsDraft d
+      → Takes e r (take_form u d line f) → OnOk r (IsDraft e)
   form_says_kept u d e line f (Ok x) kept says = taken_kept u d e line f kept (form_taken u d e line f says)
   form_says_kept u d e line f (Err x) kept says = tt
 
   -- the same of a step, of a begun procedure that was moved out of the draft
-  pub step_says_kept : (u : Units) (d e : Draft) (q : ProcDraft) (line : ℕ) (f : Form) (r : Result A LineError) → IsDraft d
-      → IsBegun d.lines q → Says e r (take_step u d q line f) → OnOk r (IsDraft e)
+  pub step_says_kept : (u : Units) (d e : Draft) (q : ProcDraft) (line : ℕ) (f : Form) (r : Result A (LineError Refusal)) → IsDraft d
+      → IsBegun d.lines q → Takes e r (take_step u d q line f) → OnOk r (IsDraft e)
   step_says_kept u d e q line f (Ok x) kept begun says = step_kept u d e q line f kept begun (step_taken u d e q line f says)
   step_says_kept u d e q line f (Err x) kept begun says = tt
 

@@ -4,6 +4,7 @@ use Rattle.std.specs.Prelude.{slice_get, codes}
 use Rattle.std.specs.Option.{option_map_or}
 use Rattle.tta_reading.specs.Names.{named_in}
 use Rattle.tta_reading.specs.Steps.{◌>>=◌}
+use Rattle.tta_reading.proofs.Steps.{then-ok}
 use Rattle.tta_ops.specs.Units.{Units}
 use Rattle.tta_tac.specs.declared.program.Proc.{Proc}
 use Rattle.tta_tac.specs.declared.reading.draft.DraftProc.{DraftProc}
@@ -16,7 +17,6 @@ use Rattle.tta_tac.specs.SecondPass.{Refused, link_proc, link_procs}
 use Rattle.tta_tac.specs.Text.{linked_text, with_main, IsFirstRecursive, InPasses, ByRecursion, WithoutMain}
 use Rattle.tta_tac.specs.Cycles.{IsAcyclic}
 use Rattle.tta_tac.specs.Told.{Tells, IsDraftOf, MakesProgram, TellsCause, LeadsBack}
-use Rattle.tta_tac.proofs.Steps.{bind_ok}
 use Rattle.tta_tac.proofs.Calls.{reaches_within}
 
 -- ---- the passes, one after the other
@@ -25,8 +25,8 @@ use Rattle.tta_tac.proofs.Calls.{reaches_within}
 pub procs_cons : (d : Draft) (q : ProcDraft) (qs : List ProcDraft) (procs : List Proc) → link_procs d (q ∷ qs) ≡ Ok procs
     → (r : Proc) × (rest : List Proc) × (link_proc d q ≡ Ok r) × (link_procs d qs ≡ Ok rest) × (r ∷ rest ≡ procs)
 procs_cons d q qs procs e =
-    let first = bind_ok (link_proc d q) _ procs e in
-    let rest = bind_ok (link_procs d qs) _ procs first.2 in
+    let first = then-ok (link_proc d q) _ procs e in
+    let rest = then-ok (link_procs d qs) _ procs first.2 in
     let all : first.0 ∷ rest.0 ≡ procs = cc rest.2 in
     (first.0, rest.0, first.1, rest.1, all)
 

@@ -12,8 +12,8 @@ use Rattle.tta_text.specs.Numbers.{value_below, digits_of, number_of, negated, n
 use Rattle.tta_reading.specs.Lines.{Lexeme, Line}
 use Rattle.tta_reading.specs.Words.{is_keyword, is_mark, constant_of}
 use Rattle.tta_reading.specs.Steps.{◌>>?◌, only_if}
+use Rattle.tta_reading.proofs.Steps.{then-some}
 use Rattle.tta_tac.specs.Forms.{Operand, Named, Constant, free_name, operand_of, or_constant, operands_alone, names_alone, rel_of, Form, LabelForm, HaltForm, EndForm, proc_form, store_form, put_form, if_form, goto_form, when_form, call_form, return_form, alone_form, assign_form, named_form, form_of}
-use Rattle.tta_tac.proofs.Steps.{bind_some}
 use Rattle.tta_tac.proofs.Variables.{fits}
 use Rattle.tta_tac.proofs.StepsKept.{fits_form}
 
@@ -78,8 +78,8 @@ operand_fits w o e = by (free_name w) (constant_of w) (constant_under w.kind w.t
 operands_fit : (ws : Line) (os : List Operand) → operands_alone ws ≡ Some os → list_all fits os ≡ true
 operands_fit [] os e = let same : [] ≡ os = cc in ap (list_all fits) (sym same)
 operands_fit (w ∷ ws) os e =
-    let first = bind_some (operand_of w) _ os e in
-    let rest = bind_some (operands_alone ws) _ os first.2 in
+    let first = then-some (operand_of w) _ os e in
+    let rest = then-some (operands_alone ws) _ os first.2 in
     let same : first.0 ∷ rest.0 ≡ os = cc rest.2 in
     ap (list_all fits) (sym same)
     ∙ and_from (fits first.0) (list_all fits rest.0) (operand_fits w first.0 first.1) (operands_fit ws rest.0 rest.1)

@@ -10,6 +10,7 @@ use Rattle.std.proofs.lemmas.List.Sums.{sum_by-cons}
 use Rattle.std.proofs.Math.Dec.{eqb}
 use Rattle.tta_reading.specs.Names.{Declared, named_in}
 use Rattle.tta_reading.specs.Steps.{or_refuse, refuse_if}
+use Rattle.tta_reading.proofs.Steps.{then-ok}
 use Rattle.tta_tac.specs.declared.operand.Src.{Src}
 use Rattle.tta_tac.specs.declared.step.Step.{Step}
 use Rattle.tta_tac.specs.declared.program.Proc.{Proc}
@@ -21,7 +22,6 @@ use Rattle.tta_tac.specs.SecondPass.{callee_named, params_of, link_steps, link_p
 use Rattle.tta_tac.specs.Text.{with_main}
 use Rattle.tta_tac.specs.Cycles.{IsAcyclic}
 use Rattle.tta_tac.specs.Kept.{IsEnded, all_procs, IsKept}
-use Rattle.tta_tac.proofs.Steps.{bind_ok}
 use Rattle.tta_tac.proofs.Finished.{procs_cons, linked_length}
 use Rattle.tta_tac.proofs.LinkedSteps.{steps_length, ends_kept, steps_kept}
 
@@ -30,7 +30,7 @@ proc_ok : (d : Draft) (q : ProcDraft) (r : Proc) → link_proc d q ≡ Ok r
     → (steps : List Step) × (link_steps d q.labels q.steps q.lines ≡ Ok steps)
     × (r ≡ record { params = q.params; vars = length q.vars; steps = steps; lines = q.lines })
 proc_ok d q r e =
-    let c = bind_ok (link_steps d q.labels q.steps q.lines) _ r e in
+    let c = then-ok (link_steps d q.labels q.steps q.lines) _ r e in
     let same : record { params = q.params; vars = length q.vars; steps = c.0; lines = q.lines } ≡ r = cc c.2 in
     (c.0, c.1, sym same)
 

@@ -5,6 +5,7 @@ use Rattle.std.specs.Str.{bytes_eq}
 use Rattle.std.specs.Option.{option_map_or}
 use Rattle.tta_reading.specs.Names.{Declared, named_in}
 use Rattle.tta_reading.specs.Steps.{refuse_if}
+use Rattle.tta_reading.proofs.Steps.{refuse_if-ok}
 use Rattle.tta_ops.specs.Units.{Units}
 use Rattle.tta_tac.specs.declared.reading.refusal.Refusal.{Refusal}
 use Rattle.tta_tac.specs.declared.reading.refusal.Refusal.TheVariants.{UnknownOp, Arity, TooMany}
@@ -13,9 +14,8 @@ use Rattle.tta_tac.specs.Forms.{Form}
 use Rattle.tta_tac.specs.declared.reading.draft.NamedStep.{NamedStep}
 use Rattle.tta_tac.specs.declared.reading.draft.Draft.{Draft as CodeDraft}
 use Rattle.tta_tac.specs.Draft.{Unlinked, ProcDraft, Draft, proc_seen, procs_seen, step_seen, draft_seen}
-use Rattle.tta_tac.proofs.Steps.{passed}
-use Rattle.tta_tac.proofs.Seen.{steps_seen_append, procs_seen_length}
 use Rattle.tta_tac.specs.FirstPass.{vars_after, lacks_op, has_wrong_arity, has_many_args, is_full, step_of, is_end, close_if, with_step, take_step, take_proc, with_fresh, has_twice, stepped}
+use Rattle.tta_tac.proofs.Seen.{steps_seen_append, procs_seen_length}
 
 last_or : (a b : Bool) → (a || b || true) ≡ true
 last_or true b = refl
@@ -29,8 +29,8 @@ module _ (u : Units) (d : Draft) (q : ProcDraft) (line : ℕ) (f : Form) (x : Un
   pub take_step_many : (vars : Declared ℕ) → vars ≡ vars_after q.vars f → nat_lt 4096 (length vars) ≡ true
       → take_step u d q line f ≡ Err TooMany
   take_step_many vars e many =
-      let first = passed (lacks_op u f) UnknownOp (refuse_if (has_wrong_arity u f) Arity (Ok x)) x (sym checks ∙ passes) in
-      let second = passed (has_wrong_arity u f) Arity (Ok x) x first.1 in
+      let first = refuse_if-ok (lacks_op u f) UnknownOp (refuse_if (has_wrong_arity u f) Arity (Ok x)) x (sym checks ∙ passes) in
+      let second = refuse_if-ok (has_wrong_arity u f) Arity (Ok x) x first.1 in
       let test : nat_lt 4096 (length (vars_after q.vars f)) ≡ true = ap (λ v. nat_lt 4096 (length v)) (sym e) ∙ many in
       rw (first.0, second.0, test, last_or (is_full d) (has_many_args f)) refl
 
@@ -39,8 +39,8 @@ module _ (u : Units) (d : Draft) (q : ProcDraft) (line : ℕ) (f : Form) (x : Un
       → has_many_args f ≡ false → nat_lt 4096 (length vars) ≡ false → Some s ≡ step_of u vars f
       → take_step u d q line f ≡ Ok (close_if (is_end f) (record d { lines = d.lines + 1 }) (with_step q vars s line))
   take_step_taken vars s e full args many step =
-      let first = passed (lacks_op u f) UnknownOp (refuse_if (has_wrong_arity u f) Arity (Ok x)) x (sym checks ∙ passes) in
-      let second = passed (has_wrong_arity u f) Arity (Ok x) x first.1 in
+      let first = refuse_if-ok (lacks_op u f) UnknownOp (refuse_if (has_wrong_arity u f) Arity (Ok x)) x (sym checks ∙ passes) in
+      let second = refuse_if-ok (has_wrong_arity u f) Arity (Ok x) x first.1 in
       rw (← e) (rw (first.0, second.0, full, args, many, ← step) refl)
 
 -- a step that is taken, of the code's values

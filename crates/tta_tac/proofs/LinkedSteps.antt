@@ -4,8 +4,10 @@ use Rattle.std.specs.Prelude.{◌&&◌, ◌==◌, not, nat_lt, if◌then◌else�
 use Rattle.std.specs.Option.{option_map_or}
 use Rattle.std.specs.List.{list_all}
 use Rattle.std.proofs.lemmas.Bool.{and_from}
+use Rattle.tta_list.proofs.Tests.{and_right, and_map}
 use Rattle.tta_reading.specs.Names.{Declared, named_in}
-use Rattle.tta_reading.specs.Steps.{◌>>=◌, or_refuse, refuse_if}
+use Rattle.tta_reading.specs.Steps.{◌>>=◌, or_refuse, refuse_if, at_line}
+use Rattle.tta_reading.proofs.Steps.{then-ok, at_line-ok}
 use Rattle.tta_tac.specs.declared.operand.Src.{Src}
 use Rattle.tta_tac.specs.declared.step.Step.{Step}
 use Rattle.tta_tac.specs.declared.step.Step.TheVariants as step
@@ -14,11 +16,9 @@ use Rattle.tta_tac.specs.declared.reading.refusal.Refusal.TheVariants.{UnknownLa
 use Rattle.tta_tac.specs.Program.{Program}
 use Rattle.tta_tac.specs.Rules.{is_src, is_call, is_step, ends_once}
 use Rattle.tta_tac.specs.Draft.{Draft, Unlinked, Plain, IfTo, GotoTo, CallTo}
-use Rattle.tta_tac.specs.SecondPass.{at_line, callee_named, params_of, link_step, link_steps}
+use Rattle.tta_tac.specs.SecondPass.{callee_named, params_of, link_step, link_steps}
 use Rattle.tta_tac.specs.Text.{with_main}
 use Rattle.tta_tac.specs.Kept.{bare, is_unlinked, is_end_step, closes_once}
-use Rattle.tta_tac.proofs.Tests.{and_right, and_map}
-use Rattle.tta_tac.proofs.Steps.{bind_ok, at_line_ok}
 
 -- no number is below 0
 none_below : (k : ℕ) → nat_lt k 0 ≡ true → ⊥
@@ -44,8 +44,8 @@ plain_kept p q (step.Return s) h = h
 plain_kept p q step.Halt h = h
 plain_kept p q step.End h = h
 
--- whether a step is an `end`, and how ends are found in front
-abbrev is_end : Step → Bool
+-- whether a step is an `end`
+abbrev pub is_end : Step → Bool
 is_end step.End = true
 is_end s = false
 
@@ -82,10 +82,10 @@ module _ (d : Draft) (labels : Declared ℕ) where
       → link_steps d labels (s ∷ ss) (line ∷ lines) ≡ Ok steps
       → (x : Step) × (rest : List Step) × (link_step d labels s ≡ Ok x) × (link_steps d labels ss lines ≡ Ok rest) × (x ∷ rest ≡ steps)
   steps_cons s ss line lines steps e =
-      let first = bind_ok (at_line line (link_step d labels s)) _ steps e in
-      let rest = bind_ok (link_steps d labels ss lines) _ steps first.2 in
+      let first = then-ok (at_line line (link_step d labels s)) _ steps e in
+      let rest = then-ok (link_steps d labels ss lines) _ steps first.2 in
       let all : first.0 ∷ rest.0 ≡ steps = cc rest.2 in
-      (first.0, rest.0, at_line_ok line (link_step d labels s) first.0 first.1, rest.1, all)
+      (first.0, rest.0, at_line-ok line (link_step d labels s) first.0 first.1, rest.1, all)
 
   pub steps_length : (ss : List Unlinked) (lines : List ℕ) (steps : List Step) → length lines ≡ length ss
       → link_steps d labels ss lines ≡ Ok steps → length steps ≡ length ss
@@ -99,13 +99,13 @@ module _ (d : Draft) (labels : Declared ℕ) where
   end_kept : (s : Unlinked) (x : Step) → link_step d labels s ≡ Ok x → is_end x ≡ is_end_step s
   end_kept (Plain s) x e = let same : s ≡ x = cc in ap is_end (sym same) ∙ end_seen s
   end_kept (IfTo rel a b label) x e =
-      let to = bind_ok (or_refuse UnknownLabel (named_in labels label)) _ x e in
+      let to = then-ok (or_refuse UnknownLabel (named_in labels label)) _ x e in
       let same : step.If rel a b to.0 ≡ x = cc to.2 in ap is_end (sym same)
   end_kept (GotoTo label) x e =
-      let to = bind_ok (or_refuse UnknownLabel (named_in labels label)) _ x e in
+      let to = then-ok (or_refuse UnknownLabel (named_in labels label)) _ x e in
       let same : step.Goto to.0 ≡ x = cc to.2 in ap is_end (sym same)
   end_kept (CallTo dst name args) x e =
-      let found = bind_ok (callee_named d.names name) _ x e in
+      let found = then-ok (callee_named d.names name) _ x e in
       by found.0 (not (params_of d.procs found.0 == length args)) found.2 where
         by : (k : ℕ) (t : Bool) → refuse_if t Arity (Ok (step.Invoke dst k args)) ≡ Ok x → is_end x ≡ false
         by k false e = let same : step.Invoke dst k args ≡ x = cc in ap is_end (sym same)
@@ -150,7 +150,7 @@ module _ (d : Draft) (labels : Declared ℕ) where
           let test : nat_lt to (length q.steps) ≡ true = grind arith in
           subst (λ y. is_step p q y ≡ true) same test
     step_kept (CallTo dst name args) x h e =
-        let found = bind_ok (callee_named d.names name) _ x e in
+        let found = then-ok (callee_named d.names name) _ x e in
         by found.0 found.1 (params_of d.procs found.0 == length args) refl found.2 where
           by : (k : ℕ) → callee_named d.names name ≡ Ok k → (t : Bool) → (params_of d.procs k == length args) ≡ t
               → refuse_if (not t) Arity (Ok (step.Invoke dst k args)) ≡ Ok x → is_step p q x ≡ true

@@ -4,8 +4,8 @@ use Rattle.std.specs.Prelude.{codes, filter}
 use Rattle.std.specs.Str.{bytes_eq}
 use Rattle.std.specs.List.{list_any}
 use Rattle.std.proofs.lemmas.Bool.{and_right, cases_Bool, cases_eq, eqb-false, ne_eqb}
+use Rattle.std.proofs.Math.Bool.{or-false}
 use Rattle.tta_tac.specs.Forms.{is_reserved, reserved}
-use Rattle.tta_tac.proofs.Tests.{or_false}
 
 -- bytes of another length differ
 other_length : (a b : List ℕ) → (length a ≡ length b → ⊥) → bytes_eq a b ≡ false
@@ -47,13 +47,13 @@ by_length name size len = of_its_length name reserved ∙ rw len refl
 
 -- there is one word of two bytes, of five and of six
 pub of_two : (name : List ℕ) → length name ≡ 2 → is_reserved name ≡ bytes_eq name (codes "if")
-of_two name len = by_length name 2 len ∙ or_false (bytes_eq name (codes "if"))
+of_two name len = by_length name 2 len ∙ or-false (bytes_eq name (codes "if"))
 
 pub of_five : (name : List ℕ) → length name ≡ 5 → is_reserved name ≡ bytes_eq name (codes "store")
-of_five name len = by_length name 5 len ∙ or_false (bytes_eq name (codes "store"))
+of_five name len = by_length name 5 len ∙ or-false (bytes_eq name (codes "store"))
 
 pub of_six : (name : List ℕ) → length name ≡ 6 → is_reserved name ≡ bytes_eq name (codes "return")
-of_six name len = by_length name 6 len ∙ or_false (bytes_eq name (codes "return"))
+of_six name len = by_length name 6 len ∙ or-false (bytes_eq name (codes "return"))
 
 pub of_three : (name : List ℕ) → length name ≡ 3
     → is_reserved name

@@ -1,6 +1,6 @@
 -- Small programs, and what the definitions make of them.
 use Rattle.std.specs.Prelude.{◌≡◌, ◌<◌, ℕ, zero, suc, ◌^◌, List, [], ◌∷◌, Some, refl, codes, replicate, if◌then◌else◌, nat_lt, true, false, slice_get}
-use Rattle.std.proofs.Common.{lit<, arith}
+use Rattle.std.proofs.Common.{◌+◌, ◌*◌, ◌%◌, ◌∙◌, ap, lit<, arith}
 use Rattle.tta_ops.specs.declared.OpId.{OpId}
 use Rattle.tta_ops.specs.Units.{Units}
 use Rattle.tta_tac.specs.declared.operand.Src.TheVariants.{Var, Word}
@@ -39,6 +39,15 @@ squares = record {
 squares-output : (u : Units) → (seq u squares [] 100).output ≡ u.value 0 (u.value 0 3 (u.value 2 3 3)) (u.value 2 5 5) ∷ []
 unfolding next
 squares-output u = refl
+
+-- any units whose operations 0 and 2 are the sum and the product
+record AddsAndMultiplies (u : Units) : Type 0 where
+  sum : (a b : ℕ) → u.value 0 a b ≡ (a + b) % 2 ^ 32
+  product : (a b : ℕ) → u.value 2 a b ≡ a * b % 2 ^ 32
+
+-- over such units the sum is 37
+squares-sum : (u : Units) → AddsAndMultiplies u → (seq u squares [] 100).output ≡ 37 ∷ []
+squares-sum u is = squares-output u ∙ ap (λ word. word ∷ []) (rw (is.product 3 3, is.product 5 5, is.sum 3 9, is.sum 12 25) refl)
 
 squares-steps : (u : Units) → (seq u squares [] 100).steps ≡ 11
 unfolding next
@@ -101,6 +110,7 @@ guarded-steps = refl
 
 -- ---- a loop without end
 
+-- a program whose only procedure jumps to its first step again and again
 forever : Program
 forever = alone 0 (Goto 0 ∷ End ∷ [])
 

@@ -3,11 +3,11 @@ use Rattle.std.proofs.Common.{◌≡◌, Bool, true, false, not, ◌&&◌, List,
 use Rattle.std.specs.Prelude.{ℕ, Option, Some, None, map, if◌then◌else◌, is_some}
 use Rattle.std.specs.List.{list_all, cons_option}
 use Rattle.tta_reading.specs.declared.word.Word.{Word}
-use Rattle.tta_reading.specs.Lines.{Lexeme, plain}
+use Rattle.tta_reading.specs.Lines.{Lexeme, plain, texts}
 use Rattle.tta_reading.specs.Words.{is_name_kind}
 use Rattle.tta_reading.specs.Steps.{◌>>?◌, only_if}
 use Rattle.tta_tac.specs.Forms.{operand_of, free_name, is_reserved, operands_alone, names_alone}
-use Rattle.tta_tac.specs.Seen.{operands_in, texts}
+use Rattle.tta_tac.specs.Seen.{operands_in}
 
 -- one more word in front: there is a value where there is one for it and for the words behind it
 one_more : {X : Type 0} (first : Option X) (rest : Option (List X)) (all : Bool) (xs : List X)

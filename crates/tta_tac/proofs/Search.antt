@@ -8,12 +8,13 @@ use Rattle.std.proofs.lemmas.Bool.Decides.{eqb_tells}
 use Rattle.std.proofs.Math.Dec.{eqb}
 use Rattle.std.proofs.lemmas.List.{append-nil, take_all, take-append-le}
 use Rattle.std.proofs.Common.{get_or-set_same, get_or-set_other, length-set}
+use Rattle.std.proofs.Math.Bool.{or-true, or-false}
+use Rattle.tta_list.proofs.Tests.{and_right}
 use Rattle.tta_tac.specs.declared.step.Step.{Step}
 use Rattle.tta_tac.specs.declared.program.Proc.{Proc}
 use Rattle.tta_tac.specs.Rules.{calls, calls_proc, Reaches, ByCall}
 use Rattle.tta_tac.specs.Text.{with_main}
 use Rattle.tta_tac.specs.Cycles.{is_found, unset, IsMarked, Finds}
-use Rattle.tta_tac.proofs.Tests.{and_right, or_true, or_false}
 use Rattle.tta_tac.proofs.Calls.{calls_of, all_found, reaches_on}
 
 -- ---- one mark
@@ -25,7 +26,7 @@ unset-set (m ∷ marks) zero below e = rw e (omega arith)
 unset-set (m ∷ marks) (suc i) below e = let rest = unset-set marks i (omega arith) e in omega arith
 
 found_more : (found : List ℕ) (place k : ℕ) → is_found (found ++ place ∷ []) k ≡ (is_found found k || place == k)
-found_more found place k = list_any-append (λ p. p == k) found (place ∷ []) ∙ ap (λ b. is_found found k || b) (or_false (place == k))
+found_more found place k = list_any-append (λ p. p == k) found (place ∷ []) ∙ ap (λ b. is_found found k || b) (or-false (place == k))
 
 -- a place that is not marked becomes marked and found
 pub marks_one : (marks : List Bool) (found : List ℕ) (place : ℕ) → IsMarked marks found → place < length marks
@@ -42,11 +43,11 @@ marks_one marks found place h below clear = record {
   by k (inl t) =
       let here = get_or-set_same marks place true false below in
       let now : get_or (set marks place true) k false ≡ true = cc in
-      now ∙ sym (found_more found place k ∙ ap (λ b. is_found found k || b) t.0 ∙ or_true (is_found found k))
+      now ∙ sym (found_more found place k ∙ ap (λ b. is_found found k || b) t.0 ∙ or-true (is_found found k))
   by k (inr t) =
       let other : k ≢ place = λ e. t.1 (sym e) in
       get_or-set_other marks place k true false other ∙ h.same k
-      ∙ sym (found_more found place k ∙ ap (λ b. is_found found k || b) t.0 ∙ or_false (is_found found k))
+      ∙ sym (found_more found place k ∙ ap (λ b. is_found found k || b) t.0 ∙ or-false (is_found found k))
 
 -- ---- the steps that were looked at
 
@@ -170,7 +171,7 @@ module _ (procs : List Proc) (from : ℕ) (marks new_marks : List Bool) (found n
       let s = h.size in
       let in_range : nat_lt j (length marks) ≡ true = grind arith in
       finds.all j ∙ ap (λ t. is_found found j || (t && list_any (calls_proc j) steps)) in_range
-      ∙ ap (λ t. is_found found j || t) e ∙ or_true (is_found found j)
+      ∙ ap (λ t. is_found found j || t) e ∙ or-true (is_found found j)
 
   front_is : (i : ℕ) → is_found (take (next + 1) new) i ≡ (is_found (take next found) i || get_or found next place == i)
   front_is i =

@@ -6,7 +6,7 @@ use Rattle.std.specs.List.{AllByRecursion}
 use Rattle.std.proofs.lemmas.Option.{slice_get_read, slice_get_past}
 use Rattle.std.proofs.lemmas.List.{at_drop_more}
 use Rattle.tta_reading.specs.Names.{Declared}
-use Rattle.tta_reading.specs.Steps.{◌>>=◌}
+use Rattle.tta_reading.specs.Steps.{◌>>=◌, at_line}
 use Rattle.tta_tac.specs.declared.step.Step.{Step}
 use Rattle.tta_tac.specs.declared.program.Proc.{Proc}
 use Rattle.tta_tac.specs.declared.reading.draft.NamedStep.{NamedStep}
@@ -17,7 +17,7 @@ use Rattle.tta_tac.specs.Kept.{IsEnded}
 use Rattle.tta_tac.specs.declared.reading.refusal.TacError.{TacError}
 use Rattle.tta_tac.specs.declared.reading.refusal.TacError.TheVariants as tac_error
 use Rattle.tta_tac.specs.Told.{Tells}
-use Rattle.tta_tac.specs.SecondPass.{Refused, at_line, params_of, link_step, link_steps, link_proc, link_procs}
+use Rattle.tta_tac.specs.SecondPass.{Refused, params_of, link_step, link_steps, link_proc, link_procs}
 
 -- a procedure's parameters, by the code's procedures
 pub params_seen : (procs : List DraftProc) (k : ℕ) → params_of (procs_seen procs) k ≡ option_map_or (λ q. q.params) (slice_get procs k) 0
@@ -44,6 +44,7 @@ behind_one done x (Ok rest) = ap Ok (sym (append_assoc done (x ∷ []) rest))
 behind_one done x (Err e) = refl
 
 module _ (d : Draft) (labels : Declared ℕ) (steps : List NamedStep) (lines : List ℕ) where
+  -- the steps of the procedure from the one of this number on, or the first refusal among them
   abbrev pub steps_from : ℕ → Result (List Step) Refused
   steps_from k = link_steps d labels (steps_seen (drop k steps)) (drop k lines)
 
@@ -68,6 +69,7 @@ module _ (d : Draft) (labels : Declared ℕ) (steps : List NamedStep) (lines : L
   steps_more k s done x below same is made = step_next k s done (Ok x) below same is made ∙ behind_one done x (steps_from (k + 1))
 
 module _ (d : Draft) (procs : List DraftProc) where
+  -- the procedures of the text from the one of this number on, or the first refusal among them
   abbrev pub procs_from : ℕ → Result (List Proc) Refused
   procs_from k = link_procs d (procs_seen (drop k procs))
 

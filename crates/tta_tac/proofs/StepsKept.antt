@@ -4,6 +4,7 @@ use Rattle.std.specs.Prelude.{◌&&◌, nat_lt, if◌then◌else◌}
 use Rattle.std.specs.Option.{option_map_or}
 use Rattle.std.specs.List.{list_all, list_any}
 use Rattle.std.proofs.lemmas.Bool.{and_from, or_parts, lt-ltb, ltb-true}
+use Rattle.tta_list.proofs.Tests.{and_left, and_right, and_map}
 use Rattle.tta_reading.specs.Names.{Declared}
 use Rattle.tta_ops.specs.Units.{Units}
 use Rattle.tta_tac.specs.declared.operand.Src.{Src}
@@ -16,7 +17,6 @@ use Rattle.tta_tac.specs.Forms.{Operand, Form, ProcForm, LabelForm, CopyForm, Ap
 use Rattle.tta_tac.specs.Draft.{Unlinked, Plain, IfTo, GotoTo, CallTo}
 use Rattle.tta_tac.specs.FirstPass.{with_var, var_number, with_operand, with_operands, src_of, srcs_of, vars_after, step_of, is_end}
 use Rattle.tta_tac.specs.Kept.{bare, is_unlinked, is_end_step, closes_once}
-use Rattle.tta_tac.proofs.Tests.{and_left, and_right, and_map}
 use Rattle.tta_tac.proofs.LinkedSteps.{is_nil, closes_cons}
 use Rattle.tta_tac.proofs.Variables.{IsNumbered, Grows, grows_not, grows_on, grows_var, has_var, var_kept, fits, grows_operand, has_operand, has_more, src_kept, grows_operands, has_operands, srcs_kept}
 

@@ -4,12 +4,12 @@ use Rattle.std.specs.Prelude.{◌||◌, ◌&&◌, nat_lt, is_some, codes}
 use Rattle.std.specs.Str.{bytes_eq}
 use Rattle.std.proofs.lemmas.Bool.{or_parts, leb-false, ltb-false}
 use Rattle.tta_reading.specs.Names.{named_in}
+use Rattle.tta_reading.proofs.Steps.{same_ok, refuse_if-ok, some-ok}
 use Rattle.tta_ops.specs.Units.{Units}
 use Rattle.tta_tac.specs.declared.reading.refusal.Refusal.TheVariants.{Syntax, UnknownOp, Arity, Twice, TooMany}
 use Rattle.tta_tac.specs.Forms.{Form, ProcForm, LabelForm}
 use Rattle.tta_tac.specs.Draft.{Unlinked, ProcDraft, Draft}
 use Rattle.tta_tac.specs.FirstPass.{vars_after, lacks_op, has_wrong_arity, has_many_args, has_twice, is_full, step_of, is_end, close_if, with_step, take_proc, with_fresh, take_label, take_step, take_inside, take_form}
-use Rattle.tta_tac.proofs.Steps.{same_ok, passed, some_ok}
 
 -- ---- procedures
 
@@ -23,10 +23,10 @@ pub record ProcTaken (d e : Draft) (line : ℕ) (name : List ℕ) (params : List
 
 proc_taken : (d e : Draft) (line : ℕ) (name : List ℕ) (params : List (List ℕ)) → take_proc d line name params ≡ Ok e → ProcTaken d e line name params
 proc_taken d e line name params taken =
-    let p1 = passed (is_some d.begun) Syntax _ e taken in
-    let p2 = passed (bytes_eq name (codes "main") && nat_lt 0 (length params)) Arity _ e p1.1 in
-    let p3 = passed (is_some (named_in d.names name) || has_twice params) Twice _ e p2.1 in
-    let p4 = passed (is_full d || nat_lt 8 (length params)) TooMany _ e p3.1 in
+    let p1 = refuse_if-ok (is_some d.begun) Syntax _ e taken in
+    let p2 = refuse_if-ok (bytes_eq name (codes "main") && nat_lt 0 (length params)) Arity _ e p1.1 in
+    let p3 = refuse_if-ok (is_some (named_in d.names name) || has_twice params) Twice _ e p2.1 in
+    let p4 = refuse_if-ok (is_full d || nat_lt 8 (length params)) TooMany _ e p3.1 in
     let tests = or_parts (is_full d) (nat_lt 8 (length params)) p4.0 in
     record {
       closed = p1.0;
@@ -49,8 +49,8 @@ pub record LabelTaken (d e : Draft) (q : ProcDraft) (name : List ℕ) : Type 0 w
 
 label_taken : (d e : Draft) (q : ProcDraft) (name : List ℕ) → take_label d q name ≡ Ok e → LabelTaken d e q name
 label_taken d e q name taken =
-    let p1 = passed (is_some (named_in q.labels name)) Twice _ e taken in
-    let p2 = passed (is_full d) TooMany _ e p1.1 in
+    let p1 = refuse_if-ok (is_some (named_in q.labels name)) Twice _ e taken in
+    let p2 = refuse_if-ok (is_full d) TooMany _ e p1.1 in
     record { room = leb-false 65536 d.lines p2.0; made = same_ok (record d { begun = Some (with_label q name); lines = d.lines + 1 }) e p2.1 }
 
 -- ---- steps
@@ -65,10 +65,10 @@ pub record StepTaken (u : Units) (d e : Draft) (q : ProcDraft) (line : ℕ) (f :
 
 pub step_taken : (u : Units) (d e : Draft) (q : ProcDraft) (line : ℕ) (f : Form) → take_step u d q line f ≡ Ok e → StepTaken u d e q line f
 step_taken u d e q line f taken =
-    let p1 = passed (lacks_op u f) UnknownOp _ e taken in
-    let p2 = passed (has_wrong_arity u f) Arity _ e p1.1 in
-    let p3 = passed (is_full d || has_many_args f || nat_lt 4096 (length (vars_after q.vars f))) TooMany _ e p2.1 in
-    let s = some_ok Syntax (step_of u (vars_after q.vars f) f) _ e p3.1 in
+    let p1 = refuse_if-ok (lacks_op u f) UnknownOp _ e taken in
+    let p2 = refuse_if-ok (has_wrong_arity u f) Arity _ e p1.1 in
+    let p3 = refuse_if-ok (is_full d || has_many_args f || nat_lt 4096 (length (vars_after q.vars f))) TooMany _ e p2.1 in
+    let s = some-ok Syntax (step_of u (vars_after q.vars f) f) _ e p3.1 in
     let tests = or_parts (is_full d || has_many_args f) (nat_lt 4096 (length (vars_after q.vars f))) p3.0 in
     record {
       step = s.0;
@@ -92,4 +92,4 @@ inside_taken u d e q line f begun taken = StepIsMade q begun (step_taken u d e q
 
 pub form_taken : (u : Units) (d e : Draft) (line : ℕ) (f : Form) → take_form u d line f ≡ Ok e → Taken u d e line f
 form_taken u d e line (ProcForm name params) taken = ProcBegins name params (proc_taken d e line name params taken)
-form_taken u d e line f taken = let q = some_ok Syntax d.begun _ e taken in inside_taken u d e q.0 line f q.1 q.2
+form_taken u d e line f taken = let q = some-ok Syntax d.begun _ e taken in inside_taken u d e q.0 line f q.1 q.2

@@ -3,16 +3,16 @@ use Rattle.std.proofs.Common.{◌≡◌, ℕ, ◌+◌, true, List, [], ◌∷◌
 use Rattle.std.specs.Option.{option_map_or}
 use Rattle.tta_reading.specs.Lines.{Line, lines_of}
 use Rattle.tta_reading.specs.Names.{Declared}
+use Rattle.tta_reading.specs.Steps.{at_line}
+use Rattle.tta_reading.proofs.Steps.{then-ok, some-ok, at_line-ok}
 use Rattle.tta_ops.specs.Units.{Units}
 use Rattle.tta_tac.specs.declared.reading.refusal.Refusal.TheVariants.{Syntax}
 use Rattle.tta_tac.specs.Forms.{form_of}
 use Rattle.tta_tac.specs.Draft.{ProcDraft, Draft, nothing}
 use Rattle.tta_tac.specs.FirstPass.{take_line}
-use Rattle.tta_tac.specs.SecondPass.{at_line}
 use Rattle.tta_tac.specs.Text.{take_lines}
 use Rattle.tta_tac.specs.Kept.{IsKept}
 use Rattle.tta_tac.specs.Told.{IsDraftOf}
-use Rattle.tta_tac.proofs.Steps.{bind_ok, some_ok, at_line_ok}
 use Rattle.tta_tac.proofs.StepsKept.{fits_form}
 use Rattle.tta_tac.proofs.FormsFit.{form_fit}
 use Rattle.tta_tac.proofs.Growing.{nothing_kept}
@@ -24,7 +24,7 @@ module _ (u : Units) where
   unfolding take_line
   line_kept line d e [] kept taken = let same : d ≡ e = cc in subst IsKept same kept
   line_kept line d e (key ∷ words) kept taken =
-      let f = some_ok Syntax (form_of key words) _ e taken in
+      let f = some-ok Syntax (form_of key words) _ e taken in
       take_form_kept u d e line f.0 kept (subst (λ o. option_map_or fits_form o true ≡ true) f.1 (form_fit key words)) f.2
 
   closed : (line : ℕ) (names : Declared ℕ) (procs : List ProcDraft) (begun : Option ProcDraft) (lines : ℕ) (e : Draft)
@@ -41,8 +41,8 @@ module _ (u : Units) where
       let c = closed line d.names d.procs d.begun d.lines e taken in
       (subst IsKept c.0 kept, ap (λ x. x.begun) (sym c.0) ∙ c.1)
   lines_kept (words ∷ lines) line d e kept taken =
-      let c = bind_ok (at_line line (take_line u line d words)) _ e taken in
-      lines_kept lines (line + 1) c.0 e (line_kept line d c.0 words kept (at_line_ok line (take_line u line d words) c.0 c.1)) c.2
+      let c = then-ok (at_line line (take_line u line d words)) _ e taken in
+      lines_kept lines (line + 1) c.0 e (line_kept line d c.0 words kept (at_line-ok line (take_line u line d words) c.0 c.1)) c.2
 
 -- what a text made
 pub text_kept : (u : Units) (text : List ℕ) (d : Draft) → IsDraftOf d u text → IsKept d × (d.begun ≡ None)

@@ -5,21 +5,16 @@ use Rattle.std.specs.List.{list_any}
 use Rattle.std.specs.Str.{bytes_eq}
 use Rattle.std.proofs.lemmas.List.{at_drop_more}
 use Rattle.std.specs.Cmp.Lexicographic.{nat_list_eq_equiv}
+use Rattle.tta_list.proofs.Tests.{or_swap}
 use Rattle.tta_reading.specs.Names.{Declared, named_in}
 use Rattle.tta_reading.specs.declared.word.Word.{Word}
+use Rattle.tta_reading.specs.Lines.{texts}
 use Rattle.tta_tac.specs.FirstPass.{has_twice, numbered}
-use Rattle.tta_tac.specs.Seen.{texts}
 
 or_shuffle : (a b c d : Bool) → ((a || b) || (c || d)) ≡ (a || ((b || c) || d))
 or_shuffle true b c d = refl
 or_shuffle false true c d = refl
 or_shuffle false false c d = refl
-
-or_pairs : (a b c d : Bool) → ((a || b) || (c || d)) ≡ ((a || c) || (b || d))
-or_pairs true b c d = refl
-or_pairs false true true d = refl
-or_pairs false true false d = refl
-or_pairs false false c d = refl
 
 first_false : (a b c : Bool) → ((a || b) || c) ≡ false → a ≡ false
 first_false true b c e = e
@@ -50,7 +45,7 @@ module _ {P : Type 0} where
   any_declared-more ds name place (m ∷ names) =
       ap (λ b. b || list_any (λ m. is_some (named_in (ds ++ (name, place) ∷ []) m)) names) (declared-more ds name place m)
       ∙ ap (λ b. (is_some (named_in ds m) || bytes_eq m name) || b) (any_declared-more ds name place names)
-      ∙ or_pairs (is_some (named_in ds m)) (bytes_eq m name)
+      ∙ or_swap (is_some (named_in ds m)) (bytes_eq m name)
       (list_any (λ m. is_some (named_in ds m)) names) (list_any (λ m. bytes_eq m name) names)
 
   -- the next name is declared after the test

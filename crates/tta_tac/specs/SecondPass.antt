@@ -1,9 +1,9 @@
 -- Labels and callees get their numbers, once all lines were read.
-use Rattle.std.specs.Prelude.{ℕ, ◌==◌, not, List, [], ◌∷◌, length, slice_get, Result, Ok, Err, codes}
+use Rattle.std.specs.Prelude.{ℕ, ◌==◌, not, List, [], ◌∷◌, length, slice_get, Result, Ok, codes}
 use Rattle.std.specs.Str.{bytes_eq}
 use Rattle.std.specs.Option.{option_map_or}
 use Rattle.tta_reading.specs.Names.{Declared, named_in}
-use Rattle.tta_reading.specs.Steps.{◌>>=◌, or_refuse, refuse_if}
+use Rattle.tta_reading.specs.Steps.{◌>>=◌, or_refuse, refuse_if, at_line}
 use Rattle.tta_tac.specs.declared.step.Step.{Step}
 use Rattle.tta_tac.specs.declared.step.Step.TheVariants as step
 use Rattle.tta_tac.specs.declared.program.Proc.{Proc}
@@ -31,11 +31,6 @@ link_step d labels (CallTo dst callee args) =
 -- a refusal with its line
 abbrev pub Refused : Type 0
 Refused = ℕ × Refusal
-
--- an answer as it is, and a refusal with its line
-abbrev pub at_line : {A : Type 0} → ℕ → Result A Refusal → Result A Refused
-at_line line (Ok x) = Ok x
-at_line line (Err e) = Err (line, e)
 
 -- the steps of a procedure with their lines; the first refusal is told
 abbrev pub link_steps : Draft → Declared ℕ → List Unlinked → (lines : List ℕ) → Result (List Step) Refused

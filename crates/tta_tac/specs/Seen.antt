@@ -1,11 +1,8 @@
 -- What the code reads of a line, as the definitions see it.
-use Rattle.std.specs.Prelude.{◌≡◌, ℕ, List, [], ◌∷◌, map, Result, Ok, Err, option_map}
+use Rattle.std.specs.Prelude.{List, [], ◌∷◌, option_map}
 use Rattle.std.specs.List.{filter_map}
 use Rattle.tta_reading.specs.declared.word.Word.{Word}
-use Rattle.tta_reading.specs.Lines.{plain}
-use Rattle.tta_tac.specs.declared.reading.refusal.Refusal.{Refusal}
-use Rattle.tta_tac.specs.declared.reading.refusal.LineError.{LineError}
-use Rattle.tta_tac.specs.declared.reading.refusal.LineError.TheVariants as line_error
+use Rattle.tta_reading.specs.Lines.{plain, texts}
 use Rattle.tta_tac.specs.declared.reading.forms.Operand.{Operand as OperandWords}
 use Rattle.tta_tac.specs.declared.reading.forms.Operand.TheVariants as operand_words
 use Rattle.tta_tac.specs.declared.reading.forms.Operands.{Operands as OperandsWords}
@@ -13,17 +10,6 @@ use Rattle.tta_tac.specs.declared.reading.forms.Operands.TheVariants as operands
 use Rattle.tta_tac.specs.declared.reading.forms.Form.{Form as FormWords}
 use Rattle.tta_tac.specs.declared.reading.forms.Form.TheVariants as form_words
 use Rattle.tta_tac.specs.Forms.{Operand, Named, Constant, operand_of, Form, ProcForm, LabelForm, CopyForm, ApplyForm, LoadForm, StoreForm, PutForm, IfForm, GotoForm, WhenForm, CallForm, ReturnForm, HaltForm, EndForm}
-use Rattle.tta_tac.specs.Draft.{Draft}
-
--- a line did to the draft what the definition says, or there was no memory
-abbrev pub Says : {A : Type 0} → Draft → Result A LineError → Result Draft Refusal → Type 0
-Says new (Ok x) said = said ≡ Ok new
-Says new (Err (line_error.Refused e)) said = said ≡ Err e
-Says new (Err line_error.NoMemory) said = Unit {0}
-
--- the texts of words
-abbrev pub texts : List Word → List (List ℕ)
-texts words = map (λ w. w.text.now) words
 
 -- the operands among words
 abbrev pub operands_in : List Word → List Operand

@@ -3,7 +3,7 @@ use Rattle.std.specs.Prelude.{◌≡◌, ℕ, ◌+◌, ◌<◌, List, [], ◌∷
 use Rattle.std.specs.Option.{option_map_or}
 use Rattle.tta_reading.specs.Lines.{Line, lines_of}
 use Rattle.tta_reading.specs.Names.{named_in}
-use Rattle.tta_reading.specs.Steps.{◌>>=◌}
+use Rattle.tta_reading.specs.Steps.{◌>>=◌, at_line}
 use Rattle.tta_ops.specs.Units.{Units}
 use Rattle.tta_tac.specs.declared.program.Proc.{Proc}
 use Rattle.tta_tac.specs.declared.reading.refusal.Refusal.{Refusal}
@@ -15,7 +15,7 @@ use Rattle.tta_tac.specs.Program.{Program}
 use Rattle.tta_tac.specs.Rules.{Reaches}
 use Rattle.tta_tac.specs.Draft.{Draft, ProcDraft, nothing}
 use Rattle.tta_tac.specs.FirstPass.{take_line}
-use Rattle.tta_tac.specs.SecondPass.{Refused, at_line, link_procs}
+use Rattle.tta_tac.specs.SecondPass.{Refused, link_procs}
 
 -- the lines from this one on; the first that is refused is told
 abbrev pub take_lines : Units → (line : ℕ) → Draft → List Line → Result Draft Refused

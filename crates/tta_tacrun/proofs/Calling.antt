@@ -1,9 +1,11 @@
 -- What the rules of a program say of a call that is under way.
-use Rattle.std.proofs.Common.{◌≡◌, ◌<◌, ◌≤◌, ◌&&◌, ◌==◌, ℕ, zero, suc, Bool, true, false, not, eqb, inl, inr, List, [], ◌∷◌, length, map, get_or, slice_get, Option, Some, None, refl, subst, sym, arith}
+use Rattle.std.proofs.Common.{◌≡◌, ◌<◌, ◌≤◌, ◌==◌, ℕ, zero, suc, true, false, not, eqb, inl, inr, List, [], ◌∷◌, length, map, get_or, slice_get, Option, Some, None, refl, subst, sym, arith}
 use Rattle.std.specs.Option.{option_map_or}
-use Rattle.std.specs.List.{list_all, list_any, AllByRecursion}
+use Rattle.std.specs.List.{list_any, AllByRecursion}
 use Rattle.std.proofs.lemmas.Bool.Decides.{eqb_tells}
 use Rattle.std.proofs.lemmas.Map.Keys.{any_passes_from_place}
+use Rattle.tta_list.proofs.Tests.{and_left, and_right}
+use Rattle.tta_list.proofs.Lists.{all_one, list_all_one}
 use Rattle.tta_tac.specs.declared.operand.Src.{Src}
 use Rattle.tta_tac.specs.declared.step.Step.{Step}
 use Rattle.tta_tac.specs.declared.step.Step.TheVariants.{Invoke}
@@ -18,24 +20,6 @@ use Rattle.tta_tacrun.proofs.First.{within_if}
 
 same_number : (n : ℕ) → eqb n n ≡ true
 same_number n = elim (eqb_tells n n) [ inl same ↦ same.0 | inr different ↦ absurd (different.1 refl) ]
-
-pub second : (a b : Bool) → (a && b) ≡ true → b ≡ true
-second true b both = both
-second false b both = cc
-
-pub first : (a b : Bool) → (a && b) ≡ true → a ≡ true
-first true b both = refl
-first false b both = cc
-
-pub all_at : {A : Type 0} (P : A → Type 0) (xs : List A) (i : ℕ) (x : A) → AllByRecursion P xs → slice_get xs i ≡ Some x → P x
-all_at P [] i x all here = cc
-all_at P (y ∷ ys) zero x all here = let same : y ≡ x = cc in subst P same all.0
-all_at P (y ∷ ys) (suc i) x all here = all_at P ys i x all.1 here
-
-pub passes_at : {A : Type 0} (test : A → Bool) (xs : List A) (i : ℕ) (x : A) → list_all test xs ≡ true → slice_get xs i ≡ Some x → test x ≡ true
-passes_at test [] i x all here = cc
-passes_at test (y ∷ ys) zero x all here = let same : x ≡ y = cc in rw same (first (test y) (list_all test ys) all)
-passes_at test (y ∷ ys) (suc i) x all here = passes_at test ys i x (second (test y) (list_all test ys) all) here
 
 -- how many variables a procedure has
 pub size_at : (procs : List Proc) (i : ℕ) → get_or (map (λ q. q.vars) procs) i 0 ≡ option_map_or (λ q. q.vars) (slice_get procs i) 0
@@ -67,10 +51,10 @@ fresh_path : (p : Program) → IsProgram p → (callee : ℕ) (f : Frame) (rest 
     → Reaches p f.proc callee → AllByRecursion (λ proc. eqb callee proc ≡ false) (map (λ g. g.proc) (f ∷ rest))
 fresh_path p rules callee f [] path reaches = (other_proc p rules f.proc callee reaches, tt)
 fresh_path p rules callee f (g ∷ rest) path reaches =
-    let called = first (is_called p f.proc (g ∷ rest)) (is_path p (g ∷ rest)) path in
+    let called = and_left (is_called p f.proc (g ∷ rest)) (is_path p (g ∷ rest)) path in
     let call = calls_of_step f.proc g.at (slice_get p.procs g.proc) called in (
       other_proc p rules f.proc callee reaches,
-      fresh_path p rules callee g rest (second (is_called p f.proc (g ∷ rest)) (is_path p (g ∷ rest)) path) (ByMore g.proc f.proc callee call reaches),
+      fresh_path p rules callee g rest (and_right (is_called p f.proc (g ∷ rest)) (is_path p (g ∷ rest)) path) (ByMore g.proc f.proc callee call reaches),
     )
 
 -- what a call finds: the procedure is there, not under way, and has a variable for each argument
@@ -83,13 +67,13 @@ pub record IsMet (p : Program) (callee : ℕ) (args : List Src) (f : Frame) (res
 fit_of : (p : Program) → IsProgram p → (callee : ℕ) (args : List Src) → is_call p callee args ≡ true
     → length args ≤ get_or (map (λ q. q.vars) p.procs) callee 0
 fit_of p rules callee args call =
-    rw (size_at p.procs callee) (by (slice_get p.procs callee) refl (second (not (callee == p.main)) _ call)) where
+    rw (size_at p.procs callee) (by (slice_get p.procs callee) refl (and_right (not (callee == p.main)) _ call)) where
       by : (q : Option Proc) → slice_get p.procs callee ≡ q → option_map_or (λ q. length args == q.params) q false ≡ true
           → length args ≤ option_map_or (λ q. q.vars) q 0
       by None here passes = cc
       by (Some q) here passes =
           let many : length args ≡ q.params = elim (eqb_tells (length args) q.params) [ inl same ↦ same.1 | inr different ↦ cc (different.0, passes) ] in
-          let proc = all_at (IsProc p) p.procs callee q rules.procs here in
+          let proc = all_one (IsProc p) p.procs callee q rules.procs here in
           omega (arith, many, proc.among)
 
 -- the rules of a call
@@ -100,8 +84,8 @@ call_of p rules proc at d callee args here = by (slice_get p.procs proc) refl he
       → is_call p callee args ≡ true
   by None there here = cc
   by (Some q) there here =
-      let proc = all_at (IsProc p) p.procs proc q rules.procs there in
-      second _ (is_call p callee args) (passes_at (is_step p q) q.steps at (Invoke d callee args) proc.steps here)
+      let proc = all_one (IsProc p) p.procs proc q rules.procs there in
+      and_right _ (is_call p callee args) (list_all_one (is_step p q) q.steps at (Invoke d callee args) proc.steps here)
 
 pub met : (p : Program) → IsProgram p → (d : Option ℕ) (callee : ℕ) (args : List Src) (f : Frame) (rest : List Frame)
     → is_path p (f ∷ rest) ≡ true → step_at p f.proc f.at ≡ Some (Invoke d callee args) → IsMet p callee args f rest
@@ -109,7 +93,7 @@ met p rules d callee args f rest path here =
     let call = call_of p rules f.proc f.at d callee args here in
     let calling : option_map_or (calls_proc callee) (step_at p f.proc f.at) false ≡ true = rw here (same_number callee) in
     record {
-      there = within_if (λ q. length args == q.params) p.procs callee (second (not (callee == p.main)) _ call);
+      there = within_if (λ q. length args == q.params) p.procs callee (and_right (not (callee == p.main)) _ call);
       fresh = fresh_path p rules callee f rest path (ByCall f.proc callee (calls_of_step callee f.at (slice_get p.procs f.proc) calling));
       fit = fit_of p rules callee args call;
     }

@@ -4,6 +4,4 @@ pub mod First
 pub mod Kept
 pub mod Passed
 pub mod Placed
-pub mod Samples
-pub mod Squares
 pub mod Stands

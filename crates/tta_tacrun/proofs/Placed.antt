@@ -1,7 +1,9 @@
 -- A step leads to a step.
-use Rattle.std.proofs.Common.{◌≡◌, ◌<◌, ◌+◌, ◌&&◌, ◌==◌, ℕ, zero, suc, Bool, true, false, not, List, [], ◌∷◌, length, map, slice_get, Option, Some, None, is_some, refl, ap, ◌∙◌, arith, add-one}
+use Rattle.std.proofs.Common.{◌≡◌, ◌+◌, ◌&&◌, ◌==◌, ℕ, zero, suc, Bool, true, false, not, List, [], ◌∷◌, length, map, slice_get, Option, Some, None, is_some, refl, ap, ◌∙◌, add-one}
 use Rattle.std.specs.Prelude.{if◌then◌else◌, nat_lt}
 use Rattle.std.specs.Option.{option_map_or}
+use Rattle.tta_list.proofs.Lists.{list_all_one, some_below, all_one}
+use Rattle.tta_list.proofs.Tests.{and_right, and_left}
 use Rattle.tta_ops.specs.Units.{Units}
 use Rattle.tta_tac.specs.declared.step.Step.{Step}
 use Rattle.tta_tac.specs.declared.step.Step.TheVariants.{Copy, Apply, Load, Store, Put, If, Goto, When, Invoke, Return, Halt, End}
@@ -9,29 +11,20 @@ use Rattle.tta_tac.specs.declared.program.Proc.{Proc}
 use Rattle.tta_tac.specs.Program.{Program}
 use Rattle.tta_tac.specs.Rules.{IsProgram, IsProc, is_src, is_step, ends_once, calls_proc}
 use Rattle.tta_tac.specs.Sequential.{Frame, State, step_at, carry_out, enter, assigns, goes_to, holds, operand, returns, take_value}
+use Rattle.tta_tac.proofs.LinkedSteps.{is_end}
 use Rattle.tta_tacrun.specs.declared.phase.Phase.{Phase}
 use Rattle.tta_tacrun.specs.declared.phase.Phase.TheVariants.{Running as GoesOn, Stopped, Returned}
 use Rattle.tta_tacrun.specs.Calls.{Calls}
 use Rattle.tta_tacrun.specs.Run.{AreCallsOf, IsRunOf, is_called, is_path, is_placed, put, run_of, stack_of, state_of}
-use Rattle.tta_tacrun.proofs.Calling.{first, second, all_at, passes_at, call_of}
+use Rattle.tta_tacrun.proofs.Calling.{call_of}
 
 -- ---- the steps of a procedure
-
-is_end : Step → Bool
-is_end End = true
-is_end step = false
-
-some_below : {A : Type 0} (xs : List A) (i : ℕ) → nat_lt i (length xs) ≡ true → is_some (slice_get xs i) ≡ true
-some_below [] i below = absurd (let none : i < 0 = grind (arith, below) in omega (arith, none))
-some_below (x ∷ xs) zero below = refl
-some_below (x ∷ xs) (suc i) below = some_below xs i (grind (arith, below))
 
 starts : (steps : List Step) → ends_once steps ≡ true → is_some (slice_get steps 0) ≡ true
 starts [] ends = cc
 starts (step ∷ steps) ends = refl
 
 more_ends : (s : Step) (steps : List Step) → is_end s ≡ false → ends_once (s ∷ steps) ≡ ends_once steps
-unfolding is_end
 more_ends End steps other = cc
 more_ends s steps other = refl
 
@@ -61,7 +54,7 @@ module _ (p : Program) (rules : IsProgram p) where
     by : (q : Option Proc) → slice_get p.procs proc ≡ q → option_map_or (λ q. slice_get q.steps at) q None ≡ Some step
         → is_some (option_map_or (λ q. slice_get q.steps (suc at)) q None) ≡ true
     by None there here = cc
-    by (Some q) there here = one_more q.steps at step (all_at (IsProc p) p.procs proc q rules.procs there).ends here other
+    by (Some q) there here = one_more q.steps at step (all_one (IsProc p) p.procs proc q rules.procs there).ends here other
 
   target_placed : (proc at : ℕ) (step : Step) (to : ℕ) → step_at p proc at ≡ Some step
       → ((q : Proc) → is_step p q step ≡ true → nat_lt to (length q.steps) ≡ true)
@@ -71,8 +64,8 @@ module _ (p : Program) (rules : IsProgram p) where
         → is_some (option_map_or (λ q. slice_get q.steps to) q None) ≡ true
     by None there here = cc
     by (Some q) there here =
-        let proc_rules = all_at (IsProc p) p.procs proc q rules.procs there in
-        some_below q.steps to (within q (passes_at (is_step p q) q.steps at step proc_rules.steps here))
+        let proc_rules = all_one (IsProc p) p.procs proc q rules.procs there in
+        some_below q.steps to (within q (list_all_one (is_step p q) q.steps at step proc_rules.steps here))
 
   first_placed : (proc : ℕ) (test : Proc → Bool) → option_map_or test (slice_get p.procs proc) false ≡ true
       → is_some (step_at p proc 0) ≡ true
@@ -80,7 +73,7 @@ module _ (p : Program) (rules : IsProgram p) where
     by : (q : Option Proc) → slice_get p.procs proc ≡ q → option_map_or test q false ≡ true
         → is_some (option_map_or (λ q. slice_get q.steps 0) q None) ≡ true
     by None there passes = cc
-    by (Some q) there passes = starts q.steps (all_at (IsProc p) p.procs proc q rules.procs there).ends
+    by (Some q) there passes = starts q.steps (all_one (IsProc p) p.procs proc q rules.procs there).ends
 
   pub main_placed : is_some (step_at p p.main 0) ≡ true
   main_placed = first_placed p.main (λ q. q.params == 0) rules.main
@@ -96,7 +89,6 @@ module _ (p : Program) (rules : IsProgram p) where
   -- a step that was made by a call is not End
   caller_placed : (callee proc at : ℕ) → option_map_or (calls_proc callee) (step_at p proc at) false ≡ true
       → is_some (step_at p proc (at + 1)) ≡ true
-  unfolding is_end
   caller_placed callee proc at called = by (step_at p proc at) refl called where
     is_not_end : (step : Step) → calls_proc callee step ≡ true → is_end step ≡ false
     is_not_end End calls = cc
@@ -112,11 +104,10 @@ module _ (p : Program) (rules : IsProgram p) where
   returned_placed s f [] v path = refl
   returned_placed s f (caller ∷ rest) v path =
       taken_placed s caller rest v (step_at p caller.proc caller.at)
-      (caller_placed f.proc caller.proc caller.at (first (is_called p f.proc (caller ∷ rest)) (is_path p (caller ∷ rest)) path))
+      (caller_placed f.proc caller.proc caller.at (and_left (is_called p f.proc (caller ∷ rest)) (is_path p (caller ∷ rest)) path))
 
   module _ (u : Units) (s : State) (f : Frame) (rest : List Frame) (path : is_path p (f ∷ rest) ≡ true) (stack : s.stack ≡ f ∷ rest) where
     pub carried_placed : (step : Step) → step_at p f.proc f.at ≡ Some step → is_placed p (carry_out u p s f rest step).stack ≡ true
-    unfolding is_end
     carried_placed (Copy d v) here = next_placed f.proc f.at (Copy d v) here refl
     carried_placed (Apply d op a b) here = next_placed f.proc f.at (Apply d op a b) here refl
     carried_placed (Load d a) here = next_placed f.proc f.at (Load d a) here refl
@@ -124,7 +115,7 @@ module _ (p : Program) (rules : IsProgram p) where
     carried_placed (Put v) here = next_placed f.proc f.at (Put v) here refl
     carried_placed (If rel a b to) here =
         elim (holds u rel (operand f.vars a) (operand f.vars b)) as (λ held. is_some (step_at p f.proc (if held then to else f.at + 1)) ≡ true) [
-          | true ↦ target_placed f.proc f.at (If rel a b to) to here (λ q good. second (is_src q.vars a && is_src q.vars b) _ good)
+          | true ↦ target_placed f.proc f.at (If rel a b to) to here (λ q good. and_right (is_src q.vars a && is_src q.vars b) _ good)
           | false ↦ next_placed f.proc f.at (If rel a b to) here refl
         ]
     carried_placed (Goto to) here = target_placed f.proc f.at (Goto to) to here (λ q good. good)
@@ -136,7 +127,7 @@ module _ (p : Program) (rules : IsProgram p) where
           | false ↦ next
         ]
     carried_placed (Invoke d callee args) here =
-        first_placed callee (λ q. length args == q.params) (second (not (callee == p.main)) _ (call_of p rules f.proc f.at d callee args here))
+        first_placed callee (λ q. length args == q.params) (and_right (not (callee == p.main)) _ (call_of p rules f.proc f.at d callee args here))
     carried_placed (Return (Some v)) here = returned_placed s f rest (operand f.vars v) path
     carried_placed (Return None) here = returned_placed s f rest 0 path
     carried_placed Halt here = rw (stack, here) refl

@@ -6,7 +6,8 @@ use Rattle.std.specs.Char.{is_ascii_digit}
 use Rattle.std.proofs.lemmas.Bool.{and_parts, both_ways, false≢true}
 use Rattle.tta_text.specs.declared.lexeme.Kind.{Kind}
 use Rattle.tta_text.specs.Words.{first_is, is_letter, is_run, is_of_kind}
-use Rattle.tta_text.proofs.Shapes.{IsLong, run, minus, arrow, dots, is_run_byte, token_is_long}
+use Rattle.tta_text.specs.Bytes.{is_word_byte}
+use Rattle.tta_text.proofs.Shapes.{IsLong, run, minus, arrow, dots, token_is_long}
 
 -- no longer part of a text is a token, where this word stands at its front and the rest comes then
 abbrev pub IsLongest : (word rest : List ℕ) → Type 0
@@ -24,16 +25,16 @@ list_all-right p (x ∷ xs) ys h = list_all-right p xs ys (and_parts (p x) (list
 
 -- a run ends where a byte stands that no run has
 run_stops : (others : List ℕ) (next : ℕ) (more : List ℕ) → is_run (others ++ next ∷ more) ≡ true
-    → is_run_byte next ≡ false → ⊥
+    → is_word_byte next ≡ false → ⊥
 run_stops others next more h stop =
-    both_ways _ stop (and_parts (is_run_byte next) (is_run more) (list_all-right is_run_byte others (next ∷ more) h)).0
+    both_ways _ stop (and_parts (is_word_byte next) (is_run more) (list_all-right is_word_byte others (next ∷ more) h)).0
 
 -- a run with all that goes on with it is as long as can be
 pub run_is_longest : (byte : ℕ) (others after : List ℕ) → (is_letter byte || is_ascii_digit byte) ≡ true
-    → first_is is_run_byte after ≡ false → IsLongest (byte ∷ others) after
+    → first_is is_word_byte after ≡ false → IsLongest (byte ∷ others) after
 run_is_longest byte others after first stops kind [] tail e h = refl
 run_is_longest byte others after first stops kind (next ∷ more) tail e h =
-    let stop : is_run_byte next ≡ false = rw e at stops in
+    let stop : is_word_byte next ≡ false = rw e at stops in
     elim (longer_is_long kind byte others next more h) [
       | run _ all ↦ absurd (run_stops others next more all stop)
       | minus sign _ _ ↦ absurd (false≢true (rw sign at first))
@@ -43,11 +44,11 @@ run_is_longest byte others after first stops kind (next ∷ more) tail e h =
 
 -- and so it is behind "-", where it begins with a digit
 pub negative_is_longest : (others after : List ℕ) → first_is is_ascii_digit others ≡ true
-    → first_is is_run_byte after ≡ false → IsLongest (45 ∷ others) after
+    → first_is is_word_byte after ≡ false → IsLongest (45 ∷ others) after
 negative_is_longest others after digit stops kind [] tail e h = refl
 negative_is_longest [] after digit stops kind (next ∷ more) tail e h = absurd (false≢true digit)
 negative_is_longest (second ∷ others) after digit stops kind (next ∷ more) tail e h =
-    let stop : is_run_byte next ≡ false = rw e at stops in
+    let stop : is_word_byte next ≡ false = rw e at stops in
     elim (longer_is_long kind 45 (second ∷ others) next more h) [
       | run letter _ ↦ absurd (false≢true letter)
       | minus _ _ all ↦ absurd (run_stops (second ∷ others) next more all stop)

@@ -7,7 +7,8 @@ use Rattle.std.proofs.lemmas.Bool.Decides.{nat_tests}
 use Rattle.tta_text.specs.declared.lexeme.Kind.{Kind}
 use Rattle.tta_text.specs.declared.lexeme.Kind.TheVariants.{Name, Number, Negative, Mark, Eol, Bad}
 use Rattle.tta_text.specs.Words.{first_is, is_letter, is_run, is_name, is_decimal, is_number, is_negative, is_mark, is_line_end, is_blank, is_other, is_digit_run, is_bad_run, is_bad_negative, is_bad, is_of_kind}
-use Rattle.tta_text.proofs.Shapes.{is_run_byte, letter_is_run_byte, digit_is_run_byte, number_is_run, decimal_is_run}
+use Rattle.tta_text.specs.Bytes.{is_word_byte}
+use Rattle.tta_text.proofs.Shapes.{letter_is_run_byte, digit_is_run_byte, number_is_run, decimal_is_run}
 
 -- the kind that bytes have, if they are a token
 kind_of : List ℕ → Kind
@@ -80,7 +81,7 @@ kind_of-bad_negative (byte ∷ word) h =
     rw is_minus kind
 
 -- a mark begins with no letter and no digit, and is no line end
-mark_byte_is_no_run_byte : (byte : ℕ) → is_mark (byte ∷ []) ≡ true → is_run_byte byte ≡ false
+mark_byte_is_no_run_byte : (byte : ℕ) → is_mark (byte ∷ []) ≡ true → is_word_byte byte ≡ false
 mark_byte_is_no_run_byte byte h = grind (arith, nat_tests)
 
 kind_of-mark : (word : List ℕ) → is_mark word ≡ true → kind_of word ≡ Mark
@@ -139,7 +140,7 @@ kind_of-other (byte ∷ []) h =
     let number = not-true (is_number word) runs.1 in
     let mark = not-true (is_mark word) kinds.1 in
     let letter : is_letter byte ≡ false = false_from_ne_true (is_letter byte) (λ l.
-    both_ways (is_name word) name (and_from (is_letter byte) (is_run word) l (and_from (is_run_byte byte) true (letter_is_run_byte byte l) refl))
+    both_ways (is_name word) name (and_from (is_letter byte) (is_run word) l (and_from (is_word_byte byte) true (letter_is_run_byte byte l) refl))
     ) in
     elim (cases_Bool (is_ascii_digit byte)) [
       | inl digit ↦ kind_of-digits word letter digit number

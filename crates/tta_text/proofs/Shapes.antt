@@ -2,24 +2,21 @@
 use Rattle.std.proofs.Common.{◌≡◌, ℕ, ◌+◌, ◌^◌, Bool, true, false, not, ◌==◌, ◌&&◌, ◌||◌, List, [], ◌∷◌, drop, refl, inl, inr, arith}
 use Rattle.std.specs.Prelude.{nat_eq, codes}
 use Rattle.std.specs.List.{list_all, starts_with}
-use Rattle.std.specs.Char.{is_ascii_digit, is_ascii_alphanumeric, is_ascii_hexdigit}
+use Rattle.std.specs.Char.{is_ascii_digit, is_ascii_hexdigit}
 use Rattle.std.proofs.lemmas.Bool.{and_parts, and_from, or_cases, or_left, or_right, eqb-true, false≢true}
 use Rattle.std.proofs.lemmas.Bool.Decides.{nat_tests}
 use Rattle.tta_text.specs.declared.lexeme.Kind.{Kind}
 use Rattle.tta_text.specs.declared.lexeme.Kind.TheVariants.{Name, Number, Negative, Mark, Eol, Bad}
 use Rattle.tta_text.specs.Words.{first_is, is_letter, is_run, is_name, is_decimal, is_hexadecimal, is_number, is_negative, is_mark, is_other, is_digit_run, is_bad_run, is_bad_negative, is_bad, is_of_kind}
+use Rattle.tta_text.specs.Bytes.{is_word_byte}
 
--- a byte of a run
-abbrev pub is_run_byte : ℕ → Bool
-is_run_byte byte = is_ascii_alphanumeric byte || byte == 95
-
-pub letter_is_run_byte : (byte : ℕ) → is_letter byte ≡ true → is_run_byte byte ≡ true
+pub letter_is_run_byte : (byte : ℕ) → is_letter byte ≡ true → is_word_byte byte ≡ true
 letter_is_run_byte byte h = grind (arith, nat_tests)
 
-pub digit_is_run_byte : (byte : ℕ) → is_ascii_digit byte ≡ true → is_run_byte byte ≡ true
+pub digit_is_run_byte : (byte : ℕ) → is_ascii_digit byte ≡ true → is_word_byte byte ≡ true
 digit_is_run_byte byte h = grind (arith, nat_tests)
 
-hexdigit_is_run_byte : (byte : ℕ) → is_ascii_hexdigit byte ≡ true → is_run_byte byte ≡ true
+hexdigit_is_run_byte : (byte : ℕ) → is_ascii_hexdigit byte ≡ true → is_word_byte byte ≡ true
 hexdigit_is_run_byte byte h = grind (arith, nat_tests)
 
 -- bytes that all pass a test pass a wider one
@@ -35,7 +32,7 @@ pub decimal_is_run : (limit : ℕ) (word : List ℕ) → is_decimal limit word �
 decimal_is_run limit [] h = cc
 decimal_is_run limit (byte ∷ word) h =
     let digits = (and_parts _ _ (and_parts _ _ h).1).0 in
-    and_from _ _ (and_parts _ _ digits).0 (list_all-wider is_ascii_digit is_run_byte digit_is_run_byte (byte ∷ word) digits)
+    and_from _ _ (and_parts _ _ digits).0 (list_all-wider is_ascii_digit is_word_byte digit_is_run_byte (byte ∷ word) digits)
 
 -- "0x" and hexadecimal digits are one too
 hexadecimal_is_run : (word : List ℕ) → (starts_with nat_eq word (codes "0x") && is_hexadecimal (drop 2 word)) ≡ true
@@ -48,7 +45,7 @@ hexadecimal_is_run (first ∷ second ∷ word) h =
     let zero_first : 48 ≡ first = eqb-true 48 first prefix.0 in
     let letter_second : 120 ≡ second = eqb-true 120 second (and_parts (nat_eq 120 second) true prefix.1).0 in
     let digits = (and_parts _ _ (and_parts _ _ h).1).1 in
-    let run = list_all-wider is_ascii_hexdigit is_run_byte hexdigit_is_run_byte word digits in
+    let run = list_all-wider is_ascii_hexdigit is_word_byte hexdigit_is_run_byte word digits in
     rw (← zero_first, ← letter_second) run
 
 pub number_is_run : (word : List ℕ) → is_number word ≡ true → is_digit_run word ≡ true

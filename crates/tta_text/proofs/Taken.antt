@@ -5,14 +5,15 @@ use Rattle.std.specs.List.{list_all}
 use Rattle.std.specs.Char.{is_ascii_digit}
 use Rattle.std.proofs.lemmas.Bool.{cases_Bool, and_from, or_left, or_right, both_ways, false≢true, eqb-true, not-false, not_from_false}
 use Rattle.std.proofs.lemmas.List.{take_at, append-nil}
+use Rattle.std.proofs.lemmas.Bool.Decides.{nat_tests}
 use Rattle.tta_text.specs.declared.lexeme.Kind.TheVariants.{Name, Number, Negative, Eol, Bad}
 use Rattle.tta_text.specs.Numbers.{number_of, negative_of}
 use Rattle.tta_text.specs.Tokens.{token, piece_at, number_piece, negative_piece, kind_if}
 use Rattle.tta_text.specs.Words.{first_is, is_letter, is_run, is_of_kind, is_blank, is_number, is_negative, is_digit_run, is_bad_run, is_bad_negative, is_other}
 use Rattle.tta_text.specs.Covers.{is_gap, ends_line}
-use Rattle.tta_text.proofs.Shapes.{is_run_byte, letter_is_run_byte, digit_is_run_byte, list_all-wider}
-use Rattle.std.proofs.lemmas.Bool.Decides.{nat_tests}
+use Rattle.tta_text.specs.Bytes.{is_word_byte}
 use Rattle.tta_text.specs.Bytes.{starts_with_digit}
+use Rattle.tta_text.proofs.Shapes.{letter_is_run_byte, digit_is_run_byte, list_all-wider}
 use Rattle.tta_text.proofs.Places.{is_some-number_of, is_some-negative_of}
 use Rattle.tta_text.proofs.Longest.{run_is_longest, negative_is_longest, single_is_longest}
 use Rattle.tta_text.proofs.Fronts.{split, Stands, Front, quiet}
@@ -71,11 +72,11 @@ comment_front byte rest comment =
     )
 
 -- no line ends in a run
-run_byte_is_no_newline : (byte : ℕ) → is_run_byte byte ≡ true → not (byte == 10) ≡ true
+run_byte_is_no_newline : (byte : ℕ) → is_word_byte byte ≡ true → not (byte == 10) ≡ true
 run_byte_is_no_newline byte h = grind (arith, nat_tests)
 
 run_is_quiet : (word : List ℕ) → is_run word ≡ true → list_all (λ byte. not (byte == 10)) word ≡ true
-run_is_quiet word h = list_all-wider is_run_byte (λ byte. not (byte == 10)) run_byte_is_no_newline word h
+run_is_quiet word h = list_all-wider is_word_byte (λ byte. not (byte == 10)) run_byte_is_no_newline word h
 
 -- the bytes that a piece of a run has
 take_word : (byte : ℕ) (others after : List ℕ) → take (1 + length others) (byte ∷ (others ++ after)) ≡ byte ∷ others
@@ -85,9 +86,9 @@ pub name_front : (byte : ℕ) (rest : List ℕ) → (byte == 10) ≡ false → i
     → is_letter byte ≡ true → Front byte rest
 unfolding piece_at
 name_front byte rest newline blank comment letter =
-    let word = split is_run_byte rest in
+    let word = split is_word_byte rest in
     let run : is_run (byte ∷ word.front) ≡ true =
-    and_from (is_run_byte byte) (is_run word.front) (letter_is_run_byte byte letter) word.pass in
+    and_from (is_word_byte byte) (is_run word.front) (letter_is_run_byte byte letter) word.pass in
     quiet byte rest (Some Name) word.front word.after word.whole (rw (newline, blank, comment, letter, word.len, one-add) refl) (run_is_quiet (byte ∷ word.front) run) (
       and_from (is_letter byte) (is_run (byte ∷ word.front)) letter run,
       run_is_longest byte word.front word.after (or_left (is_letter byte) (is_ascii_digit byte) letter) word.stops,
@@ -114,10 +115,10 @@ pub number_front : (byte : ℕ) (rest : List ℕ) → (byte == 10) ≡ false →
     → is_letter byte ≡ false → is_ascii_digit byte ≡ true → Front byte rest
 unfolding piece_at
 number_front byte rest newline blank comment letter digit =
-    let word = split is_run_byte rest in
+    let word = split is_word_byte rest in
     let bytes = byte ∷ word.front in
     let run : is_run bytes ≡ true =
-    and_from (is_run_byte byte) (is_run word.front) (digit_is_run_byte byte digit) word.pass in
+    and_from (is_word_byte byte) (is_run word.front) (digit_is_run_byte byte digit) word.pass in
     quiet byte rest (Some (kind_if (number_of bytes) Number)) word.front word.after word.whole (
     rw (newline, blank, comment, letter, digit, word.len) (number_piece_is byte rest word.front word.after word.whole)
     ) (run_is_quiet bytes run) (
@@ -150,7 +151,7 @@ starts_with_digit-first [] = refl
 starts_with_digit-first (byte ∷ bytes) = refl
 
 first_of_front : (bytes front after : List ℕ) → bytes ≡ front ++ after → first_is is_ascii_digit bytes ≡ true
-    → first_is is_run_byte after ≡ false → first_is is_ascii_digit front ≡ true
+    → first_is is_word_byte after ≡ false → first_is is_ascii_digit front ≡ true
 first_of_front bytes [] [] whole digit stops = rw whole at digit
 first_of_front bytes [] (byte ∷ after) whole digit stops =
     absurd (both_ways _ stops (digit_is_run_byte byte (rw whole at digit)))
@@ -160,7 +161,7 @@ pub negative_front : (byte : ℕ) (rest : List ℕ) → (byte == 45) ≡ true �
 unfolding piece_at
 negative_front byte rest sign digit =
     let is_minus : byte ≡ 45 = eqb-true byte 45 sign in
-    let word = split is_run_byte rest in
+    let word = split is_word_byte rest in
     let first = first_of_front rest word.front word.after word.whole digit word.stops in
     rw is_minus (
     quiet 45 rest (Some (kind_if (negative_of (45 ∷ word.front)) Negative)) word.front word.after word.whole (

@@ -1,6 +1,9 @@
 -- The output of code grows with each cycle, and code that has halted or faulted stays.
 use Rattle.std.proofs.Common.{◌≡◌, ℕ, ◌+◌, ◌==◌, Bool, true, false, if◌then◌else◌, List, [], ◌∷◌, ◌++◌, fold, Option, Some, None, refl, sym, ap, ◌∙◌, append_assoc, slice_get, true≢false}
 use Rattle.std.specs.List.{filter_map}
+use Rattle.tta_print.specs.declared.line.Line.{Line}
+use Rattle.tta_print.specs.declared.line.Line.TheVariants as line
+use Rattle.tta_print.specs.Lines.{lines_text, report_lines}
 use Rattle.tta_ops.specs.Units.{Units}
 use Rattle.tta_machine.specs.declared.parts.Op.{Op}
 use Rattle.tta_machine.specs.declared.parts.Op.TheVariants.{Out}
@@ -9,10 +12,7 @@ use Rattle.tta_machine.specs.Effects.{Kind, Jumps, Calls, Halts, Brought, Start,
 use Rattle.tta_code.specs.declared.code.Code.{Code}
 use Rattle.tta_code.specs.declared.code.Instruction.{Instruction}
 use Rattle.tta_code.specs.Cycle.{State, Outcome, Running, Halted, Fault, Pending, next, next_of, carry_out, or_fault, acts, lands, takes_effect, pending_after, effects_of, read_source, fault_of}
-use Rattle.tta_sim.specs.Held.{Held, Stands}
-use Rattle.tta_print.specs.declared.line.Line.{Line}
-use Rattle.tta_print.specs.declared.line.Line.TheVariants as line
-use Rattle.tta_print.specs.Lines.{lines_text, report_lines}
+use Rattle.tta_sim.specs.Held.{Held, Stands, is_fault}
 use Rattle.tta_tool.specs.Run.{outcome_line}
 use Rattle.tta_tool.proofs.Runs.{Grows, same}
 
@@ -84,12 +84,6 @@ unfolding next
 fault_stays u m code s number at is = ap (next_of u m code s) is
 
 -- ---- a cycle that faults
-
--- whether an outcome is a fault
-abbrev is_fault : Outcome → Bool
-is_fault Running = false
-is_fault Halted = false
-is_fault (Fault number at) = true
 
 landed_well : (s : State) (o : Option Pending) → is_fault s.outcome ≡ false → is_fault (lands s o).outcome ≡ false
 landed_well s None well = well

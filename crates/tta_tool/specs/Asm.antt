@@ -1,6 +1,8 @@
 -- What the command `asm` does, and why it does not.
 use Rattle.std.specs.Prelude.{◌≡◌, ℕ, List, Option, Result, Ok, Err}
 use Rattle.sha2.specs.Sha256.{sha256}
+use Rattle.tta_ports.specs.Store.{Store}
+use Rattle.tta_ports.specs.Files.{Holds}
 use Rattle.tta_ops.specs.Units.{Units}
 use Rattle.tta_machine.specs.Machine.{Machine}
 use Rattle.tta_code.specs.declared.code.Code.{Code}
@@ -8,8 +10,6 @@ use Rattle.tta_image.specs.Image.{Image}
 use Rattle.tta_asm.specs.declared.refusal.AsmRefusal.{AsmRefusal}
 use Rattle.tta_asm.specs.Refusals.{code_of}
 use Rattle.tta_asm.specs.Assembly.{assembled}
-use Rattle.tta_ports.specs.Store.{Store}
-use Rattle.tta_ports.specs.Files.{Holds}
 use Rattle.tta_tool.specs.declared.status.Status.{Status}
 use Rattle.tta_tool.specs.declared.status.Status.TheVariants as status
 use Rattle.tta_tool.specs.World.{World, IsUntouched, ReadFailed, IsTooLong}

@@ -1,10 +1,10 @@
 -- What the command `build` does, and why it does not.
 use Rattle.std.specs.Prelude.{◌≡◌, ◌⊎◌, ℕ, true, false, List, Option, Result, Ok, Err}
 use Rattle.sha2.specs.Sha256.{sha256}
+use Rattle.tta_ports.specs.Store.{Store}
 use Rattle.tta_ops.specs.Units.{Units}
 use Rattle.tta_machine.specs.Machine.{Machine}
 use Rattle.tta_build.specs.First.{is_first_machine, is_direct}
-use Rattle.tta_ports.specs.Store.{Store}
 use Rattle.tta_tool.specs.declared.status.Status.{Status}
 use Rattle.tta_tool.specs.declared.status.Status.TheVariants as status
 use Rattle.tta_tool.specs.World.{World, IsUntouched, ReadFailed, IsTooLong}

@@ -1,5 +1,8 @@
 -- What the files of a command hold, and why one of them is refused.
 use Rattle.std.specs.Prelude.{◌≡◌, ℕ, List, Option, Result, Ok, Err}
+use Rattle.tta_ports.specs.Store.{Store}
+use Rattle.tta_ports.specs.Files.{Holds}
+use Rattle.tta_input.specs.Input.{input_of}
 use Rattle.tta_ops.specs.Units.{Units}
 use Rattle.tta_machine.specs.Machine.{Machine}
 use Rattle.tta_machine.specs.Text.{machine_of_text}
@@ -9,9 +12,6 @@ use Rattle.tta_code.specs.declared.code.Code.{Code}
 use Rattle.tta_image.specs.declared.refusal.ImageError.TheVariants.{Refused}
 use Rattle.tta_image.specs.Image.{Image}
 use Rattle.tta_image.specs.Reading.{decoded_image}
-use Rattle.tta_ports.specs.Store.{Store}
-use Rattle.tta_ports.specs.Files.{Holds}
-use Rattle.tta_input.specs.Input.{input_of}
 use Rattle.tta_tool.specs.declared.status.Status.{Status}
 use Rattle.tta_tool.specs.declared.status.Status.TheVariants as status
 use Rattle.tta_tool.specs.World.{World, IsUntouched, ReadFailed, IsTooLong}

@@ -1,11 +1,11 @@
 -- What the command `dis` does, and why it does not.
 use Rattle.std.specs.Prelude.{◌≡◌, ℕ, List, Option, Result, Ok, Err}
 use Rattle.sha2.specs.Sha256.{sha256}
+use Rattle.tta_ports.specs.Store.{Store}
 use Rattle.tta_ops.specs.Units.{Units}
 use Rattle.tta_machine.specs.Machine.{Machine}
 use Rattle.tta_code.specs.declared.code.Code.{Code}
 use Rattle.tta_asm.specs.Canonical.{canonical}
-use Rattle.tta_ports.specs.Store.{Store}
 use Rattle.tta_tool.specs.declared.status.Status.{Status}
 use Rattle.tta_tool.specs.declared.status.Status.TheVariants as status
 use Rattle.tta_tool.specs.World.{World, IsUntouched}

@@ -1,13 +1,13 @@
 -- What the command `exec` does, and why it does not.
 use Rattle.std.specs.Prelude.{◌≡◌, ℕ, List, ◌++◌, Option, Result, Ok, Err}
-use Rattle.tta_ops.specs.Units.{Units}
-use Rattle.tta_tac.specs.Program.{Program}
-use Rattle.tta_tac.specs.Sequential.{State, Outcome, Running, Halted, seq}
 use Rattle.tta_ports.specs.Store.{Store}
 use Rattle.tta_input.specs.Input.{input_of}
 use Rattle.tta_print.specs.declared.line.Line.{Line}
 use Rattle.tta_print.specs.declared.line.Line.TheVariants as line
 use Rattle.tta_print.specs.Lines.{lines_text, word_lines, report_lines}
+use Rattle.tta_ops.specs.Units.{Units}
+use Rattle.tta_tac.specs.Program.{Program}
+use Rattle.tta_tac.specs.Sequential.{State, Outcome, Running, Halted, seq}
 use Rattle.tta_tool.specs.declared.status.Status.{Status}
 use Rattle.tta_tool.specs.declared.status.Status.TheVariants as status
 use Rattle.tta_tool.specs.World.{World, IsUntouched}

@@ -1,5 +1,7 @@
 -- How the stages of a command end.
 use Rattle.std.specs.Prelude.{◌≡◌, ◌<◌, ◌≤◌, ◌^◌, ℕ, true, false, List, length, Result, Ok, Err}
+use Rattle.tta_ports.specs.Files.{Holds}
+use Rattle.tta_input.specs.Input.{input_of}
 use Rattle.tta_ops.specs.Units.{Units}
 use Rattle.tta_machine.specs.Machine.{Machine}
 use Rattle.tta_machine.specs.declared.reading.refusal.Refusal.{Refusal as MachineRefusal}
@@ -15,8 +17,6 @@ use Rattle.tta_image.specs.declared.refusal.ImageError.TheVariants.{Refused}
 use Rattle.tta_image.specs.Image.{Image}
 use Rattle.tta_image.specs.Reading.{decoded_image}
 use Rattle.tta_build.specs.First.{is_direct, code_length}
-use Rattle.tta_input.specs.Input.{input_of}
-use Rattle.tta_ports.specs.Files.{Holds}
 use Rattle.tta_tool.specs.declared.status.Status.{Status}
 use Rattle.tta_tool.specs.declared.status.Status.TheVariants as status
 use Rattle.tta_tool.specs.World.{World, IsUntouched, ReadFailed, IsTooLong, limit}

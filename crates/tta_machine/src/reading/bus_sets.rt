@@ -2,11 +2,11 @@
 
 ghost use Rattle.std.specs.Prelude.{◌≡◌, ℕ, ◌<◌, ◌^◌, List, ◌++◌, ◌∷◌, []};
 ghost use Rattle.std.specs.Prelude.{IfSome, option_map};
+ghost use Rattle.tta_reading.specs.Lines.{texts};
 ghost use Rattle.tta_machine.specs.BusSets.{set_once};
 ghost use Rattle.tta_machine.specs.Declarations.{buses_named};
 ghost use Rattle.tta_machine.specs.Draft.{bus_named};
 ghost use Rattle.tta_machine.specs.Kept.{IsDraft};
-ghost use Rattle.tta_machine.specs.Seen.{texts};
 
 use crate::reading::draft::Draft;
 use tta_reading::Word;

@@ -2,10 +2,11 @@
 
 ghost use Rattle.std.specs.Prelude.{◌≡◌, map};
 ghost use Rattle.tta_reading.specs.Lines.{plain};
+ghost use Rattle.tta_reading.specs.Taken.{Takes};
 ghost use Rattle.tta_machine.specs.Forms.{bus_form, socket_form};
 ghost use Rattle.tta_machine.specs.Declarations.{take_bus, take_socket};
 ghost use Rattle.tta_machine.specs.Kept.{IsDraft};
-ghost use Rattle.tta_machine.specs.Seen.{Declares, formed};
+ghost use Rattle.tta_machine.specs.Seen.{formed};
 
 use crate::parts::{Bus, Socket};
 use crate::reading::draft::{Draft, Named};
@@ -18,12 +19,12 @@ use tta_list::Name;
 use tta_reading::Word;
 
 impl Draft {
-    /// Declares a bus by the words behind `bus`. It is refused as `Syntax` where they have another
+    /// Takes a bus by the words behind `bus`. It is refused as `Syntax` where they have another
     /// form, as `Twice` where its name is taken, and else as `Range` where its short field has no
     /// bit or more than 32, its name is too long, or 16 buses are there.
     #[tactic(auto, unfolding(crate::specs::Declarations::take_bus))]
     pub fn take_bus(&mut self, alloc: Global, words: &[Word]) -> Result<(), LineError>
-        ensures { Declares self.new result
+        ensures { Takes self.new result
             (formed (bus_form (map plain words.now)) (take_bus self.old)) }
     {
         let Some(form) = syntax::bus_form(words) else {
@@ -54,14 +55,14 @@ impl Draft {
         )
     }
 
-    /// Declares a socket by the words behind `socket`. It is refused as `Syntax` where they have
+    /// Takes a socket by the words behind `socket`. It is refused as `Syntax` where they have
     /// another form, as `Unknown` where a name of its buses names no bus, as `Twice` where its name
     /// is taken or a bus stands twice, and as `Range` where its name is too long or 128 sockets are
     /// there.
     #[tactic(auto, unfolding(crate::specs::Declarations::take_socket))]
     pub fn take_socket(&mut self, alloc: Global, words: &[Word]) -> Result<(), LineError>
         requires { IsDraft self.old }
-        ensures { Declares self.new result
+        ensures { Takes self.new result
             (formed (socket_form (map plain words.now)) (take_socket self.old)) }
     {
         let Some(form) = syntax::socket_form(words) else {

@@ -3,10 +3,11 @@
 ghost use Rattle.std.specs.Prelude.{◌≡◌, map, is_some, nat_lt, Ok};
 ghost use Rattle.tta_reading.specs.Steps.{refuse_if};
 ghost use Rattle.tta_reading.specs.Lines.{plain};
+ghost use Rattle.tta_reading.specs.Taken.{Takes};
 ghost use Rattle.tta_machine.specs.Forms.{control_form, space_form};
 ghost use Rattle.tta_machine.specs.Declarations.{take_control, take_space};
 ghost use Rattle.tta_machine.specs.declared.reading.refusal.Refusal.TheVariants.{Twice, Range};
-ghost use Rattle.tta_machine.specs.Seen.{Declares, formed};
+ghost use Rattle.tta_machine.specs.Seen.{formed};
 
 use crate::parts::Control;
 use crate::reading::draft::Draft;
@@ -16,13 +17,13 @@ use crate::reading::syntax;
 use tta_reading::Word;
 
 impl Draft {
-    /// Declares control by the words behind `control`. It is refused as `Syntax` where they have
+    /// Takes control by the words behind `control`. It is refused as `Syntax` where they have
     /// another form, as `Unknown` where the socket of one of its ports is not there in the port's
     /// direction, as `Twice` where control is there already, and as `Range` where its delay is over
     /// 4 or an address has no bit or more than 16.
     #[tactic(auto, unfolding(crate::specs::Declarations::take_control))]
     pub fn take_control(&mut self, words: &[Word]) -> Result<(), LineError>
-        ensures { Declares self.new result
+        ensures { Takes self.new result
             (formed (control_form (map plain words.now)) (take_control self.old)) }
     {
         let Some(form) = syntax::control_form(words) else {
@@ -47,12 +48,12 @@ impl Draft {
         Ok(())
     }
 
-    /// Declares how many words a space has, by the words behind `space`. It is refused as `Syntax`
+    /// Takes how many words a space has, by the words behind `space`. It is refused as `Syntax`
     /// where they have another form, as `Twice` where that is declared already, and as `Range`
     /// where the data space has more than 2^20 words or the frame space more than 65,536.
     #[tactic(auto, unfolding(crate::specs::Declarations::take_space))]
     pub fn take_space(&mut self, words: &[Word]) -> Result<(), LineError>
-        ensures { Declares self.new result
+        ensures { Takes self.new result
             (formed (space_form (map plain words.now)) (take_space self.old)) }
     {
         let Some(form) = syntax::space_form(words) else {

@@ -2,11 +2,12 @@
 
 ghost use Rattle.std.specs.Prelude.{◌≡◌, ◌<◌, ◌≤◌, false, map, not, ◌||◌, ◌==◌, nat_le, length};
 ghost use Rattle.tta_reading.specs.Lines.{plain};
+ghost use Rattle.tta_reading.specs.Taken.{Takes};
 ghost use Rattle.tta_machine.specs.Forms.{file_form, imm_form};
 ghost use Rattle.tta_machine.specs.Declarations.{take_file, take_imm};
 ghost use Rattle.tta_machine.specs.Draft.{is_too_long};
 ghost use Rattle.tta_machine.specs.Rules.{is_from_to};
-ghost use Rattle.tta_machine.specs.Seen.{Declares, formed};
+ghost use Rattle.tta_machine.specs.Seen.{formed};
 
 use crate::parts::{File, ImmUnit};
 use crate::reading::draft::{Draft, Named};
@@ -20,13 +21,13 @@ use tta_list::Name;
 use tta_reading::Word;
 
 impl Draft {
-    /// Declares an immediate unit by the words behind `imm`. It is refused as `Syntax` where they
+    /// Takes an immediate unit by the words behind `imm`. It is refused as `Syntax` where they
     /// have another form, as `Unknown` where its socket is no output socket, as `Twice` where its
     /// name is taken, and as `Range` where it has no register or more than 16, its name is too
     /// long, or 4 immediate units are there.
     #[tactic(auto, unfolding(crate::specs::Declarations::take_imm))]
     pub fn take_imm(&mut self, alloc: Global, words: &[Word]) -> Result<(), LineError>
-        ensures { Declares self.new result
+        ensures { Takes self.new result
             (formed (imm_form (map plain words.now)) (take_imm self.old)) }
     {
         let Some(form) = syntax::imm_form(words) else {
@@ -57,14 +58,14 @@ impl Draft {
         )
     }
 
-    /// Declares a file by the words behind `file`. It is refused as `Syntax` where they have
+    /// Takes a file by the words behind `file`. It is refused as `Syntax` where they have
     /// another form, as `Unknown` where its sockets are no output and no input socket, as `Twice`
     /// where its name is taken, and as `Range` where a register has other than 1 or 32 bits, it has
     /// no register or more than 64, a cycle has no read or write of it or more than 16, its name is
     /// too long, or 8 files are there.
     #[tactic(auto, unfolding(crate::specs::Declarations::take_file))]
     pub fn take_file(&mut self, alloc: Global, words: &[Word]) -> Result<(), LineError>
-        ensures { Declares self.new result
+        ensures { Takes self.new result
             (formed (file_form (map plain words.now)) (take_file self.old)) }
     {
         let Some(form) = syntax::file_form(words) else {

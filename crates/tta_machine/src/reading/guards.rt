@@ -4,12 +4,13 @@ ghost use Rattle.std.specs.Prelude.{◌≡◌, ◌==◌, ◌<◌, ◌||◌, fals
 ghost use Rattle.std.specs.Prelude.{option_map, slice_get};
 ghost use Rattle.std.specs.List.{list_any};
 ghost use Rattle.tta_reading.specs.Lines.{plain};
+ghost use Rattle.tta_reading.specs.Taken.{Takes};
 ghost use Rattle.tta_machine.specs.Forms.{guard_form};
 ghost use Rattle.tta_machine.specs.Declarations.{take_guard};
 ghost use Rattle.tta_machine.specs.Guards.{guard_of};
 ghost use Rattle.tta_machine.specs.Joins.{is_same};
 ghost use Rattle.tta_machine.specs.Rules.{same_guard};
-ghost use Rattle.tta_machine.specs.Seen.{Declares, formed, guard_seen};
+ghost use Rattle.tta_machine.specs.Seen.{formed, guard_seen};
 
 use crate::ends::GuardRef;
 use crate::parts::{File, Guard};
@@ -21,12 +22,12 @@ use tta_list::entry_at;
 use tta_reading::Word;
 
 impl Draft {
-    /// Declares a guard by the words behind `guard`. It is refused as `Syntax` where they have
+    /// Takes a guard by the words behind `guard`. It is refused as `Syntax` where they have
     /// another form, as `Unknown` where its bus or its file is not there, as `Twice` where the same
     /// guard stands on the bus already, and as `Range` where the file's width is not 1, the file
     /// has no such register, or 64 guards are there.
     pub fn take_guard(&mut self, words: &[Word]) -> Result<(), LineError>
-        ensures { Declares self.new result
+        ensures { Takes self.new result
             (formed (guard_form (map plain words.now)) (take_guard self.old)) }
     {
         match syntax::guard_form(words) {
@@ -38,7 +39,7 @@ impl Draft {
     // puts a guard behind the others, where nothing refuses it
     #[tactic(auto, unfolding(crate::specs::Declarations::take_guard))]
     fn add_guard(&mut self, form: &GuardForm) -> Result<(), LineError>
-        ensures { Declares self.new result (take_guard self.old (guard_seen form.now)) }
+        ensures { Takes self.new result (take_guard self.old (guard_seen form.now)) }
     {
         let Some(bus) = self.bus_named(form.bus) else {
             return Err(LineError::Refused(Refusal::Unknown));

@@ -3,9 +3,9 @@
 ghost use Rattle.std.specs.Prelude.{◌≡◌, false, map, codes};
 ghost use Rattle.tta_reading.specs.Lines.{plain};
 ghost use Rattle.tta_reading.specs.Words.{is_keyword};
+ghost use Rattle.tta_reading.specs.Taken.{Takes};
 ghost use Rattle.tta_ops.specs.Set.{stated};
 ghost use Rattle.tta_machine.specs.Kept.{IsDraft};
-ghost use Rattle.tta_machine.specs.Seen.{Declares};
 ghost use Rattle.tta_machine.specs.Text as text;
 
 use crate::reading::draft::Draft;
@@ -25,7 +25,7 @@ impl Draft {
         words: &[Word],
     ) -> Result<(), LineError>
         requires { IsDraft self.old }
-        ensures { let U = stated unit_meaning units.now in Declares self.new result
+        ensures { let U = stated unit_meaning units.now in Takes self.new result
             (text.declare U line self.old (plain key.now) (map plain words.now)) }
     {
         if key.is_keyword(b"bus") {
@@ -58,7 +58,7 @@ impl Draft {
         requires file { is_keyword (codes "file") (plain key.now) ≡ false }
         requires imm { is_keyword (codes "imm") (plain key.now) ≡ false }
         requires unit { is_keyword (codes "unit") (plain key.now) ≡ false }
-        ensures { let U = stated unit_meaning units.now in Declares self.new result
+        ensures { let U = stated unit_meaning units.now in Takes self.new result
             (text.declare U line self.old (plain key.now) (map plain words.now)) }
     {
         if key.is_keyword(b"op") {
@@ -87,7 +87,7 @@ impl Draft {
         words: &[Word],
     ) -> Result<(), LineError>
         requires { IsDraft self.old }
-        ensures { let U = stated unit_meaning units.now in Declares self.new result
+        ensures { let U = stated unit_meaning units.now in Takes self.new result
             (text.take_line U line self.old (map plain words.now)) }
     {
         match words {

@@ -4,8 +4,8 @@ ghost use Rattle.std.specs.Prelude.{◌≡◌, ◌++◌, ◌∷◌, [], false, i
 ghost use Rattle.std.specs.Prelude.{Some, None, option_map, OnOk, IfErr};
 ghost use Rattle.tta_reading.specs.Names.{named_in};
 ghost use Rattle.tta_reading.specs.Steps.{or_refuse};
+ghost use Rattle.tta_reading.specs.declared.line_error.LineError.TheVariants.{NoMemory};
 ghost use Rattle.tta_machine.specs.declared.reading.refusal.Refusal.TheVariants.{Unknown};
-ghost use Rattle.tta_machine.specs.declared.reading.refusal.LineError.TheVariants.{NoMemory};
 ghost use Rattle.tta_machine.specs.Draft.{nothing, is_taken};
 ghost use Rattle.tta_machine.specs.Draft.{bus_named, socket_named, file_named, imm_named};
 ghost use Rattle.tta_machine.specs.Draft.{unit_named};

@@ -5,16 +5,17 @@ ghost use Rattle.std.specs.Prelude.{length, nat_le, slice_get, slice_set, Some, 
 ghost use Rattle.std.specs.Prelude.{OnErr};
 ghost use Rattle.std.specs.List.{list_any};
 ghost use Rattle.std.specs.Option.{option_map_or};
-ghost use Rattle.tta_ops.specs.Set.{stated};
 ghost use Rattle.tta_reading.specs.Lines.{plain};
+ghost use Rattle.tta_reading.specs.declared.line_error.LineError.TheVariants.{NoMemory};
+ghost use Rattle.tta_reading.specs.Taken.{Takes};
+ghost use Rattle.tta_ops.specs.Set.{stated};
 ghost use Rattle.tta_machine.specs.Forms.{op_form};
 ghost use Rattle.tta_machine.specs.Declarations.{take_op, timed_op, untimed_op, op_named};
 ghost use Rattle.tta_machine.specs.Declarations.{arity_of, is_latency, is_served, with_op};
 ghost use Rattle.tta_machine.specs.declared.parts.Unit.{Unit as UnitSeen};
-ghost use Rattle.tta_machine.specs.declared.reading.refusal.LineError.TheVariants.{NoMemory};
 ghost use Rattle.tta_machine.specs.Effects.{has_result};
 ghost use Rattle.tta_machine.specs.Rules.{same_op};
-ghost use Rattle.tta_machine.specs.Seen.{Declares, formed};
+ghost use Rattle.tta_machine.specs.Seen.{formed};
 ghost use Rattle.tta_machine.specs.Services.{IsOffered};
 
 use crate::parts::{Op, Unit, UnitOp};
@@ -38,7 +39,7 @@ impl Draft {
     #[tactic(auto, unfolding(crate::specs::Declarations::take_op))]
     pub fn take_op(&mut self, units: &UnitSet, words: &[Word]) -> Result<(), LineError>
         ensures { let U = stated unit_meaning units.now in
-            Declares self.new result
+            Takes self.new result
             (formed (op_form (map plain words.now)) (take_op U self.old)) }
     {
         let Some(form) = syntax::op_form(words) else {

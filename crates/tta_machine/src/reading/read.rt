@@ -33,7 +33,7 @@ fn read_draft(alloc: Global, text: &[u8], units: &UnitSet) -> Result<Draft, Mach
 }
 
 // Takes all lines of a text into an empty draft.
-#[tactic(auto, using(crate::proofs::Whole::lines_taken, crate::proofs::Whole::lines_refused, crate::proofs::Whole::line_kept))]
+#[tactic(auto, using(crate::proofs::Whole::lines_taken, crate::proofs::Whole::lines_refused))]
 fn read_lines(
     alloc: Global,
     text: &[u8],

@@ -1,9 +1,8 @@
 //! Why a machine's text is refused.
 
 ghost use Rattle.std.specs.Prelude.{◌≡◌};
+ghost use Rattle.tta_reading.specs.declared.line_error.LineError.TheVariants.{NoMemory, Refused};
 ghost use Rattle.tta_machine.specs.Draft.{code_of};
-ghost use Rattle.tta_machine.specs.declared.reading.refusal.LineError.TheVariants.{NoMemory};
-ghost use Rattle.tta_machine.specs.declared.reading.refusal.LineError.TheVariants.{Refused};
 ghost use Rattle.tta_machine.specs.declared.reading.refusal.MachineError.TheVariants.{};
 ghost use Rattle.tta_machine.specs.declared.reading.refusal.MachineError.TheVariants.{NoMemory as no_memory};
 
@@ -52,33 +51,13 @@ pub enum MachineError {
 }
 
 /// Why a line declares nothing.
-#[derive(Clone, Copy)]
-pub enum LineError {
-    Refused(Refusal),
-    NoMemory,
-}
+pub type LineError = tta_reading::LineError<Refusal>;
 
 impl From<Refusal> for LineError {
     ghost from_gives = { λ refusal e. e ≡ Refused refusal };
 
     fn from(refusal: Refusal) -> LineError {
         LineError::Refused(refusal)
-    }
-}
-
-impl From<AllocError> for LineError {
-    ghost from_gives = { λ _ e. e ≡ NoMemory };
-
-    fn from(_: AllocError) -> LineError {
-        LineError::NoMemory
-    }
-}
-
-impl<T: Drop> From<AllocFailed<T>> for LineError {
-    ghost from_gives = { λ _ e. e ≡ NoMemory };
-
-    fn from(_: AllocFailed<T>) -> LineError {
-        LineError::NoMemory
     }
 }
 

@@ -3,12 +3,13 @@
 ghost use Rattle.std.specs.Prelude.{◌≡◌, ◌<◌, false, length, map, option_map, slice_get};
 ghost use Rattle.std.specs.Prelude.{OnOk, IfErr};
 ghost use Rattle.tta_reading.specs.Lines.{plain};
+ghost use Rattle.tta_reading.specs.declared.line_error.LineError.TheVariants.{NoMemory};
+ghost use Rattle.tta_reading.specs.Taken.{Takes};
 ghost use Rattle.tta_machine.specs.Forms.{template_form};
 ghost use Rattle.tta_machine.specs.Declarations.{take_template};
-ghost use Rattle.tta_machine.specs.declared.reading.refusal.LineError.TheVariants.{NoMemory};
 ghost use Rattle.tta_machine.specs.Draft.{is_taken};
 ghost use Rattle.tta_machine.specs.Kept.{IsDraft};
-ghost use Rattle.tta_machine.specs.Seen.{Declares, formed};
+ghost use Rattle.tta_machine.specs.Seen.{formed};
 ghost use Rattle.tta_machine.specs.Templates.{with_template};
 
 use crate::parts::{ImmUnit, Template};
@@ -22,7 +23,7 @@ use tta_list::{Name, entry_at};
 use tta_reading::Word;
 
 impl Draft {
-    /// Declares a template, at this line, by the words behind `template`. It is refused as `Syntax`
+    /// Takes a template, at this line, by the words behind `template`. It is refused as `Syntax`
     /// where they have another form, as `Unknown` where its immediate unit or one of its buses is
     /// not there, as `Twice` where its name is taken or a bus stands twice, and as `Range` where
     /// the unit has no such register, its name is too long, or 8 templates are there.
@@ -34,7 +35,7 @@ impl Draft {
         words: &[Word],
     ) -> Result<(), LineError>
         requires { IsDraft self.old }
-        ensures { Declares self.new result
+        ensures { Takes self.new result
             (formed (template_form (map plain words.now)) (take_template line self.old)) }
     {
         let Some(form) = syntax::template_form(words) else {

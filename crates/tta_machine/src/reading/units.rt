@@ -2,9 +2,10 @@
 
 ghost use Rattle.std.specs.Prelude.{◌≡◌, map};
 ghost use Rattle.tta_reading.specs.Lines.{plain};
+ghost use Rattle.tta_reading.specs.Taken.{Takes};
 ghost use Rattle.tta_machine.specs.Forms.{unit_form};
 ghost use Rattle.tta_machine.specs.Declarations.{take_unit};
-ghost use Rattle.tta_machine.specs.Seen.{Declares, formed};
+ghost use Rattle.tta_machine.specs.Seen.{formed};
 
 use crate::parts::Unit;
 use crate::reading::draft::{Draft, Named};
@@ -17,13 +18,13 @@ use tta_list::{Items, Name};
 use tta_reading::Word;
 
 impl Draft {
-    /// Declares a unit, without operations, by the words behind `unit`. It is refused as `Syntax`
+    /// Takes a unit, without operations, by the words behind `unit`. It is refused as `Syntax`
     /// where they have another form, as `Unknown` where the socket of one of its ports is not there
     /// in the port's direction, as `Twice` where its name is taken, and as `Range` where its name
     /// is too long or 32 units are there.
     #[tactic(auto, unfolding(crate::specs::Declarations::take_unit))]
     pub fn take_unit(&mut self, alloc: Global, words: &[Word]) -> Result<(), LineError>
-        ensures { Declares self.new result
+        ensures { Takes self.new result
             (formed (unit_form (map plain words.now)) (take_unit self.old)) }
     {
         let Some(form) = syntax::unit_form(words) else {

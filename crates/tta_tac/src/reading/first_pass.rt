@@ -2,14 +2,15 @@
 
 ghost use Rattle.std.specs.Prelude.{◌≡◌, ◌≤◌, ◌+◌, ◌||◌, false, None};
 ghost use Rattle.std.specs.Prelude.{is_some, length, map, IfOk, OnOk};
-ghost use Rattle.tta_reading.specs.Lines.{plain};
+ghost use Rattle.tta_reading.specs.Lines.{plain, texts};
 ghost use Rattle.tta_reading.specs.Names.{named_in};
+ghost use Rattle.tta_reading.specs.Taken.{Takes};
 ghost use Rattle.tta_ops.specs.Set.{stated};
 ghost use Rattle.tta_tac.specs.Draft.{draft_seen, proc_seen, nothing};
 ghost use Rattle.tta_tac.specs.DraftRules.{IsDraft, IsBegun};
 ghost use Rattle.tta_tac.specs.FirstPass.{take_line, take_form, take_proc, take_label, take_step};
 ghost use Rattle.tta_tac.specs.FirstPass.{has_twice, with_fresh, labelled, stepped, close_if};
-ghost use Rattle.tta_tac.specs.Seen.{Says, form_seen, texts};
+ghost use Rattle.tta_tac.specs.Seen.{form_seen};
 
 use crate::reading::declarations::declare_names;
 use crate::reading::draft::{Draft, DraftProc};
@@ -55,7 +56,7 @@ impl<'t> Draft<'t> {
         words: &[Word<'t>],
     ) -> Result<(), LineError>
         requires { IsDraft (draft_seen self.old) }
-        ensures says { Says (draft_seen self.new) result (take_line (stated unit_meaning units.now)
+        ensures says { Takes (draft_seen self.new) result (take_line (stated unit_meaning units.now)
             line (draft_seen self.old) (map plain words.now)) }
         ensures rules { OnOk result (IsDraft (draft_seen self.new)) }
     {
@@ -79,7 +80,7 @@ impl<'t> Draft<'t> {
         form: &Form<'_, 't>,
     ) -> Result<(), LineError>
         requires { IsDraft (draft_seen self.old) }
-        ensures says { Says (draft_seen self.new) result (take_form (stated unit_meaning units.now)
+        ensures says { Takes (draft_seen self.new) result (take_form (stated unit_meaning units.now)
             (draft_seen self.old) line (form_seen form.now)) }
         ensures rules { OnOk result (IsDraft (draft_seen self.new)) }
     {
@@ -107,7 +108,7 @@ impl<'t> Draft<'t> {
         params: &[Word<'t>],
     ) -> Result<(), LineError>
         requires { IsDraft (draft_seen self.old) }
-        ensures { Says (draft_seen self.new) result
+        ensures { Takes (draft_seen self.new) result
             (take_proc (draft_seen self.old) line name.now (texts params.now)) }
     {
         if self.begun.is_some() {
@@ -180,7 +181,7 @@ impl<'t> Draft<'t> {
         name: &'t [u8],
     ) -> Result<(), LineError>
         requires { IsBegun self.old.lines (proc_seen proc) }
-        ensures { Says (draft_seen self.new) result
+        ensures { Takes (draft_seen self.new) result
             (take_label (draft_seen self.old) (proc_seen proc.entry) name.now) }
     {
         match self.add_label(alloc, &mut proc, name) {
@@ -204,7 +205,7 @@ impl<'t> Draft<'t> {
         name: &'t [u8],
     ) -> Result<(), LineError>
         requires { IsBegun self.now.lines (proc_seen proc.old) }
-        ensures says { Says (labelled (draft_seen self.now) (proc_seen proc.new)) result
+        ensures says { Takes (labelled (draft_seen self.now) (proc_seen proc.new)) result
             (take_label (draft_seen self.now) (proc_seen proc.old) name.now) }
         ensures room { OnOk result (self.now.lines + 1 ≤ 65536) }
     {
@@ -232,7 +233,7 @@ impl<'t> Draft<'t> {
     ) -> Result<(), LineError>
         requires moved { self.old.begun ≡ None }
         requires begun { IsBegun self.old.lines (proc_seen proc) }
-        ensures { Says (draft_seen self.new) result (take_step (stated unit_meaning units.now)
+        ensures { Takes (draft_seen self.new) result (take_step (stated unit_meaning units.now)
             (draft_seen self.old) (proc_seen proc.entry) line (form_seen form.now)) }
     {
         match self.add_step(alloc, units, &mut proc, line, form) {
@@ -276,7 +277,7 @@ impl<'t> Draft<'t> {
     ) -> Result<(), LineError>
         requires { IsBegun self.now.lines (proc_seen proc.old) }
         ensures says { let next = stepped (draft_seen self.now) (form_seen form.now) in
-            Says (next (proc_seen proc.new)) result (take_step (stated unit_meaning units.now)
+            Takes (next (proc_seen proc.new)) result (take_step (stated unit_meaning units.now)
             (draft_seen self.now) (proc_seen proc.old) line (form_seen form.now)) }
         ensures room { OnOk result (self.now.lines + 1 ≤ 65536) }
     {

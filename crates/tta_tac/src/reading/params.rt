@@ -2,9 +2,9 @@
 
 ghost use Rattle.std.specs.Prelude.{◌≡◌, ◌≤◌, ◌&&◌, false, nat_lt, [], IfOk};
 ghost use Rattle.std.specs.Prelude.{codes, bytes_eq, length};
+ghost use Rattle.tta_reading.specs.Lines.{texts};
 ghost use Rattle.tta_tac.specs.Draft.{proc_seen};
 ghost use Rattle.tta_tac.specs.FirstPass.{has_twice, numbered};
-ghost use Rattle.tta_tac.specs.Seen.{texts};
 
 use crate::reading::draft::DraftProc;
 use std::alloc::{AllocError, Global};

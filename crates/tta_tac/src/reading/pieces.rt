@@ -2,9 +2,9 @@
 
 ghost use Rattle.std.specs.Prelude.{◌≡◌, map, option_map, is_some};
 ghost use Rattle.std.specs.List.{list_all};
-ghost use Rattle.tta_reading.specs.Lines.{plain};
+ghost use Rattle.tta_reading.specs.Lines.{plain, texts};
 ghost use Rattle.tta_tac.specs.Forms as spec;
-ghost use Rattle.tta_tac.specs.Seen.{operand_seen, operands_in, texts};
+ghost use Rattle.tta_tac.specs.Seen.{operand_seen, operands_in};
 
 use super::forms::Operand;
 use super::reserved::is_reserved;

@@ -1,8 +1,8 @@
 //! Why a program's text is refused.
 
 ghost use Rattle.std.specs.Prelude.{◌≡◌};
+ghost use Rattle.tta_reading.specs.declared.line_error.LineError.TheVariants.{NoMemory, Refused};
 ghost use Rattle.tta_tac.specs.Refusals.{code_of};
-ghost use Rattle.tta_tac.specs.declared.reading.refusal.LineError.TheVariants.{NoMemory, Refused};
 
 use std::alloc::{AllocError, AllocFailed};
 
@@ -80,32 +80,12 @@ impl<T: Drop> From<AllocFailed<T>> for TacError {
 }
 
 /// Why a line could not be taken.
-#[derive(Clone, Copy)]
-pub enum LineError {
-    Refused(Refusal),
-    NoMemory,
-}
+pub type LineError = tta_reading::LineError<Refusal>;
 
 impl From<Refusal> for LineError {
     ghost from_gives = { λ refusal e. e ≡ Refused refusal };
 
     fn from(refusal: Refusal) -> LineError {
         LineError::Refused(refusal)
-    }
-}
-
-impl From<AllocError> for LineError {
-    ghost from_gives = { λ _ e. e ≡ NoMemory };
-
-    fn from(_: AllocError) -> LineError {
-        LineError::NoMemory
-    }
-}
-
-impl<T: Drop> From<AllocFailed<T>> for LineError {
-    ghost from_gives = { λ _ e. e ≡ NoMemory };
-
-    fn from(_: AllocFailed<T>) -> LineError {
-        LineError::NoMemory
     }
 }

@@ -1,5 +1,5 @@
 use Rattle.std.proofs.Common.{refl}
-use Rattle.tta_machine.proofs.Lists.{item_there}
+use Rattle.tta_list.proofs.Lists.{item_there}
 use Rattle.tta_code.proofs.room.taken.Goals as goal
 
 pub returns-in-Some-get : goal.returns-in-Some-get

@@ -1,6 +1,6 @@
 use Rattle.std.proofs.Common.{false, ap, sym, refl, ◌∙◌}
 use Rattle.std.specs.Option.{option_map_or}
-use Rattle.tta_machine.proofs.Lists.{item_there, item_past}
+use Rattle.tta_list.proofs.Lists.{item_there, item_past}
 use Rattle.tta_image.proofs.words.is_signed.Goals as goal
 
 pub returns-in-Some : goal.returns-in-Some

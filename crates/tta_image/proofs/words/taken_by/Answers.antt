@@ -1,6 +1,6 @@
 use Rattle.std.proofs.Common.{ap, sym, ◌∙◌}
 use Rattle.std.specs.Option.{option_map_or}
-use Rattle.tta_machine.proofs.Lists.{item_there, item_past}
+use Rattle.tta_list.proofs.Lists.{item_there, item_past}
 use Rattle.tta_image.specs.Decoding.{taken_by}
 use Rattle.tta_image.proofs.words.taken_by.Goals as goal
 

@@ -1,6 +1,6 @@
 use Rattle.std.proofs.Common.{ap, sym, ◌∙◌}
 use Rattle.std.specs.Option.{option_map_or}
-use Rattle.tta_machine.proofs.Lists.{item_there, item_past}
+use Rattle.tta_list.proofs.Lists.{item_there, item_past}
 use Rattle.tta_image.specs.Fields.{buses_of}
 use Rattle.tta_image.proofs.write.buses_of.Goals as goal
 

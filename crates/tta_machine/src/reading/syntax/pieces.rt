@@ -2,10 +2,9 @@
 
 ghost use Rattle.std.specs.Prelude.{◌≡◌, map, option_map};
 ghost use Rattle.std.specs.List.{list_all};
-ghost use Rattle.tta_reading.specs.Lines.{plain};
+ghost use Rattle.tta_reading.specs.Lines.{plain, texts};
 ghost use Rattle.tta_reading.specs.Words.{is_name_kind};
 ghost use Rattle.tta_machine.specs.Forms as spec;
-ghost use Rattle.tta_machine.specs.Seen.{texts};
 
 use tta_reading::Word;
 use tta_text::Kind;

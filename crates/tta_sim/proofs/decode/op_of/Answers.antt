@@ -1,7 +1,7 @@
 use Rattle.std.proofs.Common.{◌<◌, length, ap, subst, sym, ◌∙◌}
 use Rattle.std.specs.Prelude.{option_and_then, slice_get}
 use Rattle.std.proofs.lemmas.Bool.{ltb-true}
-use Rattle.tta_machine.proofs.Lists.{item_there, item_past}
+use Rattle.tta_list.proofs.Lists.{item_there, item_past}
 use Rattle.tta_sim.proofs.Lists.{item_copied}
 use Rattle.tta_sim.proofs.decode.op_of.Goals as goal
 

@@ -1,9 +1,9 @@
 use Rattle.std.proofs.Common.{None, Some, option_map, false, ap, sym, ◌∙◌}
+use Rattle.tta_list.proofs.Lists.{item_there, item_past}
 use Rattle.tta_machine.specs.Effects.{KeptImm}
 use Rattle.tta_sim.specs.declared.decoded.DecodedSource.TheVariants.{Word}
 use Rattle.tta_sim.specs.Places.{number_of}
 use Rattle.tta_sim.specs.Decoded.{long_decoded}
-use Rattle.tta_machine.proofs.Lists.{item_there, item_past}
 use Rattle.tta_sim.proofs.decode.write_long.Goals as goal
 
 pub returns-in-Some-get : goal.returns-in-Some-get

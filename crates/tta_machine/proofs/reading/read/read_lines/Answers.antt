@@ -3,7 +3,8 @@ use Rattle.tta_reading.specs.declared.word.Word.{Word}
 use Rattle.tta_reading.specs.Lines.{plain}
 use Rattle.tta_ops.specs.Set.{stated}
 use Rattle.tta_machine.specs.Text.{take_line}
-use Rattle.tta_machine.proofs.Whole.{lines_taken, line_kept}
+use Rattle.tta_machine.proofs.Whole.{lines_taken}
+use Rattle.tta_machine.proofs.TakenLines.{take_line-keeps}
 use Rattle.tta_machine.proofs.reading.read.read_lines.Goals as goal
 
 -- the first of the lines that are left was taken
@@ -20,6 +21,6 @@ loop-words-preserved g c =
     let counted : length c.loop-words.lines ≡ length rest + 1 = c.in_ok-next_line.ensures.counted c.if-branch.true in
     record {
       rest = sym (lines_taken U line c.loop-words.draft next words c.loop-words.lines rest split taken) ∙ c.loop-words.invariant.rest;
-      kept = line_kept U line c.loop-words.draft next words c.loop-words.invariant.kept taken;
+      kept = take_line-keeps U line c.loop-words.draft next words c.loop-words.invariant.kept taken;
       room = omega (arith, c.loop-words.invariant.room, counted);
     }

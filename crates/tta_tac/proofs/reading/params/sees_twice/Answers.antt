@@ -1,5 +1,5 @@
 use Rattle.std.proofs.Common.{◌∙◌}
-use Rattle.tta_tac.specs.Seen.{texts}
+use Rattle.tta_reading.specs.Lines.{texts}
 use Rattle.tta_tac.proofs.reading.params.sees_twice.Goals as goal
 use Rattle.tta_tac.proofs.Twice.{is_twice_none, is_twice_step}
 

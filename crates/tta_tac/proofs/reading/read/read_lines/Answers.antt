@@ -1,15 +1,16 @@
 use Rattle.std.proofs.Common.{◌≡◌, [], ap, ◌+◌, ◌∷◌, List, Ok, Err, length, map, sym, subst, ◌∙◌, arith}
 use Rattle.tta_reading.specs.declared.word.Word.{Word}
 use Rattle.tta_reading.specs.Lines.{plain}
+use Rattle.tta_reading.specs.Taken.{Takes}
+use Rattle.tta_reading.specs.declared.line_error.LineError.{LineError}
+use Rattle.tta_reading.specs.declared.line_error.LineError.TheVariants as line_error
 use Rattle.tta_ops.specs.Set.{stated}
 use Rattle.tta_tac.specs.Draft.{draft_seen}
-use Rattle.tta_tac.specs.Seen.{Says}
-use Rattle.tta_tac.specs.declared.reading.refusal.LineError.{LineError}
-use Rattle.tta_tac.specs.declared.reading.refusal.LineError.TheVariants as line_error
 use Rattle.tta_tac.specs.FirstPass.{take_line}
 use Rattle.tta_tac.specs.declared.reading.refusal.TacError.TheVariants as tac_error
 use Rattle.tta_tac.specs.Refusals.{code_of}
 use Rattle.tta_tac.specs.Text.{HasCause}
+use Rattle.tta_tac.specs.declared.reading.refusal.Refusal.{Refusal}
 use Rattle.tta_tac.proofs.Whole.{line_taken, line_refused, text_ended, text_open, Rest}
 use Rattle.tta_tac.proofs.Lines.{not_begun, some_begun}
 use Rattle.tta_tac.proofs.reading.read.read_lines.Goals as goal
@@ -41,8 +42,8 @@ returns-in-Err-Refused-clause-refused g c =
     let before = draft_seen c.loop-words.draft in
     let words = map plain c.next_line.new.words.items in
     let rest = c.next_line.new.self in
-    let Told : LineError → List Word → Type 0 = λ e ws.
-    Says {A = Unit} (draft_seen c.take_line.new.self) (Err e) (take_line U line before (map plain ws)) in
+    let Told : LineError Refusal → List Word → Type 0 = λ e ws.
+    Takes {A = Unit} (draft_seen c.take_line.new.self) (Err e) (take_line U line before (map plain ws)) in
     let told : Told (line_error.Refused c.in-Err-Refused.refusal) c.next_line.new.words.items =
     subst (Told (line_error.Refused c.in-Err-Refused.refusal)) c.as_slice.ensures.value
     (subst (λ e. Told e c.as_slice.result.now) c.in-Err-Refused.field-0-is c.in-Err-Refused.ensures.says) in

@@ -1,8 +1,9 @@
 use Rattle.std.proofs.Common.{◌∙◌, sym, None}
+use Rattle.tta_reading.specs.Lines.{texts}
 use Rattle.tta_ops.specs.Set.{stated}
 use Rattle.tta_tac.specs.Forms.{ProcForm}
 use Rattle.tta_tac.specs.Draft.{draft_seen, proc_seen}
-use Rattle.tta_tac.specs.Seen.{form_seen, texts}
+use Rattle.tta_tac.specs.Seen.{form_seen}
 use Rattle.tta_tac.proofs.DraftRules.{form_says_kept, step_says_kept, moved_kept, begun_of}
 use Rattle.tta_tac.proofs.reading.draft.Draft.take_form.Goals as goal
 

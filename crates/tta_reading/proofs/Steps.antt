@@ -1,7 +1,8 @@
 -- What it tells that a reading step by step came to its end.
-use Rattle.std.proofs.Common.{◌≡◌, Bool, true, false, Option, Some, None, Result, Ok, Err, refl}
-use Rattle.tta_reading.specs.Steps.{◌>>=◌, ◌>>?◌, or_refuse, refuse_if, only_if}
+use Rattle.std.proofs.Common.{◌≡◌, ℕ, Bool, true, false, Option, Some, None, Result, Ok, Err, refl}
+use Rattle.tta_reading.specs.Steps.{◌>>=◌, ◌>>?◌, at_line, or_refuse, refuse_if, only_if}
 
+-- two answers that are one have one value
 pub same_ok : {A E : Type 0} (x y : A) → ◌≡◌ {A = Result A E} (Ok x) (Ok y) → x ≡ y
 same_ok x y e = cc
 
@@ -20,6 +21,7 @@ pub some-ok : {A B E : Type 0} (e : E) (o : Option A) (f : A → Result B E) (y 
 some-ok e None f y h = cc
 some-ok e (Some x) f y h = (x, refl, h)
 
+-- the same where nothing is refused
 pub then-some : {A B : Type 0} (o : Option A) (f : A → Option B) (y : B) → (o >>? f) ≡ Some y → (x : A) × (o ≡ Some x) × (f x ≡ Some y)
 then-some None f y h = cc
 then-some (Some x) f y h = (x, refl, h)
@@ -28,3 +30,8 @@ then-some (Some x) f y h = (x, refl, h)
 pub only_if-some : {A : Type 0} (test : Bool) (o : Option A) (x : A) → only_if test o ≡ Some x → (test ≡ true) × (o ≡ Some x)
 only_if-some true o x h = (refl, h)
 only_if-some false o x h = cc
+
+-- an answer with its line is one without it
+pub at_line-ok : {A E : Type 0} (line : ℕ) (r : Result A E) (x : A) → at_line line r ≡ Ok x → r ≡ Ok x
+at_line-ok line (Ok y) x h = cc
+at_line-ok line (Err e) x h = absurd cc

@@ -1,17 +1,13 @@
--- The program of the test keeps the rules of programs.
+-- A program with a call and a loop keeps the rules of programs.
 use Rattle.std.proofs.Common.{◌≡◌, ℕ, zero, suc, true, inl, inr, [], ◌∷◌, Some, refl, sym, lit≤, arith}
 use Rattle.std.proofs.lemmas.Bool.Decides.{eqb_tells}
-use Rattle.tta_ops.specs.declared.OpId.{OpId}
 use Rattle.tta_tac.specs.declared.operand.Src.TheVariants.{Var, Word}
 use Rattle.tta_tac.specs.declared.operand.Rel.TheVariants.{Ltu}
 use Rattle.tta_tac.specs.declared.step.Step.TheVariants.{Copy, Apply, Load, Store, Put, If, Invoke, Return, Halt, End}
 use Rattle.tta_tac.specs.declared.program.Proc.{Proc}
 use Rattle.tta_tac.specs.Program.{Program}
 use Rattle.tta_tac.specs.Rules.{IsProgram, IsProc, Reaches, ByCall, ByMore, calls}
-
--- the operation of a number in the set of units
-abbrev op : ℕ → OpId
-op id = record { 0 = id }
+use Rattle.tta_tac.proofs.Rows.{op}
 
 -- the procedure that puts out the squares of 3, 4 and 5, each after a call and by way of data word 0
 abbrev main : Proc
@@ -42,6 +38,7 @@ squares_calls zero to call = (refl, elim (eqb_tells 1 to) [ inl same ↦ sym sam
 squares_calls (suc zero) to call = cc
 squares_calls (suc (suc from)) to call = cc
 
+-- so nothing leads back to where it began
 squares_reaches : {from to : ℕ} → Reaches squares from to → (from ≡ 0) × (to ≡ 1)
 squares_reaches (ByCall from to call) = squares_calls from to call
 squares_reaches (ByMore from via to call more) =
@@ -49,12 +46,14 @@ squares_reaches (ByMore from via to call more) =
     let rest = squares_reaches more in
     absurd (omega (arith, first.1, rest.0))
 
+-- each procedure keeps its own
 main_rules : IsProc squares main
 main_rules = record { params = lit≤ tt; vars = lit≤ tt; among = lit≤ tt; steps = refl; ends = refl; lines = refl }
 
 square_rules : IsProc squares square
 square_rules = record { params = lit≤ tt; vars = lit≤ tt; among = lit≤ tt; steps = refl; ends = refl; lines = refl }
 
+-- the program keeps all rules
 pub squares_rules : IsProgram squares
 squares_rules = record {
   lines = lit≤ tt;
