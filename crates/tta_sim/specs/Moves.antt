@@ -60,13 +60,13 @@ reads_of places shown (source.Shown unit) = option_map (λ r. r.value) (slice_in
 reads_of places shown source.Ra = word_at places KeptRa
 reads_of places shown (source.Value word) = Some word
 
--- a move that is carried out
+-- what a guard says of a move that acts
 abbrev pub is_acting : Verdict → Bool
 is_acting Acts = true
 is_acting Rests = false
 is_acting Unset = false
 
--- a move whose guard was never written
+-- what a guard says whose register was never written
 abbrev pub is_unset : Verdict → Bool
 is_unset Acts = false
 is_unset Rests = false
