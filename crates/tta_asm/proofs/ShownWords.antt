@@ -14,6 +14,7 @@ use Rattle.tta_text.specs.Bytes.{is_newline, is_blank, is_word_byte, is_name_sta
 use Rattle.tta_text.specs.Tokens.{token, piece_at, number_piece, mark_piece}
 use Rattle.tta_text.specs.Numbers.{number_of, digits_of, value_below}
 use Rattle.tta_text.specs.Words.{first_is, is_letter, is_run, is_name}
+use Rattle.tta_text.proofs.Shapes.{digit_is_run_byte}
 use Rattle.tta_asm.proofs.ShownScan.{IsScanned}
 
 -- a run is as long as the bytes that pass
@@ -133,16 +134,12 @@ digit-comment byte h = grind (arith, nat_tests)
 digit-letter : (byte : ℕ) → is_ascii_digit byte ≡ true → is_name_start byte ≡ false
 digit-letter byte h = grind (arith, nat_tests)
 
--- it goes on in names and numbers
-digit-word : (byte : ℕ) → is_ascii_digit byte ≡ true → is_word_byte byte ≡ true
-digit-word byte h = grind (arith, nat_tests)
-
 -- digits are a run
 digits-run : (ds : List ℕ) → list_all is_ascii_digit ds ≡ true → list_all is_word_byte ds ≡ true
 digits-run [] h = refl
 digits-run (c ∷ cs) h =
     let parts = and_parts (is_ascii_digit c) (list_all is_ascii_digit cs) h in
-    and_from (is_word_byte c) (list_all is_word_byte cs) (digit-word c parts.0) (digits-run cs parts.1)
+    and_from (is_word_byte c) (list_all is_word_byte cs) (digit_is_run_byte c parts.0) (digits-run cs parts.1)
 
 -- digits with a value are the piece at the front, as a number
 digits_piece : (byte : ℕ) (others after : List ℕ) (n : ℕ) → list_all is_ascii_digit (byte ∷ others) ≡ true
@@ -248,7 +245,7 @@ digits_first : (text after : List ℕ) → 0 < length text → list_all is_ascii
     → first_is is_word_byte (text ++ after) ≡ true
 digits_first [] after some h = absurd (omega arith)
 digits_first (byte ∷ others) after some h =
-    digit-word byte (and_parts (is_ascii_digit byte) (list_all is_ascii_digit others) h).0
+    digit_is_run_byte byte (and_parts (is_ascii_digit byte) (list_all is_ascii_digit others) h).0
 
 -- and so does that of a number
 pub number_first : (n : ℕ) (after : List ℕ) → n < 2 ^ 32 → first_is is_word_byte (decimal n ++ after) ≡ true
