@@ -2,9 +2,12 @@
 those of the clock, and memory."""
 import os
 import subprocess
+import sys
 import time
 
-PROGRAM = os.path.join(os.path.dirname(os.path.abspath(__file__)), "..", "crates", "tta", "out", "tta")
+sys.path.insert(0, os.path.join(os.path.dirname(os.path.abspath(__file__)), "..", "checks"))
+from built import PROGRAM
+
 FEWEST, MOST, ENOUGH = 3, 30, 1.5
 
 

@@ -1,0 +1,7 @@
+"""The built program, over which the checks and the benchmark run."""
+import os
+import sys
+
+PROGRAM = os.path.normpath(os.path.join(os.path.dirname(os.path.abspath(__file__)), "..", "crates", "tta", "out", "tta"))
+if not os.access(PROGRAM, os.X_OK):
+    sys.exit("the program is not built yet: ./tta builds it at its first use, from nothing in about a quarter of an hour")
