@@ -1,6 +1,6 @@
-//! What every crate of the toolset stands on: lists and names that contracts see as plain lists,
-//! the entry at a place of a list, the word for a step that is taken n times, and what is said of
-//! lists and of tests. It stands on the standard library alone.
+//! What most crates of the toolset stand on: lists and names that contracts see as plain lists, the
+//! entry at a place of a list, the word for a step that is taken n times, and what is said of lists
+//! and of tests. It stands on the standard library alone.
 #![tactic(auto)]
 
 mod items;

@@ -1,6 +1,6 @@
 //! Operation units: what an operation is called, how many words it takes and what it gives; and
-//! sets of units, where operations are found by their names. Names are looked up by the kit's
-//! `indexmap`; it stands on no crate of the toolset.
+//! sets of units, where operations are found by their names. It stands on no crate of the toolset,
+//! and looks names up by the kit's `indexmap`.
 #![tactic(auto)]
 
 mod arithmetic;

@@ -7,6 +7,7 @@ use Rattle.tta_text.specs.Tokens.{tokens_of, tokens_from, piece_at, mark_piece}
 use Rattle.tta_reading.specs.Lines.{Lexeme, lines_of}
 use Rattle.tta_reading.specs.Names.{Declared, named_in}
 
+-- a word of one byte
 word : Kind → ℕ → Lexeme
 word kind byte = record { kind = kind; text = byte ∷ [] }
 

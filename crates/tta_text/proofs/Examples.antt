@@ -7,6 +7,7 @@ use Rattle.tta_text.specs.declared.lexeme.Token.{Token}
 use Rattle.tta_text.specs.Numbers.{number_of, negative_of, digits_of, value_below}
 use Rattle.tta_text.specs.Tokens.{tokens_of, tokens_from, piece_at, number_piece, negative_piece, mark_piece}
 
+-- a token by its line, the places where it begins and ends, and its kind
 token : (line start end : ℕ) → Kind → Token
 token line start end kind = record { line = line; start = start; end = end; kind = kind }
 
