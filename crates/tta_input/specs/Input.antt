@@ -35,6 +35,15 @@ memory_of space lines =
 unfoldable pub input_of : (space : ℕ) → List ℕ → Result (List ℕ) ℕ
 input_of space bytes = memory_of space (lines_of bytes)
 
+-- the words of a file, as many as it has lines, or the first line that is none
+abbrev pub stream_of : List ℕ → Result (List ℕ) ℕ
+stream_of bytes = input_of (length (lines_of bytes)) bytes
+
+-- what is told of a file that is no stream; want of memory needs no cause
+abbrev pub IsStreamCause : List ℕ → InputError → Type 0
+IsStreamCause bytes (Refused line) = stream_of bytes ≡ Err line
+IsStreamCause bytes NoMemory = ⊤
+
 -- what is told of a file that gives no memory; want of memory needs no cause
 abbrev pub HasCause : (space : ℕ) → List ℕ → InputError → Type 0
 HasCause space bytes (Refused line) = input_of space bytes ≡ Err line

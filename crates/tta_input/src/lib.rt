@@ -1,5 +1,5 @@
-//! The reader of input files, whose words fill the data space before a run. It stands on the kit's
-//! `hex`, which reads the digits.
+//! The reader of input files, whose words fill the data space before a run, and of streams, whose
+//! words a run takes one by one. The kit's `hex` reads the digits.
 //!
 //! A file is lines, and each line is one word: exactly eight hexadecimal digits of either case, the
 //! most significant first. A newline ends a line, a carriage return directly before it is dropped,
@@ -13,4 +13,4 @@ mod read;
 
 pub use error::InputError;
 pub use law::lines_are_words;
-pub use read::read_input;
+pub use read::{read_input, read_stream};

@@ -2,6 +2,7 @@
 
 ghost use Rattle.std.specs.Prelude.{◌≡◌, ◌^◌, ◌≤◌, length, Ok, IfOk, IfErr};
 ghost use Rattle.tta_input.specs.Input as spec;
+ghost use Rattle.tta_input.specs.Lines.{lines_of};
 
 use crate::error::InputError;
 use crate::lines::Lines;
@@ -33,6 +34,31 @@ pub fn read_input(alloc: Global, bytes: &[u8], words: u32) -> Result<Vec<u32>, I
     }
     memory.resize(space, 0)?;
     Ok(memory)
+}
+
+/// How many lines a file has.
+fn count_lines(bytes: &[u8]) -> u32
+    requires { length bytes.now ≤ 2 ^ 24 }
+    ensures { result ≡ length (lines_of bytes.now) }
+{
+    let mut count = 0;
+    let mut lines = Lines::new(bytes);
+    while lines.next_line().is_some() {
+        count += 1;
+    }
+    count
+}
+
+/// The words of a stream's file of at most 2^24 bytes, as many as it has lines.
+///
+/// `Refused` tells the first line that is no word.
+pub fn read_stream(alloc: Global, bytes: &[u8]) -> Result<Vec<u32>, InputError>
+    requires { length bytes.now ≤ 2 ^ 24 }
+    ensures read { IfOk result (λ words. spec.stream_of bytes.now ≡ Ok words.items) }
+    ensures refused { IfErr result (spec.IsStreamCause bytes.now) }
+{
+    let count = count_lines(bytes);
+    read_input(alloc, bytes, count)
 }
 
 /// The word of a line, where it is one.

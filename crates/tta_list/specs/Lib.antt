@@ -1,2 +1,4 @@
 pub mod Iterate
+pub mod Legs
+pub mod Input
 pub mod Lends

@@ -1,6 +1,6 @@
 //! What most crates of the toolset stand on: lists and names that contracts see as plain lists, the
-//! entry at a place of a list, the word for a step that is taken n times, and what is said of lists
-//! and of tests. It stands on the standard library alone.
+//! entry at a place of a list, the word for a step that is taken n times, runs from block to block,
+//! what a run is fed, and what is said of lists and of tests.
 #![tactic(auto)]
 
 mod items;

@@ -1,11 +1,14 @@
 -- What a table keeps when an operation is added at its end.
 use Rattle.std.proofs.Common.{◌≡◌, ◌<◌, ◌+◌, ◌++◌, ◌∷◌, [], ℕ, List, Some, None, Result, Ok, Err, OnOk, OnErr, true, false, length, get_or, zero, suc, refl, sym, ap, ◌∙◌, arith, length-append}
-use Rattle.std.specs.Prelude.{if◌then◌else◌, nat_lt}
+use Rattle.std.specs.Prelude.{if◌then◌else◌, nat_lt, not, ◌&&◌}
 use Rattle.std.specs.Str.{bytes_eq}
 use Rattle.std.proofs.lemmas.Slice.Eq.{bytes_eq-Decides}
 use Rattle.std.proofs.lemmas.List.{get_or_append_left, map-append, length-map}
 use Rattle.std.proofs.Math.Seq.{get_or-append_seam}
-use Rattle.std.proofs.lemmas.Bool.{false≢true}
+use Rattle.std.proofs.lemmas.Bool.{false≢true, and_from}
+use Rattle.std.specs.List.{list_all}
+use Rattle.std.proofs.lemmas.List.Folds.{list_all-append}
+use Rattle.tta_ops.specs.Reserved.{is_reserved, AreFree}
 use Rattle.tta_ops.specs.Row.{Row, names_of, arities_of}
 use Rattle.tta_ops.specs.Units.{first_at, AreDistinct, AreArities}
 
@@ -58,19 +61,28 @@ pub arities_more : (rows : List Row) (row : Row) → AreArities (arities_of rows
     → row.place.arity < 3 → AreArities (arities_of (rows ++ row ∷ []))
 arities_more rows row old some two = rw (map-append (λ r. r.place.arity) rows (row ∷ [])) (AreArities-append (arities_of rows) row.place.arity old some two)
 
+pub free_more : (rows : List Row) (row : Row) → AreFree (names_of rows) → is_reserved row.name ≡ false
+    → AreFree (names_of (rows ++ row ∷ []))
+free_more rows row old free =
+    let test = λ (name : List ℕ). not (is_reserved name) in
+    ap (list_all test) (map-append (λ r. r.name) rows (row ∷ [])) ∙ list_all-append test (names_of rows) (row.name ∷ [])
+    ∙ and_from (list_all test (names_of rows)) (test row.name && true) old (and_from (test row.name) true (ap not free) refl)
+
 -- what a table says of its rows
 pub record IsKept (rows : List Row) : Type 0 where
   pub few : length (names_of rows) < 65537
   pub distinct : AreDistinct (names_of rows)
+  pub reserved : AreFree (names_of rows)
   pub one_or_two : AreArities (arities_of rows)
 
 -- it holds still, whether a row was added or there was no memory
 pub kept_after : {T E : Type 0} (result : Result T E) (old new : List Row) (row : Row) → IsKept old
-    → first_at row.name 0 (names_of old) ≡ None → 0 < row.place.arity → row.place.arity < 3 → length old < 65536
+    → first_at row.name 0 (names_of old) ≡ None → is_reserved row.name ≡ false → 0 < row.place.arity → row.place.arity < 3 → length old < 65536
     → OnOk result (new ≡ old ++ row ∷ []) → OnErr result (new ≡ old) → IsKept new
-kept_after (Ok _) old new row kept fresh some two room more same = rw more (record {
+kept_after (Ok _) old new row kept fresh free some two room more same = rw more (record {
   few = few_more old row room;
   distinct = distinct_more old row kept.distinct fresh;
+  reserved = free_more old row kept.reserved free;
   one_or_two = arities_more old row kept.one_or_two some two;
 })
-kept_after (Err _) old new row kept fresh some two room more same = rw same kept
+kept_after (Err _) old new row kept fresh free some two room more same = rw same kept

@@ -7,7 +7,8 @@ use Rattle.tta_ops.specs.Bits.{logic, shift}
 use Rattle.tta_ops.specs.Comparison.{compare}
 use Rattle.tta_ops.specs.Row.{Row}
 use Rattle.tta_ops.specs.Offers.{rows_from}
-use Rattle.tta_ops.specs.Refusal.{reserved_words, first_refusal}
+use Rattle.tta_ops.specs.Reserved.{reserved_words, is_reserved}
+use Rattle.tta_ops.specs.Refusal.{first_refusal}
 
 sub_wraps : (arith 1).value 3 5 ≡ 4294967294
 sub_wraps = refl
@@ -69,8 +70,8 @@ divu_is_unsigned = refl
 remu_by_zero : (divide 1).value 7 0 ≡ 7
 remu_by_zero = refl
 
-seventeen_words_are_reserved : length reserved_words ≡ 17
-seventeen_words_are_reserved = refl
+eighteen_words_are_reserved : length reserved_words ≡ 18
+eighteen_words_are_reserved = refl
 
 -- units here are the lists of their names
 offered : List (List (List ℕ)) → List Row
@@ -80,17 +81,17 @@ offered units = rows_from length nth (λ _ _. 2) 0 units
     nth names i = slice_index_or names i []
 
 a_unit_twice : first_refusal [] (offered ((codes "add" ∷ codes "sub" ∷ []) ∷ (codes "add" ∷ codes "sub" ∷ []) ∷ [])) ≡ Some (Twice 1 0)
-unfolding offered
+unfolding offered is_reserved
 a_unit_twice = refl
 
 a_name_of_an_earlier_unit : first_refusal [] (offered ((codes "x" ∷ []) ∷ (codes "add" ∷ []) ∷ (codes "sub" ∷ codes "x" ∷ []) ∷ [])) ≡ Some (Twice 2 1)
-unfolding offered
+unfolding offered is_reserved
 a_name_of_an_earlier_unit = refl
 
 a_reserved_name : first_refusal [] (offered ((codes "add" ∷ codes "out" ∷ codes "add" ∷ []) ∷ [])) ≡ Some (Reserved 0 1)
-unfolding offered
+unfolding offered is_reserved
 a_reserved_name = refl
 
 nothing_to_refuse : first_refusal [] (offered ((codes "add" ∷ []) ∷ [] ∷ (codes "mul" ∷ []) ∷ [])) ≡ None
-unfolding offered
+unfolding offered is_reserved
 nothing_to_refuse = refl

@@ -4,3 +4,4 @@ pub mod Walk
 pub mod Shifts
 pub mod Examples
 pub mod Named
+pub mod ReservedWords

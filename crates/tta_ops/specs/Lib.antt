@@ -1,3 +1,4 @@
+pub mod Reserved
 pub mod Units
 pub mod Unit
 pub mod Row

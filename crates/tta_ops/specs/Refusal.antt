@@ -1,35 +1,11 @@
 -- Which operation is refused, walking the operations in their order.
-use Rattle.std.specs.Prelude.{ℕ, ◌≡◌, List, [], ◌∷◌, ◌++◌, if◌then◌else◌, Bool, Option, Some, None, Result, Ok, Err, codes, is_some}
-use Rattle.std.specs.List.{list_any}
+use Rattle.std.specs.Prelude.{ℕ, ◌≡◌, List, [], ◌∷◌, ◌++◌, if◌then◌else◌, Option, Some, None, Result, Ok, Err, is_some}
 use Rattle.std.specs.Option.{option_or}
-use Rattle.std.specs.Str.{bytes_eq}
 use Rattle.tta_ops.specs.declared.error.OpsError.{OpsError}
 use Rattle.tta_ops.specs.declared.error.OpsError.TheVariants.{Twice, Reserved, NoMemory}
+use Rattle.tta_ops.specs.Reserved.{is_reserved}
 use Rattle.tta_ops.specs.Row.{Row}
 use Rattle.tta_ops.specs.Units.{first_at}
-
--- the words that machine texts keep for operations of memory and of control
-abbrev pub machine_words : List (List ℕ)
-machine_words =
-    codes "ldw" ∷ codes "stw" ∷ codes "ldf" ∷ codes "stf" ∷ codes "jump" ∷ []
-
--- the words that lay out a program text
-abbrev pub block_words : List (List ℕ)
-block_words =
-    codes "proc" ∷ codes "end" ∷ codes "if" ∷ codes "goto" ∷ codes "when" ∷ codes "data" ∷ []
-
--- the words of a program's steps
-abbrev pub step_words : List (List ℕ)
-step_words =
-    codes "load" ∷ codes "store" ∷ codes "out" ∷ codes "call" ∷ codes "return" ∷ codes "halt" ∷ []
-
--- the words that machine and program texts keep for themselves
-abbrev pub reserved_words : List (List ℕ)
-reserved_words = machine_words ++ block_words ++ step_words
-
--- whether a name is one of these words
-abbrev pub is_reserved : List ℕ → Bool
-is_reserved name = list_any (bytes_eq name) reserved_words
 
 -- why an operation is refused, where operations of these names came before it
 abbrev pub refusal_of : List (List ℕ) → Row → Option OpsError

@@ -12,14 +12,14 @@ abbrev pub stated : {I : Type 0} {V : I → Type 0}
     → ((v : I) × V v → ℕ → ℕ → ℕ → ℕ) → UnitSet I V → Units
 stated meaning s =
     stated_by (λ b. meaning (b.vtable, b.value)) s.units.items
-    s.table.operations s.table.few s.table.distinct s.table.one_or_two
+    s.table.operations s.table.few s.table.distinct s.table.reserved s.table.one_or_two
 
 -- the same where the signature has a box of a unit
 abbrev pub stated_boxed : {I : Type 0} {V : I → Type 0}
     → (DynBox I Global V → ℕ → ℕ → ℕ → ℕ) → UnitSet I V → Units
 stated_boxed meaning s =
     stated_by meaning s.units.items
-    s.table.operations s.table.few s.table.distinct s.table.one_or_two
+    s.table.operations s.table.few s.table.distinct s.table.reserved s.table.one_or_two
 
 -- what the unit that offers an operation makes of a and b, with 0 for a where it takes one word
 abbrev pub meant_boxed : {I : Type 0} {V : I → Type 0}

@@ -6,6 +6,7 @@ use Rattle.std.proofs.lemmas.Option.{slice_get-map}
 use Rattle.std.proofs.lemmas.Nat.{mod_below, pow_pos}
 use Rattle.tta_ops.specs.declared.place.Place.{Place}
 use Rattle.tta_ops.specs.Row.{Row, names_of, arities_of, place_of}
+use Rattle.tta_ops.specs.Reserved.{AreFree}
 use Rattle.tta_ops.specs.Units.{Units, AreDistinct, AreArities}
 
 -- the number, or 0 where there is none
@@ -51,14 +52,15 @@ module _ {B : Type 0} (meaning : B → ℕ → ℕ → ℕ → ℕ) where
 
   -- what the units state, where these rows are their operations
   unfoldable pub stated_by : List B → (rows : List Row) → length (names_of rows) < 65537
-      → AreDistinct (names_of rows) → AreArities (arities_of rows) → Units
-  stated_by units rows few distinct one_or_two = record {
+      → AreDistinct (names_of rows) → AreFree (names_of rows) → AreArities (arities_of rows) → Units
+  stated_by units rows few distinct reserved one_or_two = record {
     names = names_of rows;
     arities = arities_of rows;
     value = λ op a b. value_at units (place_of rows op) a b;
     word = λ op a b. mod_below (meant_at units (place_of rows op) a b) (2 ^ 32) (pow_pos 32);
     ignores = λ op a b one. value_at-ignores units (place_of rows op) a b (arity-place_of rows op ∙ one);
     distinct = distinct;
+    reserved = reserved;
     one_or_two = one_or_two;
     paired = length-map rows (λ r. r.place.arity) ∙ sym (length-map rows (λ r. r.name));
     few = few;

@@ -1,6 +1,5 @@
 //! Operation units: what an operation is called, how many words it takes and what it gives; and
-//! sets of units, where operations are found by their names. It stands on no crate of the toolset,
-//! and looks names up by the kit's `indexmap`.
+//! sets of units, where operations are found by their names, by the kit's `indexmap`.
 #![tactic(auto)]
 
 mod arithmetic;
@@ -19,6 +18,7 @@ pub use arithmetic::{Arith, Divide};
 pub use bits::{Logic, Shift};
 pub use comparison::Compare;
 pub use error::OpsError;
+pub use reserved::is_reserved;
 pub use set::UnitSet;
 pub use unit::OpUnit;
 

@@ -1,15 +1,16 @@
 //! The operations that units offer, noted once.
 
-ghost use Rattle.std.specs.Prelude.{◌≡◌, ◌<◌, ◌≤◌, ◌+◌, ◌++◌, ◌∷◌, [], None, length};
+ghost use Rattle.std.specs.Prelude.{◌≡◌, ◌<◌, ◌≤◌, ◌+◌, ◌++◌, ◌∷◌, [], None, false, length};
 ghost use Rattle.std.specs.Prelude.{OnOk, IfOk, sum_by};
 ghost use Rattle.std.specs.String.{string_bytes};
+ghost use Rattle.tta_ops.specs.Reserved.{is_reserved, AreFree};
 ghost use Rattle.tta_ops.specs.Units.{first_at, AreDistinct, AreArities};
 ghost use Rattle.tta_ops.specs.Row.{Row, names_of, arities_of};
 
 use crate::error::OpsError;
 use crate::operations::Operations;
 use crate::place::Place;
-use crate::reserved::is_reserved_word;
+use crate::reserved::is_reserved;
 use crate::unit::OpUnit;
 use std::alloc::{AllocError, Global};
 
@@ -19,6 +20,7 @@ pub struct Table {
     pub operations: Operations,
     ghost few: { length (names_of operations) < 65537 },
     ghost distinct: { AreDistinct (names_of operations) },
+    ghost reserved: { AreFree (names_of operations) },
     ghost one_or_two: { AreArities (arities_of operations) },
 }
 
@@ -36,6 +38,7 @@ impl Table {
 
     fn add(&mut self, name: String, place: Place) -> Result<(), AllocError>
         requires fresh { first_at (string_bytes name) 0 (names_of self.old.operations) ≡ None }
+        requires free { is_reserved (string_bytes name) ≡ false }
         requires some { 0 < place.arity }
         requires two { place.arity < 3 }
         requires room { length self.old.operations < 65536 }
@@ -61,7 +64,7 @@ impl Table {
             OnOk result (self.new.operations ≡ self.old.operations ++ row ∷ []) }
     {
         let text = offered.name(index);
-        if is_reserved_word(text) {
+        if is_reserved(text.as_bytes()) {
             return Err(OpsError::Reserved { unit, index });
         }
         if self.operations.find(text).is_some() {

@@ -1,6 +1,5 @@
 //! The outside world of the toolset: named files that are read and written whole, and a sink that
-//! takes output. Each counts its faults, so that a caller's refusal can be traced to one. It stands
-//! on the names and lists of `tta_list`.
+//! takes output. Each counts its faults, so that a caller's refusal can be traced to one.
 #![tactic(auto)]
 
 mod error;

@@ -9,6 +9,7 @@ abbrev pub line_text : Line → List ℕ
 line_text (line.Word word) = decimal word ++ codes "\n"
 line_text line.Halted = codes "halted\n"
 line_text line.Running = codes "running\n"
+line_text line.Waiting = codes "waiting\n"
 line_text (line.Fault code cycle) = codes "fault " ++ decimal code ++ codes " " ++ decimal cycle ++ codes "\n"
 line_text (line.Memory address word) = codes "mem " ++ decimal address ++ codes " " ++ decimal word ++ codes "\n"
 line_text (line.Steps count) = codes "steps " ++ decimal count ++ codes "\n"

@@ -1,5 +1,5 @@
-//! The lines that commands print, each put in one call that takes no memory. It stands on the sink
-//! of `tta_ports`; the kit's `itoa` writes the numbers and its `arrayvec` holds the line.
+//! The lines that commands print, each put in one call that takes no memory. The kit's `itoa` writes
+//! the numbers and its `arrayvec` holds the line.
 #![tactic(auto)]
 
 mod line;

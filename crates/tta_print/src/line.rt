@@ -9,6 +9,8 @@ pub enum Line {
     Halted,
     /// The run goes on past its bound: `running`.
     Running,
+    /// The run waits for a word of the input, and none is left: `waiting`.
+    Waiting,
     /// The machine has faulted, after so many cycles without a fault: `fault CODE CYCLE`.
     Fault { code: u8, cycle: u64 },
     /// A data word that is not 0, at its address: `mem A W`.

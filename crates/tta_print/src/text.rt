@@ -43,6 +43,7 @@ fn push_line(text: &mut ArrayString<ROOM>, line: &Line)
         Line::Word(word) => push_number(text, u64::from(*word)),
         Line::Halted => text.push_str("halted"),
         Line::Running => text.push_str("running"),
+        Line::Waiting => text.push_str("waiting"),
         Line::Fault { code, cycle } => {
             text.push_str("fault ");
             push_two(text, u64::from(*code), *cycle);

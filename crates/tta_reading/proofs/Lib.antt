@@ -3,3 +3,4 @@ mod Declared
 mod Counted
 mod Examples
 pub mod Steps
+pub mod TextNames

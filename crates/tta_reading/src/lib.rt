@@ -1,6 +1,5 @@
 //! What the readers of line-by-line texts share: the lines of a text as words, names that were
-//! declared, and why a line could not be taken. It stands on the tokens of `tta_text`, and looks
-//! names up by the kit's `indexmap`.
+//! declared, and why a line could not be taken.
 #![tactic(auto)]
 
 mod line_error;

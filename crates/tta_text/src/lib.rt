@@ -1,5 +1,4 @@
-//! The tokens of the toolset's texts: machines, programs, assembly and scripts. It stands on the
-//! standard library alone.
+//! The tokens of the toolset's texts: machines, programs, assembly and scripts.
 //!
 //! A text is bytes. Its lines are counted from 1 and end at a newline each; every line ends with a
 //! token of its own, also a last line without newline. Blanks and comments are no tokens, and at
