@@ -2,3 +2,5 @@ pub mod Fields
 pub mod Guards
 pub mod Net
 pub mod Ports
+pub mod Coverage
+pub mod Ways

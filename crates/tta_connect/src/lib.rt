@@ -1,11 +1,22 @@
-//! Which buses join the ends of a move: what a machine's text says of it, prepared so that an
-//! answer takes a few loads. It stands on the machine of `tta_machine`, and on `tta_list`.
+//! Which buses join the ends of a move, prepared so that an answer takes a few loads; and what the
+//! compiler needs of a machine and chooses there.
 #![tactic(auto)]
 
+mod calls;
+mod choice;
+mod ends;
 mod fields;
+mod guard;
 mod guards;
+mod homes;
+mod hub;
 mod net;
 mod ports;
 mod sets;
+mod units;
+mod way;
 
+pub use calls::{Call, anywhere, offered};
+pub use choice::{Choice, CoverError, cover};
 pub use net::Net;
+pub use way::Way;

@@ -9,7 +9,7 @@ use Rattle.tta_ops.specs.Units.{Units}
 use Rattle.tta_machine.specs.declared.reading.draft.Named.{Named}
 use Rattle.tta_machine.specs.declared.reading.draft.Named.TheVariants as place
 use Rattle.tta_machine.specs.declared.reading.draft.Draft.{Draft}
-use Rattle.tta_machine.specs.declared.parts.Unit.{Unit as OpUnit}
+use Rattle.tta_arch.specs.declared.parts.Unit.{Unit as OpUnit}
 use Rattle.tta_machine.specs.Draft.{nothing}
 use Rattle.tta_machine.specs.Forms.{OpForm}
 use Rattle.tta_machine.specs.Declarations.{with_op}

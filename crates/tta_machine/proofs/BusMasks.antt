@@ -12,7 +12,7 @@ use Rattle.tta_reading.specs.Steps.{◌>>?◌}
 use Rattle.tta_reading.specs.Lines.{texts}
 use Rattle.tta_reading.specs.declared.word.Word.{Word}
 use Rattle.tta_machine.specs.declared.reading.draft.Draft.{Draft}
-use Rattle.tta_machine.specs.Rules.{are_different}
+use Rattle.tta_arch.specs.Rules.{are_different}
 use Rattle.tta_machine.specs.Draft.{bus_named}
 use Rattle.tta_machine.specs.Declarations.{bus_set, buses_named}
 use Rattle.tta_machine.specs.BusSets.{set_once}

@@ -1,10 +1,7 @@
 pub mod BusMasks
-pub mod Facts
 pub mod FormSamples
 pub mod Names
 pub mod Pieces
-pub mod Samples
-pub mod Lists
 pub mod Naming
 pub mod Growth
 pub mod Lookups
@@ -12,6 +9,7 @@ pub mod BusSets
 pub mod Owners
 pub mod MadeParts
 pub mod MadeLinks
+pub mod NamedForms
 pub mod Taken
 pub mod TakenParts
 pub mod TakenLinks
@@ -26,11 +24,7 @@ pub mod UnitLines
 pub mod Continued
 pub mod Said
 pub mod Completed
+pub mod Over
 pub mod Whole
 pub mod OnlyOne
 pub mod Limits
-pub mod Widths
-pub mod CodeLists
-pub mod Sizes
-pub mod BusSources
-pub mod Layouts

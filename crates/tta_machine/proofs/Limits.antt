@@ -1,9 +1,10 @@
 -- Texts one past each limit: they are refused at the line past it, so all lines before it are read.
 use Rattle.std.specs.Prelude.{◌≡◌, ℕ, ◌+◌, ◌/◌, ◌%◌, List, [], ◌∷◌, ◌++◌, map, replicate, Err, refl, codes}
 use Rattle.std.proofs.Common.{lit<}
+use Rattle.tta_ops.specs.Reserved.{is_reserved, AreFree}
 use Rattle.tta_ops.specs.Units.{Units}
 use Rattle.tta_machine.specs.declared.reading.refusal.Refusal.TheVariants.{Syntax, Range, Missing}
-use Rattle.tta_machine.specs.Fields.{numbers}
+use Rattle.tta_arch.specs.Fields.{numbers}
 use Rattle.tta_machine.proofs.Readings.{read, read_with, distinct_from, arities_from}
 
 -- the k-th of up to 256 names that begin with an N
@@ -58,6 +59,11 @@ templates-past_limit : read (start ++ codes "imm J size 1 out O" ∷ lines 9 (co
 unfolding read
 templates-past_limit = refl
 
+-- no name of these operations is reserved
+many_free : AreFree (map name (numbers 33))
+unfolding is_reserved
+many_free = refl
+
 -- a unit with as many operations as it may have, of 33 that there are
 abbrev many : Units
 many = record {
@@ -67,6 +73,7 @@ many = record {
   word = λ op a b. lit< tt;
   ignores = λ op a b one. refl;
   distinct = distinct_from (map name (numbers 33)) refl;
+  reserved = many_free;
   one_or_two = arities_from (replicate 33 1) refl;
   paired = refl;
   few = lit< tt;

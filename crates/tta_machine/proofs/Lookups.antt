@@ -11,7 +11,7 @@ use Rattle.tta_machine.specs.declared.reading.refusal.Refusal.TheVariants.{Unkno
 use Rattle.tta_machine.specs.declared.reading.draft.Named.{Named}
 use Rattle.tta_machine.specs.declared.reading.draft.Named.TheVariants as place
 use Rattle.tta_machine.specs.declared.reading.draft.Draft.{Draft}
-use Rattle.tta_machine.specs.Rules.{is_socket, is_port_socket}
+use Rattle.tta_arch.specs.Rules.{is_socket, is_port_socket}
 use Rattle.tta_machine.specs.Draft.{bus_place, socket_place, file_place, imm_place, unit_place, bus_named, socket_named, file_named, imm_named, unit_named}
 use Rattle.tta_machine.specs.Declarations.{buses_named, port_named}
 use Rattle.tta_machine.specs.Kept.{NamesAreThere}

@@ -11,16 +11,16 @@ use Rattle.tta_ops.specs.Units.{Units}
 use Rattle.tta_machine.specs.declared.reading.refusal.Refusal.TheVariants.{Unknown, Twice, Range, Missing}
 use Rattle.tta_machine.specs.declared.reading.draft.Named.TheVariants as place
 use Rattle.tta_machine.specs.declared.reading.draft.Draft.{Draft}
-use Rattle.tta_machine.specs.declared.parts.File.{File}
-use Rattle.tta_machine.specs.declared.parts.ImmUnit.{ImmUnit}
-use Rattle.tta_machine.specs.declared.parts.Unit.{Unit as OpUnit}
-use Rattle.tta_machine.specs.declared.parts.UnitOp.{UnitOp}
-use Rattle.tta_machine.specs.declared.parts.Op.{Op}
-use Rattle.tta_machine.specs.declared.parts.Guard.{Guard}
-use Rattle.tta_machine.specs.declared.parts.Template.{Template}
-use Rattle.tta_machine.specs.declared.parts.Control.{Control}
-use Rattle.tta_machine.specs.Effects.{has_result}
-use Rattle.tta_machine.specs.Rules.{is_from_to, are_different, same_op, same_guard}
+use Rattle.tta_arch.specs.declared.parts.File.{File}
+use Rattle.tta_arch.specs.declared.parts.ImmUnit.{ImmUnit}
+use Rattle.tta_arch.specs.declared.parts.Unit.{Unit as OpUnit}
+use Rattle.tta_arch.specs.declared.parts.UnitOp.{UnitOp}
+use Rattle.tta_arch.specs.declared.parts.Op.{Op}
+use Rattle.tta_arch.specs.declared.parts.Guard.{Guard}
+use Rattle.tta_arch.specs.declared.parts.Template.{Template}
+use Rattle.tta_arch.specs.declared.parts.Control.{Control}
+use Rattle.tta_arch.specs.Effects.{has_result}
+use Rattle.tta_arch.specs.Rules.{is_from_to, are_different, same_op, same_guard}
 use Rattle.tta_machine.specs.Forms.{OpForm, GuardForm, TemplateForm, ControlForm, SpaceForm}
 use Rattle.tta_machine.specs.Draft.{is_taken, is_too_long, bus_named, socket_named, file_named, imm_named, unit_named}
 use Rattle.tta_machine.specs.Declarations.{take_op, take_guard, take_template, take_control, take_space, buses_named, bus_set, port_named, op_named, arity_of, is_latency, is_served, with_op}

@@ -6,13 +6,14 @@ use Rattle.std.proofs.lemmas.Bool.{or_parts}
 use Rattle.std.proofs.lemmas.Slice.Eq.{bytes_eq-Decides}
 use Rattle.tta_list.proofs.Lists.{slice_get-push, slice_get-changed}
 use Rattle.tta_list.proofs.Tests.{none_from_is_some}
+use Rattle.tta_text.specs.Words.{is_name}
 use Rattle.tta_reading.specs.Names.{Declared, named_in}
 use Rattle.tta_reading.proofs.Found.{named_in-new}
 use Rattle.tta_machine.specs.declared.reading.draft.Named.{Named}
 use Rattle.tta_machine.specs.declared.reading.draft.Named.TheVariants as place
 use Rattle.tta_machine.specs.declared.reading.draft.Draft.{Draft}
 use Rattle.tta_machine.specs.Draft.{is_taken, is_too_long}
-use Rattle.tta_machine.specs.Rules.{IsMachineName}
+use Rattle.tta_arch.specs.Rules.{IsMachineName}
 use Rattle.tta_machine.specs.Kept.{AreNamed, PartsAreNamed}
 
 -- ---- one name
@@ -46,9 +47,10 @@ named_in-push (d ∷ ds) new p name q e = by (named_in-push ds new p name q) (by
 pub not_taken : (d : Draft) (name : List ℕ) → is_taken d name ≡ false → named_in d.names name ≡ None
 not_taken d name e = none_from_is_some (named_in d.names name) (or_parts (is_some (named_in d.names name)) (bytes_eq name (codes "gcu")) e).0
 
--- a name that is neither taken nor too long is one that a machine may declare
-pub good_name : (d : Draft) (name : List ℕ) → is_taken d name ≡ false → is_too_long name ≡ false → IsMachineName name
-good_name d name free short = record {
+-- a name of the text that is neither taken nor too long is one that a machine may declare
+pub good_name : (d : Draft) (name : List ℕ) → is_name name ≡ true → is_taken d name ≡ false → is_too_long name ≡ false → IsMachineName name
+good_name d name written free short = record {
+  written = written;
   short = ltb-false 64 (length name) short;
   free = (or_parts (is_some (named_in d.names name)) (bytes_eq name (codes "gcu")) free).1;
 }

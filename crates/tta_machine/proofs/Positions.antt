@@ -14,7 +14,7 @@ use Rattle.tta_machine.specs.declared.reading.refusal.Refusal.TheVariants.{Unkno
 use Rattle.tta_machine.specs.declared.reading.draft.Named.{Named}
 use Rattle.tta_machine.specs.declared.reading.draft.Named.TheVariants as place
 use Rattle.tta_machine.specs.declared.reading.draft.Draft.{Draft}
-use Rattle.tta_machine.specs.Rules.{are_different}
+use Rattle.tta_arch.specs.Rules.{are_different}
 use Rattle.tta_machine.specs.Draft.{bus_named, socket_named, file_named, imm_named}
 use Rattle.tta_machine.specs.Declarations.{buses_named, port_named}
 use Rattle.tta_machine.specs.Kept.{IsDraft}

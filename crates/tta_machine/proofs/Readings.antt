@@ -11,17 +11,18 @@ use Rattle.tta_list.proofs.Lists.{list_all_one}
 use Rattle.tta_text.specs.Numbers.{number_of, digits_of, value_below}
 use Rattle.tta_text.specs.Tokens.{tokens_of, tokens_from, piece_at, number_piece, mark_piece}
 use Rattle.tta_reading.specs.Lines.{lines_of}
+use Rattle.tta_ops.specs.Reserved.{is_reserved, AreFree}
 use Rattle.tta_ops.specs.Units.{Units, AreDistinct, AreArities}
 use Rattle.tta_machine.specs.declared.reading.refusal.Refusal.TheVariants.{Syntax, Unknown, Twice, Range, Missing, TooNarrow}
-use Rattle.tta_machine.specs.Rules.{are_different, is_from_to}
-use Rattle.tta_machine.specs.Fields.{width_for}
+use Rattle.tta_arch.specs.Rules.{are_different, is_from_to}
+use Rattle.tta_arch.specs.Fields.{width_for}
 use Rattle.tta_machine.specs.Forms.{bus_form, socket_form, file_form, imm_form, unit_form, op_form, guard_form, template_form, control_form, space_form}
 use Rattle.tta_machine.specs.Declarations.{take_bus, take_socket, take_file, take_imm, take_unit, take_op, take_guard, take_template, take_control, take_space}
-use Rattle.tta_machine.specs.Machine.{Machine}
+use Rattle.tta_arch.specs.Machine.{Machine}
 use Rattle.tta_machine.specs.Grammar.{IsMachineText}
 use Rattle.tta_machine.specs.Text.{take_line, machine_of_text, Refused}
-use Rattle.tta_machine.proofs.Facts.{from_to-least, from_to-greatest}
-use Rattle.tta_machine.proofs.Samples.{one_bus, three_buses}
+use Rattle.tta_arch.proofs.Facts.{from_to-least, from_to-greatest}
+use Rattle.tta_arch.proofs.Samples.{one_bus, three_buses}
 
 -- ---- units
 
@@ -52,6 +53,11 @@ standard_names =
 abbrev standard_arities : List ℕ
 standard_arities = 2 ∷ 2 ∷ 2 ∷ 2 ∷ 1 ∷ 2 ∷ 2 ∷ 2 ∷ 1 ∷ 2 ∷ 2 ∷ 2 ∷ 2 ∷ 2 ∷ 2 ∷ 2 ∷ 2 ∷ 2 ∷ 2 ∷ 2 ∷ []
 
+-- none of these names is reserved
+pub standard_free : AreFree standard_names
+unfolding is_reserved
+standard_free = refl
+
 -- operations of the names and arities that the five standard units offer; a machine's text does not depend on what they give
 abbrev pub units : Units
 units = record {
@@ -61,6 +67,7 @@ units = record {
   word = λ op a b. lit< tt;
   ignores = λ op a b one. refl;
   distinct = distinct_from standard_names refl;
+  reserved = standard_free;
   one_or_two = arities_from standard_arities refl;
   paired = refl;
   few = lit< tt;

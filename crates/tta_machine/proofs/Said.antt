@@ -1,23 +1,25 @@
 -- The machine that a text is read as is the one that its lines describe.
 use Rattle.std.proofs.Common.{◌≡◌, ◌+◌, ◌∷◌, [], ℕ, List, Option, Some, None, Ok, true, map, filter_map, option_to_list, refl, sym, ap, ap₂, subst, ◌∙◌, append-nil, codes}
 use Rattle.std.specs.Prelude.{unwrap_or}
-use Rattle.std.specs.List.{list_all}
+use Rattle.std.specs.List.{list_all, AllByRecursion}
 use Rattle.std.specs.Str.{bytes_eq}
 use Rattle.tta_reading.specs.Lines.{Line, Lexeme, lines_of}
 use Rattle.tta_reading.specs.Words.{is_keyword}
 use Rattle.tta_reading.specs.Steps.{at_line}
 use Rattle.tta_reading.proofs.Steps.{same_ok, then-ok, at_line-ok}
+use Rattle.tta_reading.proofs.TextNames.{LineNames, text_names}
 use Rattle.tta_ops.specs.Units.{Units}
 use Rattle.tta_machine.specs.declared.reading.draft.Draft.{Draft}
-use Rattle.tta_machine.specs.declared.parts.Control.{Control}
-use Rattle.tta_machine.specs.Machine.{Machine}
+use Rattle.tta_arch.specs.declared.parts.Control.{Control}
+use Rattle.tta_arch.specs.Machine.{Machine}
+use Rattle.tta_arch.specs.Rules.{IsMachine}
 use Rattle.tta_machine.specs.Draft.{nothing, machine_of}
 use Rattle.tta_machine.specs.Forms.{bus_form, socket_form, file_form, imm_form, unit_form, op_form, guard_form, template_form, control_form, space_form}
 use Rattle.tta_machine.specs.Text.{take_line, take_lines, complete, machine_of_text}
 use Rattle.tta_machine.specs.Kept.{IsDraft}
 use Rattle.tta_machine.specs.Grammar.{IsMachineText, IsSize, bus_lines, socket_lines, file_lines, imm_lines, unit_lines, op_lines, guard_lines, template_lines, control_lines, space_lines, bus_names, socket_names, file_names, imm_names, unit_names, is_known_op, bus_made, socket_made, file_made, imm_made, unit_made, guard_made, template_made, control_made, data_size, frame_size}
 use Rattle.tta_machine.proofs.Taken.{Taken, TakenBus, TakenSocket, TakenFile, TakenImm, TakenUnit, TakenOp, TakenGuard, TakenTemplate, TakenControl, TakenSpace, declare-taken}
-use Rattle.tta_machine.proofs.TakenLines.{take_line-keeps, take_lines-keeps, nothing-kept, complete-ok}
+use Rattle.tta_machine.proofs.TakenLines.{take_line-keeps, take_lines-keeps, nothing-kept, is_machine, complete-ok}
 use Rattle.tta_machine.proofs.KindLines.{ByKind, by_kind, OneLine, one_line, no_line, in_front, by_word, adds_none}
 use Rattle.tta_machine.proofs.UnitLines.{units_none}
 use Rattle.tta_machine.proofs.Borne.{AreBorne, take_line-borne, take_lines-borne, nothing-borne}
@@ -80,13 +82,13 @@ take_line-continues u line d next e (key ∷ words) rest places r b end end_born
 -- ---- a text
 
 pub take_lines-continues : (u : Units) (line : ℕ) (d e : Draft) (lines : List Line) → HasPlaces e → IsDraft e → AreBorne e → IsDraft d → AreBorne d
-    → take_lines u line d lines ≡ Ok e → Continues u d e (by_kind lines)
-take_lines-continues u line d e [] places end end_borne r b h = subst (λ x. Continues u x e (by_kind [])) (sym (same_ok d e h)) (nothing-continues u e)
-take_lines-continues u line d e (words ∷ rest) places end end_borne r b h =
+    → AllByRecursion LineNames lines → take_lines u line d lines ≡ Ok e → Continues u d e (by_kind lines)
+take_lines-continues u line d e [] places end end_borne r b are h = subst (λ x. Continues u x e (by_kind [])) (sym (same_ok d e h)) (nothing-continues u e)
+take_lines-continues u line d e (words ∷ rest) places end end_borne r b are h =
     let one = then-ok (at_line line (take_line u line d words)) _ e h in
     let taken = at_line-ok line (take_line u line d words) one.0 one.1 in
     let later : Continues u one.0 e (by_kind rest) =
-    take_lines-continues u (line + 1) one.0 e rest places end end_borne (take_line-keeps u line d one.0 words r taken) (take_line-borne u line d one.0 words b taken) one.2 in
+    take_lines-continues u (line + 1) one.0 e rest places end end_borne (take_line-keeps u line d one.0 words r are.0 taken) (take_line-borne u line d one.0 words b taken) are.1 one.2 in
     take_line-continues u line d one.0 e words rest places r b end end_borne taken later
 
 -- the names of what forms make are the names in the forms
@@ -136,8 +138,18 @@ pub machine-said : (u : Units) (text : List ℕ) (m : Machine) → machine_of_te
 unfolding machine_of_text
 machine-said u text m h =
     let read = then-ok (take_lines u 1 nothing (lines_of text)) complete m h in
-    let kept : IsDraft read.0 = take_lines-keeps u 1 nothing read.0 (lines_of text) nothing-kept read.1 in
+    let names = text_names text in
+    let kept : IsDraft read.0 = take_lines-keeps u 1 nothing read.0 (lines_of text) nothing-kept names read.1 in
     let borne : AreBorne read.0 = take_lines-borne u 1 nothing read.0 (lines_of text) nothing-borne read.1 in
     let whole = complete-ok read.0 m read.2 in
-    let said : Continues u nothing read.0 (by_kind (lines_of text)) = take_lines-continues u 1 nothing read.0 (lines_of text) (has_places read.0 kept borne) kept borne nothing-kept nothing-borne read.1 in
+    let said : Continues u nothing read.0 (by_kind (lines_of text)) = take_lines-continues u 1 nothing read.0 (lines_of text) (has_places read.0 kept borne) kept borne nothing-kept nothing-borne names read.1 in
     subst (IsMachineText u (lines_of text)) whole.made (draft_said u (lines_of text) read.0 whole.control said whole.has_control)
+
+-- and it keeps the rules of machines
+pub text_machine : (u : Units) (text : List ℕ) (m : Machine) → machine_of_text u text ≡ Ok m → IsMachine m
+unfolding machine_of_text
+text_machine u text m h =
+    let read = then-ok (take_lines u 1 nothing (lines_of text)) complete m h in
+    let kept : IsDraft read.0 = take_lines-keeps u 1 nothing read.0 (lines_of text) nothing-kept (text_names text) read.1 in
+    let whole = complete-ok read.0 m read.2 in
+    subst IsMachine whole.made (is_machine read.0 whole.control kept whole.has_control whole.has_bus whole.wide)

@@ -1,5 +1,5 @@
 -- The lines of a text keep the rules of drafts, and what they leave is a machine.
-use Rattle.std.proofs.Common.{◌≡◌, ◌<◌, ◌≤◌, ◌∷◌, [], ℕ, Bool, List, Option, Some, None, Result, Ok, Err, true, false, suc, length, refl, sym, ap, subst, ◌∙◌, arith, codes}
+use Rattle.std.proofs.Common.{◌≡◌, ◌<◌, ◌≤◌, ◌+◌, ◌∷◌, [], ℕ, Bool, List, Option, Some, None, Result, Ok, Err, true, false, suc, length, refl, sym, ap, subst, ◌∙◌, arith, codes}
 use Rattle.std.specs.Prelude.{nat_lt, if◌then◌else◌}
 use Rattle.std.specs.Option.{option_map_or}
 use Rattle.std.specs.List.{AllByRecursion}
@@ -7,22 +7,25 @@ use Rattle.std.proofs.lemmas.Bool.{ltb-true, ltb-false}
 use Rattle.tta_reading.specs.Lines.{Line, Lexeme}
 use Rattle.tta_reading.specs.Words.{name_of}
 use Rattle.tta_reading.specs.Words.{value_of, is_mark}
-use Rattle.tta_reading.proofs.Steps.{same_ok, then-some, only_if-some}
+use Rattle.tta_reading.specs.Steps.{at_line}
+use Rattle.tta_reading.proofs.Steps.{same_ok, then-some, only_if-some, then-ok, at_line-ok}
+use Rattle.tta_reading.proofs.TextNames.{LineNames}
 use Rattle.tta_ops.specs.Units.{Units}
 use Rattle.tta_machine.specs.declared.reading.refusal.Refusal.TheVariants.{Missing, TooNarrow}
 use Rattle.tta_machine.specs.declared.reading.draft.Draft.{Draft}
-use Rattle.tta_machine.specs.declared.parts.Template.{Template}
-use Rattle.tta_machine.specs.declared.parts.Control.{Control}
-use Rattle.tta_machine.specs.Machine.{Machine}
-use Rattle.tta_machine.specs.Fields.{taken_width}
-use Rattle.tta_machine.specs.Rules.{IsMachine, is_control}
+use Rattle.tta_arch.specs.declared.parts.Template.{Template}
+use Rattle.tta_arch.specs.declared.parts.Control.{Control}
+use Rattle.tta_arch.specs.Machine.{Machine}
+use Rattle.tta_arch.specs.Fields.{taken_width}
+use Rattle.tta_arch.specs.Rules.{IsMachine, is_control}
 use Rattle.tta_machine.specs.Draft.{nothing, machine_of}
 use Rattle.tta_machine.specs.Forms.{one_of_two, names_alone, SocketForm, TemplateForm, socket_form, template_form}
 use Rattle.tta_machine.specs.Text.{take_line, Refused, take_lines, narrow_line, complete}
 use Rattle.tta_machine.specs.Kept.{IsDraft}
 use Rattle.tta_machine.proofs.Growth.{names_there}
 use Rattle.tta_machine.proofs.Distinct.{names_good, names_different}
-use Rattle.tta_machine.proofs.Taken.{Taken, TakenBus, TakenSocket, TakenFile, TakenImm, TakenUnit, TakenOp, TakenGuard, TakenTemplate, TakenControl, TakenSpace, line_keeps, lines_keep}
+use Rattle.tta_machine.proofs.Taken.{Taken, TakenBus, TakenSocket, TakenFile, TakenImm, TakenUnit, TakenOp, TakenGuard, TakenTemplate, TakenControl, TakenSpace, declare-taken}
+use Rattle.tta_machine.proofs.NamedForms.{bus-named, socket-named, file-named, imm-named, unit-named, template-named}
 use Rattle.tta_machine.proofs.TakenParts.{bus_kept, socket_kept, file_kept, imm_kept, unit_kept}
 use Rattle.tta_machine.proofs.TakenOps.{op_kept}
 use Rattle.tta_machine.proofs.TakenLinks.{guard_kept, template_kept, control_kept, space_kept}
@@ -73,26 +76,33 @@ template_form-some (n ∷ u ∷ dot ∷ i ∷ bus ∷ buses) f h =
 
 -- ---- lines
 
--- what a line declares keeps the rules of drafts
-taken-keeps : (u : Units) (line : ℕ) (d e : Draft) (key : Lexeme) (words : Line) → IsDraft d → Taken u line d e key words → IsDraft e
-taken-keeps u line d e key words r (TakenBus f is said m) = bus_kept d e f r m
-taken-keeps u line d e key words r (TakenSocket f is said m) = socket_kept d e f r (socket_form-some words f said) m
-taken-keeps u line d e key words r (TakenFile f is said m) = file_kept d e f r m
-taken-keeps u line d e key words r (TakenImm f is said m) = imm_kept d e f r m
-taken-keeps u line d e key words r (TakenUnit f is said m) = unit_kept d e f r m
-taken-keeps u line d e key words r (TakenOp f is said m) = op_kept u d e f r m
-taken-keeps u line d e key words r (TakenGuard f is said m) = guard_kept d e f r m
-taken-keeps u line d e key words r (TakenTemplate f is said m) = template_kept line d e f r (template_form-some words f said) m
-taken-keeps u line d e key words r (TakenControl f is said m) = control_kept d e f r m
-taken-keeps u line d e key words r (TakenSpace f is said m) = space_kept d e f r m
+-- what a line declares keeps the rules of drafts, where its names are names of the text
+taken-keeps : (u : Units) (line : ℕ) (d e : Draft) (key : Lexeme) (words : Line) → IsDraft d → LineNames words → Taken u line d e key words → IsDraft e
+taken-keeps u line d e key words r are (TakenBus f is said m) = bus_kept d e f r (bus-named words are f said) m
+taken-keeps u line d e key words r are (TakenSocket f is said m) = socket_kept d e f r (socket-named words are f said) (socket_form-some words f said) m
+taken-keeps u line d e key words r are (TakenFile f is said m) = file_kept d e f r (file-named words are f said) m
+taken-keeps u line d e key words r are (TakenImm f is said m) = imm_kept d e f r (imm-named words are f said) m
+taken-keeps u line d e key words r are (TakenUnit f is said m) = unit_kept d e f r (unit-named words are f said) m
+taken-keeps u line d e key words r are (TakenOp f is said m) = op_kept u d e f r m
+taken-keeps u line d e key words r are (TakenGuard f is said m) = guard_kept d e f r m
+taken-keeps u line d e key words r are (TakenTemplate f is said m) = template_kept line d e f r (template-named words are f said) (template_form-some words f said) m
+taken-keeps u line d e key words r are (TakenControl f is said m) = control_kept d e f r m
+taken-keeps u line d e key words r are (TakenSpace f is said m) = space_kept d e f r m
 
-pub take_line-keeps : (u : Units) (line : ℕ) (d e : Draft) (words : Line) → IsDraft d → take_line u line d words ≡ Ok e → IsDraft e
-take_line-keeps u line d e words r h = line_keeps u IsDraft (taken-keeps u) line d e words r h
+pub take_line-keeps : (u : Units) (line : ℕ) (d e : Draft) (words : Line) → IsDraft d → LineNames words → take_line u line d words ≡ Ok e → IsDraft e
+unfolding take_line
+take_line-keeps u line d e [] r are h = subst IsDraft (same_ok d e h) r
+take_line-keeps u line d e (key ∷ words) r are h = taken-keeps u line d e key words r are.1 (declare-taken u line d e key words h)
 
 -- ---- a text
 
-pub take_lines-keeps : (u : Units) (line : ℕ) (d e : Draft) (lines : List Line) → IsDraft d → take_lines u line d lines ≡ Ok e → IsDraft e
-take_lines-keeps u line d e lines r h = lines_keep u IsDraft (taken-keeps u) line d e lines r h
+pub take_lines-keeps : (u : Units) (line : ℕ) (d e : Draft) (lines : List Line) → IsDraft d → AllByRecursion LineNames lines
+    → take_lines u line d lines ≡ Ok e → IsDraft e
+take_lines-keeps u line d e [] r are h = subst IsDraft (same_ok d e h) r
+take_lines-keeps u line d e (words ∷ lines) r are h =
+    let one = then-ok (at_line line (take_line u line d words)) _ e h in
+    let next = take_line-keeps u line d one.0 words r are.0 (at_line-ok line (take_line u line d words) one.0 one.1) in
+    take_lines-keeps u (line + 1) one.0 e lines next are.1 one.2
 
 -- before the first line
 pub nothing-kept : IsDraft nothing

@@ -5,19 +5,20 @@ use Rattle.std.specs.Option.{option_map_or}
 use Rattle.std.proofs.lemmas.Bool.{or_parts, and_from, not-false, leb-false, lt-ltb}
 use Rattle.std.proofs.lemmas.List.{length_push}
 use Rattle.tta_list.proofs.Lists.{list_all_push, all_push}
+use Rattle.tta_text.specs.Words.{is_name}
 use Rattle.tta_reading.specs.Names.{Declared}
 use Rattle.tta_machine.specs.declared.reading.draft.Named.{Named}
 use Rattle.tta_machine.specs.declared.reading.draft.Named.TheVariants as place
 use Rattle.tta_machine.specs.declared.reading.draft.Draft.{Draft}
-use Rattle.tta_machine.specs.declared.parts.File.{File}
-use Rattle.tta_machine.specs.declared.parts.Guard.{Guard}
-use Rattle.tta_machine.specs.declared.parts.Template.{Template}
-use Rattle.tta_machine.specs.Rules.{IsBusSet, is_from_to, is_socket, is_port_socket, is_guard, same_guard, is_template, is_control}
+use Rattle.tta_arch.specs.declared.parts.File.{File}
+use Rattle.tta_arch.specs.declared.parts.Guard.{Guard}
+use Rattle.tta_arch.specs.declared.parts.Template.{Template}
+use Rattle.tta_arch.specs.Rules.{IsBusSet, is_from_to, is_socket, is_port_socket, is_guard, same_guard, is_template, is_control}
 use Rattle.tta_machine.specs.Forms.{GuardForm, TemplateForm, ControlForm, SpaceForm}
 use Rattle.tta_machine.specs.Draft.{is_too_long}
 use Rattle.tta_machine.specs.Declarations.{bus_set}
 use Rattle.tta_machine.specs.Kept.{IsDraft}
-use Rattle.tta_machine.proofs.Lists.{different_push}
+use Rattle.tta_arch.proofs.Lists.{different_push}
 use Rattle.tta_machine.proofs.Naming.{AreNamed-push, are_named_longer, not_taken, good_name}
 use Rattle.tta_machine.proofs.Growth.{Grows, there_more, there_still}
 use Rattle.tta_machine.proofs.Lookups.{bus_named-some, buses_named-some, is_socket-named, port_named-ok}
@@ -55,8 +56,8 @@ guard_kept d e f r m =
 -- ---- templates
 
 -- the form of a template names at least one bus
-pub template_kept : (line : ℕ) (d e : Draft) (f : TemplateForm) → IsDraft d → 0 < length f.buses → TemplateMade line d e f → IsDraft e
-template_kept line d e f r some m =
+pub template_kept : (line : ℕ) (d e : Draft) (f : TemplateForm) → IsDraft d → is_name f.name ≡ true → 0 < length f.buses → TemplateMade line d e f → IsDraft e
+template_kept line d e f r written some m =
     let template : Template = template_of f m.imm m.buses in
     let count = or_parts (nat_le m.unit.size f.index || is_too_long f.name) (nat_le 8 (length d.templates)) m.range in
     let fits = or_parts (nat_le m.unit.size f.index) (is_too_long f.name) count.0 in
@@ -72,7 +73,7 @@ template_kept line d e f r some m =
     let new : Declared Named = (f.name, place.Template (length d.templates)) ∷ [] in
     let kept : IsDraft (template_added line d f m.imm m.buses) = record {
       limits = let l = r.limits in omega arith;
-      there = there_more d (template_added line d f m.imm m.buses) f.name (place.Template (length d.templates)) r.there refl grows (omega arith) (good_name d f.name m.free fits.1);
+      there = there_more d (template_added line d f m.imm m.buses) f.name (place.Template (length d.templates)) r.there refl grows (omega arith) (good_name d f.name written m.free fits.1);
       named = assumption (AreNamed-push (λ s. s.name) place.Template d.names d.templates template r.named.templates (not_taken d f.name m.free), are_named_longer d new r.named);
       rules = assumption (
         list_all_push (is_template d.imms) d.templates template r.rules.templates rule,

@@ -12,17 +12,17 @@ use Rattle.tta_list.proofs.Tests.{and_map}
 use Rattle.tta_ops.specs.Units.{Units, named, first_at}
 use Rattle.tta_machine.specs.declared.reading.draft.Named.TheVariants as place
 use Rattle.tta_machine.specs.declared.reading.draft.Draft.{Draft}
-use Rattle.tta_machine.specs.declared.parts.Socket.{Socket}
-use Rattle.tta_machine.specs.declared.parts.Unit.{Unit as OpUnit}
-use Rattle.tta_machine.specs.declared.parts.UnitOp.{UnitOp}
-use Rattle.tta_machine.specs.declared.parts.Op.{Op}
-use Rattle.tta_machine.specs.declared.parts.Op.TheVariants.{Ldw, Stw, Ldf, Stf, Out, Set}
-use Rattle.tta_machine.specs.Effects.{has_result}
-use Rattle.tta_machine.specs.Rules.{is_from_to, is_socket, is_port_socket, fits_kind, is_unit, is_unit_op, same_op, is_data_op, is_frame_op}
+use Rattle.tta_arch.specs.declared.parts.Socket.{Socket}
+use Rattle.tta_arch.specs.declared.parts.Unit.{Unit as OpUnit}
+use Rattle.tta_arch.specs.declared.parts.UnitOp.{UnitOp}
+use Rattle.tta_arch.specs.declared.parts.Op.{Op}
+use Rattle.tta_arch.specs.declared.parts.Op.TheVariants.{Ldw, Stw, Ldf, Stf, Out, Take, Set}
+use Rattle.tta_arch.specs.Effects.{has_result}
+use Rattle.tta_arch.specs.Rules.{is_from_to, is_socket, is_port_socket, fits_kind, is_unit, is_unit_op, same_op, is_data_op, is_frame_op, is_stream_op}
 use Rattle.tta_machine.specs.Forms.{OpForm}
 use Rattle.tta_machine.specs.Declarations.{op_named, timed_op, untimed_op, arity_of, is_latency, is_served, has_other, with_op}
 use Rattle.tta_machine.specs.Kept.{IsDraft}
-use Rattle.tta_machine.proofs.Lists.{different_push}
+use Rattle.tta_arch.proofs.Lists.{different_push}
 use Rattle.tta_machine.proofs.Naming.{AreNamed-changed}
 use Rattle.tta_machine.proofs.Growth.{Grows, there_still}
 use Rattle.tta_machine.proofs.Owners.{one_owner-more}
@@ -45,13 +45,15 @@ set_arity u name id h =
     and_from (nat_le 1 (get_or u.arities id 0)) (nat_le (get_or u.arities id 0) 2) (le-leb 1 (get_or u.arities id 0) known.0) (le-leb (get_or u.arities id 0) 2 (let low = known.1 in omega arith))
 
 timed_fits : (u : Units) (l : ℕ) (name : List ℕ) (o : Op) → timed_op u name ≡ Some o → is_from_to 1 16 l ≡ true → fits_kind (unit_op u o (Some l)) ≡ true
-timed_fits u l name o h range = by (bytes_eq name (codes "ldw")) (bytes_eq name (codes "ldf")) (named u name) refl h where
-  by : (w f : Bool) (id : Option ℕ) → named u name ≡ id → (if w then Some Ldw else if f then Some Ldf else option_map (λ i. Set (record { 0 = i })) id) ≡ Some o
+timed_fits u l name o h range = by (bytes_eq name (codes "ldw")) (bytes_eq name (codes "ldf")) (bytes_eq name (codes "in")) (named u name) refl h where
+  by : (w f i : Bool) (id : Option ℕ) → named u name ≡ id
+      → (if w then Some Ldw else if f then Some Ldf else if i then Some Take else option_map (λ i. Set (record { 0 = i })) id) ≡ Some o
       → fits_kind (unit_op u o (Some l)) ≡ true
-  by true f id e t = let same : Ldw ≡ o = cc in subst (λ p. fits_kind (unit_op u p (Some l)) ≡ true) same range
-  by false true id e t = let same : Ldf ≡ o = cc in subst (λ p. fits_kind (unit_op u p (Some l)) ≡ true) same range
-  by false false None e t = cc
-  by false false (Some i) e t =
+  by true f i id e t = let same : Ldw ≡ o = cc in subst (λ p. fits_kind (unit_op u p (Some l)) ≡ true) same range
+  by false true i id e t = let same : Ldf ≡ o = cc in subst (λ p. fits_kind (unit_op u p (Some l)) ≡ true) same range
+  by false false true id e t = let same : Take ≡ o = cc in subst (λ p. fits_kind (unit_op u p (Some l)) ≡ true) same range
+  by false false false None e t = cc
+  by false false false (Some i) e t =
       let same : Set (record { 0 = i }) ≡ o = cc in
       subst (λ p. fits_kind (unit_op u p (Some l)) ≡ true) same (and_from (is_from_to 1 2 (get_or u.arities i 0)) (is_from_to 1 16 l) (set_arity u name i e) range)
 
@@ -74,6 +76,7 @@ arity_cases Stw a l h = let t = and_parts (a == 2) (l == 0) h in grind (arith, n
 arity_cases Ldf a l h = let t = and_parts (a == 1) (is_from_to 1 16 l) h in grind (arith, nat_tests, t.0)
 arity_cases Stf a l h = let t = and_parts (a == 2) (l == 0) h in grind (arith, nat_tests, t.0)
 arity_cases Out a l h = let t = and_parts (a == 1) (l == 0) h in grind (arith, nat_tests, t.0)
+arity_cases Take a l h = let t = and_parts (a == 1) (is_from_to 1 16 l) h in grind (arith, nat_tests, t.0)
 arity_cases (Set id) a l h =
     let t = and_parts (is_from_to 1 2 a) (is_from_to 1 16 l) h in
     let s = and_parts (nat_le 1 a) (nat_le a 2) t.0 in
@@ -113,9 +116,9 @@ unit_still sockets unit o h one new room =
 unit_op_kept : (d : Draft) (k : ℕ) (unit : OpUnit) (o : UnitOp) → IsDraft d → slice_get d.units k ≡ Some unit → is_unit_op unit o ≡ true
     → list_any (λ p. same_op p.op o.op) unit.ops ≡ false → is_served d.units k o.op ≡ false → length unit.ops < 32 → IsDraft (op_added d k unit o)
 unit_op_kept d k unit o r at one new alone room =
-    let output = or_parts (is_data_op o.op && has_other is_data_op k 0 d.units || is_frame_op o.op && has_other is_frame_op k 0 d.units)
-    (same_op o.op Out && has_other (λ p. same_op p Out) k 0 d.units) alone in
-    let spaces = or_parts (is_data_op o.op && has_other is_data_op k 0 d.units) (is_frame_op o.op && has_other is_frame_op k 0 d.units) output.0 in
+    let stream = or_parts (is_data_op o.op && has_other is_data_op k 0 d.units || is_frame_op o.op && has_other is_frame_op k 0 d.units)
+    (is_stream_op o.op && has_other is_stream_op k 0 d.units) alone in
+    let spaces = or_parts (is_data_op o.op && has_other is_data_op k 0 d.units) (is_frame_op o.op && has_other is_frame_op k 0 d.units) stream.0 in
     let was : is_unit d.sockets unit ≡ true = list_all_one (is_unit d.sockets) d.units k unit r.rules.units at in
     let rule : is_unit d.sockets (with_op unit o) ≡ true = unit_still d.sockets unit o was one new room in
     let same : length (slice_set d.units k (with_op unit o)) ≡ length d.units = length-set d.units k (with_op unit o) in
@@ -128,7 +131,7 @@ unit_op_kept d k unit o r at one new alone room =
         list_all_changed (is_unit d.sockets) d.units k (with_op unit o) r.rules.units rule,
         one_owner-more is_data_op d.units k unit o at spaces.0 r.rules.one_data,
         one_owner-more is_frame_op d.units k unit o at spaces.1 r.rules.one_frame,
-        one_owner-more (λ p. same_op p Out) d.units k unit o at output.1 r.rules.one_output,
+        one_owner-more is_stream_op d.units k unit o at stream.1 r.rules.one_stream,
       );
     }
 

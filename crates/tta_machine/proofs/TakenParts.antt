@@ -7,18 +7,18 @@ use Rattle.std.proofs.lemmas.Bool.{or_parts, and_from, not-false, leb-false}
 use Rattle.std.proofs.lemmas.List.{length_push}
 use Rattle.std.proofs.lemmas.List.Elements.{filter-append}
 use Rattle.tta_list.proofs.Lists.{list_all_push, list_all_weaker, all_push, all_weaker}
+use Rattle.tta_text.specs.Words.{is_name}
 use Rattle.tta_reading.specs.Names.{Declared}
 use Rattle.tta_machine.specs.declared.reading.draft.Named.{Named}
 use Rattle.tta_machine.specs.declared.reading.draft.Named.TheVariants as place
 use Rattle.tta_machine.specs.declared.reading.draft.Draft.{Draft}
-use Rattle.tta_machine.specs.declared.parts.Socket.{Socket}
-use Rattle.tta_machine.specs.declared.parts.File.{File}
-use Rattle.tta_machine.specs.declared.parts.ImmUnit.{ImmUnit}
-use Rattle.tta_machine.specs.declared.parts.Unit.{Unit as OpUnit}
-use Rattle.tta_machine.specs.declared.parts.Control.{Control}
-use Rattle.tta_machine.specs.declared.parts.Op.{Op}
-use Rattle.tta_machine.specs.declared.parts.Op.TheVariants.{Out}
-use Rattle.tta_machine.specs.Rules.{IsBusSet, is_from_to, is_socket, is_port_socket, is_bus, is_file, is_imm, is_unit, is_guard, is_template, is_control, has_one_owner, is_data_op, is_frame_op, same_op}
+use Rattle.tta_arch.specs.declared.parts.Socket.{Socket}
+use Rattle.tta_arch.specs.declared.parts.File.{File}
+use Rattle.tta_arch.specs.declared.parts.ImmUnit.{ImmUnit}
+use Rattle.tta_arch.specs.declared.parts.Unit.{Unit as OpUnit}
+use Rattle.tta_arch.specs.declared.parts.Control.{Control}
+use Rattle.tta_arch.specs.declared.parts.Op.{Op}
+use Rattle.tta_arch.specs.Rules.{IsBusSet, is_from_to, is_socket, is_port_socket, is_bus, is_file, is_imm, is_unit, is_guard, is_template, is_control, has_one_owner, is_data_op, is_frame_op, is_stream_op}
 use Rattle.tta_machine.specs.Forms.{BusForm, SocketForm, FileForm, ImmForm, UnitForm}
 use Rattle.tta_machine.specs.Draft.{is_too_long}
 use Rattle.tta_machine.specs.Declarations.{bus_set}
@@ -32,8 +32,8 @@ use Rattle.tta_machine.proofs.MadeParts.{bus_added, BusMade, socket_of, socket_a
 
 -- ---- buses
 
-pub bus_kept : (d e : Draft) (f : BusForm) → IsDraft d → BusMade d e f → IsDraft e
-bus_kept d e f r m =
+pub bus_kept : (d e : Draft) (f : BusForm) → IsDraft d → is_name f.name ≡ true → BusMade d e f → IsDraft e
+bus_kept d e f r written m =
     let outer = or_parts (not (is_from_to 1 32 f.short) || is_too_long f.name) (nat_le 16 (length d.buses)) m.range in
     let inner = or_parts (not (is_from_to 1 32 f.short)) (is_too_long f.name) outer.0 in
     let room : length d.buses < 16 = leb-false 16 (length d.buses) outer.1 in
@@ -43,7 +43,7 @@ bus_kept d e f r m =
     let new : Declared Named = (f.name, place.Bus (length d.buses)) ∷ [] in
     let kept : IsDraft (bus_added d f) = record {
       limits = let l = r.limits in omega arith;
-      there = there_more d (bus_added d f) f.name (place.Bus (length d.buses)) r.there refl grows (omega arith) (good_name d f.name m.free inner.1);
+      there = there_more d (bus_added d f) f.name (place.Bus (length d.buses)) r.there refl grows (omega arith) (good_name d f.name written m.free inner.1);
       named = assumption (AreNamed-push (λ b. b.name) place.Bus d.names d.buses (bus_made f) r.named.buses (not_taken d f.name m.free), are_named_longer d new r.named);
       rules = assumption (
         list_all_push is_bus d.buses (bus_made f) r.rules.buses (not-false (is_from_to 1 32 f.short) inner.0),
@@ -62,8 +62,8 @@ control_still sockets more None h = refl
 control_still sockets more (Some c) h = is_control-more_sockets sockets more c h
 
 -- the form of a socket names at least one bus
-pub socket_kept : (d e : Draft) (f : SocketForm) → IsDraft d → 0 < length f.buses → SocketMade d e f → IsDraft e
-socket_kept d e f r some m =
+pub socket_kept : (d e : Draft) (f : SocketForm) → IsDraft d → is_name f.name ≡ true → 0 < length f.buses → SocketMade d e f → IsDraft e
+socket_kept d e f r written some m =
     let socket : Socket = socket_of f m.buses in
     let parts = or_parts (is_too_long f.name) (nat_le 128 (length d.sockets)) m.range in
     let room : length d.sockets < 128 = leb-false 128 (length d.sockets) parts.1 in
@@ -76,7 +76,7 @@ socket_kept d e f r some m =
     let new : Declared Named = (f.name, place.Socket (length d.sockets)) ∷ [] in
     let kept : IsDraft (socket_added d f m.buses) = record {
       limits = let l = r.limits in omega arith;
-      there = there_more d (socket_added d f m.buses) f.name (place.Socket (length d.sockets)) r.there refl grows (omega arith) (good_name d f.name m.free parts.0);
+      there = there_more d (socket_added d f m.buses) f.name (place.Socket (length d.sockets)) r.there refl grows (omega arith) (good_name d f.name written m.free parts.0);
       named = assumption (AreNamed-push (λ s. s.name) place.Socket d.names d.sockets socket r.named.sockets (not_taken d f.name m.free), are_named_longer d new r.named);
       rules = assumption (
         all_push (λ s. IsBusSet (length d.buses) s.buses) d.sockets socket r.rules.sockets mask,
@@ -90,8 +90,8 @@ socket_kept d e f r some m =
 
 -- ---- files
 
-pub file_kept : (d e : Draft) (f : FileForm) → IsDraft d → FileMade d e f → IsDraft e
-file_kept d e f r m =
+pub file_kept : (d e : Draft) (f : FileForm) → IsDraft d → is_name f.name ≡ true → FileMade d e f → IsDraft e
+file_kept d e f r written m =
     let count = or_parts _ (nat_le 8 (length d.files)) m.range in
     let long = or_parts _ (is_too_long f.name) count.0 in
     let write = or_parts _ (not (is_from_to 1 16 f.write)) long.0 in
@@ -115,7 +115,7 @@ file_kept d e f r m =
     let new : Declared Named = (f.name, place.File (length d.files)) ∷ [] in
     let kept : IsDraft (file_added d f m.out m.into) = record {
       limits = let l = r.limits in omega arith;
-      there = there_more d (file_added d f m.out m.into) f.name (place.File (length d.files)) r.there refl grows (omega arith) (good_name d f.name m.free long.1);
+      there = there_more d (file_added d f m.out m.into) f.name (place.File (length d.files)) r.there refl grows (omega arith) (good_name d f.name written m.free long.1);
       named = assumption (AreNamed-push (λ s. s.name) place.File d.names d.files file r.named.files (not_taken d f.name m.free), are_named_longer d new r.named);
       rules = assumption (
         list_all_push (is_file d.sockets) d.files file r.rules.files rule,
@@ -126,8 +126,8 @@ file_kept d e f r m =
 
 -- ---- immediate units
 
-pub imm_kept : (d e : Draft) (f : ImmForm) → IsDraft d → ImmMade d e f → IsDraft e
-imm_kept d e f r m =
+pub imm_kept : (d e : Draft) (f : ImmForm) → IsDraft d → is_name f.name ≡ true → ImmMade d e f → IsDraft e
+imm_kept d e f r written m =
     let imm : ImmUnit = imm_of f m.out in
     let count = or_parts _ (nat_le 4 (length d.imms)) m.range in
     let long = or_parts (not (is_from_to 1 16 f.size)) (is_too_long f.name) count.0 in
@@ -140,7 +140,7 @@ imm_kept d e f r m =
     let new : Declared Named = (f.name, place.Imm (length d.imms)) ∷ [] in
     let kept : IsDraft (imm_added d f m.out) = record {
       limits = let l = r.limits in omega arith;
-      there = there_more d (imm_added d f m.out) f.name (place.Imm (length d.imms)) r.there refl grows (omega arith) (good_name d f.name m.free long.1);
+      there = there_more d (imm_added d f m.out) f.name (place.Imm (length d.imms)) r.there refl grows (omega arith) (good_name d f.name written m.free long.1);
       named = assumption (AreNamed-push (λ s. s.name) place.Imm d.names d.imms imm r.named.imms (not_taken d f.name m.free), are_named_longer d new r.named);
       rules = assumption (
         list_all_push (is_imm d.sockets) d.imms imm r.rules.imms rule,
@@ -161,8 +161,8 @@ one_owner_still kind units unit none h =
     rw same h
 
 -- it has none yet
-pub unit_kept : (d e : Draft) (f : UnitForm) → IsDraft d → UnitMade d e f → IsDraft e
-unit_kept d e f r m =
+pub unit_kept : (d e : Draft) (f : UnitForm) → IsDraft d → is_name f.name ≡ true → UnitMade d e f → IsDraft e
+unit_kept d e f r written m =
     let unit : OpUnit = unit_of f m.operand m.trigger m.result in
     let parts = or_parts (is_too_long f.name) (nat_le 32 (length d.units)) m.range in
     let rule : is_unit d.sockets (unit_of f m.operand m.trigger m.result) ≡ true =
@@ -179,13 +179,13 @@ unit_kept d e f r m =
     let new : Declared Named = (f.name, place.Unit (length d.units)) ∷ [] in
     let kept : IsDraft (unit_added d (unit_of f m.operand m.trigger m.result)) = record {
       limits = let l = r.limits in omega arith;
-      there = there_more d (unit_added d unit) f.name (place.Unit (length d.units)) r.there refl grows (omega arith) (good_name d f.name m.free parts.0);
+      there = there_more d (unit_added d unit) f.name (place.Unit (length d.units)) r.there refl grows (omega arith) (good_name d f.name written m.free parts.0);
       named = assumption (AreNamed-push (λ s. s.name) place.Unit d.names d.units unit r.named.units (not_taken d f.name m.free), are_named_longer d new r.named);
       rules = assumption (
         list_all_push (is_unit d.sockets) d.units unit r.rules.units rule,
         one_owner_still is_data_op d.units unit refl r.rules.one_data,
         one_owner_still is_frame_op d.units unit refl r.rules.one_frame,
-        one_owner_still (λ o. same_op o Out) d.units unit refl r.rules.one_output,
+        one_owner_still is_stream_op d.units unit refl r.rules.one_stream,
       );
     } in
     subst IsDraft m.made kept

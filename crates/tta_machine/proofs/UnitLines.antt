@@ -12,8 +12,8 @@ use Rattle.tta_reading.specs.Names.{named_in}
 use Rattle.tta_ops.specs.Units.{Units}
 use Rattle.tta_machine.specs.declared.reading.draft.Named.TheVariants as place
 use Rattle.tta_machine.specs.declared.reading.draft.Draft.{Draft}
-use Rattle.tta_machine.specs.declared.parts.Unit.{Unit as OpUnit}
-use Rattle.tta_machine.specs.declared.parts.UnitOp.{UnitOp}
+use Rattle.tta_arch.specs.declared.parts.Unit.{Unit as OpUnit}
+use Rattle.tta_arch.specs.declared.parts.UnitOp.{UnitOp}
 use Rattle.tta_machine.specs.Forms.{UnitForm, OpForm}
 use Rattle.tta_machine.specs.Declarations.{with_op}
 use Rattle.tta_machine.specs.Kept.{IsDraft}

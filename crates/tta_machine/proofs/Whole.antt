@@ -7,12 +7,14 @@ use Rattle.tta_machine.specs.declared.reading.refusal.Refusal.{Refusal}
 use Rattle.tta_machine.specs.declared.reading.draft.Draft.{Draft}
 use Rattle.tta_machine.specs.declared.reading.refusal.MachineError.{MachineError}
 use Rattle.tta_machine.specs.declared.reading.refusal.MachineError.TheVariants as machine_error
-use Rattle.tta_machine.specs.Machine.{Machine}
+use Rattle.tta_arch.specs.Machine.{Machine}
+use Rattle.tta_arch.specs.Over.{StandsOver}
 use Rattle.tta_machine.specs.Grammar.{IsMachineText}
 use Rattle.tta_machine.specs.Draft.{nothing}
 use Rattle.tta_machine.specs.Text.{take_line, take_lines, complete, machine_of_text, HasCause, Refused}
 use Rattle.tta_machine.specs.Whole.{DraftEnds, CompleteEnds, TakesAll}
 use Rattle.tta_machine.proofs.Said.{machine-said}
+use Rattle.tta_machine.proofs.Over.{text_over}
 
 -- a line was taken, and the others are left
 pub lines_taken : (u : Units) (k : ℕ) (d next : Draft) (line : Line) (before rest : List Line) → before ≡ line ∷ rest
@@ -52,6 +54,12 @@ pub text_said : (u : Units) (text : List ℕ) (r : Result Machine MachineError) 
     → IfOk r (λ m. IsMachineText u (lines_of text) m)
 text_said u text (Ok m) h = machine-said u text m h
 text_said u text (Err e) h = tt
+
+-- and it stands over the set of units
+pub text_stands : (u : Units) (text : List ℕ) (r : Result Machine MachineError) → IfOk r (λ m. machine_of_text u text ≡ Ok m)
+    → IfOk r (StandsOver u)
+text_stands u text (Ok m) h = text_over u text m (machine-said u text m h)
+text_stands u text (Err e) h = tt
 
 -- what is told where something is refused of what they declare
 pub text_told : (u : Units) (text : List ℕ) (d : Draft) (r : Result Machine MachineError) → TakesAll u (lines_of text) d → CompleteEnds d r

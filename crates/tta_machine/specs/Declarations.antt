@@ -11,13 +11,13 @@ use Rattle.tta_machine.specs.declared.reading.refusal.Refusal.{Refusal}
 use Rattle.tta_machine.specs.declared.reading.refusal.Refusal.TheVariants.{Unknown, Twice, Range, Missing}
 use Rattle.tta_machine.specs.declared.reading.draft.Named.TheVariants as place
 use Rattle.tta_machine.specs.declared.reading.draft.Draft.{Draft}
-use Rattle.tta_machine.specs.declared.parts.Unit.{Unit as OpUnit}
-use Rattle.tta_machine.specs.declared.parts.UnitOp.{UnitOp}
-use Rattle.tta_machine.specs.declared.parts.Op.{Op}
-use Rattle.tta_machine.specs.declared.parts.Op.TheVariants.{Ldw, Stw, Ldf, Stf, Out, Set}
-use Rattle.tta_machine.specs.declared.parts.Guard.{Guard}
-use Rattle.tta_machine.specs.Rules.{is_from_to, are_different, same_op, is_data_op, is_frame_op, same_guard}
-use Rattle.tta_machine.specs.Effects.{has_result}
+use Rattle.tta_arch.specs.declared.parts.Unit.{Unit as OpUnit}
+use Rattle.tta_arch.specs.declared.parts.UnitOp.{UnitOp}
+use Rattle.tta_arch.specs.declared.parts.Op.{Op}
+use Rattle.tta_arch.specs.declared.parts.Op.TheVariants.{Ldw, Stw, Ldf, Stf, Out, Take, Set}
+use Rattle.tta_arch.specs.declared.parts.Guard.{Guard}
+use Rattle.tta_arch.specs.Rules.{is_from_to, are_different, same_op, is_data_op, is_frame_op, is_stream_op, same_guard}
+use Rattle.tta_arch.specs.Effects.{has_result}
 use Rattle.tta_machine.specs.Forms.{BusForm, SocketForm, FileForm, ImmForm, UnitForm, OpForm, GuardForm, TemplateForm, ControlForm, SpaceForm}
 use Rattle.tta_machine.specs.Draft.{is_taken, is_too_long, bus_named, socket_named, file_named, imm_named, unit_named}
 
@@ -103,11 +103,12 @@ take_unit d f =
 
 -- ---- operations
 
--- the operation of a name in a line with a latency: a load, or one of the set of units
+-- the operation of a name in a line with a latency: a load, the input, or one of the set of units
 abbrev pub timed_op : Units → List ℕ → Option Op
 timed_op u name =
     if bytes_eq name (codes "ldw") then Some Ldw
     else if bytes_eq name (codes "ldf") then Some Ldf
+    else if bytes_eq name (codes "in") then Some Take
     else option_map (λ id. Set (record { 0 = id })) (named u name)
 
 -- the operation of a name in a line without one: a store, or the output
@@ -130,6 +131,7 @@ arity_of u Stw = 2
 arity_of u Ldf = 1
 arity_of u Stf = 2
 arity_of u Out = 1
+arity_of u Take = 1
 arity_of u (Set id) = get_or u.arities id.0 0
 
 -- whether a unit has an operation of this kind
@@ -141,12 +143,12 @@ abbrev pub has_other : (Op → Bool) → (k at : ℕ) → List OpUnit → Bool
 has_other kind k at [] = false
 has_other kind k at (u ∷ units) = (not (at == k) && has_op kind u) || has_other kind k (at + 1) units
 
--- a space or the output is served by one unit alone
+-- a space is served by one unit alone, and so are the input and the output together
 abbrev pub is_served : List OpUnit → ℕ → Op → Bool
 is_served units k o =
     (is_data_op o && has_other is_data_op k 0 units)
     || (is_frame_op o && has_other is_frame_op k 0 units)
-    || (same_op o Out && has_other (λ p. same_op p Out) k 0 units)
+    || (is_stream_op o && has_other is_stream_op k 0 units)
 
 -- a latency is from 1 to 16
 abbrev pub is_latency : Option ℕ → Bool

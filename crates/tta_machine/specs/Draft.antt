@@ -8,9 +8,9 @@ use Rattle.tta_machine.specs.declared.reading.refusal.Refusal.TheVariants.{Synta
 use Rattle.tta_machine.specs.declared.reading.draft.Named.{Named}
 use Rattle.tta_machine.specs.declared.reading.draft.Named.TheVariants as named
 use Rattle.tta_machine.specs.declared.reading.draft.Draft.{Draft}
-use Rattle.tta_machine.specs.declared.parts.Control.{Control}
-use Rattle.tta_machine.specs.Machine.{Machine}
-use Rattle.tta_machine.specs.Rules.{is_socket}
+use Rattle.tta_arch.specs.declared.parts.Control.{Control}
+use Rattle.tta_arch.specs.Machine.{Machine}
+use Rattle.tta_arch.specs.Rules.{is_socket}
 
 -- the number of a refusal
 abbrev pub code_of : Refusal → ℕ

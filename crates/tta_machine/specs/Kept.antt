@@ -6,8 +6,7 @@ use Rattle.tta_reading.specs.Names.{Declared, named_in}
 use Rattle.tta_machine.specs.declared.reading.draft.Named.{Named}
 use Rattle.tta_machine.specs.declared.reading.draft.Named.TheVariants as place
 use Rattle.tta_machine.specs.declared.reading.draft.Draft.{Draft}
-use Rattle.tta_machine.specs.declared.parts.Op.TheVariants.{Out}
-use Rattle.tta_machine.specs.Rules.{IsMachineName, IsBusSet, are_different, has_one_owner, is_bus, is_file, is_imm, is_unit, is_guard, same_guard, is_template, is_control, is_data_op, is_frame_op, same_op}
+use Rattle.tta_arch.specs.Rules.{IsMachineName, IsBusSet, are_different, has_one_owner, is_bus, is_file, is_imm, is_unit, is_guard, same_guard, is_template, is_control, is_data_op, is_frame_op, is_stream_op}
 
 -- ---- limits
 
@@ -60,7 +59,7 @@ pub record PartsKeepRules (d : Draft) : Type 0 where
   pub units : list_all (is_unit d.sockets) d.units ≡ true
   pub one_data : has_one_owner is_data_op d.units ≡ true
   pub one_frame : has_one_owner is_frame_op d.units ≡ true
-  pub one_output : has_one_owner (λ o. same_op o Out) d.units ≡ true
+  pub one_stream : has_one_owner is_stream_op d.units ≡ true
   pub guards : list_all (is_guard (length d.buses) d.files) d.guards ≡ true
   pub different_guards : are_different same_guard d.guards ≡ true
   pub templates : list_all (is_template d.imms) d.templates ≡ true

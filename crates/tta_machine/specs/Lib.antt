@@ -1,10 +1,3 @@
-pub mod Machine
-pub mod Joins
-pub mod Effects
-pub mod Legal
-pub mod Fields
-pub mod Layout
-pub mod Rules
 pub mod Draft
 pub mod Forms
 pub mod Declarations

@@ -1,17 +1,17 @@
 -- What a machine has once, and which operations serve it.
 use Rattle.std.specs.Prelude.{◌<◌, Bool, length}
 use Rattle.tta_ops.specs.Units.{Units}
-use Rattle.tta_machine.specs.declared.parts.Op.{Op}
-use Rattle.tta_machine.specs.declared.parts.Op.TheVariants.{Out, Set}
+use Rattle.tta_arch.specs.declared.parts.Op.{Op}
+use Rattle.tta_arch.specs.declared.parts.Op.TheVariants.{Set}
 use Rattle.tta_machine.specs.declared.reading.services.Service.{Service}
-use Rattle.tta_machine.specs.declared.reading.services.Service.TheVariants.{Data, Frame, Output}
-use Rattle.tta_machine.specs.Rules.{is_data_op, is_frame_op, same_op}
+use Rattle.tta_machine.specs.declared.reading.services.Service.TheVariants.{Data, Frame, Streams}
+use Rattle.tta_arch.specs.Rules.{is_data_op, is_frame_op, is_stream_op}
 
--- whether an operation serves the data space, the frame space or the output
+-- whether an operation serves the data space, the frame space, or the input and the output
 abbrev pub serves : Service → Op → Bool
 serves Data o = is_data_op o
 serves Frame o = is_frame_op o
-serves Output o = same_op o Out
+serves Streams o = is_stream_op o
 
 -- an operation of the set of units is one that the units offer
 abbrev pub IsOffered : Units → Op → Type 0

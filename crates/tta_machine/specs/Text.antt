@@ -8,10 +8,10 @@ use Rattle.tta_ops.specs.Units.{Units}
 use Rattle.tta_machine.specs.declared.reading.refusal.Refusal.{Refusal}
 use Rattle.tta_machine.specs.declared.reading.refusal.Refusal.TheVariants.{Syntax, Missing, TooNarrow}
 use Rattle.tta_machine.specs.declared.reading.draft.Draft.{Draft}
-use Rattle.tta_machine.specs.declared.parts.Template.{Template}
-use Rattle.tta_machine.specs.declared.parts.Control.{Control}
-use Rattle.tta_machine.specs.Machine.{Machine}
-use Rattle.tta_machine.specs.Fields.{taken_width}
+use Rattle.tta_arch.specs.declared.parts.Template.{Template}
+use Rattle.tta_arch.specs.declared.parts.Control.{Control}
+use Rattle.tta_arch.specs.Machine.{Machine}
+use Rattle.tta_arch.specs.Fields.{taken_width}
 use Rattle.tta_machine.specs.declared.reading.refusal.MachineError.{MachineError}
 use Rattle.tta_machine.specs.declared.reading.refusal.MachineError.TheVariants as machine_error
 use Rattle.tta_machine.specs.Draft.{nothing, machine_of, code_of}

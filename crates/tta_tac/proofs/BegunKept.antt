@@ -72,7 +72,7 @@ module _ (d e : Draft) (kept : IsKept d) (line : ℕ) (name : List ℕ) (params 
   fresh_kept = record {
     most = omega (arith, t.room);
     lines =
-        let before = subst (λ qs. sum_by (λ q. length q.steps) qs + length qs ≤ d.lines) old_are kept.lines in
+        let before = subst (λ qs. sum_by (λ q. length q.steps) qs + length qs + length d.init ≤ d.lines) old_are kept.lines in
         let a = sum_last d.procs (fresh line params) in
         let b = length-append d.procs (option_to_list (with_fresh d line name params).begun) in
         omega arith;
@@ -83,4 +83,6 @@ module _ (d e : Draft) (kept : IsKept d) (line : ℕ) (name : List ℕ) (params 
         fresh_once a b k (named_more d.names name (length d.procs) a k at) (named_more d.names name (length d.procs) b k on);
     main = λ k r at on.
         fresh_main k r (named_more d.names name (length d.procs) (codes "main") k at) (get_last d.procs _ k r on);
+    init = kept.init;
+    apart = kept.apart;
   }

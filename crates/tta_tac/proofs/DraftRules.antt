@@ -1,5 +1,6 @@
 -- Each line keeps the rules of a draft.
-use Rattle.std.proofs.Common.{◌≡◌, ℕ, ◌+◌, Bool, true, false, [], ◌∷◌, subst, arith, length-append}
+use Rattle.tta_list.proofs.Tests.{none_from_is_some}
+use Rattle.std.proofs.Common.{◌≡◌, ℕ, sym, ◌+◌, Bool, true, false, [], ◌∷◌, subst, arith, length-append}
 use Rattle.std.specs.Prelude.{Option, Some, None, Result, Ok, Err}
 use Rattle.std.specs.Option.{IfSome, option_map_or}
 use Rattle.std.specs.Result.{OnOk}
@@ -10,10 +11,10 @@ use Rattle.tta_tac.specs.declared.reading.draft.DraftProc.{DraftProc}
 use Rattle.tta_tac.specs.Forms.{Form}
 use Rattle.tta_tac.specs.Draft.{ProcDraft, Draft, proc_seen}
 use Rattle.tta_tac.specs.DraftRules.{IsBegun, IsDraft}
-use Rattle.tta_tac.specs.FirstPass.{vars_after, is_end, close_if, with_step, take_step, take_form, with_fresh}
+use Rattle.tta_tac.specs.FirstPass.{vars_after, is_end, close_if, with_step, take_step, take_form, with_fresh, with_datum}
 use Rattle.tta_tac.specs.declared.reading.refusal.Refusal.{Refusal}
 use Rattle.tta_tac.proofs.Variables.{numbered_length}
-use Rattle.tta_tac.proofs.Taken.{with_label, StepTaken, step_taken, Taken, ProcBegins, LabelIsPut, StepIsMade, form_taken}
+use Rattle.tta_tac.proofs.Taken.{with_label, StepTaken, step_taken, Taken, ProcBegins, DatumIsLaid, LabelIsPut, StepIsMade, form_taken}
 
 -- a step of a begun procedure, which may have been moved out of the draft
 step_kept : (u : Units) (d e : Draft) (q : ProcDraft) (line : ℕ) (f : Form) → IsDraft d → IsBegun d.lines q → StepTaken u d e q line f → IsDraft e
@@ -29,7 +30,7 @@ step_kept u d e q line f kept begun t = subst IsDraft t.made (by (is_end f)) whe
 
 -- a line that is not blank
 taken_kept : (u : Units) (d e : Draft) (line : ℕ) (f : Form) → IsDraft d → Taken u d e line f → IsDraft e
-taken_kept u d e line f kept (ProcBegins name params t) =
+taken_kept u d e line f kept (ProcBegins name params is t) =
     let size = numbered_length 0 params in
     let rules : IsDraft (with_fresh d line name params) = record {
       lines = omega (arith, t.room);
@@ -37,7 +38,15 @@ taken_kept u d e line f kept (ProcBegins name params t) =
       begun = record { steps = omega arith; vars = omega (arith, t.few) };
     } in
     subst IsDraft t.made rules
-taken_kept u d e line f kept (LabelIsPut q name is t) =
+taken_kept u d e line f kept (DatumIsLaid address value is t) =
+    let none = none_from_is_some d.begun t.closed in
+    let rules : IsDraft (with_datum d (record { address = address; value = value; line = line })) = record {
+      lines = omega (arith, t.room);
+      procs = omega (arith, kept.procs);
+      begun = subst (λ o. IfSome o (IsBegun (d.lines + 1))) (sym none) tt;
+    } in
+    subst IsDraft t.made rules
+taken_kept u d e line f kept (LabelIsPut q name is says t) =
     let begun : IsBegun d.lines q = subst (λ o. IfSome o (IsBegun d.lines)) is kept.begun in
     let rules : IsDraft (record d { begun = Some (with_label q name); lines = d.lines + 1 }) = record {
       lines = omega (arith, t.room);

@@ -2,15 +2,15 @@
 use Rattle.std.specs.Prelude.{◌≡◌, ℕ, List, [], ◌∷◌, Option, Some, None, Result, Ok, Err, refl, codes, replicate}
 use Rattle.tta_reading.specs.Names.{Declared}
 use Rattle.tta_ops.specs.Units.{Units}
-use Rattle.tta_tac.specs.declared.operand.Src.TheVariants.{Var, Word}
-use Rattle.tta_tac.specs.declared.operand.Rel.TheVariants.{Eq, Ge}
-use Rattle.tta_tac.specs.declared.step.Step.TheVariants as step
+use Rattle.tta_program.specs.declared.operand.Src.TheVariants.{Var, Word}
+use Rattle.tta_program.specs.declared.operand.Rel.TheVariants.{Eq, Ge}
+use Rattle.tta_program.specs.declared.step.Step.TheVariants as step
 use Rattle.tta_tac.specs.declared.reading.refusal.Refusal.{Refusal}
 use Rattle.tta_tac.specs.declared.reading.refusal.Refusal.TheVariants.{Syntax, UnknownOp, Arity, Twice, TooMany}
-use Rattle.tta_tac.specs.Forms.{Named, Constant, ProcForm, LabelForm, CopyForm, ApplyForm, IfForm, WhenForm, CallForm, HaltForm, EndForm}
+use Rattle.tta_tac.specs.Forms.{Named, Constant, ProcForm, DataForm, LabelForm, CopyForm, ApplyForm, TakeForm, IfForm, WhenForm, CallForm, HaltForm, EndForm}
 use Rattle.tta_tac.specs.Draft.{Unlinked, Plain, CallTo, ProcDraft, Draft, nothing}
 use Rattle.tta_tac.specs.FirstPass.{take_form}
-use Rattle.tta_tac.proofs.Rows.{op, less, two}
+use Rattle.tta_program.proofs.Rows.{op, less, two}
 
 -- the name of the only parameter in these samples, which a label has too
 abbrev a : List ℕ
@@ -36,7 +36,7 @@ begun vars labels steps lines = record { line = 1; params = 1; vars = vars; labe
 
 -- a draft after so many lines, in which a procedure f has begun and not ended
 abbrev inside : (lines : ℕ) → ProcDraft → Draft
-inside lines q = record { names = (codes "f", 0) ∷ []; procs = []; begun = Some q; lines = lines }
+inside lines q = record { names = (codes "f", 0) ∷ []; procs = []; begun = Some q; init = []; lines = lines }
 
 -- the draft after the first line of f, which names its parameter a
 abbrev in_f : Draft
@@ -72,11 +72,31 @@ end-closes : (u : Units) → take_form u in_f 2 EndForm
       names = (codes "f", 0) ∷ [];
       procs = begun ((a, 0) ∷ []) [] (Plain step.End ∷ []) (2 ∷ []) ∷ [];
       begun = None;
+      init = [];
       lines = 2;
     })
 end-closes u = refl
 
+-- d = in
+take-numbers : (u : Units) → take_form u in_f 2 (TakeForm d)
+    ≡ Ok (inside 2 (begun ((a, 0) ∷ (d, 1) ∷ []) [] (Plain (step.Take 1) ∷ []) (2 ∷ [])))
+take-numbers u = refl
+
+-- a draft outside of procedures, whose first line is data 2 9
+abbrev one_datum : Draft
+one_datum = record nothing { init = record { address = 2; value = 9; line = 1 } ∷ []; lines = 1 }
+
+data-laid : (u : Units) → take_form u nothing 1 (DataForm 2 9) ≡ Ok one_datum
+data-laid u = refl
+
 -- ---- refusals
+
+-- data 2 8 behind data 2 9
+data-twice : (u : Units) → take_form u one_datum 2 (DataForm 2 8) ≡ Err Twice
+data-twice u = refl
+
+data-inside : (u : Units) → take_form u in_f 2 (DataForm 2 9) ≡ Err Syntax
+data-inside u = refl
 
 proc-inside : (u : Units) → take_form u in_f 2 (ProcForm (codes "g") []) ≡ Err Syntax
 proc-inside u = refl

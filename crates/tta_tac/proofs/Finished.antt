@@ -6,7 +6,7 @@ use Rattle.tta_reading.specs.Names.{named_in}
 use Rattle.tta_reading.specs.Steps.{◌>>=◌}
 use Rattle.tta_reading.proofs.Steps.{then-ok}
 use Rattle.tta_ops.specs.Units.{Units}
-use Rattle.tta_tac.specs.declared.program.Proc.{Proc}
+use Rattle.tta_program.specs.declared.program.Proc.{Proc}
 use Rattle.tta_tac.specs.declared.reading.draft.DraftProc.{DraftProc}
 use Rattle.tta_tac.specs.declared.reading.refusal.Refusal.TheVariants.{Recursive, NoMain}
 use Rattle.tta_tac.specs.declared.reading.refusal.TacError.{TacError}
@@ -14,7 +14,7 @@ use Rattle.tta_tac.specs.declared.reading.refusal.TacError.TheVariants as tac_er
 use Rattle.tta_tac.specs.Refusals.{code_of}
 use Rattle.tta_tac.specs.Draft.{Draft, ProcDraft, procs_seen}
 use Rattle.tta_tac.specs.SecondPass.{Refused, link_proc, link_procs}
-use Rattle.tta_tac.specs.Text.{linked_text, with_main, IsFirstRecursive, InPasses, ByRecursion, WithoutMain}
+use Rattle.tta_tac.specs.Text.{linked_text, IsFirstRecursive, InPasses, ByRecursion, WithoutMain}
 use Rattle.tta_tac.specs.Cycles.{IsAcyclic}
 use Rattle.tta_tac.specs.Told.{Tells, IsDraftOf, MakesProgram, TellsCause, LeadsBack}
 use Rattle.tta_tac.proofs.Calls.{reaches_within}
@@ -86,12 +86,13 @@ told_without_main d procs code link acyclic none is u text read = (
 )
 
 pub made_program : (d : Draft) (procs : List Proc) (main : ℕ) → link_procs d d.procs ≡ Ok procs → IsAcyclic procs
-    → named_in d.names (codes "main") ≡ Some main → MakesProgram d (with_main procs main)
+    → named_in d.names (codes "main") ≡ Some main → MakesProgram d (record { procs = procs; main = main; init = d.init })
 made_program d procs main link acyclic named u text read = record {
   linked = record { draft = d; procs = procs };
   passes = passes_ok d procs u text read link;
   procs = refl;
   main = named;
+  init = refl;
   acyclic = acyclic;
 }
 

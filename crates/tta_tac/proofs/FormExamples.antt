@@ -5,19 +5,21 @@ use Rattle.std.specs.List.{list_all}
 use Rattle.tta_text.specs.Numbers.{value_below, digits_of, number_of, negative_of}
 use Rattle.tta_text.specs.Tokens.{number_piece, negative_piece, mark_piece, piece_at, tokens_from, tokens_of}
 use Rattle.tta_reading.specs.Lines.{Line, lines_of}
-use Rattle.tta_tac.specs.declared.operand.Rel.TheVariants.{Ge, Ltu}
+use Rattle.tta_program.specs.declared.operand.Rel.TheVariants.{Ge, Ltu}
+use Rattle.tta_ops.specs.Reserved.{is_reserved}
 use Rattle.tta_tac.specs.Forms.{
-  is_reserved,
   Named,
   Constant,
   Form,
   ProcForm,
+  DataForm,
   LabelForm,
   CopyForm,
   ApplyForm,
   LoadForm,
   StoreForm,
   PutForm,
+  TakeForm,
   IfForm,
   GotoForm,
   WhenForm,
@@ -26,6 +28,7 @@ use Rattle.tta_tac.specs.Forms.{
   HaltForm,
   EndForm,
   proc_form,
+  data_form,
   store_form,
   put_form,
   if_form,
@@ -49,11 +52,11 @@ said text = only (lines_of text) where
 -- words that are none of the forms: reserved words as names, and words too few or too many
 refused : list_all (λ text. is_none (said text)) (
     codes "a = load 1 2" ∷ codes "a = load" ∷ codes "x = if" ∷ codes "if = x" ∷ codes "goto end" ∷ codes "call halt" ∷ codes "end :"
-    ∷ codes "a = call" ∷ codes "a = 1 2" ∷ codes "a = add 1 2 3" ∷ codes "a = data 1" ∷ codes "1 = a" ∷ codes "a =" ∷ codes "a"
+    ∷ codes "a = call" ∷ codes "a = 1 2" ∷ codes "a = add 1 2 3" ∷ codes "a = data 1" ∷ codes "in = a" ∷ codes "a = in 1" ∷ codes "out in" ∷ codes "data 1" ∷ codes "data -1 2" ∷ codes "data a 2" ∷ codes "data 1 a" ∷ codes "1 = a" ∷ codes "a =" ∷ codes "a"
     ∷ codes "l : halt" ∷ codes "proc out" ∷ codes "proc" ∷ codes "proc f 1" ∷ codes "store 1" ∷ codes "out" ∷ codes "return 1 2"
     ∷ codes "halt 1" ∷ codes "jump l" ∷ codes "if gt a b goto l" ∷ codes "if lt a b l" ∷ codes "when ge a b 3 = y" ∷ codes "a = 1x" ∷ [])
     ≡ true
-unfolding said lines_of tokens_of tokens_from piece_at number_piece negative_piece mark_piece number_of negative_of digits_of value_below is_reserved proc_form store_form put_form if_form goto_form when_form call_form return_form assign_form named_form form_of
+unfolding said lines_of tokens_of tokens_from piece_at number_piece negative_piece mark_piece number_of negative_of digits_of value_below is_reserved proc_form data_form store_form put_form if_form goto_form when_form call_form return_form assign_form named_form form_of
 refused = refl
 
 -- a procedure may have no parameters, and a name of an operation is free for a label
@@ -63,7 +66,7 @@ heads :
     × (said (codes "l :") ≡ Some (LabelForm (codes "l")))
     × (said (codes "eq:") ≡ Some (LabelForm (codes "eq")))
     × (said (codes "end") ≡ Some EndForm)
-unfolding said lines_of tokens_of tokens_from piece_at number_piece negative_piece mark_piece number_of negative_of digits_of value_below is_reserved proc_form store_form put_form if_form goto_form when_form call_form return_form assign_form named_form form_of
+unfolding said lines_of tokens_of tokens_from piece_at number_piece negative_piece mark_piece number_of negative_of digits_of value_below is_reserved proc_form data_form store_form put_form if_form goto_form when_form call_form return_form assign_form named_form form_of
 heads = (refl, refl, refl, refl, refl)
 
 -- a name of an operation that stands alone behind the equals sign is a variable
@@ -75,7 +78,7 @@ assignments :
     × (said (codes "a = add b 0x10") ≡ Some (ApplyForm (codes "a") (codes "add") (Named (codes "b") ∷ Constant 16 ∷ [])))
     × (said (codes "a = load b") ≡ Some (LoadForm (codes "a") (Named (codes "b"))))
     × (said (codes "when ge a b x = y") ≡ Some (WhenForm Ge (Named (codes "a")) (Named (codes "b")) (codes "x") (Named (codes "y"))))
-unfolding said lines_of tokens_of tokens_from piece_at number_piece negative_piece mark_piece number_of negative_of digits_of value_below is_reserved proc_form store_form put_form if_form goto_form when_form call_form return_form assign_form named_form form_of
+unfolding said lines_of tokens_of tokens_from piece_at number_piece negative_piece mark_piece number_of negative_of digits_of value_below is_reserved proc_form data_form store_form put_form if_form goto_form when_form call_form return_form assign_form named_form form_of
 assignments = (refl, refl, refl, refl, refl, refl, refl)
 
 -- stores, outputs and branches
@@ -83,10 +86,12 @@ effects :
     (said (codes "store 3 b") ≡ Some (StoreForm (Constant 3) (Named (codes "b"))))
     × (said (codes "out b") ≡ Some (PutForm (Named (codes "b"))))
     × (said (codes "if ltu a 5 goto l") ≡ Some (IfForm Ltu (Named (codes "a")) (Constant 5) (codes "l")))
+    × (said (codes "a = in") ≡ Some (TakeForm (codes "a")))
+    × (said (codes "data 0x10 -1") ≡ Some (DataForm 16 4294967295))
     × (said (codes "goto l") ≡ Some (GotoForm (codes "l")))
     × (said (codes "halt") ≡ Some HaltForm)
-unfolding said lines_of tokens_of tokens_from piece_at number_piece negative_piece mark_piece number_of negative_of digits_of value_below is_reserved proc_form store_form put_form if_form goto_form when_form call_form return_form assign_form named_form form_of
-effects = (refl, refl, refl, refl, refl)
+unfolding said lines_of tokens_of tokens_from piece_at number_piece negative_piece mark_piece number_of negative_of digits_of value_below is_reserved proc_form data_form store_form put_form if_form goto_form when_form call_form return_form assign_form named_form form_of
+effects = (refl, refl, refl, refl, refl, refl, refl)
 
 -- calls without arguments and without a destination, and returns
 calls :
@@ -95,5 +100,5 @@ calls :
     × (said (codes "call f 1 b") ≡ Some (CallForm None (codes "f") (Constant 1 ∷ Named (codes "b") ∷ [])))
     × (said (codes "return") ≡ Some (ReturnForm None))
     × (said (codes "return b") ≡ Some (ReturnForm (Some (Named (codes "b")))))
-unfolding said lines_of tokens_of tokens_from piece_at number_piece negative_piece mark_piece number_of negative_of digits_of value_below is_reserved proc_form store_form put_form if_form goto_form when_form call_form return_form assign_form named_form form_of
+unfolding said lines_of tokens_of tokens_from piece_at number_piece negative_piece mark_piece number_of negative_of digits_of value_below is_reserved proc_form data_form store_form put_form if_form goto_form when_form call_form return_form assign_form named_form form_of
 calls = (refl, refl, refl, refl, refl)

@@ -10,10 +10,10 @@ use Rattle.tta_text.specs.declared.lexeme.Kind.{Kind}
 use Rattle.tta_text.specs.declared.lexeme.Kind.TheVariants.{Number, Negative}
 use Rattle.tta_text.specs.Numbers.{value_below, digits_of, number_of, negated, negative_of}
 use Rattle.tta_reading.specs.Lines.{Lexeme, Line}
-use Rattle.tta_reading.specs.Words.{is_keyword, is_mark, constant_of}
+use Rattle.tta_reading.specs.Words.{is_keyword, is_mark, value_of, constant_of}
 use Rattle.tta_reading.specs.Steps.{◌>>?◌, only_if}
 use Rattle.tta_reading.proofs.Steps.{then-some}
-use Rattle.tta_tac.specs.Forms.{Operand, Named, Constant, free_name, operand_of, or_constant, operands_alone, names_alone, rel_of, Form, LabelForm, HaltForm, EndForm, proc_form, store_form, put_form, if_form, goto_form, when_form, call_form, return_form, alone_form, assign_form, named_form, form_of}
+use Rattle.tta_tac.specs.Forms.{Operand, Named, Constant, free_name, operand_of, or_constant, operands_alone, names_alone, rel_of, Form, LabelForm, HaltForm, EndForm, proc_form, data_form, store_form, put_form, if_form, goto_form, when_form, call_form, return_form, alone_form, assign_form, named_form, form_of}
 use Rattle.tta_tac.proofs.Variables.{fits}
 use Rattle.tta_tac.proofs.StepsKept.{fits_form}
 
@@ -65,6 +65,15 @@ constant_under Number text = number_under text
 constant_under Negative text = negative_under text
 constant_under kind text = refl
 
+plain_under : (kind : Kind) (text : List ℕ) → under (2 ^ 32) (value_of (record { kind = kind; text = text }))
+plain_under Number text = number_under text
+plain_under kind text = refl
+
+-- a value below a limit
+is_under : (limit n : ℕ) (o : Option ℕ) → under limit o → o ≡ Some n → nat_lt n limit ≡ true
+is_under limit n None h e = cc
+is_under limit n (Some k) h e = let same : k ≡ n = cc in ap (λ x. nat_lt x limit) (sym same) ∙ h
+
 -- ---- operands
 
 -- an operand and operands of a line
@@ -108,6 +117,16 @@ proc_fit : (line : Line) → fit (proc_form line)
 unfolding proc_form
 proc_fit [] = refl
 proc_fit (n ∷ params) = fit_bind (free_name n) _ (λ name e. fit_bind (names_alone params) _ (λ all f. refl))
+
+data_fit : (line : Line) → fit (data_form line)
+unfolding data_form
+data_fit [] = refl
+data_fit (a ∷ []) = refl
+data_fit (a ∷ v ∷ []) =
+    fit_bind (value_of a) _ (λ x e. fit_bind (constant_of v) _ (λ y f.
+    and_from (nat_lt x (2 ^ 32)) (nat_lt y (2 ^ 32)) (is_under (2 ^ 32) x (value_of a) (plain_under a.kind a.text) e)
+    (is_under (2 ^ 32) y (constant_of v) (constant_under v.kind v.text) f)))
+data_fit (a ∷ v ∷ w ∷ more) = refl
 
 store_fit : (line : Line) → fit (store_form line)
 unfolding store_form
@@ -175,7 +194,7 @@ alone_fit f h (w ∷ more) = refl
 assign_fit : (d : List ℕ) (line : Line) → fit (assign_form d line)
 unfolding assign_form
 assign_fit d [] = refl
-assign_fit d (s ∷ []) = fit_bind (operand_of s) _ (λ x e. operand_fits s x e)
+assign_fit d (s ∷ []) = fit_if (is_keyword (codes "in") s) _ _ refl (fit_bind (operand_of s) _ (λ x e. operand_fits s x e))
 assign_fit d (w ∷ a ∷ []) =
     fit_if (is_keyword (codes "call") w) _ _ (call_fit (Some d) (a ∷ []))
     (fit_if (is_keyword (codes "load") w) _ _ (fit_bind (operand_of a) _ (λ x e. operand_fits a x e))
@@ -200,6 +219,7 @@ pub form_fit : (key : Lexeme) (words : Line) → option_map_or fits_form (form_o
 unfolding form_of
 form_fit key words =
     fit_if (is_keyword (codes "proc") key) _ _ (proc_fit words)
+    (fit_if (is_keyword (codes "data") key) _ _ (data_fit words)
     (fit_if (is_keyword (codes "store") key) _ _ (store_fit words)
     (fit_if (is_keyword (codes "out") key) _ _ (put_fit words)
     (fit_if (is_keyword (codes "if") key) _ _ (if_fit words)
@@ -209,4 +229,4 @@ form_fit key words =
     (fit_if (is_keyword (codes "return") key) _ _ (return_fit words)
     (fit_if (is_keyword (codes "halt") key) _ _ (alone_fit HaltForm refl words)
     (fit_if (is_keyword (codes "end") key) _ _ (alone_fit EndForm refl words)
-    (named_fit key words))))))))))
+    (named_fit key words)))))))))))

@@ -52,6 +52,8 @@ nothing_kept = record {
   names = λ name k e. absurd cc;
   once = λ a b k e f. absurd cc;
   main = λ k q e f. absurd cc;
+  init = refl;
+  apart = refl;
 }
 
 -- ---- one more step
@@ -80,9 +82,9 @@ module _ (d : Draft) (q new : ProcDraft) (kept : IsKept d) (begun : d.begun ≡ 
   all_are : all_procs d ≡ d.procs ++ q ∷ []
   all_are = ap (λ o. d.procs ++ option_to_list o) begun
 
-  next_lines : sum_by (λ q. length q.steps) (d.procs ++ new ∷ []) + length (d.procs ++ new ∷ []) ≤ d.lines + 1
+  next_lines : sum_by (λ q. length q.steps) (d.procs ++ new ∷ []) + length (d.procs ++ new ∷ []) + length d.init ≤ d.lines + 1
   next_lines =
-      let before = subst (λ qs. sum_by (λ q. length q.steps) qs + length qs ≤ d.lines) all_are kept.lines in
+      let before = subst (λ qs. sum_by (λ q. length q.steps) qs + length qs + length d.init ≤ d.lines) all_are kept.lines in
       let a = sum_last d.procs q in
       let b = sum_last d.procs new in
       let c = length-append d.procs (q ∷ []) in
@@ -114,6 +116,8 @@ module _ (d : Draft) (q new : ProcDraft) (kept : IsKept d) (begun : d.begun ≡ 
     names = next_names;
     once = kept.once;
     main = next_main;
+    init = kept.init;
+    apart = kept.apart;
   }
 
   pub ended_kept : IsEnded new → IsKept (record d { procs = d.procs ++ new ∷ []; begun = None; lines = d.lines + 1 })
@@ -122,10 +126,12 @@ module _ (d : Draft) (q new : ProcDraft) (kept : IsKept d) (begun : d.begun ≡ 
       = append-nil (d.procs ++ new ∷ []) in
       record {
         most = omega arith;
-        lines = subst (λ qs. sum_by (λ q. length q.steps) qs + length qs ≤ d.lines + 1) (sym whole) next_lines;
+        lines = subst (λ qs. sum_by (λ q. length q.steps) qs + length qs + length d.init ≤ d.lines + 1) (sym whole) next_lines;
         ended = all_last d.procs new kept.ended h;
         begun = tt;
         names = λ name k at. subst (λ qs. k < length qs) (sym whole) (next_names name k at);
         once = kept.once;
         main = λ k r named at. next_main k r named (sym (ap (λ qs. slice_get qs k) whole) ∙ at);
+        init = kept.init;
+        apart = kept.apart;
       }

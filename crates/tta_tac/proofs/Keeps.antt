@@ -11,10 +11,11 @@ use Rattle.tta_tac.specs.Draft.{Unlinked, ProcDraft, Draft}
 use Rattle.tta_tac.specs.FirstPass.{vars_after, is_end, close_if, with_step, take_form}
 use Rattle.tta_tac.specs.Kept.{is_unlinked, is_end_step, IsOpen, IsKept}
 use Rattle.tta_tac.proofs.Variables.{IsNumbered, Grows, named_more}
-use Rattle.tta_tac.proofs.Taken.{with_label, LabelTaken, StepTaken, Taken, ProcBegins, LabelIsPut, StepIsMade, form_taken}
+use Rattle.tta_tac.proofs.Taken.{with_label, LabelTaken, StepTaken, Taken, ProcBegins, DatumIsLaid, LabelIsPut, StepIsMade, form_taken}
 use Rattle.tta_tac.proofs.StepsKept.{fits_form, grows_form, step_fits, step_ends, closes_last}
 use Rattle.tta_tac.proofs.Growing.{with_step_kept, open_kept, ended_kept}
 use Rattle.tta_tac.proofs.BegunKept.{fresh_kept}
+use Rattle.tta_tac.proofs.DataKept.{datum_kept}
 
 module _ (u : Units) (d e : Draft) (q : ProcDraft) (kept : IsKept d) (begun : d.begun ≡ Some q) where
   open_now : IsOpen q
@@ -60,8 +61,10 @@ module _ (u : Units) (d e : Draft) (q : ProcDraft) (kept : IsKept d) (begun : d.
       subst IsKept t.made (closed_kept (is_end f) vars t.step line t.room (grows_form q.vars f) t.few fits end)
 
 taken_kept : (u : Units) (d e : Draft) (line : ℕ) (f : Form) → IsKept d → fits_form f ≡ true → Taken u d e line f → IsKept e
-taken_kept u d e line f kept fit (ProcBegins name params t) = subst IsKept t.made (fresh_kept d e kept line name params t)
-taken_kept u d e line f kept fit (LabelIsPut q name begun t) = label_kept u d e q kept begun name t
+taken_kept u d e line f kept fit (ProcBegins name params is t) = subst IsKept t.made (fresh_kept d e kept line name params t)
+taken_kept u d e line f kept fit (DatumIsLaid address value is t) =
+    datum_kept d e line address value kept (subst (λ g. fits_form g ≡ true) is fit) t
+taken_kept u d e line f kept fit (LabelIsPut q name begun says t) = label_kept u d e q kept begun name t
 taken_kept u d e line f kept fit (StepIsMade q begun t) = step_kept u d e q kept begun line f fit t
 
 -- a line that is not blank

@@ -11,12 +11,13 @@ use Rattle.std.proofs.Math.Dec.{eqb}
 use Rattle.tta_reading.specs.Names.{Declared, named_in}
 use Rattle.tta_reading.specs.Steps.{or_refuse, refuse_if}
 use Rattle.tta_reading.proofs.Steps.{then-ok}
-use Rattle.tta_tac.specs.declared.operand.Src.{Src}
-use Rattle.tta_tac.specs.declared.step.Step.{Step}
-use Rattle.tta_tac.specs.declared.program.Proc.{Proc}
+use Rattle.tta_program.specs.declared.operand.Src.{Src}
+use Rattle.tta_program.specs.declared.step.Step.{Step}
+use Rattle.tta_program.specs.declared.program.Proc.{Proc}
+use Rattle.tta_program.specs.declared.program.DataLine.{DataLine}
 use Rattle.tta_tac.specs.declared.reading.refusal.Refusal.TheVariants.{UnknownProc}
-use Rattle.tta_tac.specs.Program.{Program}
-use Rattle.tta_tac.specs.Rules.{is_call, IsProc, IsProgram, Reaches, ByCall, ByMore}
+use Rattle.tta_program.specs.Program.{Program}
+use Rattle.tta_program.specs.Rules.{is_call, IsProc, IsProgram, Reaches, ByCall, ByMore}
 use Rattle.tta_tac.specs.Draft.{Draft, ProcDraft}
 use Rattle.tta_tac.specs.SecondPass.{callee_named, params_of, link_steps, link_proc, link_procs}
 use Rattle.tta_tac.specs.Text.{with_main}
@@ -26,7 +27,7 @@ use Rattle.tta_tac.proofs.Finished.{procs_cons, linked_length}
 use Rattle.tta_tac.proofs.LinkedSteps.{steps_length, ends_kept, steps_kept}
 
 -- what was made of a procedure
-proc_ok : (d : Draft) (q : ProcDraft) (r : Proc) → link_proc d q ≡ Ok r
+pub proc_ok : (d : Draft) (q : ProcDraft) (r : Proc) → link_proc d q ≡ Ok r
     → (steps : List Step) × (link_steps d q.labels q.steps q.lines ≡ Ok steps)
     × (r ≡ record { params = q.params; vars = length q.vars; steps = steps; lines = q.lines })
 proc_ok d q r e =
@@ -95,27 +96,34 @@ called names name k e = by (bytes_eq name (codes "main")) (named_in names name) 
   by false None e = absurd cc
   by false (Some j) e = let same : j ≡ k = cc in (refl, ap Some same)
 
--- who is main makes no difference to calls
-other_main : (procs : List Proc) (main i j : ℕ) → Reaches (with_main procs main) i j → Reaches (with_main procs 0) i j
-other_main procs main i j (ByCall _ _ e) = ByCall i j e
-other_main procs main i j (ByMore _ via _ e r) = ByMore i via j e (other_main procs main via j r)
+-- who is main, and what data there are, makes no difference to calls
+other_main : (procs : List Proc) (main : ℕ) (init : List DataLine) (i j : ℕ)
+    → Reaches (record { procs = procs; main = main; init = init }) i j → Reaches (with_main procs 0) i j
+other_main procs main init i j (ByCall _ _ e) = ByCall i j e
+other_main procs main init i j (ByMore _ via _ e r) = ByMore i via j e (other_main procs main init via j r)
 
 -- ---- programs
 
 -- the program of a draft in which no procedure is left open
 pub keeps_rules : (d : Draft) (procs : List Proc) (main : ℕ) → IsKept d → d.begun ≡ None → link_procs d d.procs ≡ Ok procs
-    → named_in d.names (codes "main") ≡ Some main → IsAcyclic procs → IsProgram (with_main procs main)
+    → named_in d.names (codes "main") ≡ Some main → IsAcyclic procs
+    → IsProgram (record { procs = procs; main = main; init = d.init })
 keeps_rules d procs main kept ended link named acyclic = record {
   lines =
       let size = linked_length d d.procs procs link in
       let sum = procs_steps d d.procs procs kept.ended link in
-      let few = subst (λ qs. sum_by (λ q. length q.steps) qs + length qs ≤ d.lines) whole kept.lines in
+      let few = subst (λ qs. sum_by (λ q. length q.steps) qs + length qs + length d.init ≤ d.lines) whole kept.lines in
       let most = kept.most in
       omega arith;
-  procs = procs_kept d (with_main procs main) callee d.procs procs kept.ended link;
+  procs = procs_kept d program callee d.procs procs kept.ended link;
   main = procs_params d (λ n. n == 0) d.procs procs main link (there (codes "main") main named) no_params;
-  acyclic = λ k r. acyclic k (other_main procs main k k r);
+  acyclic = λ k r. acyclic k (other_main procs main d.init k k r);
+  init = kept.init;
+  apart = kept.apart;
 } where
+  program : Program
+  program = record { procs = procs; main = main; init = d.init }
+
   whole : all_procs d ≡ d.procs
   whole = ap (λ o. d.procs ++ option_to_list o) ended ∙ append-nil d.procs
 
@@ -129,7 +137,7 @@ keeps_rules d procs main kept ended link named acyclic = record {
     by (Some q) at = eq-eqb q.params 0 (kept.main main q named (ap (λ qs. slice_get qs main) whole ∙ at))
 
   callee : (name : List ℕ) (k : ℕ) (args : List Src) → callee_named d.names name ≡ Ok k → (params_of d.procs k == length args) ≡ true
-      → is_call (with_main procs main) k args ≡ true
+      → is_call program k args ≡ true
   callee name k args at test =
       let c = called d.names name k at in
       and_from (not (k == main)) _ (other c.0 c.1 (eqb_tells k main))

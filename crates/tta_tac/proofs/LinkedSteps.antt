@@ -8,13 +8,13 @@ use Rattle.tta_list.proofs.Tests.{and_right, and_map}
 use Rattle.tta_reading.specs.Names.{Declared, named_in}
 use Rattle.tta_reading.specs.Steps.{◌>>=◌, or_refuse, refuse_if, at_line}
 use Rattle.tta_reading.proofs.Steps.{then-ok, at_line-ok}
-use Rattle.tta_tac.specs.declared.operand.Src.{Src}
-use Rattle.tta_tac.specs.declared.step.Step.{Step}
-use Rattle.tta_tac.specs.declared.step.Step.TheVariants as step
-use Rattle.tta_tac.specs.declared.program.Proc.{Proc}
+use Rattle.tta_program.specs.declared.operand.Src.{Src}
+use Rattle.tta_program.specs.declared.step.Step.{Step}
+use Rattle.tta_program.specs.declared.step.Step.TheVariants as step
+use Rattle.tta_program.specs.declared.program.Proc.{Proc}
 use Rattle.tta_tac.specs.declared.reading.refusal.Refusal.TheVariants.{UnknownLabel, Arity}
-use Rattle.tta_tac.specs.Program.{Program}
-use Rattle.tta_tac.specs.Rules.{is_src, is_call, is_step, ends_once}
+use Rattle.tta_program.specs.Program.{Program}
+use Rattle.tta_program.specs.Rules.{is_src, is_call, is_step, is_end, ends_once}
 use Rattle.tta_tac.specs.Draft.{Draft, Unlinked, Plain, IfTo, GotoTo, CallTo}
 use Rattle.tta_tac.specs.SecondPass.{callee_named, params_of, link_step, link_steps}
 use Rattle.tta_tac.specs.Text.{with_main}
@@ -33,6 +33,7 @@ plain_kept p q (step.Apply d op a b) h = h
 plain_kept p q (step.Load d a) h = h
 plain_kept p q (step.Store a v) h = h
 plain_kept p q (step.Put v) h = h
+plain_kept p q (step.Take d) h = h
 plain_kept p q (step.If rel a b to) h = absurd (none_below to (and_right _ _ h))
 plain_kept p q (step.Goto to) h = absurd (none_below to h)
 plain_kept p q (step.When rel a b d s) h = h
@@ -43,11 +44,6 @@ plain_kept p q (step.Invoke d callee args) h = absurd (no_call (not (callee == 0
 plain_kept p q (step.Return s) h = h
 plain_kept p q step.Halt h = h
 plain_kept p q step.End h = h
-
--- whether a step is an `end`
-abbrev pub is_end : Step → Bool
-is_end step.End = true
-is_end s = false
 
 -- whether nothing is in a list, as behind the `end` of a procedure
 abbrev pub is_nil : {A : Type 0} → List A → Bool
@@ -78,7 +74,7 @@ closes_cons s ss = refl
 
 module _ (d : Draft) (labels : Declared ℕ) where
   -- the first step and the others of what was made
-  steps_cons : (s : Unlinked) (ss : List Unlinked) (line : ℕ) (lines : List ℕ) (steps : List Step)
+  pub steps_cons : (s : Unlinked) (ss : List Unlinked) (line : ℕ) (lines : List ℕ) (steps : List Step)
       → link_steps d labels (s ∷ ss) (line ∷ lines) ≡ Ok steps
       → (x : Step) × (rest : List Step) × (link_step d labels s ≡ Ok x) × (link_steps d labels ss lines ≡ Ok rest) × (x ∷ rest ≡ steps)
   steps_cons s ss line lines steps e =

@@ -6,7 +6,8 @@ use Rattle.tta_reading.specs.declared.word.Word.{Word}
 use Rattle.tta_reading.specs.Lines.{Lexeme, plain, texts}
 use Rattle.tta_reading.specs.Words.{is_name_kind}
 use Rattle.tta_reading.specs.Steps.{◌>>?◌, only_if}
-use Rattle.tta_tac.specs.Forms.{operand_of, free_name, is_reserved, operands_alone, names_alone}
+use Rattle.tta_ops.specs.Reserved.{is_reserved}
+use Rattle.tta_tac.specs.Forms.{operand_of, free_name, operands_alone, names_alone}
 use Rattle.tta_tac.specs.Seen.{operands_in}
 
 -- one more word in front: there is a value where there is one for it and for the words behind it

@@ -7,8 +7,8 @@ use Rattle.std.proofs.lemmas.Option.{slice_get_read, slice_get_past}
 use Rattle.std.proofs.lemmas.List.{at_drop_more}
 use Rattle.tta_reading.specs.Names.{Declared}
 use Rattle.tta_reading.specs.Steps.{◌>>=◌, at_line}
-use Rattle.tta_tac.specs.declared.step.Step.{Step}
-use Rattle.tta_tac.specs.declared.program.Proc.{Proc}
+use Rattle.tta_program.specs.declared.step.Step.{Step}
+use Rattle.tta_program.specs.declared.program.Proc.{Proc}
 use Rattle.tta_tac.specs.declared.reading.draft.NamedStep.{NamedStep}
 use Rattle.tta_tac.specs.declared.reading.draft.DraftProc.{DraftProc}
 use Rattle.tta_tac.specs.declared.reading.refusal.Refusal.{Refusal}

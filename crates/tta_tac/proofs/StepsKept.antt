@@ -1,5 +1,5 @@
 -- The step of a line keeps to the variables of its procedure.
-use Rattle.std.proofs.Common.{◌≡◌, ℕ, ◌≤◌, Bool, true, false, List, [], ◌∷◌, ◌++◌, length, Option, Some, None, refl, ◌∙◌, ap, arith}
+use Rattle.std.proofs.Common.{◌≡◌, ℕ, ◌≤◌, ◌^◌, Bool, true, false, List, [], ◌∷◌, ◌++◌, length, Option, Some, None, refl, ◌∙◌, ap, arith}
 use Rattle.std.specs.Prelude.{◌&&◌, nat_lt, if◌then◌else◌}
 use Rattle.std.specs.Option.{option_map_or}
 use Rattle.std.specs.List.{list_all, list_any}
@@ -7,13 +7,13 @@ use Rattle.std.proofs.lemmas.Bool.{and_from, or_parts, lt-ltb, ltb-true}
 use Rattle.tta_list.proofs.Tests.{and_left, and_right, and_map}
 use Rattle.tta_reading.specs.Names.{Declared}
 use Rattle.tta_ops.specs.Units.{Units}
-use Rattle.tta_tac.specs.declared.operand.Src.{Src}
-use Rattle.tta_tac.specs.declared.operand.Src.TheVariants.{Var, Word}
-use Rattle.tta_tac.specs.declared.step.Step.{Step}
-use Rattle.tta_tac.specs.declared.step.Step.TheVariants as step
-use Rattle.tta_tac.specs.Rules.{is_src, is_call, is_step}
+use Rattle.tta_program.specs.declared.operand.Src.{Src}
+use Rattle.tta_program.specs.declared.operand.Src.TheVariants.{Var, Word}
+use Rattle.tta_program.specs.declared.step.Step.{Step}
+use Rattle.tta_program.specs.declared.step.Step.TheVariants as step
+use Rattle.tta_program.specs.Rules.{is_src, is_call, is_step}
 use Rattle.tta_tac.specs.Text.{with_main}
-use Rattle.tta_tac.specs.Forms.{Operand, Form, ProcForm, LabelForm, CopyForm, ApplyForm, LoadForm, StoreForm, PutForm, IfForm, GotoForm, WhenForm, CallForm, ReturnForm, HaltForm, EndForm}
+use Rattle.tta_tac.specs.Forms.{Operand, Form, ProcForm, DataForm, LabelForm, CopyForm, ApplyForm, LoadForm, StoreForm, PutForm, TakeForm, IfForm, GotoForm, WhenForm, CallForm, ReturnForm, HaltForm, EndForm}
 use Rattle.tta_tac.specs.Draft.{Unlinked, Plain, IfTo, GotoTo, CallTo}
 use Rattle.tta_tac.specs.FirstPass.{with_var, var_number, with_operand, with_operands, src_of, srcs_of, vars_after, step_of, is_end}
 use Rattle.tta_tac.specs.Kept.{bare, is_unlinked, is_end_step, closes_once}
@@ -27,6 +27,7 @@ fits_form (ApplyForm d op operands) = list_all fits operands
 fits_form (LoadForm d a) = fits a
 fits_form (StoreForm a v) = fits a && fits v
 fits_form (PutForm v) = fits v
+fits_form (DataForm address value) = nat_lt address (2 ^ 32) && nat_lt value (2 ^ 32)
 fits_form (IfForm rel a b label) = fits a && fits b
 fits_form (WhenForm rel a b d s) = fits a && fits b && fits s
 fits_form (CallForm d callee args) = list_all fits args
@@ -39,6 +40,7 @@ grows_form vars (ApplyForm d op operands) = grows_on (grows_var vars d) (grows_o
 grows_form vars (LoadForm d a) = grows_on (grows_var vars d) (grows_operand (with_var vars d) a)
 grows_form vars (StoreForm a v) = grows_on (grows_operand vars a) (grows_operand (with_operand vars a) v)
 grows_form vars (PutForm v) = grows_operand vars v
+grows_form vars (TakeForm d) = grows_var vars d
 grows_form vars (IfForm rel a b label) = grows_on (grows_operand vars a) (grows_operand (with_operand vars a) b)
 grows_form vars (GotoForm label) = grows_not vars
 grows_form vars (WhenForm rel a b d s) =
@@ -51,6 +53,7 @@ grows_form vars (CallForm None callee args) = grows_operands vars args
 grows_form vars (ReturnForm (Some s)) = grows_operand vars s
 grows_form vars (ReturnForm None) = grows_not vars
 grows_form vars (ProcForm name params) = grows_not vars
+grows_form vars (DataForm address value) = grows_not vars
 grows_form vars (LabelForm name) = grows_not vars
 grows_form vars HaltForm = grows_not vars
 grows_form vars EndForm = grows_not vars
@@ -102,6 +105,7 @@ step_fits u vars (ApplyForm d op (a ∷ b ∷ c ∷ more)) h f = refl
 step_fits u vars (LoadForm d a) h f = one_kept vars d a h f
 step_fits u vars (StoreForm a v) h f = two_kept vars a v h f
 step_fits u vars (PutForm v) h f = src_kept (with_operand vars v) v ((grows_operand vars v).numbered h) (has_operand vars v f)
+step_fits u vars (TakeForm d) h f = var_kept (with_var vars d) d ((grows_var vars d).numbered h) (has_var vars d)
 step_fits u vars (IfForm rel a b label) h f = two_kept vars a b h f
 step_fits u vars (GotoForm label) h f = refl
 step_fits u vars (WhenForm rel a b d s) h f =
@@ -124,6 +128,7 @@ step_fits u vars (ReturnForm None) h f = refl
 step_fits u vars HaltForm h f = refl
 step_fits u vars EndForm h f = refl
 step_fits u vars (ProcForm name params) h f = refl
+step_fits u vars (DataForm address value) h f = refl
 step_fits u vars (LabelForm name) h f = refl
 
 -- only `end` makes an End
@@ -162,6 +167,7 @@ module _ (m n : ℕ) (more : m ≤ n) where
   plain_more (step.Load d a) h = and_map (lt_more d) (src_more a) h
   plain_more (step.Store a v) h = and_map (src_more a) (src_more v) h
   plain_more (step.Put v) h = src_more v h
+  plain_more (step.Take d) h = lt_more d h
   plain_more (step.If rel a b to) h = and_map (and_map (src_more a) (src_more b)) (λ (t : nat_lt to 0 ≡ true). t) h
   plain_more (step.Goto to) h = h
   plain_more (step.When rel a b d s) h = and_map (and_map (and_map (src_more a) (src_more b)) (lt_more d)) (src_more s) h

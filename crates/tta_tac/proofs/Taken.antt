@@ -1,5 +1,5 @@
--- What a line that was taken made of the draft: a procedure begins, a label is put, or a step is made.
-use Rattle.std.proofs.Common.{◌≡◌, ℕ, ◌+◌, ◌<◌, ◌≤◌, false, List, [], ◌∷◌, ◌++◌, length, Some, Ok}
+-- What a line that was taken made of the draft: a procedure begins, data are laid, a label is put, or a step is made.
+use Rattle.std.proofs.Common.{◌≡◌, ℕ, ◌+◌, ◌<◌, ◌≤◌, false, List, [], ◌∷◌, ◌++◌, length, Some, Ok, refl}
 use Rattle.std.specs.Prelude.{◌||◌, ◌&&◌, nat_lt, is_some, codes}
 use Rattle.std.specs.Str.{bytes_eq}
 use Rattle.std.proofs.lemmas.Bool.{or_parts, leb-false, ltb-false}
@@ -7,9 +7,9 @@ use Rattle.tta_reading.specs.Names.{named_in}
 use Rattle.tta_reading.proofs.Steps.{same_ok, refuse_if-ok, some-ok}
 use Rattle.tta_ops.specs.Units.{Units}
 use Rattle.tta_tac.specs.declared.reading.refusal.Refusal.TheVariants.{Syntax, UnknownOp, Arity, Twice, TooMany}
-use Rattle.tta_tac.specs.Forms.{Form, ProcForm, LabelForm}
+use Rattle.tta_tac.specs.Forms.{Form, ProcForm, DataForm, LabelForm}
 use Rattle.tta_tac.specs.Draft.{Unlinked, ProcDraft, Draft}
-use Rattle.tta_tac.specs.FirstPass.{vars_after, lacks_op, has_wrong_arity, has_many_args, has_twice, is_full, step_of, is_end, close_if, with_step, take_proc, with_fresh, take_label, take_step, take_inside, take_form}
+use Rattle.tta_tac.specs.FirstPass.{vars_after, lacks_op, has_wrong_arity, has_many_args, has_twice, is_full, step_of, is_end, close_if, with_step, take_proc, with_fresh, has_address, with_datum, take_data, take_label, take_step, take_inside, take_form}
 
 -- ---- procedures
 
@@ -36,6 +36,27 @@ proc_taken d e line name params taken =
       made = same_ok (with_fresh d line name params) e p4.1;
     }
 
+-- ---- data
+
+-- no procedure has begun, the address is free, and there is room
+pub record DatumTaken (d e : Draft) (line address value : ℕ) : Type 0 where
+  pub closed : is_some d.begun ≡ false
+  pub free : has_address d.init address ≡ false
+  pub room : d.lines < 65536
+  pub made : with_datum d (record { address = address; value = value; line = line }) ≡ e
+
+datum_taken : (d e : Draft) (line address value : ℕ) → take_data d line address value ≡ Ok e → DatumTaken d e line address value
+datum_taken d e line address value taken =
+    let p1 = refuse_if-ok (is_some d.begun) Syntax _ e taken in
+    let p2 = refuse_if-ok (has_address d.init address) Twice _ e p1.1 in
+    let p3 = refuse_if-ok (is_full d) TooMany _ e p2.1 in
+    record {
+      closed = p1.0;
+      free = p2.0;
+      room = leb-false 65536 d.lines p3.0;
+      made = same_ok (with_datum d (record { address = address; value = value; line = line })) e p3.1;
+    }
+
 -- ---- labels
 
 -- a procedure with a label more, of its next step
@@ -55,10 +76,12 @@ label_taken d e q name taken =
 
 -- ---- steps
 
--- there is such a step, and room for it and its variables
+-- there is such a step, its operation is there and takes these words, and there is room for it and its variables
 pub record StepTaken (u : Units) (d e : Draft) (q : ProcDraft) (line : ℕ) (f : Form) : Type 0 where
   pub step : Unlinked
   pub is : step_of u (vars_after q.vars f) f ≡ Some step
+  pub offered : lacks_op u f ≡ false
+  pub fits : has_wrong_arity u f ≡ false
   pub room : d.lines < 65536
   pub few : length (vars_after q.vars f) ≤ 4096
   pub made : close_if (is_end f) (record d { lines = d.lines + 1 }) (with_step q (vars_after q.vars f) step line) ≡ e
@@ -73,6 +96,8 @@ step_taken u d e q line f taken =
     record {
       step = s.0;
       is = s.1;
+      offered = p1.0;
+      fits = p2.0;
       room = leb-false 65536 d.lines (or_parts (is_full d) (has_many_args f) tests.0).0;
       few = ltb-false 4096 (length (vars_after q.vars f)) tests.1;
       made = same_ok (close_if (is_end f) (record d { lines = d.lines + 1 }) (with_step q (vars_after q.vars f) s.0 line)) e s.2;
@@ -80,16 +105,18 @@ step_taken u d e q line f taken =
 
 -- ---- any line that is not blank
 
--- which of the three it is
+-- which of the four it is
 pub data Taken (u : Units) (d e : Draft) (line : ℕ) (f : Form) : Type 0 where
-  ProcBegins : (name : List ℕ) (params : List (List ℕ)) → ProcTaken d e line name params → Taken u d e line f
-  LabelIsPut : (q : ProcDraft) (name : List ℕ) → d.begun ≡ Some q → LabelTaken d e q name → Taken u d e line f
+  ProcBegins : (name : List ℕ) (params : List (List ℕ)) → f ≡ ProcForm name params → ProcTaken d e line name params → Taken u d e line f
+  DatumIsLaid : (address value : ℕ) → f ≡ DataForm address value → DatumTaken d e line address value → Taken u d e line f
+  LabelIsPut : (q : ProcDraft) (name : List ℕ) → d.begun ≡ Some q → f ≡ LabelForm name → LabelTaken d e q name → Taken u d e line f
   StepIsMade : (q : ProcDraft) → d.begun ≡ Some q → StepTaken u d e q line f → Taken u d e line f
 
 inside_taken : (u : Units) (d e : Draft) (q : ProcDraft) (line : ℕ) (f : Form) → d.begun ≡ Some q → take_inside u d q line f ≡ Ok e → Taken u d e line f
-inside_taken u d e q line (LabelForm name) begun taken = LabelIsPut q name begun (label_taken d e q name taken)
+inside_taken u d e q line (LabelForm name) begun taken = LabelIsPut q name begun refl (label_taken d e q name taken)
 inside_taken u d e q line f begun taken = StepIsMade q begun (step_taken u d e q line f taken)
 
 pub form_taken : (u : Units) (d e : Draft) (line : ℕ) (f : Form) → take_form u d line f ≡ Ok e → Taken u d e line f
-form_taken u d e line (ProcForm name params) taken = ProcBegins name params (proc_taken d e line name params taken)
+form_taken u d e line (ProcForm name params) taken = ProcBegins name params refl (proc_taken d e line name params taken)
+form_taken u d e line (DataForm address value) taken = DatumIsLaid address value refl (datum_taken d e line address value taken)
 form_taken u d e line f taken = let q = some-ok Syntax d.begun _ e taken in inside_taken u d e q.0 line f q.1 q.2

@@ -7,6 +7,7 @@ use Rattle.tta_reading.specs.Steps.{at_line}
 use Rattle.tta_reading.proofs.Steps.{then-ok, some-ok, at_line-ok}
 use Rattle.tta_ops.specs.Units.{Units}
 use Rattle.tta_tac.specs.declared.reading.refusal.Refusal.TheVariants.{Syntax}
+use Rattle.tta_program.specs.declared.program.DataLine.{DataLine}
 use Rattle.tta_tac.specs.Forms.{form_of}
 use Rattle.tta_tac.specs.Draft.{ProcDraft, Draft, nothing}
 use Rattle.tta_tac.specs.FirstPass.{take_line}
@@ -27,18 +28,19 @@ module _ (u : Units) where
       let f = some-ok Syntax (form_of key words) _ e taken in
       take_form_kept u d e line f.0 kept (subst (λ o. option_map_or fits_form o true ≡ true) f.1 (form_fit key words)) f.2
 
-  closed : (line : ℕ) (names : Declared ℕ) (procs : List ProcDraft) (begun : Option ProcDraft) (lines : ℕ) (e : Draft)
-      → take_lines u line (record { names = names; procs = procs; begun = begun; lines = lines }) [] ≡ Ok e
-      → (record { names = names; procs = procs; begun = begun; lines = lines } ≡ e) × (begun ≡ None)
-  closed line names procs None lines e taken =
-      let same : record { names = names; procs = procs; begun = None; lines = lines } ≡ e = cc in (same, refl)
-  closed line names procs (Some q) lines e taken = absurd cc
+  -- at the end nothing is left open
+  pub closed : (line : ℕ) (names : Declared ℕ) (procs : List ProcDraft) (begun : Option ProcDraft) (init : List DataLine) (lines : ℕ) (e : Draft)
+      → take_lines u line (record { names = names; procs = procs; begun = begun; init = init; lines = lines }) [] ≡ Ok e
+      → (record { names = names; procs = procs; begun = begun; init = init; lines = lines } ≡ e) × (begun ≡ None)
+  closed line names procs None init lines e taken =
+      let same : record { names = names; procs = procs; begun = None; init = init; lines = lines } ≡ e = cc in (same, refl)
+  closed line names procs (Some q) init lines e taken = absurd cc
 
   -- so do all lines, and at the end no procedure is open
   pub lines_kept : (lines : List Line) (line : ℕ) (d e : Draft) → IsKept d → take_lines u line d lines ≡ Ok e
       → IsKept e × (e.begun ≡ None)
   lines_kept [] line d e kept taken =
-      let c = closed line d.names d.procs d.begun d.lines e taken in
+      let c = closed line d.names d.procs d.begun d.init d.lines e taken in
       (subst IsKept c.0 kept, ap (λ x. x.begun) (sym c.0) ∙ c.1)
   lines_kept (words ∷ lines) line d e kept taken =
       let c = then-ok (at_line line (take_line u line d words)) _ e taken in

@@ -3,13 +3,14 @@
 use Rattle.std.specs.Prelude.{ℕ, List, [], ◌∷◌, Option, Some, None}
 use Rattle.std.specs.Option.{option_map_or}
 use Rattle.tta_reading.specs.Names.{Declared}
-use Rattle.tta_tac.specs.declared.operand.Src.{Src}
-use Rattle.tta_tac.specs.declared.step.Step.{Step}
+use Rattle.tta_program.specs.declared.operand.Src.{Src}
+use Rattle.tta_program.specs.declared.step.Step.{Step}
+use Rattle.tta_program.specs.declared.program.DataLine.{DataLine}
 use Rattle.tta_tac.specs.declared.reading.draft.NamedStep.{NamedStep}
 use Rattle.tta_tac.specs.declared.reading.draft.NamedStep.TheVariants as code_step
 use Rattle.tta_tac.specs.declared.reading.draft.DraftProc.{DraftProc as CodeProc}
 use Rattle.tta_tac.specs.declared.reading.draft.Draft.{Draft as CodeDraft}
-use Rattle.tta_tac.specs.declared.operand.Rel.{Rel}
+use Rattle.tta_program.specs.declared.operand.Rel.{Rel}
 
 -- a step whose label or callee is still a name
 pub data Unlinked : Type 0 where
@@ -28,16 +29,17 @@ pub record ProcDraft : Type 0 where
   pub steps : List Unlinked
   pub lines : List ℕ
 
--- the procedures by name, those that have ended, the one that has not, and how many lines were not blank
+-- the procedures by name, those that have ended, the one that has not, the data, and how many lines were not blank
 pub record Draft : Type 0 where
   pub names : Declared ℕ
   pub procs : List ProcDraft
   pub begun : Option ProcDraft
+  pub init : List DataLine
   pub lines : ℕ
 
 -- before the first line
 abbrev pub nothing : Draft
-nothing = record { names = []; procs = []; begun = None; lines = 0 }
+nothing = record { names = []; procs = []; begun = None; init = []; lines = 0 }
 
 -- ---- the same, of the code's values
 
@@ -68,5 +70,6 @@ draft_seen d = record {
   names = d.names;
   procs = procs_seen d.procs;
   begun = option_map_or (λ q. Some (proc_seen q)) d.begun None;
+  init = d.init;
   lines = d.lines;
 }

@@ -9,14 +9,14 @@ use Rattle.tta_reading.specs.Names.{Declared, named_in}
 use Rattle.tta_reading.specs.Steps.{◌>>=◌, or_refuse, refuse_if}
 use Rattle.tta_ops.specs.declared.OpId.{OpId}
 use Rattle.tta_ops.specs.Units.{Units, named}
-use Rattle.tta_tac.specs.declared.operand.Src.{Src}
-use Rattle.tta_tac.specs.declared.operand.Src.TheVariants.{Var, Word}
-use Rattle.tta_tac.specs.declared.operand.Rel.{Rel}
-use Rattle.tta_tac.specs.declared.operand.Rel.TheVariants.{Eq, Ne, Lt, Ge, Ltu, Geu}
-use Rattle.tta_tac.specs.declared.step.Step.TheVariants as step
+use Rattle.tta_program.specs.declared.operand.Src.{Src}
+use Rattle.tta_program.specs.declared.operand.Src.TheVariants.{Var, Word}
+use Rattle.tta_program.specs.declared.step.Step.TheVariants as step
+use Rattle.tta_program.specs.declared.program.DataLine.{DataLine}
+use Rattle.tta_program.specs.Over.{test_name}
 use Rattle.tta_tac.specs.declared.reading.refusal.Refusal.{Refusal}
 use Rattle.tta_tac.specs.declared.reading.refusal.Refusal.TheVariants.{Syntax, UnknownOp, Arity, Twice, TooMany}
-use Rattle.tta_tac.specs.Forms.{Operand, Named, Constant, Form, ProcForm, LabelForm, CopyForm, ApplyForm, LoadForm, StoreForm, PutForm, IfForm, GotoForm, WhenForm, CallForm, ReturnForm, HaltForm, EndForm, form_of}
+use Rattle.tta_tac.specs.Forms.{Operand, Named, Constant, Form, ProcForm, DataForm, LabelForm, CopyForm, ApplyForm, LoadForm, StoreForm, PutForm, TakeForm, IfForm, GotoForm, WhenForm, CallForm, ReturnForm, HaltForm, EndForm, form_of}
 use Rattle.tta_tac.specs.Draft.{Unlinked, Plain, IfTo, GotoTo, CallTo, ProcDraft, Draft}
 
 -- ---- variables
@@ -56,6 +56,7 @@ vars_after vars (ApplyForm d op operands) = with_operands (with_var vars d) oper
 vars_after vars (LoadForm d a) = with_operand (with_var vars d) a
 vars_after vars (StoreForm a v) = with_operand (with_operand vars a) v
 vars_after vars (PutForm v) = with_operand vars v
+vars_after vars (TakeForm d) = with_var vars d
 vars_after vars (IfForm rel a b label) = with_operand (with_operand vars a) b
 vars_after vars (GotoForm label) = vars
 vars_after vars (WhenForm rel a b d s) = with_operand (with_var (with_operand (with_operand vars a) b) d) s
@@ -64,26 +65,18 @@ vars_after vars (CallForm None callee args) = with_operands vars args
 vars_after vars (ReturnForm (Some s)) = with_operand vars s
 vars_after vars (ReturnForm None) = vars
 vars_after vars (ProcForm name params) = vars
+vars_after vars (DataForm address value) = vars
 vars_after vars (LabelForm name) = vars
 vars_after vars HaltForm = vars
 vars_after vars EndForm = vars
 
 -- ---- operations
 
--- the operation that a relation rests on
-abbrev pub rel_name : Rel → List ℕ
-rel_name Eq = codes "eq"
-rel_name Ne = codes "eq"
-rel_name Lt = codes "lt"
-rel_name Ge = codes "lt"
-rel_name Ltu = codes "ltu"
-rel_name Geu = codes "ltu"
-
 -- a line's operation by name, with how many words it is given
 abbrev pub asked_op : Form → Option (List ℕ × ℕ)
 asked_op (ApplyForm d op operands) = Some (op, length operands)
-asked_op (IfForm rel a b label) = Some (rel_name rel, 2)
-asked_op (WhenForm rel a b d s) = Some (rel_name rel, 2)
+asked_op (IfForm rel a b label) = Some (test_name rel, 2)
+asked_op (WhenForm rel a b d s) = Some (test_name rel, 2)
 asked_op form = None
 
 -- how many words an operation takes
@@ -111,13 +104,14 @@ apply_step u vars d op (only ∷ []) = Plain (step.Apply d (op_id u op) (Word 0)
 apply_step u vars d op (left ∷ right ∷ []) = Plain (step.Apply d (op_id u op) (src_of vars left) (src_of vars right))
 apply_step u vars d op operands = Plain step.Halt
 
--- the step of a line, where all its variables have numbers; a procedure's begin and a label are none
+-- the step of a line, where all its variables have numbers; a procedure's begin, data and a label are none
 abbrev pub step_of : Units → Declared ℕ → Form → Option Unlinked
 step_of u vars (CopyForm d s) = Some (Plain (step.Copy (var_number vars d) (src_of vars s)))
 step_of u vars (ApplyForm d op operands) = Some (apply_step u vars (var_number vars d) op operands)
 step_of u vars (LoadForm d a) = Some (Plain (step.Load (var_number vars d) (src_of vars a)))
 step_of u vars (StoreForm a v) = Some (Plain (step.Store (src_of vars a) (src_of vars v)))
 step_of u vars (PutForm v) = Some (Plain (step.Put (src_of vars v)))
+step_of u vars (TakeForm d) = Some (Plain (step.Take (var_number vars d)))
 step_of u vars (IfForm rel a b label) = Some (IfTo rel (src_of vars a) (src_of vars b) label)
 step_of u vars (GotoForm label) = Some (GotoTo label)
 step_of u vars (WhenForm rel a b d s) = Some (Plain (step.When rel (src_of vars a) (src_of vars b) (var_number vars d) (src_of vars s)))
@@ -128,6 +122,7 @@ step_of u vars (ReturnForm None) = Some (Plain (step.Return None))
 step_of u vars HaltForm = Some (Plain step.Halt)
 step_of u vars EndForm = Some (Plain step.End)
 step_of u vars (ProcForm name params) = None
+step_of u vars (DataForm address value) = None
 step_of u vars (LabelForm name) = None
 
 -- a call has at most eight arguments
@@ -190,6 +185,22 @@ take_proc d line name params =
     refuse_if (is_full d || nat_lt 8 (length params)) TooMany (
     Ok (with_fresh d line name params)))))
 
+-- whether data have a word for an address
+abbrev pub has_address : List DataLine → ℕ → Bool
+has_address init address = list_any (λ d. d.address == address) init
+
+-- a draft with a word of data more
+abbrev pub with_datum : Draft → DataLine → Draft
+with_datum d datum = record d { init = d.init ++ datum ∷ []; lines = d.lines + 1 }
+
+-- a word of data, where no procedure is begun
+abbrev pub take_data : Draft → (line address value : ℕ) → Result Draft Refusal
+take_data d line address value =
+    refuse_if (is_some d.begun) Syntax (
+    refuse_if (has_address d.init address) Twice (
+    refuse_if (is_full d) TooMany (
+    Ok (with_datum d (record { address = address; value = value; line = line })))))
+
 -- a label names the next step of the begun procedure
 abbrev pub take_label : Draft → ProcDraft → (name : List ℕ) → Result Draft Refusal
 take_label d q name =
@@ -215,6 +226,7 @@ take_inside u d q line form = take_step u d q line form
 -- a line that is not blank
 abbrev pub take_form : Units → Draft → (line : ℕ) → Form → Result Draft Refusal
 take_form u d line (ProcForm name params) = take_proc d line name params
+take_form u d line (DataForm address value) = take_data d line address value
 take_form u d line form = or_refuse Syntax d.begun >>= λ q. take_inside u d q line form
 
 -- a line; a blank one says nothing

@@ -1,24 +1,13 @@
 -- The forms of a program text's lines.
-use Rattle.std.specs.Prelude.{ℕ, Bool, not, if◌then◌else◌, List, [], ◌∷◌, Option, Some, None, codes}
-use Rattle.std.specs.Str.{bytes_eq}
-use Rattle.std.specs.List.{list_any}
+use Rattle.std.specs.Prelude.{ℕ, not, if◌then◌else◌, List, [], ◌∷◌, Option, Some, None, codes}
 use Rattle.tta_reading.specs.Lines.{Lexeme, Line}
-use Rattle.tta_reading.specs.Words.{is_keyword, is_mark, name_of, constant_of}
+use Rattle.tta_reading.specs.Words.{is_keyword, is_mark, name_of, value_of, constant_of}
 use Rattle.tta_reading.specs.Steps.{◌>>?◌, only_if}
-use Rattle.tta_tac.specs.declared.operand.Rel.{Rel}
-use Rattle.tta_tac.specs.declared.operand.Rel.TheVariants.{Eq, Ne, Lt, Ge, Ltu, Geu}
+use Rattle.tta_ops.specs.Reserved.{is_reserved}
+use Rattle.tta_program.specs.declared.operand.Rel.{Rel}
+use Rattle.tta_program.specs.declared.operand.Rel.TheVariants.{Eq, Ne, Lt, Ge, Ltu, Geu}
 
 -- ---- words
-
--- the words that name no variable, label, procedure or operation
-abbrev pub reserved : List (List ℕ)
-reserved =
-    codes "ldw" ∷ codes "stw" ∷ codes "ldf" ∷ codes "stf" ∷ codes "jump" ∷ codes "proc" ∷ codes "end" ∷ codes "if" ∷ codes "goto"
-    ∷ codes "when" ∷ codes "load" ∷ codes "store" ∷ codes "out" ∷ codes "call" ∷ codes "return" ∷ codes "halt" ∷ codes "data" ∷ []
-
--- whether a name is one of these words
-unfoldable pub is_reserved : List ℕ → Bool
-is_reserved name = list_any (λ word. bytes_eq word name) reserved
 
 -- a name that is no reserved word
 abbrev pub free_name : Lexeme → Option (List ℕ)
@@ -69,12 +58,14 @@ rel_of w =
 -- what a line says, its names as they stand
 pub data Form : Type 0 where
   ProcForm : (name : List ℕ) (params : List (List ℕ)) → Form
+  DataForm : (address value : ℕ) → Form
   LabelForm : (name : List ℕ) → Form
   CopyForm : (d : List ℕ) (s : Operand) → Form
   ApplyForm : (d op : List ℕ) (operands : List Operand) → Form
   LoadForm : (d : List ℕ) (a : Operand) → Form
   StoreForm : (a v : Operand) → Form
   PutForm : (v : Operand) → Form
+  TakeForm : (d : List ℕ) → Form
   IfForm : (rel : Rel) (a b : Operand) (label : List ℕ) → Form
   GotoForm : (label : List ℕ) → Form
   WhenForm : (rel : Rel) (a b : Operand) (d : List ℕ) (s : Operand) → Form
@@ -87,6 +78,11 @@ pub data Form : Type 0 where
 unfoldable pub proc_form : Line → Option Form
 proc_form (n ∷ params) = free_name n >>? λ name. names_alone params >>? λ all. Some (ProcForm name all)
 proc_form line = None
+
+-- data A V
+unfoldable pub data_form : Line → Option Form
+data_form (a ∷ v ∷ []) = value_of a >>? λ address. constant_of v >>? λ value. Some (DataForm address value)
+data_form line = None
 
 -- store a v
 unfoldable pub store_form : Line → Option Form
@@ -134,9 +130,10 @@ abbrev pub alone_form : Form → Line → Option Form
 alone_form form [] = Some form
 alone_form form line = None
 
--- d = s, d = load a, d = call NAME s .., d = OPERATION s and d = OPERATION a b, behind the equals sign
+-- d = s, d = in, d = load a, d = call NAME s .., d = OPERATION s and d = OPERATION a b, behind the equals sign
 unfoldable pub assign_form : (d : List ℕ) → Line → Option Form
-assign_form d (s ∷ []) = operand_of s >>? λ value. Some (CopyForm d value)
+assign_form d (s ∷ []) =
+    if is_keyword (codes "in") s then Some (TakeForm d) else operand_of s >>? λ value. Some (CopyForm d value)
 assign_form d (w ∷ a ∷ rest) =
     if is_keyword (codes "call") w then call_form (Some d) (a ∷ rest)
     else if is_keyword (codes "load") w then load_form rest
@@ -163,6 +160,7 @@ named_form n line = None
 unfoldable pub form_of : Lexeme → Line → Option Form
 form_of key words =
     if is_keyword (codes "proc") key then proc_form words
+    else if is_keyword (codes "data") key then data_form words
     else if is_keyword (codes "store") key then store_form words
     else if is_keyword (codes "out") key then put_form words
     else if is_keyword (codes "if") key then if_form words

@@ -4,9 +4,9 @@ use Rattle.std.specs.Str.{bytes_eq}
 use Rattle.std.specs.Option.{option_map_or, IfSome}
 use Rattle.std.specs.List.{list_all, list_any, sum_by, AllByRecursion}
 use Rattle.tta_reading.specs.Names.{named_in}
-use Rattle.tta_tac.specs.declared.step.Step.TheVariants.{End}
-use Rattle.tta_tac.specs.declared.program.Proc.{Proc}
-use Rattle.tta_tac.specs.Rules.{is_src, is_step}
+use Rattle.tta_program.specs.declared.step.Step.TheVariants.{End}
+use Rattle.tta_program.specs.declared.program.Proc.{Proc}
+use Rattle.tta_program.specs.Rules.{is_src, is_step, is_datum, are_apart}
 use Rattle.tta_tac.specs.Text.{with_main}
 use Rattle.tta_tac.specs.Draft.{Unlinked, Plain, IfTo, GotoTo, CallTo, ProcDraft, Draft}
 
@@ -64,12 +64,15 @@ pub record IsEnded (q : ProcDraft) : Type 0 where
 abbrev pub all_procs : Draft → List ProcDraft
 all_procs d = d.procs ++ option_to_list d.begun
 
--- Each procedure has its line and a line for each step; each name is that of one procedure; main has no parameters.
+-- Each procedure has its line and a line for each step, and each datum its line; each name is that of one procedure;
+-- main has no parameters; no two data have one address.
 pub record IsKept (d : Draft) : Type 0 where
   pub most : d.lines ≤ 65536
-  pub lines : sum_by (λ q. length q.steps) (all_procs d) + length (all_procs d) ≤ d.lines
+  pub lines : sum_by (λ q. length q.steps) (all_procs d) + length (all_procs d) + length d.init ≤ d.lines
   pub ended : AllByRecursion IsEnded d.procs
   pub begun : IfSome d.begun IsOpen
   pub names : (name : List ℕ) (k : ℕ) → named_in d.names name ≡ Some k → k < length (all_procs d)
   pub once : (a b : List ℕ) (k : ℕ) → named_in d.names a ≡ Some k → named_in d.names b ≡ Some k → bytes_eq a b ≡ true
   pub main : (k : ℕ) (q : ProcDraft) → named_in d.names (codes "main") ≡ Some k → slice_get (all_procs d) k ≡ Some q → q.params ≡ 0
+  pub init : list_all is_datum d.init ≡ true
+  pub apart : are_apart d.init ≡ true

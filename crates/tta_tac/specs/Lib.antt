@@ -1,6 +1,3 @@
-pub mod Program
-pub mod Sequential
-pub mod Rules
 pub mod Refusals
 pub mod Forms
 pub mod Draft
@@ -8,6 +5,7 @@ pub mod DraftRules
 pub mod FirstPass
 pub mod SecondPass
 pub mod Text
+pub mod Grammar
 pub mod Seen
 pub mod Cycles
 pub mod Kept

@@ -9,7 +9,7 @@ use Rattle.tta_tac.specs.declared.reading.forms.Operands.{Operands as OperandsWo
 use Rattle.tta_tac.specs.declared.reading.forms.Operands.TheVariants as operands_words
 use Rattle.tta_tac.specs.declared.reading.forms.Form.{Form as FormWords}
 use Rattle.tta_tac.specs.declared.reading.forms.Form.TheVariants as form_words
-use Rattle.tta_tac.specs.Forms.{Operand, Named, Constant, operand_of, Form, ProcForm, LabelForm, CopyForm, ApplyForm, LoadForm, StoreForm, PutForm, IfForm, GotoForm, WhenForm, CallForm, ReturnForm, HaltForm, EndForm}
+use Rattle.tta_tac.specs.Forms.{Operand, Named, Constant, operand_of, Form, ProcForm, DataForm, LabelForm, CopyForm, ApplyForm, LoadForm, StoreForm, PutForm, TakeForm, IfForm, GotoForm, WhenForm, CallForm, ReturnForm, HaltForm, EndForm}
 
 -- the operands among words
 abbrev pub operands_in : List Word → List Operand
@@ -28,12 +28,14 @@ operands_seen (operands_words.Two a b) = operand_seen a ∷ operand_seen b ∷ [
 -- what a line says
 abbrev pub form_seen : FormWords → Form
 form_seen (form_words.Proc name params) = ProcForm name.now (texts params.now)
+form_seen (form_words.Data address value) = DataForm address value
 form_seen (form_words.Label name) = LabelForm name.now
 form_seen (form_words.Copy d s) = CopyForm d.now (operand_seen s)
 form_seen (form_words.Apply d op operands) = ApplyForm d.now op.now (operands_seen operands)
 form_seen (form_words.Load d a) = LoadForm d.now (operand_seen a)
 form_seen (form_words.Store a v) = StoreForm (operand_seen a) (operand_seen v)
 form_seen (form_words.Put v) = PutForm (operand_seen v)
+form_seen (form_words.Take d) = TakeForm d.now
 form_seen (form_words.If rel a b label) = IfForm rel (operand_seen a) (operand_seen b) label.now
 form_seen (form_words.Goto label) = GotoForm label.now
 form_seen (form_words.When rel a b d s) = WhenForm rel (operand_seen a) (operand_seen b) d.now (operand_seen s)

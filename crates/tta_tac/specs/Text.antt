@@ -5,14 +5,14 @@ use Rattle.tta_reading.specs.Lines.{Line, lines_of}
 use Rattle.tta_reading.specs.Names.{named_in}
 use Rattle.tta_reading.specs.Steps.{◌>>=◌, at_line}
 use Rattle.tta_ops.specs.Units.{Units}
-use Rattle.tta_tac.specs.declared.program.Proc.{Proc}
+use Rattle.tta_program.specs.declared.program.Proc.{Proc}
 use Rattle.tta_tac.specs.declared.reading.refusal.Refusal.{Refusal}
 use Rattle.tta_tac.specs.declared.reading.refusal.Refusal.TheVariants.{Syntax, Recursive, NoMain}
 use Rattle.tta_tac.specs.declared.reading.refusal.TacError.{TacError}
 use Rattle.tta_tac.specs.declared.reading.refusal.TacError.TheVariants as tac_error
 use Rattle.tta_tac.specs.Refusals.{code_of}
-use Rattle.tta_tac.specs.Program.{Program}
-use Rattle.tta_tac.specs.Rules.{Reaches}
+use Rattle.tta_program.specs.Program.{Program}
+use Rattle.tta_program.specs.Rules.{Reaches}
 use Rattle.tta_tac.specs.Draft.{Draft, ProcDraft, nothing}
 use Rattle.tta_tac.specs.FirstPass.{take_line}
 use Rattle.tta_tac.specs.SecondPass.{Refused, link_procs}
@@ -35,9 +35,9 @@ unfoldable pub linked_text : Units → List ℕ → Result Linked Refused
 linked_text u text =
     take_lines u 1 nothing (lines_of text) >>= λ d. link_procs d d.procs >>= λ procs. Ok (record { draft = d; procs = procs })
 
--- the procedures, and which of them is main
+-- the procedures, and which of them is main; without data
 abbrev pub with_main : List Proc → ℕ → Program
-with_main procs main = record { procs = procs; main = main }
+with_main procs main = record { procs = procs; main = main; init = [] }
 
 -- the first procedure that leads back to itself by calls. Who is main makes no difference to that.
 pub record IsFirstRecursive (procs : List Proc) (k : ℕ) : Type 0 where
@@ -50,6 +50,7 @@ pub record ProgramText (u : Units) (text : List ℕ) (p : Program) : Type 0 wher
   pub passes : linked_text u text ≡ Ok linked
   pub procs : p.procs ≡ linked.procs
   pub main : named_in linked.draft.names (codes "main") ≡ Some p.main
+  pub init : p.init ≡ linked.draft.init
   pub acyclic : (k : ℕ) → Reaches (with_main linked.procs 0) k k → ⊥
 
 -- the text is refused because of a procedure that leads back to itself: told at the line of its `proc`

@@ -3,13 +3,13 @@ use Rattle.std.specs.Prelude.{◌≡◌, ℕ, List, Some, None, slice_get, Resul
 use Rattle.std.specs.Option.{option_map_or}
 use Rattle.tta_reading.specs.Lines.{lines_of}
 use Rattle.tta_ops.specs.Units.{Units}
-use Rattle.tta_tac.specs.declared.program.Proc.{Proc}
+use Rattle.tta_program.specs.declared.program.Proc.{Proc}
 use Rattle.tta_tac.specs.declared.reading.refusal.Refusal.{Refusal}
 use Rattle.tta_tac.specs.declared.reading.refusal.Refusal.TheVariants.{Recursive}
 use Rattle.tta_tac.specs.declared.reading.refusal.TacError.{TacError}
 use Rattle.tta_tac.specs.declared.reading.refusal.TacError.TheVariants as tac_error
 use Rattle.tta_tac.specs.Refusals.{code_of}
-use Rattle.tta_tac.specs.Program.{Program}
+use Rattle.tta_program.specs.Program.{Program}
 use Rattle.tta_tac.specs.Draft.{Draft, nothing}
 use Rattle.tta_tac.specs.SecondPass.{Refused}
 use Rattle.tta_tac.specs.Text.{take_lines, IsFirstRecursive, ProgramText, HasCause}

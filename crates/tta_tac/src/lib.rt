@@ -1,16 +1,10 @@
-//! Three-address programs: their procedures and steps, what they mean step by step, and the reader
-//! of program texts. It stands on the words and names of `tta_reading`, the tokens of `tta_text`,
-//! the operations of `tta_ops`, and `tta_list`; the kit's `smallvec` holds the arguments of a call.
+//! The reader of program texts: their grammar, and the first refusal of a text that is no program's.
+//! The program itself stands in `tta_program`, and is handed on here.
 #![tactic(auto)]
 
-mod args;
-mod operand;
-mod program;
+mod laws;
 mod reading;
-mod step;
 
-pub use args::Args;
-pub use operand::{Rel, Src};
-pub use program::{Proc, Program};
+pub use laws::texts_are_programs;
 pub use reading::{Refusal, TacError, read_program};
-pub use step::Step;
+pub use tta_program::{Args, DataLine, Proc, Program, Rel, Src, Step, lay_lines};

@@ -8,13 +8,13 @@ ghost use Rattle.tta_machine.specs.Declarations.{take_bus, take_socket};
 ghost use Rattle.tta_machine.specs.Kept.{IsDraft};
 ghost use Rattle.tta_machine.specs.Seen.{formed};
 
-use crate::parts::{Bus, Socket};
 use crate::reading::draft::{Draft, Named};
 use crate::reading::limits::{is_from_to, is_too_long};
 use crate::reading::lookups::add_part;
 use crate::reading::refusal::{LineError, Refusal};
 use crate::reading::syntax;
 use std::alloc::Global;
+use tta_arch::{Bus, Socket};
 use tta_list::Name;
 use tta_reading::Word;
 

@@ -4,18 +4,16 @@ ghost use Rattle.std.specs.Prelude.{◌≡◌, ◌<◌, ◌^◌, Some, Err, leng
 ghost use Rattle.std.specs.List.{sum_by};
 ghost use Rattle.tta_machine.specs.Draft.{code_of, machine_of, without_templates};
 ghost use Rattle.tta_machine.specs.Kept.{IsDraft};
-ghost use Rattle.tta_machine.specs.Layout.{layout_of};
+ghost use Rattle.tta_arch.specs.Layout.{layout_of};
 ghost use Rattle.tta_machine.specs.Text.{narrow_line};
-ghost use Rattle.tta_machine.specs.Rules.{IsMachine};
+ghost use Rattle.tta_arch.specs.Rules.{IsMachine};
 ghost use Rattle.tta_machine.specs.Whole.{CompleteEnds, WidthsEnd};
 ghost use Rattle.tta_machine.specs.declared.reading.refusal.MachineError.TheVariants.{Refused};
 
-use crate::layout::Layout;
-use crate::machine::Machine;
-use crate::parts::{Control, Template};
 use crate::reading::draft::Draft;
 use crate::reading::refusal::{MachineError, Refusal};
 use std::alloc::Global;
+use tta_arch::{Control, Layout, Machine, Template};
 use tta_list::Items;
 
 /// The machine of a draft. It is refused as `Missing` at line 0 where it has no bus or no control,

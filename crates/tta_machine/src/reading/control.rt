@@ -9,11 +9,11 @@ ghost use Rattle.tta_machine.specs.Declarations.{take_control, take_space};
 ghost use Rattle.tta_machine.specs.declared.reading.refusal.Refusal.TheVariants.{Twice, Range};
 ghost use Rattle.tta_machine.specs.Seen.{formed};
 
-use crate::parts::Control;
 use crate::reading::draft::Draft;
 use crate::reading::limits::is_from_to;
 use crate::reading::refusal::{LineError, Refusal};
 use crate::reading::syntax;
+use tta_arch::Control;
 use tta_reading::Word;
 
 impl Draft {

@@ -1,6 +1,6 @@
 //! A machine while its text is read.
 
-use crate::parts::{Bus, Control, File, Guard, ImmUnit, Socket, Template, Unit};
+use tta_arch::{Bus, Control, File, Guard, ImmUnit, Socket, Template, Unit};
 use tta_list::Items;
 use tta_reading::Names;
 

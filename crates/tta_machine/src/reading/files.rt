@@ -6,10 +6,9 @@ ghost use Rattle.tta_reading.specs.Taken.{Takes};
 ghost use Rattle.tta_machine.specs.Forms.{file_form, imm_form};
 ghost use Rattle.tta_machine.specs.Declarations.{take_file, take_imm};
 ghost use Rattle.tta_machine.specs.Draft.{is_too_long};
-ghost use Rattle.tta_machine.specs.Rules.{is_from_to};
+ghost use Rattle.tta_arch.specs.Rules.{is_from_to};
 ghost use Rattle.tta_machine.specs.Seen.{formed};
 
-use crate::parts::{File, ImmUnit};
 use crate::reading::draft::{Draft, Named};
 use crate::reading::forms::FileForm;
 use crate::reading::limits::{is_from_to, is_too_long};
@@ -17,6 +16,7 @@ use crate::reading::lookups::add_part;
 use crate::reading::refusal::{LineError, Refusal};
 use crate::reading::syntax;
 use std::alloc::Global;
+use tta_arch::{File, ImmUnit};
 use tta_list::Name;
 use tta_reading::Word;
 

@@ -8,16 +8,15 @@ ghost use Rattle.tta_reading.specs.Taken.{Takes};
 ghost use Rattle.tta_machine.specs.Forms.{guard_form};
 ghost use Rattle.tta_machine.specs.Declarations.{take_guard};
 ghost use Rattle.tta_machine.specs.Guards.{guard_of};
-ghost use Rattle.tta_machine.specs.Joins.{is_same};
-ghost use Rattle.tta_machine.specs.Rules.{same_guard};
+ghost use Rattle.tta_arch.specs.Joins.{is_same};
+ghost use Rattle.tta_arch.specs.Rules.{same_guard};
 ghost use Rattle.tta_machine.specs.Seen.{formed, guard_seen};
 
-use crate::ends::GuardRef;
-use crate::parts::{File, Guard};
 use crate::reading::draft::Draft;
 use crate::reading::forms::GuardForm;
 use crate::reading::refusal::{LineError, Refusal};
 use crate::reading::syntax;
+use tta_arch::{File, Guard, GuardRef};
 use tta_list::entry_at;
 use tta_reading::Word;
 

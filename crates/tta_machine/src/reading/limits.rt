@@ -2,7 +2,7 @@
 
 ghost use Rattle.std.specs.Prelude.{◌≡◌, ◌≤◌, true};
 ghost use Rattle.tta_machine.specs.Draft.{is_too_long};
-ghost use Rattle.tta_machine.specs.Rules.{is_from_to};
+ghost use Rattle.tta_arch.specs.Rules.{is_from_to};
 
 /// Whether a number lies from a least to a greatest.
 pub fn is_from_to(least: u32, greatest: u32, number: u32) -> bool

@@ -10,12 +10,12 @@ ghost use Rattle.tta_machine.specs.Draft.{nothing, is_taken};
 ghost use Rattle.tta_machine.specs.Draft.{bus_named, socket_named, file_named, imm_named};
 ghost use Rattle.tta_machine.specs.Draft.{unit_named};
 ghost use Rattle.tta_machine.specs.Declarations.{port_named};
-ghost use Rattle.tta_machine.specs.Rules.{is_socket};
+ghost use Rattle.tta_arch.specs.Rules.{is_socket};
 
-use crate::parts::Socket;
 use crate::reading::draft::{Draft, Named};
 use crate::reading::refusal::LineError;
 use std::alloc::Global;
+use tta_arch::Socket;
 use tta_list::{Items, entry_at};
 use tta_reading::Names;
 

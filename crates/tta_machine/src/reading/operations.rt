@@ -12,19 +12,19 @@ ghost use Rattle.tta_ops.specs.Set.{stated};
 ghost use Rattle.tta_machine.specs.Forms.{op_form};
 ghost use Rattle.tta_machine.specs.Declarations.{take_op, timed_op, untimed_op, op_named};
 ghost use Rattle.tta_machine.specs.Declarations.{arity_of, is_latency, is_served, with_op};
-ghost use Rattle.tta_machine.specs.declared.parts.Unit.{Unit as UnitSeen};
-ghost use Rattle.tta_machine.specs.Effects.{has_result};
-ghost use Rattle.tta_machine.specs.Rules.{same_op};
+ghost use Rattle.tta_arch.specs.declared.parts.Unit.{Unit as UnitSeen};
+ghost use Rattle.tta_arch.specs.Effects.{has_result};
+ghost use Rattle.tta_arch.specs.Rules.{same_op};
 ghost use Rattle.tta_machine.specs.Seen.{formed};
 ghost use Rattle.tta_machine.specs.Services.{IsOffered};
 
-use crate::parts::{Op, Unit, UnitOp};
 use crate::reading::draft::Draft;
 use crate::reading::limits::is_from_to;
 use crate::reading::refusal::{LineError, Refusal};
 use crate::reading::services::is_served;
 use crate::reading::syntax;
 use std::alloc::AllocError;
+use tta_arch::{Op, Unit, UnitOp};
 use tta_list::entry_at;
 use tta_ops::UnitSet;
 use tta_reading::Word;
@@ -33,7 +33,7 @@ impl Draft {
     /// Adds an operation to a unit by the words behind `op`. It is refused as `Syntax` where they
     /// have another form, as `Unknown` where the unit is not there or nothing offers an operation
     /// of this name in a line of this form, as `Twice` where the unit has it already or another
-    /// unit serves the same space or the output, as `Range` where the latency is not from 1 to 16
+    /// unit serves the same space or the streams, as `Range` where the latency is not from 1 to 16
     /// or the unit has 32 operations, and as `Missing` where it takes two words and the unit has no
     /// operand port, or has a result and the unit no result port.
     #[tactic(auto, unfolding(crate::specs::Declarations::take_op))]
@@ -107,6 +107,9 @@ fn timed_op(units: &UnitSet, name: &[u8]) -> Option<Op>
     if name == b"ldf".as_slice() {
         return Some(Op::Ldf);
     }
+    if name == b"in".as_slice() {
+        return Some(Op::Take);
+    }
     match units.find_bytes(name) {
         Some(id) => Some(Op::Set(id)),
         None => None,
@@ -134,7 +137,7 @@ fn arity_of(units: &UnitSet, op: Op) -> u8
     ensures { result ≡ arity_of (stated unit_meaning units.now) op }
 {
     match op {
-        Op::Ldw | Op::Ldf | Op::Out => 1,
+        Op::Ldw | Op::Ldf | Op::Out | Op::Take => 1,
         Op::Stw | Op::Stf => 2,
         Op::Set(id) => units.arity(id),
     }
@@ -174,6 +177,7 @@ fn same_op(a: Op, b: Op) -> bool
         (Op::Ldf, Op::Ldf) => true,
         (Op::Stf, Op::Stf) => true,
         (Op::Out, Op::Out) => true,
+        (Op::Take, Op::Take) => true,
         (Op::Set(a), Op::Set(b)) => a.0 == b.0,
         _ => false,
     }
@@ -191,7 +195,7 @@ fn has_result(op: Op) -> bool
     ensures { result ≡ has_result op }
 {
     match op {
-        Op::Ldw | Op::Ldf | Op::Set(_) => true,
+        Op::Ldw | Op::Ldf | Op::Take | Op::Set(_) => true,
         Op::Stw | Op::Stf | Op::Out => false,
     }
 }

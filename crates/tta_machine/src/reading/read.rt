@@ -3,16 +3,17 @@
 ghost use Rattle.std.specs.Prelude.{◌≡◌, ◌≤◌, ◌^◌, length, Ok, Err, IfOk, IfErr, OnOk};
 ghost use Rattle.tta_reading.specs.Lines.{lines_of};
 ghost use Rattle.tta_ops.specs.Set.{stated};
+ghost use Rattle.tta_arch.specs.Over.{StandsOver};
 ghost use Rattle.tta_machine.specs.Draft.{nothing};
 ghost use Rattle.tta_machine.specs.Grammar.{IsMachineText};
 ghost use Rattle.tta_machine.specs.Text.{machine_of_text, HasCause};
 ghost use Rattle.tta_machine.specs.Whole.{DraftEnds, TakesAll};
 
-use crate::machine::Machine;
 use crate::reading::complete::complete;
 use crate::reading::draft::Draft;
 use crate::reading::refusal::{LineError, MachineError};
 use std::alloc::Global;
+use tta_arch::Machine;
 use tta_ops::UnitSet;
 use tta_reading::Lines;
 
@@ -66,7 +67,8 @@ fn read_lines(
     Ok(())
 }
 
-/// The machine that a text describes, over these operation units. The text has at most 2^24 bytes.
+/// The machine that a text describes. It stands over these operation units. The text has at most
+/// 2^24 bytes.
 ///
 /// `Refused` tells the first refusal of the text with its line, counted from 1 (0 stands for the
 /// whole text).
@@ -76,6 +78,7 @@ pub fn read_machine(alloc: Global, text: &[u8], units: &UnitSet) -> Result<Machi
         IfOk result (λ m. machine_of_text U text.now ≡ Ok m) }
     ensures grammar { let U = stated unit_meaning units.now in
         IfOk result (λ m. IsMachineText U (lines_of text.now) m) }
+    ensures over { IfOk result (StandsOver (stated unit_meaning units.now)) }
     ensures refused { IfErr result (HasCause (stated unit_meaning units.now) text.now) }
 {
     match read_draft(alloc, text, units) {

@@ -4,7 +4,7 @@ ghost use Rattle.std.specs.Prelude.{◌≡◌, ◌&&◌};
 ghost use Rattle.tta_machine.specs.Declarations.{has_op, has_other, is_served};
 ghost use Rattle.tta_machine.specs.Services.{serves};
 
-use crate::parts::{Op, Unit};
+use tta_arch::{Op, Unit};
 
 /// What a machine has once.
 #[derive(Clone, Copy)]
@@ -13,18 +13,18 @@ pub enum Service {
     Data,
     /// The frame space.
     Frame,
-    /// The output.
-    Output,
+    /// The input and the output.
+    Streams,
 }
 
-/// Whether the operation serves a space or the output that a unit other than the one at this
+/// Whether the operation serves a space or the streams that a unit other than the one at this
 /// place serves already.
 pub fn is_served(units: &[Unit], place: usize, op: Op) -> bool
     ensures { result ≡ is_served units.now place op }
 {
     is_served_of(units, place, op, Service::Data)
         || is_served_of(units, place, op, Service::Frame)
-        || is_served_of(units, place, op, Service::Output)
+        || is_served_of(units, place, op, Service::Streams)
 }
 
 fn is_served_of(units: &[Unit], place: usize, op: Op, service: Service) -> bool
@@ -60,6 +60,6 @@ fn serves(service: Service, op: Op) -> bool
     match service {
         Service::Data => matches!(op, Op::Ldw | Op::Stw),
         Service::Frame => matches!(op, Op::Ldf | Op::Stf),
-        Service::Output => matches!(op, Op::Out),
+        Service::Streams => matches!(op, Op::Out | Op::Take),
     }
 }

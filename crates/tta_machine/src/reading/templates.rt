@@ -12,13 +12,13 @@ ghost use Rattle.tta_machine.specs.Kept.{IsDraft};
 ghost use Rattle.tta_machine.specs.Seen.{formed};
 ghost use Rattle.tta_machine.specs.Templates.{with_template};
 
-use crate::parts::{ImmUnit, Template};
 use crate::reading::draft::{Draft, Named};
 use crate::reading::limits::is_too_long;
 use crate::reading::lookups::add_part;
 use crate::reading::refusal::{LineError, Refusal};
 use crate::reading::syntax;
 use std::alloc::Global;
+use tta_arch::{ImmUnit, Template};
 use tta_list::{Name, entry_at};
 use tta_reading::Word;
 

@@ -7,13 +7,13 @@ ghost use Rattle.tta_machine.specs.Forms.{unit_form};
 ghost use Rattle.tta_machine.specs.Declarations.{take_unit};
 ghost use Rattle.tta_machine.specs.Seen.{formed};
 
-use crate::parts::Unit;
 use crate::reading::draft::{Draft, Named};
 use crate::reading::limits::is_too_long;
 use crate::reading::lookups::add_part;
 use crate::reading::refusal::{LineError, Refusal};
 use crate::reading::syntax;
 use std::alloc::Global;
+use tta_arch::Unit;
 use tta_list::{Items, Name};
 use tta_reading::Word;
 

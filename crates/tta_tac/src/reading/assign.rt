@@ -11,7 +11,7 @@ use super::forms::{Form, Operands};
 use super::pieces::{free_name, operand_of};
 use tta_reading::Word;
 
-/// `d = s`, `d = load a`, `d = call NAME s ..`, `d = OPERATION b` and `d = OPERATION a b`, behind
+/// `d = s`, `d = in`, `d = load a`, `d = call NAME s ..`, `d = OPERATION b` and `d = OPERATION a b`, behind
 /// the equals sign.
 #[tactic(auto, unfolding(crate::specs::Forms::assign_form))]
 pub fn assign_form<'w, 't>(d: &'t [u8], words: &'w [Word<'t>]) -> Option<Form<'w, 't>>
@@ -19,6 +19,9 @@ pub fn assign_form<'w, 't>(d: &'t [u8], words: &'w [Word<'t>]) -> Option<Form<'w
 {
     match words {
         [s] => {
+            if s.is_keyword(b"in") {
+                return Some(Form::Take { d });
+            }
             let s = operand_of(s)?;
             Some(Form::Copy { d, s })
         }

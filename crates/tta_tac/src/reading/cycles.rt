@@ -9,13 +9,12 @@ ghost use Rattle.std.specs.Prelude.{◌≡◌, ◌<◌, ◌==◌, true, false, l
 ghost use Rattle.std.specs.Prelude.{[], replicate, slice_index_or};
 ghost use Rattle.std.specs.List.{list_any};
 ghost use Rattle.tta_tac.specs.Cycles.{AreLevel, IsAcyclic, IsMarked, Finds};
-ghost use Rattle.tta_tac.specs.Rules.{Reaches, calls_proc};
+ghost use Rattle.tta_program.specs.Rules.{Reaches, calls_proc};
 ghost use Rattle.tta_tac.specs.Text.{with_main, IsFirstRecursive};
 
 use super::order::{are_at_most, are_level, numbers_of};
-use crate::program::Proc;
-use crate::step::Step;
 use std::alloc::{AllocError, Global};
+use tta_program::{Proc, Step};
 
 /// The place of the first procedure that leads back to itself by calls, or `None` where there is
 /// none.

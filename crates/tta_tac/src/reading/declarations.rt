@@ -40,6 +40,7 @@ pub fn declare_names(alloc: Global, vars: &mut Names<u32>, form: &Form) -> Resul
         }
         Form::Call { d: None, args, .. } => declare_operands(alloc, vars, args),
         Form::Put { v } => declare_operand(alloc, vars, v),
+        Form::Take { d } => declare(alloc, vars, d),
         Form::Return { s: Some(s) } => declare_operand(alloc, vars, s),
         _ => Ok(()),
     }

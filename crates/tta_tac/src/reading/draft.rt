@@ -1,9 +1,8 @@
 //! A program while its text is read.
 
-use crate::args::Args;
-use crate::operand::{Rel, Src};
-use crate::step::Step;
+use crate::reading::initial::InitialData;
 use tta_list::Items;
+use tta_program::{Args, Rel, Src, Step};
 use tta_reading::Names;
 
 /// A step whose label or callee is still a name. The texts are those of the program.
@@ -52,6 +51,8 @@ pub struct Draft<'t> {
     pub procs: Items<DraftProc<'t>>,
     /// The procedure that has begun and not ended.
     pub begun: Option<DraftProc<'t>>,
+    /// The words of data.
+    pub init: InitialData,
     /// How many lines were read that are not blank.
     pub lines: u32,
 }

@@ -8,11 +8,11 @@ ghost use Rattle.tta_tac.specs.Told.{LeadsBack, MakesProgram, TellsCause};
 
 use super::cycles::first_recursive;
 use super::link::link_procs;
-use crate::program::{Proc, Program};
 use crate::reading::TacError;
 use crate::reading::draft::Draft;
 use crate::reading::refusal::Refusal;
 use std::alloc::Global;
+use tta_program::{Proc, Program};
 
 /// The program of a draft, whose procedures have all ended. `Refused` tells the first step that
 /// names what there is not, then the first procedure that leads back to itself, then, with line 0,
@@ -31,8 +31,9 @@ pub fn finish(alloc: Global, draft: &Draft) -> Result<Program, TacError>
         Ok(()) => {}
         Err(error) => return Err(error),
     }
+    let init = draft.init.to_items(alloc)?;
     match draft.names.get(b"main") {
-        Some(main) => Ok(Program { procs, main }),
+        Some(main) => Ok(Program { procs, main, init }),
         None => Err(TacError::Refused {
             line: 0,
             code: Refusal::NoMain.code(),

@@ -10,11 +10,13 @@ ghost use Rattle.tta_tac.specs.Draft.{draft_seen, proc_seen, nothing};
 ghost use Rattle.tta_tac.specs.DraftRules.{IsDraft, IsBegun};
 ghost use Rattle.tta_tac.specs.FirstPass.{take_line, take_form, take_proc, take_label, take_step};
 ghost use Rattle.tta_tac.specs.FirstPass.{has_twice, with_fresh, labelled, stepped, close_if};
+ghost use Rattle.tta_tac.specs.FirstPass.{take_data};
 ghost use Rattle.tta_tac.specs.Seen.{form_seen};
 
 use crate::reading::declarations::declare_names;
 use crate::reading::draft::{Draft, DraftProc};
 use crate::reading::forms::Form;
+use crate::reading::initial::InitialData;
 use crate::reading::operations::check_op;
 use crate::reading::params::{has_twice, is_main_with_params, new_proc};
 use crate::reading::refusal::{LineError, Refusal};
@@ -41,6 +43,7 @@ impl<'t> Draft<'t> {
             names: Names::new(alloc),
             procs: Items::new(alloc),
             begun: None,
+            init: InitialData::new(alloc),
             lines: 0,
         }
     }
@@ -87,6 +90,9 @@ impl<'t> Draft<'t> {
         if let Form::Proc { name, params } = *form {
             return self.take_proc(alloc, line, name, params);
         }
+        if let Form::Data { address, value } = *form {
+            return self.take_data(line, address, value);
+        }
         let Some(proc) = self.begun.take() else {
             return Err(LineError::Refused(Refusal::Syntax));
         };
@@ -94,6 +100,28 @@ impl<'t> Draft<'t> {
             return self.take_label(alloc, proc, name);
         }
         self.take_step(alloc, units, proc, line, form)
+    }
+
+    /// Takes a word of data. It is refused as `Syntax` where a procedure has begun and not ended,
+    /// as `Twice` where its address has a word already, and as `TooMany` where 65,536 lines were
+    /// read.
+    fn take_data(&mut self, line: u32, address: u32, value: u32) -> Result<(), LineError>
+        requires { IsDraft (draft_seen self.old) }
+        ensures { Takes (draft_seen self.new) result
+            (take_data (draft_seen self.old) line address value) }
+    {
+        if self.begun.is_some() {
+            return Err(LineError::Refused(Refusal::Syntax));
+        }
+        if self.init.has(address) {
+            return Err(LineError::Refused(Refusal::Twice));
+        }
+        if self.lines >= 65536 {
+            return Err(LineError::Refused(Refusal::TooMany));
+        }
+        self.init.add(address, value, line)?;
+        self.lines += 1;
+        Ok(())
     }
 
     /// Begins a procedure. It is refused as `Syntax` where one has begun and not ended, as `Arity`

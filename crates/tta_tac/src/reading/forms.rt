@@ -1,6 +1,6 @@
 //! What the lines of a program's text say, as their words give it.
 
-use crate::operand::Rel;
+use tta_program::Rel;
 use tta_reading::Word;
 
 /// An operand as it stands: the name of a variable, or a constant.
@@ -25,6 +25,11 @@ pub enum Form<'w, 't> {
     Proc {
         name: &'t [u8],
         params: &'w [Word<'t>],
+    },
+    /// `data A V`
+    Data {
+        address: u32,
+        value: u32,
     },
     /// `NAME :`
     Label {
@@ -54,6 +59,10 @@ pub enum Form<'w, 't> {
     /// `out v`
     Put {
         v: Operand<'t>,
+    },
+    /// `d = in`
+    Take {
+        d: &'t [u8],
     },
     /// `if REL a b goto NAME`
     If {

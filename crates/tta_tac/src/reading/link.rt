@@ -10,14 +10,12 @@ ghost use Rattle.tta_tac.specs.Kept.{IsEnded};
 ghost use Rattle.tta_tac.specs.SecondPass as spec;
 ghost use Rattle.tta_tac.specs.Told.{Tells};
 
-use crate::args::Args;
-use crate::program::Proc;
 use crate::reading::TacError;
 use crate::reading::draft::{Draft, DraftProc, NamedStep};
 use crate::reading::refusal::Refusal;
-use crate::step::Step;
 use std::alloc::Global;
 use tta_list::Items;
+use tta_program::{Args, Proc, Step};
 use tta_reading::Names;
 
 /// The procedures of a draft in the order of the text. `Refused` tells the first step that names

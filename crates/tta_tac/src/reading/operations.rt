@@ -5,14 +5,15 @@ ghost use Rattle.std.specs.Option.{option_map_or};
 ghost use Rattle.tta_reading.specs.Steps.{refuse_if};
 ghost use Rattle.tta_ops.specs.Set.{stated};
 ghost use Rattle.tta_ops.specs.Units.{named};
-ghost use Rattle.tta_tac.specs.FirstPass.{rel_name, lacks_op, has_wrong_arity, op_id, arity_of};
+ghost use Rattle.tta_program.specs.Over.{test_name};
+ghost use Rattle.tta_tac.specs.FirstPass.{lacks_op, has_wrong_arity, op_id, arity_of};
 ghost use Rattle.tta_tac.specs.Seen.{form_seen, operands_seen};
 ghost use Rattle.tta_tac.specs.declared.reading.refusal.Refusal.TheVariants.{UnknownOp, Arity};
 
-use crate::operand::Rel;
 use crate::reading::forms::{Form, Operands};
 use crate::reading::refusal::Refusal;
 use tta_ops::{OpId, UnitSet};
+use tta_program::Rel;
 
 /// Tests the operation of a line. It is refused as `UnknownOp` where no unit offers it, and as
 /// `Arity` where it takes another number of words.
@@ -59,7 +60,7 @@ fn operand_count(operands: Operands) -> u8
 
 // the operation that a relation rests on
 fn relation_name(rel: Rel) -> &'static [u8]
-    ensures { result.now ≡ rel_name rel }
+    ensures { result.now ≡ test_name rel }
 {
     match rel {
         Rel::Eq => b"eq",

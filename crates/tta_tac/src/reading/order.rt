@@ -5,9 +5,8 @@ ghost use Rattle.std.specs.Prelude.{◌≡◌, true, false, nat_le, length, slic
 ghost use Rattle.std.specs.List.{list_all};
 ghost use Rattle.tta_tac.specs.Cycles.{AreLevel, passes};
 
-use crate::program::Proc;
-use crate::step::Step;
 use std::alloc::{AllocError, Global};
+use tta_program::{Proc, Step};
 
 /// A time that does not come.
 const NEVER: u64 = u64::MAX;

@@ -7,8 +7,8 @@ ghost use Rattle.tta_tac.specs.Forms as spec;
 ghost use Rattle.tta_tac.specs.Seen.{operand_seen, operands_in};
 
 use super::forms::Operand;
-use super::reserved::is_reserved;
-use crate::operand::Rel;
+use tta_ops::is_reserved;
+use tta_program::Rel;
 use tta_reading::Word;
 
 /// The bytes of a name that is no reserved word.

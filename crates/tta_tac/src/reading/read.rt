@@ -1,17 +1,20 @@
 //! The program of a text.
 
 ghost use Rattle.std.specs.Prelude.{◌≡◌, ◌≤◌, ◌^◌, length, IfOk, IfErr, OnOk};
+ghost use Rattle.tta_reading.specs.Lines.{lines_of};
 ghost use Rattle.tta_ops.specs.Set.{stated};
+ghost use Rattle.tta_program.specs.Over.{StandsOver};
 ghost use Rattle.tta_tac.specs.Draft.{draft_seen, nothing};
+ghost use Rattle.tta_tac.specs.Grammar.{IsProgramText};
 ghost use Rattle.tta_tac.specs.Text.{ProgramText, HasCause};
 ghost use Rattle.tta_tac.specs.Whole.{TakesAll};
 
-use crate::program::Program;
 use crate::reading::draft::Draft;
 use crate::reading::finish::finish;
 use crate::reading::refusal::{LineError, Refusal, TacError};
 use std::alloc::Global;
 use tta_ops::UnitSet;
+use tta_program::Program;
 use tta_reading::Lines;
 
 // Takes all lines of a text into an empty draft. A text that ends inside a procedure is refused at
@@ -72,13 +75,16 @@ fn program_of<'t>(
     }
 }
 
-/// The program of a text, over these operation units. The text has at most 2^24 bytes.
+/// The program of a text. It stands over these operation units. The text has at most 2^24 bytes.
 ///
 /// `Refused` tells the first refusal of the text with its line, counted from 1 (0 stands for the
 /// whole text).
 pub fn read_program(alloc: Global, text: &[u8], units: &UnitSet) -> Result<Program, TacError>
     requires { length text.now ≤ 2 ^ 24 }
     ensures read { IfOk result (ProgramText (stated unit_meaning units.now) text.now) }
+    ensures grammar { let U = stated unit_meaning units.now in
+        IfOk result (IsProgramText U (lines_of text.now)) }
+    ensures over { IfOk result (StandsOver (stated unit_meaning units.now)) }
     ensures refused { IfErr result (HasCause (stated unit_meaning units.now) text.now) }
 {
     let mut draft = Draft::new(alloc);

@@ -7,14 +7,13 @@ ghost use Rattle.tta_tac.specs.FirstPass.{step_of, apply_step, has_many_args, is
 ghost use Rattle.tta_tac.specs.FirstPass.{var_number, src_of, srcs_of};
 ghost use Rattle.tta_tac.specs.Seen.{form_seen, operand_seen, operands_seen, operands_in};
 
-use crate::operand::{Rel, Src};
 use crate::reading::draft::NamedStep;
 use crate::reading::forms::{Form, Operand, Operands};
 use crate::reading::operations::op_named;
 use crate::reading::variables::{args_of, count_operands, number_of, src_of};
-use crate::step::Step;
 use std::alloc::Global;
 use tta_ops::UnitSet;
+use tta_program::{Rel, Src, Step};
 use tta_reading::{Names, Word};
 
 /// Whether a line is a call with more than eight arguments.
@@ -49,7 +48,7 @@ pub fn step_of<'t>(
         ≡ step_of (stated unit_meaning units.now) vars.now (form_seen form.now) }
 {
     let step = match *form {
-        Form::Proc { .. } | Form::Label { .. } => return None,
+        Form::Proc { .. } | Form::Data { .. } | Form::Label { .. } => return None,
         Form::If { rel, a, b, label } => return Some(if_step(vars, rel, a, b, label)),
         Form::Goto { label } => return Some(NamedStep::Goto { label }),
         Form::Call { d, callee, args } => return Some(call_step(alloc, vars, d, callee, args)),
@@ -58,6 +57,9 @@ pub fn step_of<'t>(
         Form::Apply { d, op, operands } => apply_step(units, vars, d, op, operands),
         Form::Store { a, v } => store_step(vars, a, v),
         Form::Put { v } => Step::Put { v: src_of(vars, v) },
+        Form::Take { d } => Step::Take {
+            d: number_of(vars, d),
+        },
         Form::When { rel, a, b, d, s } => when_step(vars, rel, a, b, d, s),
         Form::Return { s } => return_step(vars, s),
         Form::Halt => Step::Halt,

@@ -23,6 +23,8 @@ pub fn form_of<'w, 't>(key: &Word<'t>, words: &'w [Word<'t>]) -> Option<Form<'w,
 {
     if key.is_keyword(b"proc") {
         proc_form(words)
+    } else if key.is_keyword(b"data") {
+        data_form(words)
     } else if key.is_keyword(b"store") {
         store_form(words)
     } else if key.is_keyword(b"out") {
@@ -56,6 +58,21 @@ fn proc_form<'w, 't>(words: &'w [Word<'t>]) -> Option<Form<'w, 't>>
             let name = free_name(name)?;
             let params = names_alone(params)?;
             Some(Form::Proc { name, params })
+        }
+        _ => None,
+    }
+}
+
+/// `data A V`
+#[tactic(auto, unfolding(crate::specs::Forms::data_form))]
+fn data_form<'w, 't>(words: &'w [Word<'t>]) -> Option<Form<'w, 't>>
+    ensures { option_map form_seen result ≡ spec.data_form (map plain words.now) }
+{
+    match words {
+        [address, value] => {
+            let address = address.value()?;
+            let value = value.constant()?;
+            Some(Form::Data { address, value })
         }
         _ => None,
     }

@@ -5,11 +5,10 @@ ghost use Rattle.tta_tac.specs.FirstPass.{with_var, with_operand, with_operands}
 ghost use Rattle.tta_tac.specs.FirstPass.{var_number, src_of, srcs_of};
 ghost use Rattle.tta_tac.specs.Seen.{operand_seen, operands_in};
 
-use crate::args::Args;
-use crate::operand::Src;
 use crate::reading::forms::Operand;
 use crate::reading::pieces::operand_of;
 use std::alloc::{AllocError, Global};
+use tta_program::{Args, Src};
 use tta_reading::{Names, Word};
 
 /// Gives a variable the next number, where it has none. An `Err` is want of memory.

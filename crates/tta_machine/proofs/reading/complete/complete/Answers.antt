@@ -1,5 +1,5 @@
 use Rattle.std.proofs.Common.{◌≡◌, Ok, Err, None, sym, subst, ap, ap₂, ◌∙◌}
-use Rattle.tta_machine.specs.Machine.{Machine}
+use Rattle.tta_arch.specs.Machine.{Machine}
 use Rattle.tta_machine.specs.Text.{narrow_line}
 use Rattle.tta_machine.specs.Whole.{WidthsEnd}
 use Rattle.tta_machine.proofs.Completed.{whole_rules, whole_end, narrow_end}

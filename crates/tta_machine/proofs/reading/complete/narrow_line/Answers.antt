@@ -1,5 +1,5 @@
 use Rattle.std.proofs.Common.{◌∙◌, sym}
-use Rattle.tta_machine.proofs.Layouts.{set_width}
+use Rattle.tta_arch.proofs.Layouts.{set_width}
 use Rattle.tta_machine.proofs.Completed.{narrow_found, narrow_later}
 use Rattle.tta_machine.proofs.reading.complete.narrow_line.Goals as goal
 

@@ -1,5 +1,7 @@
 use Rattle.std.proofs.Common.{◌≡◌, ◌≤◌, ◌+◌, ◌^◌, length}
+use Rattle.std.specs.List.{AllByRecursion}
 use Rattle.tta_reading.specs.Lines.{lines_of}
+use Rattle.tta_reading.proofs.TextNames.{LineNames}
 use Rattle.tta_ops.specs.Set.{stated}
 use Rattle.tta_machine.specs.Draft.{nothing}
 use Rattle.tta_machine.specs.Text.{take_lines}
@@ -12,6 +14,7 @@ invariant-loop-words g l =
     record {
       rest : take_lines U (l.line + 1) l.draft l.lines ≡ take_lines U 1 nothing (lines_of l.fn.text);
       kept : IsDraft l.draft;
+      names : AllByRecursion LineNames l.lines;
       room : l.line + length l.lines ≤ 2 ^ 24 + 1;
     }
 

@@ -1,7 +1,8 @@
 -- Each stage tells what it found, or hands on what holds.
 use Rattle.std.proofs.Common.{sym, ◌∙◌, ap, subst, length}
 use Rattle.tta_tac.specs.Cycles.{IsAcyclic}
-use Rattle.tta_tac.specs.Told.{LeadsBack}
+use Rattle.tta_program.specs.Rules.{IsProgram}
+use Rattle.tta_tac.specs.Told.{LeadsBack, MakesProgram}
 use Rattle.tta_tac.specs.Draft.{draft_seen, procs_seen}
 use Rattle.tta_tac.proofs.Finished.{linked_length, told_in_passes, told_by_recursion, told_without_main, made_program}
 use Rattle.tta_tac.proofs.Seen.{procs_seen_length}
@@ -24,13 +25,15 @@ returns-in-Err-check_calls-clause-refused c =
 
 pub invariant_of-result : goal.invariant_of-result
 invariant_of-result c =
+    subst (λ init. IsProgram (record { procs = c.in-Ok.procs; main = c.in-Some.main; init = init })) (sym c.in_ok-init.ensures) (
     keeps_rules (draft_seen c.args.draft.now) c.in-Ok.procs c.in-Some.main c.requires.kept c.requires.ended c.in-Ok.ensures
-    (sym c.in-Some.ensures) (subst (λ s. IsAcyclic s) c.as_slice.ensures c.in-Ok-check_calls.ensures.acyclic)
+    (sym c.in-Some.ensures) (subst (λ s. IsAcyclic s) c.as_slice.ensures c.in-Ok-check_calls.ensures.acyclic))
 
 pub returns-in-Some-clause-made : goal.returns-in-Some-clause-made
 returns-in-Some-clause-made c =
+    subst (λ init. MakesProgram (draft_seen c.args.draft.now) (record { procs = c.in-Ok.procs; main = c.in-Some.main; init = init })) (sym c.in_ok-init.ensures) (
     made_program (draft_seen c.args.draft.now) c.in-Ok.procs c.in-Some.main c.in-Ok.ensures
-    (subst (λ s. IsAcyclic s) c.as_slice.ensures c.in-Ok-check_calls.ensures.acyclic) (sym c.in-Some.ensures)
+    (subst (λ s. IsAcyclic s) c.as_slice.ensures c.in-Ok-check_calls.ensures.acyclic) (sym c.in-Some.ensures))
 
 pub returns-in-None-clause-refused : goal.returns-in-None-clause-refused
 returns-in-None-clause-refused c =

@@ -1,7 +1,7 @@
 use Rattle.std.proofs.Common.{◌∙◌, sym, None}
 use Rattle.tta_reading.specs.Lines.{texts}
 use Rattle.tta_ops.specs.Set.{stated}
-use Rattle.tta_tac.specs.Forms.{ProcForm}
+use Rattle.tta_tac.specs.Forms.{ProcForm, DataForm}
 use Rattle.tta_tac.specs.Draft.{draft_seen, proc_seen}
 use Rattle.tta_tac.specs.Seen.{form_seen}
 use Rattle.tta_tac.proofs.DraftRules.{form_says_kept, step_says_kept, moved_kept, begun_of}
@@ -12,6 +12,12 @@ returns-in-Proc-clause-rules g c =
     let U = stated (λ v. (goal.OpUnit-dyn g v).unit_meaning v.1) c.args.units.now in
     form_says_kept U (draft_seen c.args.self.now) (draft_seen c.take_proc.new.self) c.args.line
     (ProcForm c.in-Proc.name.now (texts c.in-Proc.params.now)) c.take_proc.result c.requires c.take_proc.ensures
+
+pub returns-in-Data-clause-rules : goal.returns-in-Data-clause-rules
+returns-in-Data-clause-rules g c =
+    let U = stated (λ v. (goal.OpUnit-dyn g v).unit_meaning v.1) c.args.units.now in
+    form_says_kept U (draft_seen c.args.self.now) (draft_seen c.take_data.new.self) c.args.line
+    (DataForm c.in-Data.address c.in-Data.value) c.take_data.result c.requires c.take_data.ensures
 
 pub returns-clause-rules : goal.returns-clause-rules
 returns-clause-rules g c =

@@ -1,7 +1,0 @@
-use Rattle.std.proofs.Common.{◌≡◌, ◌++◌, map}
-use Rattle.tta_machine.specs.Fields.{numbers}
-use Rattle.tta_machine.specs.declared.ends.Dest.TheVariants as dest
-use Rattle.tta_machine.proofs.codes.push_unit.Given as goal
-
-abbrev pub invariant-loop-op : goal.invariant-loop-op
-invariant-loop-op l = l.list.items ≡ l.initial.list.items ++ map (dest.Trigger l.unit) (numbers l.op)

@@ -1,7 +1,0 @@
-use Rattle.std.proofs.Common.{◌≡◌, ◌++◌, map}
-use Rattle.tta_machine.specs.Fields.{numbers}
-use Rattle.tta_machine.specs.declared.ends.Dest.TheVariants as dest
-use Rattle.tta_machine.proofs.codes.push_written.Given as goal
-
-abbrev pub invariant-loop-index : goal.invariant-loop-index
-invariant-loop-index l = l.list.items ≡ l.initial.list.items ++ map (dest.Reg l.file) (numbers l.index)

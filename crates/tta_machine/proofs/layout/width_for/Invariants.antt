@@ -1,5 +1,0 @@
-use Rattle.tta_machine.proofs.Widths.{AreTooFew}
-use Rattle.tta_machine.proofs.layout.width_for.Given as goal
-
-abbrev pub invariant-loop-width : goal.invariant-loop-width
-invariant-loop-width l = AreTooFew l.codes l.width
