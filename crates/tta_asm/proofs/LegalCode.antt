@@ -8,18 +8,18 @@ use Rattle.tta_reading.specs.Names.{Declared, named_in}
 use Rattle.tta_reading.specs.Steps.{◌>>=◌, refuse_if}
 use Rattle.tta_reading.proofs.Steps.{same_ok, then-ok, refuse_if-ok}
 use Rattle.tta_ops.specs.Units.{Units}
-use Rattle.tta_machine.specs.Machine.{Machine}
+use Rattle.tta_arch.specs.Machine.{Machine}
 use Rattle.tta_code.specs.declared.code.Instruction.{Instruction}
 use Rattle.tta_code.specs.Legal.{is_legal, IsLegalCode}
 use Rattle.tta_asm.specs.declared.labels.Label.{Label}
 use Rattle.tta_asm.specs.declared.refusal.AsmRefusal.TheVariants.{Illegal, Slots, Range}
 use Rattle.tta_asm.specs.declared.refusal.AsmRefusal.TheVariants as refusal
-use Rattle.tta_asm.specs.Refusals.{Refusal}
+use Rattle.tta_asm.specs.Refusals.{Refusal, fitting}
 use Rattle.tta_asm.specs.Forms.{SlotForm, LongForm, PieceForm}
 use Rattle.tta_asm.specs.Pieces.{Piece}
 use Rattle.tta_asm.specs.Labels.{LabelWord, is_semicolon}
 use Rattle.tta_asm.specs.Syntax.{piece_form}
-use Rattle.tta_asm.specs.Assembly.{moves_of, longs_of, instruction_of, fitting, Draft, nothing, with_instruction, take_slot, begun_label, take_piece, is_over, take_pieces}
+use Rattle.tta_asm.specs.Assembly.{moves_of, longs_of, instruction_of, Draft, nothing, with_instruction, take_slot, begun_label, take_piece, is_over, take_pieces}
 
 module _ (u : Units) (m : Machine) where
   -- instructions that the machine can carry out, no more than it has addresses

@@ -1,5 +1,9 @@
 pub mod Rows
+pub mod DataRows
 mod Counted
+pub mod Cuts
+pub mod NumberWords
+pub mod DataTaken
 pub mod LegalCode
 pub mod NameLists
 pub mod MachineNames
@@ -15,14 +19,12 @@ pub mod ShownScanned
 pub mod ShownForms
 pub mod ShownNames
 pub mod ShownParts
+pub mod CalledOps
+pub mod Readable
 pub mod ShownEnds
 pub mod ShownCode
 pub mod AssembledLegal
+pub mod ShownData
 pub mod ShownText
 pub mod ShownOnce
 pub mod ShownRows
-pub mod TextWords
-pub mod TextForms
-pub mod TextOps
-pub mod TextStands
-pub mod TextKept

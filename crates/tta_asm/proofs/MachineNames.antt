@@ -9,14 +9,14 @@ use Rattle.tta_list.proofs.Lists.{slice_get-front}
 use Rattle.tta_reading.specs.Names.{Declared, named_in}
 use Rattle.tta_reading.specs.Steps.{◌>>?◌}
 use Rattle.tta_ops.specs.Units.{Units}
-use Rattle.tta_machine.specs.declared.parts.File.{File}
-use Rattle.tta_machine.specs.declared.parts.ImmUnit.{ImmUnit}
-use Rattle.tta_machine.specs.declared.parts.Unit.{Unit as OpUnit}
-use Rattle.tta_machine.specs.declared.parts.UnitOp.{UnitOp}
-use Rattle.tta_machine.specs.declared.parts.Template.{Template}
-use Rattle.tta_machine.specs.Machine.{Machine}
-use Rattle.tta_machine.specs.Rules.{IsMachine}
-use Rattle.tta_machine.proofs.BusSources.{few_ops}
+use Rattle.tta_arch.specs.declared.parts.File.{File}
+use Rattle.tta_arch.specs.declared.parts.ImmUnit.{ImmUnit}
+use Rattle.tta_arch.specs.declared.parts.Unit.{Unit as OpUnit}
+use Rattle.tta_arch.specs.declared.parts.UnitOp.{UnitOp}
+use Rattle.tta_arch.specs.declared.parts.Template.{Template}
+use Rattle.tta_arch.specs.Machine.{Machine}
+use Rattle.tta_arch.specs.Rules.{IsMachine}
+use Rattle.tta_arch.proofs.BusSources.{few_ops}
 use Rattle.tta_asm.specs.declared.parts.Part.{Part}
 use Rattle.tta_asm.specs.declared.parts.Part.TheVariants as part
 use Rattle.tta_asm.specs.Parts.{by_place, parts_of, ops_of, op_name}

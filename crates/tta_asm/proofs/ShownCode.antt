@@ -7,13 +7,13 @@ use Rattle.std.proofs.lemmas.Bool.Decides.{nat_tests}
 use Rattle.tta_list.proofs.Lists.{list_all_one}
 use Rattle.tta_text.specs.Words.{is_name}
 use Rattle.tta_ops.specs.Units.{Units}
-use Rattle.tta_machine.specs.declared.parts.Template.{Template as ImmTemplate}
-use Rattle.tta_machine.specs.declared.ends.Source.{Source}
-use Rattle.tta_machine.specs.declared.ends.Source.TheVariants as source
-use Rattle.tta_machine.specs.Machine.{Machine}
-use Rattle.tta_machine.specs.Joins.{is_source_on, is_dest_on, has_guard, joins}
-use Rattle.tta_machine.specs.Rules.{IsMachine}
-use Rattle.tta_machine.specs.Legal.{Ends, all_slots}
+use Rattle.tta_arch.specs.declared.parts.Template.{Template as ImmTemplate}
+use Rattle.tta_arch.specs.declared.ends.Source.{Source}
+use Rattle.tta_arch.specs.declared.ends.Source.TheVariants as source
+use Rattle.tta_arch.specs.Machine.{Machine}
+use Rattle.tta_arch.specs.Joins.{is_source_on, is_dest_on, has_guard, joins}
+use Rattle.tta_arch.specs.Rules.{IsMachine}
+use Rattle.tta_arch.specs.Legal.{Ends, all_slots}
 use Rattle.tta_code.specs.declared.code.Move.{Move}
 use Rattle.tta_code.specs.declared.code.Long.{Long}
 use Rattle.tta_code.specs.declared.code.Instruction.{Instruction}
@@ -22,7 +22,7 @@ use Rattle.tta_code.proofs.LegalParts.{legal_parts}
 use Rattle.tta_asm.specs.Forms.{SlotForm}
 use Rattle.tta_asm.specs.Resolving.{fits_bus, move_of, action_of, long_of}
 use Rattle.tta_asm.specs.Assembly.{moves_of, longs_of, instruction_of}
-use Rattle.tta_asm.specs.Readable.{StandsOver}
+use Rattle.tta_asm.proofs.Readable.{IsReadable}
 use Rattle.tta_asm.proofs.ShownNames.{template_named}
 use Rattle.tta_asm.proofs.ShownScanned.{SlotFits, SlotsFit, LongFits}
 use Rattle.tta_asm.proofs.ShownForms.{move_said, slot_said, long_said}
@@ -55,7 +55,7 @@ unfolding move_of
 move_back u m bus v g d s fits joined = rw (g.back, d.back, s.back, fits, joined) refl
 
 -- a slot of a legal instruction is found again
-slot_back : (u : Units) (m : Machine) (line bus : ℕ) (slot : Option Move) → IsMachine m → StandsOver u m
+slot_back : (u : Units) (m : Machine) (line bus : ℕ) (slot : Option Move) → IsMachine m → IsReadable u m
     → joined_at m bus (option_map ends_of slot) ≡ true → SlotBack u m line bus slot
 slot_back u m line bus None rules stands h = record { fits = tt; back = refl }
 slot_back u m line bus (Some v) rules stands h =
@@ -84,7 +84,7 @@ pub record SlotsBack (u : Units) (m : Machine) (line bus : ℕ) (slots : List (O
   pub back : moves_of u m [] bus (slots_said u m line slots) ≡ Ok slots
 
 -- the slots of a legal instruction are found again
-slots_back : (u : Units) (m : Machine) (line bus : ℕ) (slots : List (Option Move)) → IsMachine m → StandsOver u m
+slots_back : (u : Units) (m : Machine) (line bus : ℕ) (slots : List (Option Move)) → IsMachine m → IsReadable u m
     → all_slots (joined_at m) bus (map (option_map ends_of) slots) ≡ true → SlotsBack u m line bus slots
 slots_back u m line bus [] rules stands h = record { fits = tt; back = refl }
 slots_back u m line bus (slot ∷ slots) rules stands h =
@@ -113,7 +113,7 @@ template_back m line l t rules at named small =
     record { fits = (rw at named, small); back = rw (at, template_named m l.template t rules at) refl }
 
 -- the long immediate of a legal instruction is found again
-long_back : (u : Units) (m : Machine) (line : ℕ) (long : Option Long) → IsMachine m → StandsOver u m
+long_back : (u : Units) (m : Machine) (line : ℕ) (long : Option Long) → IsMachine m → IsReadable u m
     → option_map_or (is_long m) long true ≡ true → LongBack m line long
 long_back u m line None rules stands h = record { fits = tt; back = refl }
 long_back u m line (Some l) rules stands h =
@@ -134,7 +134,7 @@ pub record InstructionBack (u : Units) (m : Machine) (line before : ℕ) (i : In
   pub back : instruction_of u m [] line before (slots_said u m line i.moves) (long_said m line i.long) ≡ Ok i
 
 -- a legal instruction is found again, where an address is left for it
-pub instruction_back : (u : Units) (m : Machine) (line before : ℕ) (i : Instruction) → IsMachine m → StandsOver u m
+pub instruction_back : (u : Units) (m : Machine) (line before : ℕ) (i : Instruction) → IsMachine m → IsReadable u m
     → is_legal m i ≡ true → before < 2 ^ m.control.address → InstructionBack u m line before i
 unfolding instruction_of
 instruction_back u m line before i rules stands legal room =

@@ -8,24 +8,25 @@ use Rattle.std.proofs.lemmas.Bool.{false≢true, and_parts, ltb-true}
 use Rattle.tta_list.proofs.Lists.{list_all_one}
 use Rattle.tta_text.specs.Words.{is_name}
 use Rattle.tta_ops.specs.Units.{Units}
-use Rattle.tta_machine.specs.declared.parts.Bus.{Bus}
-use Rattle.tta_machine.specs.declared.parts.File.{File as RegisterFile}
-use Rattle.tta_machine.specs.declared.parts.ImmUnit.{ImmUnit}
-use Rattle.tta_machine.specs.declared.parts.Unit.{Unit as OpUnit}
-use Rattle.tta_machine.specs.declared.parts.Op.{Op}
-use Rattle.tta_machine.specs.declared.parts.Op.TheVariants.{Ldw, Stw, Ldf, Stf, Out, Set}
-use Rattle.tta_machine.specs.declared.ends.GuardRef.{GuardRef}
-use Rattle.tta_machine.specs.declared.ends.Source.{Source}
-use Rattle.tta_machine.specs.declared.ends.Source.TheVariants as source
-use Rattle.tta_machine.specs.declared.ends.Dest.{Dest}
-use Rattle.tta_machine.specs.declared.ends.Dest.TheVariants as dest
-use Rattle.tta_machine.specs.Machine.{Machine}
-use Rattle.tta_machine.specs.Joins.{within, is_source_on, is_dest_on, has_guard, holds_word}
-use Rattle.tta_machine.specs.Rules.{IsMachine, IsMachineName, are_different, is_bus, is_file, is_imm, is_guard}
-use Rattle.tta_machine.proofs.Sizes.{small_file, small_imm}
+use Rattle.tta_arch.specs.declared.parts.Bus.{Bus}
+use Rattle.tta_arch.specs.declared.parts.File.{File as RegisterFile}
+use Rattle.tta_arch.specs.declared.parts.ImmUnit.{ImmUnit}
+use Rattle.tta_arch.specs.declared.parts.Unit.{Unit as OpUnit}
+use Rattle.tta_arch.specs.declared.parts.Op.{Op}
+use Rattle.tta_arch.specs.declared.parts.Op.TheVariants.{Ldw, Stw, Ldf, Stf, Out, Take, Set}
+use Rattle.tta_arch.specs.declared.ends.GuardRef.{GuardRef}
+use Rattle.tta_arch.specs.declared.ends.Source.{Source}
+use Rattle.tta_arch.specs.declared.ends.Source.TheVariants as source
+use Rattle.tta_arch.specs.declared.ends.Dest.{Dest}
+use Rattle.tta_arch.specs.declared.ends.Dest.TheVariants as dest
+use Rattle.tta_arch.specs.Machine.{Machine}
+use Rattle.tta_arch.specs.Joins.{within, is_source_on, is_dest_on, has_guard, holds_word}
+use Rattle.tta_arch.specs.Rules.{IsMachine, IsMachineName, are_different, is_bus, is_file, is_imm, is_guard}
+use Rattle.tta_arch.proofs.Sizes.{small_file, small_imm}
 use Rattle.tta_asm.specs.Parts.{op_name}
 use Rattle.tta_asm.specs.Resolving.{source_of, dest_of, guard_of}
-use Rattle.tta_asm.specs.Readable.{StandsOver, is_called, has_called_ops}
+use Rattle.tta_asm.proofs.CalledOps.{is_called, has_called_ops}
+use Rattle.tta_asm.proofs.Readable.{IsReadable, all_left, all_right}
 use Rattle.tta_asm.proofs.ShownNames.{file_named, imm_named, unit_named, op_named}
 use Rattle.tta_asm.proofs.ShownParts.{held_word_small, there, below, port_there, element_there, guard_there, GuardPlace, guard_place}
 use Rattle.tta_asm.proofs.ShownScanned.{GuardFits, SourceFits, DestFits}
@@ -42,7 +43,7 @@ record FilePlace (m : Machine) (k i : ℕ) : Type 0 where
   pub named : is_name file.name ≡ true
 
 -- a register within its file is so
-file_place : (u : Units) (m : Machine) (k i : ℕ) (file : RegisterFile) → IsMachine m → StandsOver u m
+file_place : (u : Units) (m : Machine) (k i : ℕ) (file : RegisterFile) → IsMachine m → IsReadable u m
     → slice_get m.files k ≡ Some file → nat_lt i file.size ≡ true → FilePlace m k i
 file_place u m k i file rules stands at inside =
     let size = small_file m.sockets file (list_all_one (is_file m.sockets) m.files k file rules.files at) in
@@ -64,7 +65,7 @@ record ImmPlace (m : Machine) (k i : ℕ) : Type 0 where
   pub named : is_name imm.name ≡ true
 
 -- a register within its immediate unit is so
-imm_place : (u : Units) (m : Machine) (k i : ℕ) (imm : ImmUnit) → IsMachine m → StandsOver u m
+imm_place : (u : Units) (m : Machine) (k i : ℕ) (imm : ImmUnit) → IsMachine m → IsReadable u m
     → slice_get m.imms k ≡ Some imm → nat_lt i imm.size ≡ true → ImmPlace m k i
 imm_place u m k i imm rules stands at inside =
     let size = small_imm m.sockets imm (list_all_one (is_imm m.sockets) m.imms k imm rules.imms at) in
@@ -101,7 +102,7 @@ imm_source m k i rules p =
     }
 
 -- the result port of a unit is found again
-unit_source : (u : Units) (m : Machine) (k : ℕ) (q : OpUnit) → IsMachine m → StandsOver u m → slice_get m.units k ≡ Some q
+unit_source : (u : Units) (m : Machine) (k : ℕ) (q : OpUnit) → IsMachine m → IsReadable u m → slice_get m.units k ≡ Some q
     → is_some q.result ≡ true → SourceBack m (source.Shown k)
 unit_source u m k q rules stands at port =
     record {
@@ -117,7 +118,7 @@ held_small m bus word rules h = by (slice_get m.buses bus) refl h where
   by (Some b) at k = held_word_small b word (list_all_one is_bus m.buses bus b rules.buses at) k
 
 -- a source that stands on a bus is found again
-pub source_back : (u : Units) (m : Machine) (bus : ℕ) (src : Source) → IsMachine m → StandsOver u m
+pub source_back : (u : Units) (m : Machine) (bus : ℕ) (src : Source) → IsMachine m → IsReadable u m
     → is_source_on m bus src ≡ true → SourceBack m src
 source_back u m bus (source.Reg k i) rules stands h =
     let t = there m false bus (slice_get m.files k) (λ f. within i f.size f.out) h in
@@ -152,23 +153,13 @@ file_dest u m k i rules p =
     }
 
 -- the operand port of a unit is found again
-unit_dest : (u : Units) (m : Machine) (k : ℕ) (q : OpUnit) → IsMachine m → StandsOver u m → slice_get m.units k ≡ Some q
+unit_dest : (u : Units) (m : Machine) (k : ℕ) (q : OpUnit) → IsMachine m → IsReadable u m → slice_get m.units k ≡ Some q
     → is_some q.operand ≡ true → DestBack u m (dest.Operand k)
 unit_dest u m k q rules stands at port =
     record {
       fits = rw at (list_all_one (λ q. is_name q.name) m.units k q stands.units at);
       back = rw (at, unit_named m k q rules at, at, port) refl;
     }
-
--- parts of a list of which all is known
-all_left : {A : Type 0} (P : A → Type 0) (xs ys : List A) → AllByRecursion P (xs ++ ys) → AllByRecursion P xs
-all_left P [] ys h = tt
-all_left P (x ∷ xs) ys h = (h.0, all_left P xs ys h.1)
-
--- what is known of all of two lists is known of the second
-all_right : {A : Type 0} (P : A → Type 0) (xs ys : List A) → AllByRecursion P (xs ++ ys) → AllByRecursion P ys
-all_right P [] ys h = h
-all_right P (x ∷ xs) ys h = all_right P xs ys h.1
 
 -- the name of each unit is one that a machine may declare
 unit_name_in : (qs : List OpUnit) (k : ℕ) (q : OpUnit) → AllByRecursion IsMachineName (map (λ q. q.name) qs)
@@ -186,17 +177,18 @@ not_control m k q rules at =
     let all = all_right IsMachineName before units (all_left IsMachineName (before ++ units) (map (λ t. t.name) m.templates) rules.names) in
     (unit_name_in m.units k q all at).free
 
--- an operation that is called has a name token for a name
+-- an operation that is called is called by a name
 called_named : (u : Units) (op : Op) → is_called u op ≡ true → is_name (op_name u op) ≡ true
 called_named u Ldw h = refl
 called_named u Stw h = refl
 called_named u Ldf h = refl
 called_named u Stf h = refl
 called_named u Out h = refl
+called_named u Take h = refl
 called_named u (Set id) h = (and_parts (nat_lt id.0 (length u.names)) (is_name (op_name u (Set id))) h).1
 
 -- an operation of a unit is found again
-op_dest : (u : Units) (m : Machine) (k i : ℕ) (q : OpUnit) → IsMachine m → StandsOver u m → slice_get m.units k ≡ Some q
+op_dest : (u : Units) (m : Machine) (k i : ℕ) (q : OpUnit) → IsMachine m → IsReadable u m → slice_get m.units k ≡ Some q
     → nat_lt i (length q.ops) ≡ true → DestBack u m (dest.Trigger k i)
 op_dest u m k i q rules stands at inside =
     let o = element_there q.ops i inside in
@@ -214,7 +206,7 @@ op_dest u m k i q rules stands at inside =
     }
 
 -- a destination that stands on a bus is found again
-pub dest_back : (u : Units) (m : Machine) (bus : ℕ) (dst : Dest) → IsMachine m → StandsOver u m
+pub dest_back : (u : Units) (m : Machine) (bus : ℕ) (dst : Dest) → IsMachine m → IsReadable u m
     → is_dest_on m bus dst ≡ true → DestBack u m dst
 dest_back u m bus (dest.Reg k i) rules stands h =
     let t = there m true bus (slice_get m.files k) (λ f. within i f.size f.into) h in
@@ -238,7 +230,7 @@ pub record GuardBack (m : Machine) (guard : Option GuardRef) : Type 0 where
   pub back : guard_of m (guard_said m guard) ≡ Some guard
 
 -- a register of a file of width 1 is found again as a guard
-place_back : (u : Units) (m : Machine) (on : GuardRef) → IsMachine m → StandsOver u m → GuardPlace m on → GuardBack m (Some on)
+place_back : (u : Units) (m : Machine) (on : GuardRef) → IsMachine m → IsReadable u m → GuardPlace m on → GuardBack m (Some on)
 place_back u m on rules stands p =
     let at = p.at in
     let f = file_place u m on.file on.index p.file rules stands at p.within in
@@ -248,7 +240,7 @@ place_back u m on rules stands p =
     }
 
 -- a guard that is written for a bus is found again
-pub guard_back : (u : Units) (m : Machine) (bus : ℕ) (guard : Option GuardRef) → IsMachine m → StandsOver u m
+pub guard_back : (u : Units) (m : Machine) (bus : ℕ) (guard : Option GuardRef) → IsMachine m → IsReadable u m
     → has_guard m bus guard ≡ true → GuardBack m guard
 guard_back u m bus None rules stands h = record { fits = tt; back = refl }
 guard_back u m bus (Some on) rules stands h =

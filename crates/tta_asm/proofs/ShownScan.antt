@@ -1,13 +1,14 @@
 -- The pieces of a printed text: word by word, up to what closes a piece.
-use Rattle.std.proofs.Common.{◌≡◌, ℕ, ◌+◌, ◌-◌, Bool, true, false, not, List, [], ◌∷◌, ◌++◌, length, length-append, refl, ap, ◌∙◌, arith}
-use Rattle.std.specs.Prelude.{Option, Some, None, codes, slice_range}
-use Rattle.std.proofs.lemmas.List.{append_assoc, take_at, drop_at}
+use Rattle.std.proofs.Common.{◌≡◌, ℕ, ◌+◌, Bool, true, false, not, List, [], ◌∷◌, ◌++◌, length, length-append, refl, ap, ◌∙◌, arith}
+use Rattle.std.specs.Prelude.{Option, Some, None, codes}
+use Rattle.std.proofs.lemmas.List.{append_assoc, drop_at}
 use Rattle.tta_text.specs.declared.lexeme.Kind.{Kind}
 use Rattle.tta_text.specs.declared.lexeme.Kind.TheVariants.{Mark, Eol}
 use Rattle.tta_text.specs.Bytes.{is_newline}
 use Rattle.tta_text.specs.Tokens.{token, piece_at, mark_piece, with_token, line_after, tokens_from}
 use Rattle.tta_text.proofs.Turns.{tokens_from-piece-cons}
 use Rattle.tta_reading.specs.Lines.{is_line_end}
+use Rattle.tta_reading.proofs.TextNames.{slice-between}
 use Rattle.tta_asm.specs.declared.pieces.Close.{Close}
 use Rattle.tta_asm.specs.declared.pieces.Close.TheVariants.{Comma, Semicolon}
 use Rattle.tta_asm.specs.Pieces.{Placed, Piece, closing, pieces_from}
@@ -26,12 +27,6 @@ pub record IsScanned (kind : Kind) (text after : List ℕ) : Type 0 where
   pub piece : piece_at byte (others ++ after) ≡ token kind (length (byte ∷ others))
   pub stays : closing (record { kind = kind; text = byte ∷ others }) ≡ None
   pub inside : is_line_end kind ≡ false
-
--- the bytes between two others
-pub slice-between : (a b c : List ℕ) → slice_range (a ++ (b ++ c)) (length a) (length a + length b) ≡ b
-slice-between a b c =
-    let n : length a + length b - length a ≡ length b = omega arith in
-    rw (n, drop_at a (b ++ c) (length a) refl) (take_at b c (length b) refl)
 
 -- the tokens of bytes whose first piece is known
 tokens-front : (byte : ℕ) (others rest : List ℕ) (is_open : Bool) (line at : ℕ) (kind : Option Kind)

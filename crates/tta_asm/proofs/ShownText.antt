@@ -1,31 +1,34 @@
--- Legal code is read back from its canonical text.
-use Rattle.std.proofs.Common.{◌≡◌, ℕ, ◌+◌, ◌^◌, ◌<◌, ◌≤◌, Bool, true, false, not, List, [], ◌∷◌, ◌++◌, length, length-append, refl, ◌∙◌, arith}
+-- A legal whole is read back from its canonical text.
+use Rattle.std.proofs.Common.{◌≡◌, ℕ, ◌+◌, ◌^◌, ◌<◌, ◌≤◌, Bool, true, false, not, List, [], ◌∷◌, ◌++◌, length, length-append, refl, ap, ◌∙◌, arith}
 use Rattle.std.specs.Prelude.{Option, None, Ok, IsTrue}
-use Rattle.std.specs.List.{AllByRecursion}
+use Rattle.std.specs.List.{flat_map, AllByRecursion}
 use Rattle.std.proofs.lemmas.Bool.{eqb-true}
 use Rattle.std.proofs.lemmas.Nat.{pow_pos}
 use Rattle.std.proofs.lemmas.List.{append_assoc, append-nil}
 use Rattle.tta_ops.specs.Units.{Units}
-use Rattle.tta_machine.specs.Machine.{Machine}
-use Rattle.tta_machine.specs.Rules.{IsMachine}
+use Rattle.tta_arch.specs.Machine.{Machine}
+use Rattle.tta_arch.specs.Over.{StandsOver}
+use Rattle.tta_arch.specs.Rules.{IsMachine}
 use Rattle.tta_code.specs.declared.code.Move.{Move}
 use Rattle.tta_code.specs.declared.code.Long.{Long}
 use Rattle.tta_code.specs.declared.code.Instruction.{Instruction}
-use Rattle.tta_code.specs.declared.code.Code.{Code}
-use Rattle.tta_code.specs.Legal.{is_legal, IsLegalCode}
+use Rattle.tta_code.specs.Whole.{Whole}
+use Rattle.tta_code.specs.Legal.{is_legal}
 use Rattle.tta_code.proofs.LegalParts.{LegalParts, legal_parts}
 use Rattle.tta_asm.specs.Forms.{SlotForm}
 use Rattle.tta_asm.specs.Labels.{label_of, is_semicolon, instructions_in, labels_from, labels_of}
 use Rattle.tta_asm.specs.Assembly.{Draft, instruction_of, begun_label, take_piece, take_pieces, assembled}
-use Rattle.tta_asm.specs.Canonical.{canonical}
-use Rattle.tta_asm.specs.Readable.{StandsOver}
+use Rattle.tta_asm.specs.Canonical.{datum_text, canonical}
+use Rattle.tta_asm.proofs.Readable.{IsReadable, readable}
+use Rattle.tta_code.specs.Legal.{IsLegalWhole}
 use Rattle.tta_asm.proofs.ShownItems.{behind}
 use Rattle.tta_asm.proofs.ShownScan.{close_of, line_behind}
-use Rattle.tta_asm.proofs.ShownPieces.{PieceText, ArePieces, pieces_shown, pieces_of-shown}
+use Rattle.tta_asm.proofs.ShownPieces.{PieceText, pieces_text, ArePieces, pieces_shown, pieces_of-shown}
 use Rattle.tta_asm.proofs.ShownMoves.{last_piece, inner_piece, slot_pieces, code_pieces, HasFirst, HaveSlots, code_pieces-text}
 use Rattle.tta_asm.proofs.ShownScanned.{SlotFits, SlotsFit, LongFits, slot_pieces-scanned}
 use Rattle.tta_asm.proofs.ShownForms.{slot_said, long_said, shown_piece, last_read, inner_read}
 use Rattle.tta_asm.proofs.ShownCode.{slots_said, instruction_back}
+use Rattle.tta_asm.proofs.ShownData.{with_data, with_data-text, with_data-scanned, code_no_data, line_past, start_past, data_back, data_behind}
 
 -- ---- there are no labels
 
@@ -116,7 +119,7 @@ has_first m i rules f =
       by (slot ∷ moves) k = tt
 
 -- the pieces of legal instructions are taken as these
-take_code : (u : Units) (m : Machine) (is : List Instruction) (words : List Instruction) (line start : ℕ) → IsMachine m → StandsOver u m
+take_code : (u : Units) (m : Machine) (is : List Instruction) (words : List Instruction) (line start : ℕ) → IsMachine m → IsReadable u m
     → AllByRecursion (λ i. IsTrue (is_legal m i)) is → length words + length is ≤ 2 ^ m.control.address
     → take_pieces u m [] (draft [] words) (pieces_shown false line start (code_pieces u m is)) ≡ Ok (draft [] (words ++ is))
 take_code u m [] words line start rules stands legal room = rw (append-nil words) refl
@@ -131,7 +134,7 @@ take_code u m (i ∷ is) words line start rules stands legal room =
     one ∙ rw (append_assoc words (i ∷ []) is) at more
 
 -- the pieces of legal instructions are scanned as they were printed, and each has a slot
-code_scanned : (u : Units) (m : Machine) (is : List Instruction) → IsMachine m → StandsOver u m
+code_scanned : (u : Units) (m : Machine) (is : List Instruction) → IsMachine m → IsReadable u m
     → AllByRecursion (λ i. IsTrue (is_legal m i)) is → (shown : ArePieces (code_pieces u m is)) × HaveSlots is
 code_scanned u m [] rules stands legal = (tt, tt)
 code_scanned u m (i ∷ is) rules stands legal =
@@ -141,15 +144,40 @@ code_scanned u m (i ∷ is) rules stands legal =
       (has_first m i rules (legal_parts m i legal.0), more.1),
     )
 
--- legal code is read back from its canonical text
-pub canonical_assembled : (u : Units) (m : Machine) (code : Code) → IsMachine m → StandsOver u m → IsLegalCode m code
-    → assembled u m (canonical u m code) ≡ Ok code
-unfolding assembled canonical labels_of
-canonical_assembled u m code rules stands legal =
-    let ps = code_pieces u m code.words in
-    let scanned = code_scanned u m code.words rules stands legal.words in
-    let text = code_pieces-text u m code.words scanned.1 in
-    let pieces = pieces_of-shown ps scanned.0 in
-    let few = legal.room in
-    let taken = take_code u m code.words [] 1 0 rules stands legal.words (omega arith) in
-    rw (← text, pieces, labels-shown ps true 0 false 1 0, taken) refl
+-- ---- a whole
+
+-- the pieces of a whole are its data and its instructions
+abbrev whole_pieces : Units → Machine → Whole → List PieceText
+whole_pieces u m whole = with_data whole.init (code_pieces u m whole.code.words)
+
+-- they make its canonical text, and are scanned as they were printed
+whole_scanned : (u : Units) (m : Machine) (whole : Whole) → IsMachine m → IsReadable u m → IsLegalWhole m whole
+    → (text : pieces_text (whole_pieces u m whole) ≡ canonical u m whole) × ArePieces (whole_pieces u m whole)
+unfolding canonical
+whole_scanned u m whole rules stands legal =
+    let scanned = code_scanned u m whole.code.words rules stands legal.code.words in
+    let few = rules.limits.data_words in (
+      with_data-text whole.init (code_pieces u m whole.code.words)
+          ∙ ap (λ (t : List ℕ). flat_map datum_text whole.init ++ t) (code_pieces-text u m whole.code.words scanned.1),
+      with_data-scanned m.data_words whole.init (code_pieces u m whole.code.words) (omega arith) legal.fits scanned.0,
+    )
+
+-- a legal whole is read back from its canonical text
+pub canonical_assembled : (u : Units) (m : Machine) (whole : Whole) → IsMachine m → StandsOver u m → IsLegalWhole m whole
+    → assembled u m (canonical u m whole) ≡ Ok whole
+unfolding assembled labels_of
+canonical_assembled u m whole rules over legal =
+    let stands = readable u m rules over in
+    let is = whole.code.words in
+    let scanned = whole_scanned u m whole rules stands legal in
+    let pieces = pieces_of-shown (whole_pieces u m whole) scanned.1 in
+    let line = line_past 1 whole.init in
+    let start = start_past 0 whole.init in
+    let free = code_no_data u m is line start in
+    let words = rules.limits.data_words in
+    let small : m.data_words ≤ 2 ^ 32 = omega arith in
+    let init = data_back m.data_words 0 [] whole.init (code_pieces u m is) 1 0 small legal.rises legal.fits free in
+    let rest = data_behind m.data_words whole.init (code_pieces u m is) 1 0 small legal.fits free in
+    let few = legal.code.room in
+    let taken = take_code u m is [] line start rules stands legal.code.words (omega arith) in
+    rw (← scanned.0, pieces, init, rest, labels-shown (code_pieces u m is) true 0 false line start, taken) refl

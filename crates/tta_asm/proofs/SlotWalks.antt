@@ -4,7 +4,7 @@ use Rattle.std.proofs.lemmas.List.{append_assoc, drop_more}
 use Rattle.tta_reading.specs.Names.{Declared}
 use Rattle.tta_reading.specs.Steps.{◌>>=◌}
 use Rattle.tta_ops.specs.Units.{Units}
-use Rattle.tta_machine.specs.Machine.{Machine}
+use Rattle.tta_arch.specs.Machine.{Machine}
 use Rattle.tta_code.specs.declared.code.Move.{Move}
 use Rattle.tta_asm.specs.declared.forms.SlotForm.{SlotForm as SlotWords}
 use Rattle.tta_asm.specs.declared.labels.Label.{Label}

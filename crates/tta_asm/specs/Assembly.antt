@@ -1,37 +1,34 @@
--- Which code an assembly text is, and where it is refused.
+-- Which code with which data an assembly text is, and where it is refused.
 use Rattle.std.specs.Prelude.{ℕ, ◌+◌, ◌^◌, ◌==◌, Bool, false, not, ◌&&◌, nat_le, if◌then◌else◌, List, [], ◌∷◌, ◌++◌, length, Option, Some, None, Result, Ok, Err}
 use Rattle.std.specs.Option.{option_map_or}
 use Rattle.tta_reading.specs.Names.{Declared, named_in}
 use Rattle.tta_reading.specs.Steps.{◌>>=◌, refuse_if}
 use Rattle.tta_ops.specs.Units.{Units}
-use Rattle.tta_machine.specs.Machine.{Machine}
+use Rattle.tta_arch.specs.Machine.{Machine}
 use Rattle.tta_code.specs.declared.code.Move.{Move}
 use Rattle.tta_code.specs.declared.code.Long.{Long}
 use Rattle.tta_code.specs.declared.code.Instruction.{Instruction}
 use Rattle.tta_code.specs.declared.code.Code.{Code}
+use Rattle.tta_code.specs.Whole.{Whole}
 use Rattle.tta_code.specs.Legal.{is_legal}
 use Rattle.tta_asm.specs.declared.refusal.AsmRefusal.{AsmRefusal}
-use Rattle.tta_asm.specs.declared.refusal.AsmRefusal.TheVariants.{Syntax, Illegal, Slots, Range}
+use Rattle.tta_asm.specs.declared.refusal.AsmRefusal.TheVariants.{Illegal, Slots, Range}
 use Rattle.tta_asm.specs.declared.refusal.AsmRefusal.TheVariants as refusal
 use Rattle.tta_asm.specs.declared.pieces.Close.{Close}
 use Rattle.tta_asm.specs.declared.pieces.Close.TheVariants.{End}
 use Rattle.tta_asm.specs.declared.labels.Label.{Label}
-use Rattle.tta_asm.specs.Refusals.{Refusal}
+use Rattle.tta_asm.specs.Refusals.{Refusal, fitting}
 use Rattle.tta_asm.specs.Pieces.{Piece, pieces_of}
 use Rattle.tta_asm.specs.Forms.{SlotForm, LongForm, PieceForm}
 use Rattle.tta_asm.specs.Syntax.{piece_form}
 use Rattle.tta_asm.specs.Labels.{LabelWord, label_of, is_semicolon, labels_of}
+use Rattle.tta_asm.specs.Init.{data_from, behind_data}
 use Rattle.tta_asm.specs.Resolving.{action_of, long_of}
 
 -- a refusal at this line
 abbrev pub at_line : {A : Type 0} → ℕ → Result A AsmRefusal → Result A Refusal
 at_line line (Ok x) = Ok x
 at_line line (Err e) = Err (line, e)
-
--- words that do not fit, at the line of the first that does not
-abbrev pub fitting : {A : Type 0} → Result A ℕ → Result A Refusal
-fitting (Ok x) = Ok x
-fitting (Err line) = Err (line, Syntax)
 
 -- ---- an instruction
 
@@ -112,7 +109,13 @@ take_pieces u m labels d [] = Ok d
 take_pieces u m labels d (p ∷ ps) =
     if is_over d p then Ok d else take_piece u m labels d p >>= λ next. take_pieces u m labels next ps
 
--- the code of a text, or its first refusal
-unfoldable pub assembled : Units → Machine → List ℕ → Result Code Refusal
+-- the code of pieces among which no data are declared, or their first refusal
+abbrev pub assembled_code : Units → Machine → List Piece → Result Code Refusal
+assembled_code u m ps = take_pieces u m (labels_of ps) nothing ps >>= λ d. Ok (record { words = d.words })
+
+-- The whole of a text, or its first refusal: its data first, and the code of the pieces behind them. So what declares data
+-- counts for no label.
+unfoldable pub assembled : Units → Machine → List ℕ → Result Whole Refusal
 assembled u m text =
-    take_pieces u m (labels_of (pieces_of text)) nothing (pieces_of text) >>= λ d. Ok (record { words = d.words })
+    data_from m.data_words 0 [] (pieces_of text) >>= λ init.
+    assembled_code u m (behind_data (pieces_of text)) >>= λ code. Ok (record { code = code; init = init })

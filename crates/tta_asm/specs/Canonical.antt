@@ -1,18 +1,19 @@
--- The canonical text of code.
+-- The canonical text of code with its data.
 use Rattle.std.specs.Prelude.{ℕ, if◌then◌else◌, List, [], ◌∷◌, ◌++◌, Option, Some, None, slice_get, codes, decimal}
 use Rattle.std.specs.Option.{option_map_or}
 use Rattle.std.specs.List.{flat_map}
 use Rattle.tta_ops.specs.Units.{Units}
-use Rattle.tta_machine.specs.declared.ends.GuardRef.{GuardRef}
-use Rattle.tta_machine.specs.declared.ends.Source.{Source}
-use Rattle.tta_machine.specs.declared.ends.Source.TheVariants as source
-use Rattle.tta_machine.specs.declared.ends.Dest.{Dest}
-use Rattle.tta_machine.specs.declared.ends.Dest.TheVariants as dest
-use Rattle.tta_machine.specs.Machine.{Machine}
+use Rattle.tta_arch.specs.declared.ends.GuardRef.{GuardRef}
+use Rattle.tta_arch.specs.declared.ends.Source.{Source}
+use Rattle.tta_arch.specs.declared.ends.Source.TheVariants as source
+use Rattle.tta_arch.specs.declared.ends.Dest.{Dest}
+use Rattle.tta_arch.specs.declared.ends.Dest.TheVariants as dest
+use Rattle.tta_arch.specs.Machine.{Machine}
 use Rattle.tta_code.specs.declared.code.Move.{Move}
 use Rattle.tta_code.specs.declared.code.Long.{Long}
 use Rattle.tta_code.specs.declared.code.Instruction.{Instruction}
-use Rattle.tta_code.specs.declared.code.Code.{Code}
+use Rattle.tta_code.specs.declared.whole.Datum.{Datum}
+use Rattle.tta_code.specs.Whole.{Whole}
 use Rattle.tta_asm.specs.Parts.{op_name}
 
 -- ---- names
@@ -89,6 +90,12 @@ long_text m (Some l) = codes " [" ++ (template_name m l.template ++ (codes "=" +
 unfoldable pub instruction_text : Units → Machine → Instruction → List ℕ
 instruction_text u m i = slots_text u m i.moves ++ (long_text m i.long ++ codes " ;\n")
 
--- the text of code: its instructions one after another, with no labels and no comments
-unfoldable pub canonical : Units → Machine → Code → List ℕ
-canonical u m code = flat_map (instruction_text u m) code.words
+-- ---- a whole
+
+-- a datum is a line
+abbrev pub datum_text : Datum → List ℕ
+datum_text d = codes "data " ++ (decimal d.address ++ (codes " " ++ (decimal d.value ++ codes " ;\n")))
+
+-- the text of a whole: its data and then its instructions one after another, with no labels and no comments
+unfoldable pub canonical : Units → Machine → Whole → List ℕ
+canonical u m whole = flat_map datum_text whole.init ++ flat_map (instruction_text u m) whole.code.words

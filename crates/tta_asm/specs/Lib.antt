@@ -14,5 +14,5 @@ pub mod LabelsSeen
 pub mod Table
 pub mod Drafts
 pub mod Printing
-pub mod Readable
+pub mod Init
 pub mod Laws

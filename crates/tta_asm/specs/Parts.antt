@@ -2,10 +2,10 @@
 use Rattle.std.specs.Prelude.{ℕ, ◌+◌, List, [], ◌∷◌, ◌++◌, map, slice_index_or, codes}
 use Rattle.tta_reading.specs.Names.{Declared}
 use Rattle.tta_ops.specs.Units.{Units}
-use Rattle.tta_machine.specs.declared.parts.Op.{Op}
-use Rattle.tta_machine.specs.declared.parts.Op.TheVariants.{Ldw, Stw, Ldf, Stf, Out, Set}
-use Rattle.tta_machine.specs.declared.parts.Unit.{Unit as OpUnit}
-use Rattle.tta_machine.specs.Machine.{Machine}
+use Rattle.tta_arch.specs.declared.parts.Op.{Op}
+use Rattle.tta_arch.specs.declared.parts.Op.TheVariants.{Ldw, Stw, Ldf, Stf, Out, Take, Set}
+use Rattle.tta_arch.specs.declared.parts.Unit.{Unit as OpUnit}
+use Rattle.tta_arch.specs.Machine.{Machine}
 use Rattle.tta_asm.specs.declared.parts.Part.{Part}
 use Rattle.tta_asm.specs.declared.parts.Part.TheVariants.{File, Imm, Template}
 use Rattle.tta_asm.specs.declared.parts.Part.TheVariants as part
@@ -29,6 +29,7 @@ op_name u Stw = codes "stw"
 op_name u Ldf = codes "ldf"
 op_name u Stf = codes "stf"
 op_name u Out = codes "out"
+op_name u Take = codes "in"
 op_name u (Set id) = slice_index_or u.names id.0 []
 
 -- the operations of a unit by their names, each with its place in the unit

@@ -1,7 +1,7 @@
 -- How the canonical text is put together, slot by slot.
 use Rattle.std.specs.Prelude.{List, ◌++◌, Option, codes, ℕ}
 use Rattle.tta_ops.specs.Units.{Units}
-use Rattle.tta_machine.specs.Machine.{Machine}
+use Rattle.tta_arch.specs.Machine.{Machine}
 use Rattle.tta_code.specs.declared.code.Move.{Move}
 use Rattle.tta_asm.specs.Canonical.{slot_text}
 

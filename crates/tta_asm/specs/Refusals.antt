@@ -1,7 +1,7 @@
 -- Why an assembly text is refused.
 use Rattle.std.specs.Prelude.{◌≡◌, ℕ, Result, Ok, Err}
 use Rattle.tta_asm.specs.declared.refusal.AsmRefusal.{AsmRefusal}
-use Rattle.tta_asm.specs.declared.refusal.AsmRefusal.TheVariants.{Syntax, Unknown, NoConnection, Illegal, Slots, Label, Range}
+use Rattle.tta_asm.specs.declared.refusal.AsmRefusal.TheVariants.{Syntax, Unknown, NoConnection, Illegal, Slots, Label, Range, Data}
 use Rattle.tta_asm.specs.declared.refusal.AsmError.{AsmError}
 use Rattle.tta_asm.specs.declared.refusal.AsmError.TheVariants.{Refused, NoMemory}
 
@@ -14,10 +14,16 @@ code_of Illegal = 53
 code_of Slots = 54
 code_of Label = 55
 code_of Range = 56
+code_of Data = 57
 
 -- a refusal with its line
 abbrev pub Refusal : Type 0
 Refusal = ℕ × AsmRefusal
+
+-- words that do not fit, at the line of the first that does not
+abbrev pub fitting : {A : Type 0} → Result A ℕ → Result A Refusal
+fitting (Ok x) = Ok x
+fitting (Err line) = Err (line, Syntax)
 
 -- a refusal as it is told
 abbrev pub told : Refusal → AsmError

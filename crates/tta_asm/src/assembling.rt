@@ -1,25 +1,29 @@
-//! The code of an assembly text.
+//! The code of an assembly text, with its data.
 
-ghost use Rattle.std.specs.Prelude.{◌≡◌, ◌+◌, ◌≤◌, ◌^◌, length, IfOk};
+ghost use Rattle.std.specs.Prelude.{◌≡◌, ◌+◌, ◌<◌, ◌≤◌, ◌^◌, length, drop, [], IfOk};
 ghost use Rattle.tta_ops.specs.Set.{stated};
 ghost use Rattle.tta_connect.specs.Net.{IsNetOf};
 ghost use Rattle.tta_code.specs.Legal.{IsLegalCode};
-ghost use Rattle.tta_asm.specs.Assembly.{take_pieces, assembled};
+ghost use Rattle.tta_asm.specs.Assembly.{take_pieces, assembled_code, assembled};
 ghost use Rattle.tta_asm.specs.Drafts.{draft_seen, Takes};
+ghost use Rattle.tta_asm.specs.Init.{data_from, behind_data};
 ghost use Rattle.tta_asm.specs.Labels.{labels_of};
 ghost use Rattle.tta_asm.specs.Pieces.{pieces_of};
 ghost use Rattle.tta_asm.specs.Refusals.{Answers};
 ghost use Rattle.tta_asm.specs.Table.{IsTableOf};
+ghost use Rattle.tta_code.specs.Legal.{IsLegalWhole};
 
 use crate::draft::Draft;
+use crate::init::take_data;
 use crate::labels::{Label, collect_labels};
 use crate::pieces::{Close, Pieces, PlacedWord};
 use crate::refusal::AsmError;
 use crate::table::Table;
 use std::alloc::Global;
-use tta_code::Code;
+use tta_arch::Machine;
+use tta_code::{Code, Datum, Whole};
 use tta_connect::Net;
-use tta_machine::Machine;
+use tta_list::Items;
 use tta_ops::UnitSet;
 use tta_reading::Names;
 
@@ -64,26 +68,28 @@ fn take_rest<'t>(
     }
 }
 
-/// The code of a text that has these labels, or its first refusal.
-#[tactic(auto, unfolding(crate::specs::Assembly::assembled))]
+/// The code of a text behind so many pieces, which has these labels, or its first refusal.
 fn code_over(
     alloc: Global,
     text: &[u8],
+    count: usize,
     m: &Machine,
     units: &UnitSet,
     net: &Net,
     table: &Table,
     labels: &Names<Label>,
 ) -> Result<Code, AsmError>
-    requires few { length text.now ≤ 2 ^ 24 }
+    requires small { length text.now ≤ 2 ^ 24 }
+    requires few { count < length (pieces_of text.now) }
     requires net { IsNetOf net.now m.now }
     requires table { IsTableOf (stated unit_meaning units.now) m.now table.now }
-    requires labels { labels.now ≡ labels_of (pieces_of text.now) }
-    ensures answers { Answers result (assembled (stated unit_meaning units.now) m.now text.now) }
+    requires labels { labels.now ≡ labels_of (drop count (pieces_of text.now)) }
+    ensures answers { Answers result (assembled_code (stated unit_meaning units.now) m.now
+        (drop count (pieces_of text.now))) }
     ensures legal { IfOk result (λ code. IsLegalCode m.now code) }
 {
-    let mut pieces = Pieces::new(text);
     let mut words = Vec::new(alloc);
+    let mut pieces = Pieces::behind(text, count, &mut words)?;
     let mut draft = Draft::new(alloc);
     match take_rest(
         alloc,
@@ -104,44 +110,92 @@ fn code_over(
     }
 }
 
-/// The code of a text, or its first refusal.
+/// The code of a text behind so many pieces, or its first refusal.
 fn code_of(
+    alloc: Global,
+    text: &[u8],
+    count: usize,
+    m: &Machine,
+    units: &UnitSet,
+    net: &Net,
+    table: &Table,
+) -> Result<Code, AsmError>
+    requires small { length text.now ≤ 2 ^ 24 }
+    requires few { count < length (pieces_of text.now) }
+    requires behind { drop count (pieces_of text.now) ≡ behind_data (pieces_of text.now) }
+    requires net { IsNetOf net.now m.now }
+    requires table { IsTableOf (stated unit_meaning units.now) m.now table.now }
+    ensures answers { Answers result (assembled_code (stated unit_meaning units.now) m.now
+        (behind_data (pieces_of text.now))) }
+    ensures legal { IfOk result (λ code. IsLegalCode m.now code) }
+{
+    let labels = collect_labels(alloc, text, count)?;
+    code_over(alloc, text, count, m, units, net, table, &labels)
+}
+
+/// The data that a text begins with, or the refusal of its first declaration that is refused.
+fn data_of(alloc: Global, text: &[u8], m: &Machine) -> Result<Items<Datum>, AsmError>
+    requires { length text.now ≤ 2 ^ 24 }
+    ensures answers { Answers result (data_from m.now.data_words 0 [] (pieces_of text.now)) }
+    ensures few { IfOk result (λ init. length init < length (pieces_of text.now)) }
+{
+    let mut words = Vec::new(alloc);
+    let mut pieces = Pieces::new(text);
+    let mut init = Items::new(alloc);
+    match take_data(m.data_words, &mut pieces, &mut words, &mut init) {
+        Ok(()) => Ok(init),
+        Err(e) => {
+            drop(init);
+            Err(e)
+        }
+    }
+}
+
+/// The code of a text with its data, or its first refusal.
+#[tactic(auto, unfolding(crate::specs::Assembly::assembled))]
+fn whole_of(
     alloc: Global,
     text: &[u8],
     m: &Machine,
     units: &UnitSet,
     net: &Net,
     table: &Table,
-) -> Result<Code, AsmError>
-    requires few { length text.now ≤ 2 ^ 24 }
+) -> Result<Whole, AsmError>
+    requires small { length text.now ≤ 2 ^ 24 }
     requires net { IsNetOf net.now m.now }
     requires table { IsTableOf (stated unit_meaning units.now) m.now table.now }
     ensures answers { Answers result (assembled (stated unit_meaning units.now) m.now text.now) }
-    ensures legal { IfOk result (λ code. IsLegalCode m.now code) }
+    ensures legal { IfOk result (λ whole. IsLegalWhole m.now whole) }
 {
-    let labels = collect_labels(alloc, text)?;
-    code_over(alloc, text, m, units, net, table, &labels)
+    let init = data_of(alloc, text, m)?;
+    match code_of(alloc, text, init.len(), m, units, net, table) {
+        Ok(code) => Ok(Whole { code, init }),
+        Err(e) => {
+            drop(init);
+            Err(e)
+        }
+    }
 }
 
-/// The code of an assembly text of at most 2^24 bytes, over these operation units. The machine can
-/// carry it out.
+/// The code of an assembly text of at most 2^24 bytes with its data, over these operation units.
+/// The machine can carry it out.
 ///
-/// `Refused` tells the first refusal of the text: piece by piece, and for each instruction by the
-/// number of its slots, then slot by slot, then by its long immediate, then as a whole. Labels are
-/// collected first, so a label may stand behind its use.
-pub fn assemble(alloc: Global, text: &[u8], m: &Machine, units: &UnitSet) -> Result<Code, AsmError>
+/// `Refused` tells the first refusal of the text: datum by datum, then piece by piece, and for each
+/// instruction by the number of its slots, then slot by slot, then by its long immediate, then as a
+/// whole. Labels are collected before the pieces are taken, so a label may stand behind its use.
+pub fn assemble(alloc: Global, text: &[u8], m: &Machine, units: &UnitSet) -> Result<Whole, AsmError>
     requires { length text.now ≤ 2 ^ 24 }
     ensures answers { Answers result (assembled (stated unit_meaning units.now) m.now text.now) }
-    ensures legal { IfOk result (λ code. IsLegalCode m.now code) }
+    ensures legal { IfOk result (λ whole. IsLegalWhole m.now whole) }
 {
     let net = Net::of(alloc, m)?;
     match Table::of(alloc, m, units) {
         Ok(table) => {
-            let code = code_of(alloc, text, m, units, &net, &table);
-            // The code stands for itself, so both are given back before it is told.
+            let whole = whole_of(alloc, text, m, units, &net, &table);
+            // The whole stands for itself, so both are given back before it is told.
             drop(table);
             drop(net);
-            code
+            whole
         }
         Err(e) => {
             drop(net);

@@ -18,10 +18,10 @@ use crate::refusal::{AsmError, AsmRefusal};
 use crate::syntax::piece_form;
 use crate::table::Table;
 use std::alloc::Global;
+use tta_arch::Machine;
 use tta_code::Instruction;
 use tta_connect::Net;
 use tta_list::Items;
-use tta_machine::Machine;
 use tta_ops::UnitSet;
 use tta_reading::Names;
 

@@ -21,10 +21,10 @@ use crate::refusal::{AsmError, AsmRefusal};
 use crate::resolving::{action_of, long_of};
 use crate::table::Table;
 use std::alloc::Global;
+use tta_arch::Machine;
 use tta_code::{Instruction, Long, Move, legal};
 use tta_connect::Net;
 use tta_list::Items;
-use tta_machine::Machine;
 use tta_ops::UnitSet;
 use tta_reading::Names;
 

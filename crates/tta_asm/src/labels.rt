@@ -1,7 +1,7 @@
 //! The labels of an assembly text.
 
-ghost use Rattle.std.specs.Prelude.{◌≡◌, ◌+◌, ◌^◌, ◌≤◌, true, if◌then◌else◌, None};
-ghost use Rattle.std.specs.Prelude.{length, option_map, IfOk, OnOk};
+ghost use Rattle.std.specs.Prelude.{◌≡◌, ◌+◌, ◌^◌, ◌<◌, ◌≤◌, true, if◌then◌else◌, None};
+ghost use Rattle.std.specs.Prelude.{length, drop, option_map, IfOk, OnOk};
 ghost use Rattle.tta_asm.specs.LabelsSeen.{label_seen};
 ghost use Rattle.tta_asm.specs.Labels as spec;
 ghost use Rattle.tta_asm.specs.Pieces.{pieces_of};
@@ -100,16 +100,17 @@ fn add_labels<'t>(
     }
 }
 
-/// The labels of a text of at most 2^24 bytes, each with its address. Of two with one name the
-/// first stands. An `Err` is want of memory.
+/// The labels of a text of at most 2^24 bytes behind so many pieces, each with its address, which
+/// counts from there. Of two with one name the first stands. An `Err` is want of memory.
 #[tactic(auto, unfolding(crate::specs::Labels::labels_of))]
-pub fn collect_labels(alloc: Global, text: &[u8]) -> Result<Names<Label>, AllocError>
-    requires { length text.now ≤ 2 ^ 24 }
-    ensures { IfOk result (λ labels. labels ≡ spec.labels_of (pieces_of text.now)) }
+pub fn collect_labels(alloc: Global, text: &[u8], count: usize) -> Result<Names<Label>, AllocError>
+    requires small { length text.now ≤ 2 ^ 24 }
+    requires few { count < length (pieces_of text.now) }
+    ensures { IfOk result (λ labels. labels ≡ spec.labels_of (drop count (pieces_of text.now))) }
 {
-    let mut labels = Names::new(alloc);
-    let mut pieces = Pieces::new(text);
     let mut words = Vec::new(alloc);
+    let mut pieces = Pieces::behind(text, count, &mut words)?;
+    let mut labels = Names::new(alloc);
     match add_labels(alloc, &mut labels, &mut pieces, &mut words) {
         Ok(()) => Ok(labels),
         Err(e) => {

@@ -5,10 +5,10 @@ ghost use Rattle.tta_ops.specs.Set.{stated};
 ghost use Rattle.tta_asm.specs.Canonical.{file_name, imm_name, unit_name, template_name};
 ghost use Rattle.tta_asm.specs.Canonical.{op_name_at};
 ghost use Rattle.tta_asm.specs.Parts.{op_name};
-ghost use Rattle.tta_machine.specs.declared.parts.Op.TheVariants.{Set};
+ghost use Rattle.tta_arch.specs.declared.parts.Op.TheVariants.{Set};
 
 use crate::places::{file_at, imm_at, template_at, unit_at};
-use tta_machine::{Machine, Op};
+use tta_arch::{Machine, Op};
 use tta_ops::{OpId, UnitSet};
 
 /// The name of a file, and no bytes where the machine has no such file.
@@ -73,6 +73,7 @@ pub fn op_name(units: &UnitSet, op: Op) -> &[u8]
         Op::Ldf => b"ldf",
         Op::Stf => b"stf",
         Op::Out => b"out",
+        Op::Take => b"in",
         Op::Set(id) => set_name(units, id),
     }
 }

@@ -9,8 +9,8 @@ use crate::named::op_name;
 use crate::parts::Part;
 use crate::places::{files_of, imms_of, templates_of, units_of};
 use std::alloc::{AllocError, Global};
+use tta_arch::{File, ImmUnit, Machine, Template, Unit};
 use tta_list::Items;
-use tta_machine::{File, ImmUnit, Machine, Template, Unit};
 use tta_ops::UnitSet;
 use tta_reading::Names;
 

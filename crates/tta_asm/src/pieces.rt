@@ -1,7 +1,7 @@
 //! The pieces of an assembly text.
 
-ghost use Rattle.std.specs.Prelude.{◌≡◌, ◌+◌, ◌^◌, ◌≤◌, ◌∷◌, [], length, map, Some, None, IfOk};
-ghost use Rattle.std.specs.Prelude.{vec_capacity};
+ghost use Rattle.std.specs.Prelude.{◌≡◌, ◌+◌, ◌^◌, ◌<◌, ◌≤◌, ◌∷◌, [], length, drop, map};
+ghost use Rattle.std.specs.Prelude.{Some, None, IfOk, OnOk, vec_capacity};
 ghost use Rattle.tta_reading.specs.Lines.{is_line_end, plain};
 ghost use Rattle.tta_asm.specs.Calls.{Cuts, IsShorter};
 ghost use Rattle.tta_asm.specs.Pieces as spec;
@@ -74,6 +74,37 @@ impl<'t> Pieces<'t> {
             text,
             scanner: Scanner::new(text),
             line: 1,
+        }
+    }
+
+    /// Passes over so many pieces, of which none is the last. The words that the last of them had
+    /// are left. An `Err` is want of memory.
+    fn skip(&mut self, count: usize, words: &mut Vec<PlacedWord<'t>>) -> Result<(), AllocError>
+        requires { count < length self.old }
+        ensures { OnOk result (self.new ≡ drop count self.old) }
+    {
+        for _ in 0..count {
+            self.next_piece(words)?;
+        }
+        Ok(())
+    }
+
+    /// A reader of a text of at most 2^24 bytes that stands behind so many pieces, of which none is
+    /// the last. An `Err` is want of memory.
+    pub fn behind(
+        text: &'t [u8],
+        count: usize,
+        words: &mut Vec<PlacedWord<'t>>,
+    ) -> Result<Pieces<'t>, AllocError>
+        requires small { length text.now ≤ 2 ^ 24 }
+        requires few { count < length (spec.pieces_of text.now) }
+        ensures pieces { IfOk result (λ pieces. pieces ≡ drop count (spec.pieces_of text.now)) }
+        ensures few { IfOk result (λ pieces. length pieces ≤ 2 ^ 24 + 2) }
+    {
+        let mut pieces = Pieces::new(text);
+        match pieces.skip(count, words) {
+            Ok(()) => Ok(pieces),
+            Err(e) => Err(e),
         }
     }
 

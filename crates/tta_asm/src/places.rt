@@ -4,9 +4,9 @@ ghost use Rattle.std.specs.Prelude.{◌≡◌, ◌≤◌, Some, IfSome, length, 
 ghost use Rattle.std.specs.Prelude.{slice_get, true};
 ghost use Rattle.std.specs.List.{list_all};
 ghost use Rattle.tta_reading.specs.Steps.{only_if};
-ghost use Rattle.tta_machine.specs.Rules.{IsMachine, is_bus};
+ghost use Rattle.tta_arch.specs.Rules.{IsMachine, is_bus};
 
-use tta_machine::{Bus, File, ImmUnit, Machine, Template, Unit};
+use tta_arch::{Bus, File, ImmUnit, Machine, Template, Unit};
 
 /// The buses of a machine.
 fn buses_of(m: &Machine) -> &[Bus]

@@ -1,19 +1,20 @@
-//! The canonical text of code.
+//! The canonical text of code with its data.
 
 ghost use Rattle.std.specs.Prelude.{◌≡◌, ◌++◌, codes, decimal, IfOk, OnOk};
 ghost use Rattle.std.specs.List.{flat_map};
 ghost use Rattle.tta_ops.specs.Set.{stated};
 ghost use Rattle.tta_asm.specs.Canonical.{unit_name, place_text, guard_text, source_text};
 ghost use Rattle.tta_asm.specs.Canonical.{dest_text, slot_text};
-ghost use Rattle.tta_machine.specs.declared.ends.Dest.TheVariants.{Trigger};
+ghost use Rattle.tta_arch.specs.declared.ends.Dest.TheVariants.{Trigger};
 ghost use Rattle.tta_asm.specs.Printing.{later_slot_text};
-ghost use Rattle.tta_asm.specs.Canonical.{slots_text, long_text, instruction_text, canonical};
+ghost use Rattle.tta_asm.specs.Canonical.{slots_text, long_text, instruction_text, datum_text};
+ghost use Rattle.tta_asm.specs.Canonical.{canonical};
 
 use crate::named::{file_name, imm_name, op_name_at, template_name, unit_name};
 use itoa::Buffer;
 use std::alloc::{AllocError, Global};
-use tta_code::{Code, Instruction, Long, Move};
-use tta_machine::{Dest, GuardRef, Machine, Source};
+use tta_arch::{Dest, GuardRef, Machine, Source};
+use tta_code::{Datum, Instruction, Long, Move, Whole};
 use tta_ops::UnitSet;
 
 /// Puts a number at the end, in decimal.
@@ -210,19 +211,41 @@ fn push_words(
     Ok(())
 }
 
-/// The canonical text of code: a line for each instruction, with no labels and no comments. It
-/// fails only where there is no memory.
+/// Puts a datum at the end, as a line.
+fn push_datum(out: &mut Vec<u8>, datum: Datum) -> Result<(), AllocError>
+    ensures { OnOk result (out.new.items ≡ out.old.items ++ datum_text datum) }
+{
+    out.extend_from_slice(b"data ")?;
+    push_number(out, datum.address)?;
+    out.extend_from_slice(b" ")?;
+    push_number(out, datum.value)?;
+    out.extend_from_slice(b" ;\n")
+}
+
+/// Puts data at the end, each as a line.
+fn push_data(out: &mut Vec<u8>, init: &[Datum]) -> Result<(), AllocError>
+    ensures { OnOk result (out.new.items ≡ out.old.items ++ flat_map datum_text init.now) }
+{
+    for datum in init {
+        push_datum(out, *datum)?;
+    }
+    Ok(())
+}
+
+/// The canonical text of code with its data: a line for each datum and then for each instruction,
+/// with no labels and no comments. It fails only where there is no memory.
 #[tactic(auto, unfolding(crate::specs::Canonical::canonical))]
 pub fn disassemble(
     alloc: Global,
-    code: &Code,
+    whole: &Whole,
     m: &Machine,
     units: &UnitSet,
 ) -> Result<Vec<u8>, AllocError>
     ensures { IfOk result (λ v.
-        v.items ≡ canonical (stated unit_meaning units.now) m.now code.now) }
+        v.items ≡ canonical (stated unit_meaning units.now) m.now whole.now) }
 {
     let mut text = Vec::new(alloc);
-    push_words(&mut text, units, m, code.words.as_slice())?;
+    push_data(&mut text, whole.init.as_slice())?;
+    push_words(&mut text, units, m, whole.code.words.as_slice())?;
     Ok(text)
 }

@@ -24,6 +24,8 @@ pub enum AsmRefusal {
     Label,
     /// An immediate does not fit the bus, or there are more instructions than addresses.
     Range,
+    /// The address of a datum is not one of the data space, or not above the one before it.
+    Data,
 }
 
 /// Why no code was read.
@@ -47,6 +49,7 @@ impl AsmRefusal {
             AsmRefusal::Slots => 54,
             AsmRefusal::Label => 55,
             AsmRefusal::Range => 56,
+            AsmRefusal::Data => 57,
         }
     }
 

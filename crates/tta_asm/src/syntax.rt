@@ -5,10 +5,13 @@
 //! fit, or that of what closes the piece where a word is missing. Nothing here takes memory, and
 //! whether a name is known is not judged here.
 
+mod datum;
 mod dests;
 mod moves;
 mod read;
 mod sources;
 mod whole;
 
+pub use datum::{begins_datum, datum_form};
+pub use read::line_of;
 pub use whole::piece_form;

@@ -3,8 +3,8 @@
 use crate::naming::{all_ops, all_parts};
 use crate::parts::Part;
 use std::alloc::{AllocError, Global};
+use tta_arch::Machine;
 use tta_list::Items;
-use tta_machine::Machine;
 use tta_ops::UnitSet;
 use tta_reading::Names;
 

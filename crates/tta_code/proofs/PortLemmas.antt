@@ -6,15 +6,15 @@ use Rattle.std.specs.List.{list_any}
 use Rattle.std.proofs.lemmas.Bool.{and_from, eq-eqb, ne_eqb, false≢true}
 use Rattle.std.proofs.lemmas.Option.{slice_get_within}
 use Rattle.std.proofs.lemmas.List.Sums.{sum_by-cons}
-use Rattle.tta_machine.specs.declared.ends.Source.{Source}
-use Rattle.tta_machine.specs.declared.ends.Source.TheVariants as source
-use Rattle.tta_machine.specs.declared.ends.Dest.{Dest}
-use Rattle.tta_machine.specs.declared.ends.Dest.TheVariants as dest
-use Rattle.tta_machine.specs.declared.parts.File.{File}
-use Rattle.tta_machine.specs.declared.parts.ImmUnit.{ImmUnit}
-use Rattle.tta_machine.specs.Machine.{Machine}
-use Rattle.tta_machine.specs.Joins.{is_source_on, is_dest_on, has_socket, within}
-use Rattle.tta_machine.specs.Legal.{Ends, Slots, ends_of, all_below, reads_file, reads_imm, writes_file}
+use Rattle.tta_arch.specs.declared.ends.Source.{Source}
+use Rattle.tta_arch.specs.declared.ends.Source.TheVariants as source
+use Rattle.tta_arch.specs.declared.ends.Dest.{Dest}
+use Rattle.tta_arch.specs.declared.ends.Dest.TheVariants as dest
+use Rattle.tta_arch.specs.declared.parts.File.{File}
+use Rattle.tta_arch.specs.declared.parts.ImmUnit.{ImmUnit}
+use Rattle.tta_arch.specs.Machine.{Machine}
+use Rattle.tta_arch.specs.Joins.{is_source_on, is_dest_on, has_socket, within}
+use Rattle.tta_arch.specs.Legal.{Ends, Slots, ends_of, all_below, reads_file, reads_imm, writes_file}
 use Rattle.tta_code.specs.declared.code.Move.{Move}
 use Rattle.tta_code.specs.Legal.{ends_of as move_ends}
 use Rattle.tta_code.specs.Illegal.{moves_where, has_read_left, has_write_left}

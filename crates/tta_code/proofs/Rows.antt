@@ -1,17 +1,17 @@
 -- Small programs of moves, and what the definitions make of them.
 use Rattle.std.specs.Prelude.{◌≡◌, ℕ, List, [], ◌∷◌, ◌++◌, true, false, Some, None, Option, refl}
 use Rattle.tta_ops.specs.Units.{Units}
-use Rattle.tta_machine.specs.declared.ends.Source.{Source}
-use Rattle.tta_machine.specs.declared.ends.Source.TheVariants as source
-use Rattle.tta_machine.specs.declared.ends.Dest.{Dest}
-use Rattle.tta_machine.specs.declared.ends.Dest.TheVariants as dest
-use Rattle.tta_machine.specs.Legal.{can_move}
-use Rattle.tta_machine.proofs.Samples.{three_buses}
+use Rattle.tta_arch.specs.declared.ends.Source.{Source}
+use Rattle.tta_arch.specs.declared.ends.Source.TheVariants as source
+use Rattle.tta_arch.specs.declared.ends.Dest.{Dest}
+use Rattle.tta_arch.specs.declared.ends.Dest.TheVariants as dest
+use Rattle.tta_arch.specs.Legal.{can_move}
+use Rattle.tta_arch.proofs.Samples.{three_buses, with_input}
 use Rattle.tta_code.specs.declared.code.Move.{Move}
 use Rattle.tta_code.specs.declared.code.Instruction.{Instruction}
 use Rattle.tta_code.specs.declared.code.Code.{Code}
 use Rattle.tta_code.specs.Legal.{is_legal}
-use Rattle.tta_code.specs.Cycle.{cyc, Halted, Fault, next}
+use Rattle.tta_code.specs.Cycle.{cyc, Halted, Waiting, Fault, next}
 
 -- an unguarded move from a source to a destination
 abbrev pub go : Source → Dest → Option Move
@@ -55,15 +55,15 @@ swap = record {
       ∷ none ∷ none ∷ [];
 }
 
-swap-output : (u : Units) → (cyc u three_buses swap [] 20).output ≡ 2 ∷ 1 ∷ []
+swap-output : (u : Units) → (cyc u three_buses swap [] [] 20).output ≡ 2 ∷ 1 ∷ []
 unfolding next
 swap-output u = refl
 
-swap-ends : (u : Units) → (cyc u three_buses swap [] 20).outcome ≡ Halted
+swap-ends : (u : Units) → (cyc u three_buses swap [] [] 20).outcome ≡ Halted
 unfolding next
 swap-ends u = refl
 
-swap-cycles : (u : Units) → (cyc u three_buses swap [] 20).cycle ≡ 8
+swap-cycles : (u : Units) → (cyc u three_buses swap [] [] 20).cycle ≡ 8
 unfolding next
 swap-cycles u = refl
 
@@ -80,15 +80,15 @@ product waits = record {
       ∷ (waits ++ (one (go (source.Shown 1) out) ∷ one (go (source.Value 0) dest.Halt) ∷ none ∷ none ∷ []));
 }
 
-product-output : (u : Units) → (cyc u three_buses (product (none ∷ none ∷ [])) [] 20).output ≡ u.value 2 5 6 ∷ []
+product-output : (u : Units) → (cyc u three_buses (product (none ∷ none ∷ [])) [] [] 20).output ≡ u.value 2 5 6 ∷ []
 unfolding next
 product-output u = refl
 
-product-cycles : (u : Units) → (cyc u three_buses (product (none ∷ none ∷ [])) [] 20).cycle ≡ 7
+product-cycles : (u : Units) → (cyc u three_buses (product (none ∷ none ∷ [])) [] [] 20).cycle ≡ 7
 unfolding next
 product-cycles u = refl
 
-early-faults : (u : Units) → (cyc u three_buses (product (none ∷ [])) [] 20).outcome ≡ Fault 61 2
+early-faults : (u : Units) → (cyc u three_buses (product (none ∷ [])) [] [] 20).outcome ≡ Fault 61 2
 unfolding next
 early-faults u = refl
 
@@ -109,19 +109,19 @@ branch condition = record {
       ∷ none ∷ none ∷ [];
 }
 
-branch-taken : (u : Units) → (cyc u three_buses (branch 1) [] 20).output ≡ 10 ∷ 11 ∷ 13 ∷ []
+branch-taken : (u : Units) → (cyc u three_buses (branch 1) [] [] 20).output ≡ 10 ∷ 11 ∷ 13 ∷ []
 unfolding next
 branch-taken u = refl
 
-branch-taken-cycles : (u : Units) → (cyc u three_buses (branch 1) [] 20).cycle ≡ 8
+branch-taken-cycles : (u : Units) → (cyc u three_buses (branch 1) [] [] 20).cycle ≡ 8
 unfolding next
 branch-taken-cycles u = refl
 
-branch-not_taken : (u : Units) → (cyc u three_buses (branch 0) [] 20).output ≡ 10 ∷ 11 ∷ 12 ∷ []
+branch-not_taken : (u : Units) → (cyc u three_buses (branch 0) [] [] 20).output ≡ 10 ∷ 11 ∷ 12 ∷ []
 unfolding next
 branch-not_taken u = refl
 
-branch-not_taken-ends : (u : Units) → (cyc u three_buses (branch 0) [] 20).outcome ≡ Halted
+branch-not_taken-ends : (u : Units) → (cyc u three_buses (branch 0) [] [] 20).outcome ≡ Halted
 unfolding next
 branch-not_taken-ends u = refl
 
@@ -135,10 +135,67 @@ wide = record {
       ∷ [];
 }
 
-wide-faults : (u : Units) → (cyc u three_buses wide [] 5).outcome ≡ Fault 65 2
+wide-faults : (u : Units) → (cyc u three_buses wide [] [] 5).outcome ≡ Fault 65 2
 unfolding next
 wide-faults u = refl
 
-wide-cycles : (u : Units) → (cyc u three_buses wide [] 5).cycle ≡ 2
+wide-cycles : (u : Units) → (cyc u three_buses wide [] [] 5).cycle ≡ 2
 unfolding next
 wide-cycles u = refl
+
+-- ---- a word of the input, which is put out
+
+-- a program that takes the next word of the input and puts it out
+abbrev pub echo : Code
+echo = record {
+  words = one (go (source.Value 0) (dest.Trigger 3 1))
+      ∷ one (go (source.Shown 3) out)
+      ∷ one (go (source.Value 0) dest.Halt)
+      ∷ none ∷ none ∷ [];
+}
+
+echo-output : (u : Units) → (cyc u with_input echo [] (9 ∷ []) 10).output ≡ 9 ∷ []
+unfolding next
+echo-output u = refl
+
+echo-ends : (u : Units) → (cyc u with_input echo [] (9 ∷ []) 10).outcome ≡ Halted
+unfolding next
+echo-ends u = refl
+
+echo-cycles : (u : Units) → (cyc u with_input echo [] (9 ∷ []) 10).cycle ≡ 5
+unfolding next
+echo-cycles u = refl
+
+echo-rest : (u : Units) → (cyc u with_input echo [] (9 ∷ 8 ∷ []) 10).rest ≡ 8 ∷ []
+unfolding next
+echo-rest u = refl
+
+-- without a word it waits, and the cycle that waits is not counted
+echo-waits : (u : Units) → (cyc u with_input echo [] [] 10).outcome ≡ Waiting
+unfolding next
+echo-waits u = refl
+
+echo-waiting_cycles : (u : Units) → (cyc u with_input echo [] [] 10).cycle ≡ 0
+unfolding next
+echo-waiting_cycles u = refl
+
+-- a cycle that has a fault does not wait: an unset register is read beside the trigger
+abbrev pub torn : Code
+torn = record { words = three (go (source.Value 0) (dest.Trigger 3 1)) (go (r 1) (into 2)) None ∷ [] }
+
+torn-faults : (u : Units) → (cyc u with_input torn [] [] 10).outcome ≡ Fault 60 0
+unfolding next
+torn-faults u = refl
+
+-- a trigger that its guard stops takes nothing and does not wait
+abbrev pub stopped : Code
+stopped = record {
+  words = one (go (source.Value 0) (dest.Reg 2 0))
+      ∷ one (Some (record { guard = Some (record { file = 2; index = 0; inverted = false }); src = source.Value 0; dst = dest.Trigger 3 1 }))
+      ∷ one (go (source.Value 0) dest.Halt)
+      ∷ none ∷ none ∷ [];
+}
+
+stopped-halts : (u : Units) → (cyc u with_input stopped [] [] 10).outcome ≡ Halted
+unfolding next
+stopped-halts u = refl

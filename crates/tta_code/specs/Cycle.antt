@@ -1,13 +1,13 @@
 -- What a machine does in one cycle, and in a run.
-use Rattle.std.specs.Prelude.{ℕ, ◌+◌, ◌==◌, Bool, true, ◌&&◌, ◌||◌, nat_lt, nat_le, if◌then◌else◌, List, [], ◌∷◌, ◌++◌, map, replicate, fold, Option, Some, None, is_some, slice_get}
+use Rattle.std.specs.Prelude.{ℕ, ◌+◌, ◌==◌, Bool, true, ◌&&◌, ◌||◌, nat_lt, nat_le, if◌then◌else◌, List, [], ◌∷◌, ◌++◌, map, replicate, fold, Option, Some, None, is_some, is_none, slice_get, slice_index}
 use Rattle.std.specs.Option.{option_map_or}
 use Rattle.std.specs.List.{list_any, filter_map}
 use Rattle.tta_list.specs.Iterate.{iterate}
 use Rattle.tta_ops.specs.Units.{Units}
-use Rattle.tta_machine.specs.declared.ends.Source.{Source}
-use Rattle.tta_machine.specs.declared.ends.Source.TheVariants as source
-use Rattle.tta_machine.specs.Machine.{Machine}
-use Rattle.tta_machine.specs.Effects.{Kind, Jumps, Calls, Halts, Effect, target_of, long_effect, KeptReg, KeptImm, KeptRa, Written, kept, Brought, bring, write_of, has_result, Start, start_of, result_word, store_data, store_frame, put_out, control_of, is_register, is_port, has_unset_guard, has_unset, lacks_operand, first_some}
+use Rattle.tta_arch.specs.declared.ends.Source.{Source}
+use Rattle.tta_arch.specs.declared.ends.Source.TheVariants as source
+use Rattle.tta_arch.specs.Machine.{Machine}
+use Rattle.tta_arch.specs.Effects.{Kind, Jumps, Calls, Halts, Effect, target_of, long_effect, KeptReg, KeptImm, KeptRa, Written, kept, Brought, bring, write_of, has_result, Start, start_of, result_word, store_data, store_frame, put_out, takes, take_in, control_of, is_register, is_port, has_unset_guard, has_unset, lacks_operand, first_some}
 use Rattle.tta_code.specs.declared.code.Move.{Move}
 use Rattle.tta_code.specs.declared.code.Long.{Long}
 use Rattle.tta_code.specs.declared.code.Instruction.{Instruction}
@@ -27,19 +27,21 @@ pub record Pending : Type 0 where
   pub kind : Kind
   pub word : ℕ
 
--- a run goes on, has halted, or has met a fault of this number in this cycle
+-- a run goes on, has halted, waits for a word of the input, or has met a fault of this number in this cycle
 pub data Outcome : Type 0 where
   Running : Outcome
   Halted : Outcome
+  Waiting : Outcome
   Fault : (number cycle : ℕ) → Outcome
 
--- what was written into registers and operand ports, every result that was started, the spaces, what was put out, the
--- address of the next instruction, how many cycles were made, and the control move under way
+-- what was written into registers and operand ports, every result that was started, the spaces, the rest of the input,
+-- what was put out, the address of the next instruction, how many cycles were made, and the control move under way
 pub record State : Type 0 where
   pub written : Written
   pub started : List Result'
   pub memory : List ℕ
   pub frame : List ℕ
+  pub rest : List ℕ
   pub output : List ℕ
   pub pc : ℕ
   pub cycle : ℕ
@@ -125,7 +127,7 @@ fault_of s effects bs ts =
 abbrev pub result_of : Units → State → Start → Option Result'
 result_of u s t =
     if has_result t.does.op
-    then Some (record { unit = t.unit; due = s.cycle + t.does.latency; value = result_word u s.memory s.frame t t.does.op })
+    then Some (record { unit = t.unit; due = s.cycle + t.does.latency; value = result_word u s.memory s.frame (slice_index s.rest 0) t t.does.op })
     else None
 
 -- the control move that is under way after this cycle
@@ -155,6 +157,7 @@ acts u m s bs ts written =
       started = filter_map (result_of u s) ts ++ s.started;
       memory = fold store_data s.memory ts;
       frame = fold store_frame s.frame ts;
+      rest = fold take_in s.rest ts;
       output = fold put_out s.output ts;
       pc = s.pc + 1;
       cycle = s.cycle + 1;
@@ -167,8 +170,16 @@ abbrev pub or_fault : State → Option ℕ → State → State
 or_fault s (Some number) after = record s { outcome = Fault number s.cycle }
 or_fault s None after = after
 
+-- whether a cycle has to wait: an operation takes a word of the input, and none is left
+abbrev pub waits : State → List Start → Bool
+waits s ts = list_any takes ts && is_none (slice_get s.rest 0)
+
+-- a cycle that has to wait changes nothing else, and is not counted
+abbrev pub or_wait : State → Bool → State → State
+or_wait s must after = if must then record s { outcome = Waiting } else after
+
 -- All words are read before any is written: what is brought depends on the old state alone. An operation takes its
--- operand as the cycle's own moves leave it.
+-- operand as the cycle's own moves leave it. A fault comes before a wait.
 abbrev pub carry_out : Units → Machine → State → Option Instruction → State
 carry_out u m s None = record s { outcome = Fault 65 s.cycle }
 carry_out u m s (Some i) =
@@ -176,12 +187,13 @@ carry_out u m s (Some i) =
     let bs = filter_map (bring (read_source s)) effects in
     let written = filter_map (write_of m (s.pc + 1 + m.control.delay)) bs ++ s.written in
     let ts = filter_map (start_of m written) bs in
-    or_fault s (fault_of s effects bs ts) (acts u m s bs ts written)
+    or_fault s (fault_of s effects bs ts) (or_wait s (waits s ts) (acts u m s bs ts written))
 
 -- the state behind one more cycle, by how the run stands
 abbrev pub next_of : Units → Machine → Code → State → Outcome → State
 next_of u m code s Running = carry_out u m s (slice_get code.words s.pc)
 next_of u m code s Halted = s
+next_of u m code s Waiting = s
 next_of u m code s (Fault number cycle) = s
 
 -- one cycle of a state that runs; a state that is over stays
@@ -191,12 +203,13 @@ next u m code s = next_of u m code s s.outcome
 -- ---- a run
 
 -- the first instruction, nothing written, every frame word 0
-abbrev pub start : Machine → List ℕ → State
-start m memory = record {
+abbrev pub start : Machine → (memory input : List ℕ) → State
+start m memory input = record {
   written = [];
   started = [];
   memory = memory;
   frame = replicate m.frame_words 0;
+  rest = input;
   output = [];
   pc = 0;
   cycle = 0;
@@ -205,5 +218,5 @@ start m memory = record {
 }
 
 -- the state after n cycles
-abbrev pub cyc : Units → Machine → Code → List ℕ → ℕ → State
-cyc u m code memory n = iterate n (next u m code) (start m memory)
+abbrev pub cyc : Units → Machine → Code → (memory input : List ℕ) → ℕ → State
+cyc u m code memory input n = iterate n (next u m code) (start m memory input)

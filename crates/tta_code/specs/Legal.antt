@@ -1,13 +1,14 @@
 -- Which instructions a machine can carry out.
-use Rattle.std.specs.Prelude.{ℕ, ◌≤◌, ◌^◌, ◌==◌, Bool, true, ◌&&◌, nat_lt, map, length, slice_get, is_some, IsTrue, option_map}
+use Rattle.std.specs.Prelude.{◌≡◌, ℕ, ◌≤◌, ◌^◌, ◌==◌, Bool, true, ◌&&◌, nat_lt, map, length, slice_get, is_some, IsTrue, option_map}
 use Rattle.std.specs.Option.{option_map_or}
 use Rattle.std.specs.List.{AllByRecursion}
-use Rattle.tta_machine.specs.Machine.{Machine}
-use Rattle.tta_machine.specs.Legal.{Ends, Slots, can_move}
+use Rattle.tta_arch.specs.Machine.{Machine}
+use Rattle.tta_arch.specs.Legal.{Ends, Slots, can_move}
 use Rattle.tta_code.specs.declared.code.Move.{Move}
 use Rattle.tta_code.specs.declared.code.Long.{Long}
 use Rattle.tta_code.specs.declared.code.Instruction.{Instruction}
 use Rattle.tta_code.specs.declared.code.Code.{Code}
+use Rattle.tta_code.specs.Whole.{Whole, rises, fits}
 
 -- a move with its guard and ends
 abbrev pub ends_of : Move → Ends
@@ -37,3 +38,9 @@ is_legal m i = is_instruction m i && can_move m (taken m i) (slots_of i)
 pub record IsLegalCode (m : Machine) (code : Code) : Type 0 where
   pub words : AllByRecursion (λ i. IsTrue (is_legal m i)) code.words
   pub room : length code.words ≤ 2 ^ m.control.address
+
+-- code that a machine can carry out, with data whose addresses ascend in its data space
+pub record IsLegalWhole (m : Machine) (whole : Whole) : Type 0 where
+  pub code : IsLegalCode m whole.code
+  pub rises : rises whole.init ≡ true
+  pub fits : fits m.data_words whole.init ≡ true

@@ -1,4 +1,5 @@
 pub mod Legal
 pub mod Illegal
 pub mod Cycle
+pub mod Whole
 pub mod Agrees

@@ -1,7 +1,7 @@
 //! Instructions.
 
+use tta_arch::{Dest, GuardRef, Source};
 use tta_list::Items;
-use tta_machine::{Dest, GuardRef, Source};
 
 /// A move: one word from a source to a destination, where its guard lets it.
 #[derive(Clone, Copy, Debug, PartialEq, Eq)]

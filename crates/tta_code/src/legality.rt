@@ -9,8 +9,8 @@ ghost use Rattle.tta_code.specs.Illegal.{broken_by, first_illegal};
 
 use crate::code::{Instruction, Move};
 use crate::room::{has_read_left, has_write_left, is_place_free, taken};
+use tta_arch::{Machine, has_bus};
 use tta_connect::Net;
-use tta_machine::{Machine, has_bus};
 
 /// Why a machine cannot carry out an instruction.
 #[derive(Clone, Copy, Debug, PartialEq, Eq)]

@@ -3,12 +3,12 @@
 ghost use Rattle.std.specs.Prelude.{◌≡◌, false};
 ghost use Rattle.std.specs.List.{list_any};
 ghost use Rattle.std.specs.Option.{option_map_or};
-ghost use Rattle.tta_machine.specs.Legal.{reads_file, reads_imm, writes_file, same_place};
+ghost use Rattle.tta_arch.specs.Legal.{reads_file, reads_imm, writes_file, same_place};
 ghost use Rattle.tta_code.specs.Illegal.{taken_by, moves_where, has_read_left, has_write_left};
 ghost use Rattle.tta_code.specs.Illegal.{goes_into, is_place_free};
 
 use crate::code::{Long, Move};
-use tta_machine::{Dest, Machine, Source, Template};
+use tta_arch::{Dest, Machine, Source, Template};
 
 /// The buses that a long immediate's template takes.
 pub fn taken(templates: &[Template], long: Option<Long>) -> u16

@@ -7,7 +7,7 @@ use Rattle.std.specs.List.{flat_map, AllByRecursion}
 use Rattle.tta_image.specs.Bits.{bits_of}
 use Rattle.tta_image.specs.Image.{AreBytesOf}
 use Rattle.tta_image.specs.Sink.{bit_value}
-use Rattle.tta_machine.proofs.Widths.{no_high}
+use Rattle.tta_arch.proofs.Widths.{no_high}
 
 half : (n : ℕ) (b : Bool) → (2 * n + bit_value b) / 2 ≡ n
 half n true = omega arith

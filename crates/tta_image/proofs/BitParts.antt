@@ -4,7 +4,7 @@ use Rattle.std.specs.List.{flat_map}
 use Rattle.std.proofs.lemmas.List.{append_assoc, append-nil, take-append-drop}
 use Rattle.std.proofs.lemmas.List.Concat.{flat_map-append}
 use Rattle.std.proofs.lemmas.Nat.{shr_high, mod_low, mod_below, pow_pos, pow-add}
-use Rattle.tta_machine.proofs.Widths.{no_high}
+use Rattle.tta_arch.proofs.Widths.{no_high}
 use Rattle.tta_image.specs.Bits.{bits_of}
 use Rattle.tta_image.proofs.BitLemmas.{low_whole, take-bits_of, drop-bits_of, take_left, drop_left}
 use Rattle.tta_image.proofs.Unique.{length-bits_of}

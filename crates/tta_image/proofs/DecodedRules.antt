@@ -6,11 +6,11 @@ use Rattle.std.proofs.lemmas.Option.{none-some, same_Some}
 use Rattle.tta_list.proofs.Lists.{some_below}
 use Rattle.tta_reading.specs.Steps.{◌>>=◌, or_refuse}
 use Rattle.tta_reading.proofs.Steps.{same_ok, then-ok}
-use Rattle.tta_machine.specs.declared.layout.BusFields.{BusFields}
-use Rattle.tta_machine.specs.declared.layout.Layout.{Layout}
-use Rattle.tta_machine.specs.Machine.{Machine}
-use Rattle.tta_machine.specs.Layout.{layout_of}
-use Rattle.tta_machine.proofs.Layouts.{layout_buses}
+use Rattle.tta_arch.specs.declared.layout.BusFields.{BusFields}
+use Rattle.tta_arch.specs.declared.layout.Layout.{Layout}
+use Rattle.tta_arch.specs.Machine.{Machine}
+use Rattle.tta_arch.specs.Layout.{layout_of}
+use Rattle.tta_arch.proofs.Layouts.{layout_buses}
 use Rattle.tta_code.specs.declared.code.Move.{Move}
 use Rattle.tta_code.specs.declared.code.Long.{Long}
 use Rattle.tta_code.specs.declared.code.Instruction.{Instruction}

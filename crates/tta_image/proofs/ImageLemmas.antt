@@ -3,31 +3,34 @@ use Rattle.std.proofs.Common.{◌≡◌, ℕ, ◌^◌, ◌<◌, ◌≤◌, Bool,
 use Rattle.std.specs.Int.{w32, to_be_bytes}
 use Rattle.std.specs.List.{AllByRecursion}
 use Rattle.std.proofs.lemmas.Bool.{and_parts, leb-true, eqb-true}
+use Rattle.std.proofs.lemmas.List.{append_assoc}
 use Rattle.std.proofs.lemmas.Nat.{pow_below}
 use Rattle.std.proofs.lemmas.List.Elements.{All-nil, All-cons}
-use Rattle.tta_machine.specs.declared.parts.Control.{Control}
-use Rattle.tta_machine.specs.declared.parts.Socket.{Socket}
-use Rattle.tta_machine.specs.Machine.{Machine}
-use Rattle.tta_machine.specs.Fields.{word_width}
-use Rattle.tta_machine.specs.Rules.{IsMachine, is_control, is_from_to, is_socket, is_port_socket}
+use Rattle.tta_arch.specs.declared.parts.Control.{Control}
+use Rattle.tta_arch.specs.declared.parts.Socket.{Socket}
+use Rattle.tta_arch.specs.Machine.{Machine}
+use Rattle.tta_arch.specs.Fields.{word_width}
+use Rattle.tta_arch.specs.Rules.{IsMachine, is_control, is_from_to, is_socket, is_port_socket}
 use Rattle.tta_code.specs.declared.code.Instruction.{Instruction}
 use Rattle.tta_code.specs.declared.code.Code.{Code}
 use Rattle.tta_code.specs.Legal.{is_legal, IsLegalCode}
 use Rattle.tta_code.proofs.LegalParts.{legal_parts}
-use Rattle.tta_image.specs.Image.{header, AreBytesOf}
+use Rattle.tta_code.specs.declared.whole.Datum.{Datum}
+use Rattle.tta_image.specs.Image.{header, version_of, data_section, AreBytesOf}
 
 -- ---- the bytes
 
--- the header and the body
-pub parts_from : (m : Machine) (digest : List ℕ) (words width count : ℕ) (body body' bytes : List ℕ)
-    → bytes ≡ (codes "TTAI" ++ (to_be_bytes w32 1 ++ (to_be_bytes w32 width ++ (to_be_bytes w32 count ++ digest)))) ++ body'
-    → body' ≡ body → width ≡ word_width m → count ≡ words → bytes ≡ header m digest words ++ body
-parts_from m digest words width count body body' bytes joined same wide many =
-    let tail : List ℕ = to_be_bytes w32 count ++ digest in
-    joined ∙ ap (λ (l : List ℕ). (codes "TTAI" ++ (to_be_bytes w32 1 ++ (to_be_bytes w32 width ++ tail))) ++ l) same
-    ∙ ap (λ (l : List ℕ). l ++ body)
-    (ap (λ (w : ℕ). codes "TTAI" ++ (to_be_bytes w32 1 ++ (to_be_bytes w32 w ++ tail))) wide
-    ∙ ap (λ (n : ℕ). codes "TTAI" ++ (to_be_bytes w32 1 ++ (to_be_bytes w32 (word_width m) ++ (to_be_bytes w32 n ++ digest)))) many)
+-- the header, the data and the body
+pub parts_from : (m : Machine) (digest : List ℕ) (words width count : ℕ) (init init' : List Datum) (body body' bytes : List ℕ)
+    → bytes ≡ ((codes "TTAI" ++ (to_be_bytes w32 (version_of init') ++ (to_be_bytes w32 width ++ (to_be_bytes w32 count ++ digest)))) ++ data_section init') ++ body'
+    → body' ≡ body → init' ≡ init → width ≡ word_width m → count ≡ words → bytes ≡ header m digest (version_of init) words ++ (data_section init ++ body)
+parts_from m digest words width count init init' body body' bytes joined same same_data wide many =
+    let head : ℕ → ℕ → ℕ → List ℕ = λ v w n. codes "TTAI" ++ (to_be_bytes w32 v ++ (to_be_bytes w32 w ++ (to_be_bytes w32 n ++ digest))) in
+    joined ∙ append_assoc (head (version_of init') width count) (data_section init') body'
+    ∙ ap (λ (i : List Datum). head (version_of i) width count ++ (data_section i ++ body')) same_data
+    ∙ ap (λ (l : List ℕ). head (version_of init) width count ++ (data_section init ++ l)) same
+    ∙ ap (λ (w : ℕ). head (version_of init) w count ++ (data_section init ++ body)) wide
+    ∙ ap (λ (n : ℕ). head (version_of init) (word_width m) n ++ (data_section init ++ body)) many
 
 pub are_bytes_of_same : (shown bits : List Bool) (bytes : List ℕ) → shown ≡ bits → AreBytesOf shown bytes → AreBytesOf bits bytes
 are_bytes_of_same shown bits bytes same h = rw (← same) h

@@ -8,13 +8,13 @@ use Rattle.std.proofs.lemmas.List.{length-append, length-drop, length-take-le, t
 use Rattle.std.proofs.lemmas.List.Sums.{sum_by-cons}
 use Rattle.tta_reading.specs.Steps.{◌>>=◌, or_refuse}
 use Rattle.tta_reading.proofs.Steps.{then-ok, same_ok}
-use Rattle.tta_machine.specs.declared.layout.BusFields.{BusFields}
-use Rattle.tta_machine.specs.Machine.{Machine}
-use Rattle.tta_machine.specs.Joins.{has_bit}
-use Rattle.tta_machine.specs.Fields.{numbers, template_width, bus_width, taken_width, word_width}
-use Rattle.tta_machine.specs.Layout.{fields_of, layout_of}
-use Rattle.tta_machine.specs.Rules.{IsMachine}
-use Rattle.tta_machine.proofs.Layouts.{no_bus_in_none}
+use Rattle.tta_arch.specs.declared.layout.BusFields.{BusFields}
+use Rattle.tta_arch.specs.Machine.{Machine}
+use Rattle.tta_arch.specs.Joins.{has_bit}
+use Rattle.tta_arch.specs.Fields.{numbers, template_width, bus_width, taken_width, word_width}
+use Rattle.tta_arch.specs.Layout.{fields_of, layout_of}
+use Rattle.tta_arch.specs.Rules.{IsMachine}
+use Rattle.tta_arch.proofs.Layouts.{no_bus_in_none}
 use Rattle.tta_code.specs.declared.code.Move.{Move}
 use Rattle.tta_code.specs.declared.code.Long.{Long}
 use Rattle.tta_code.specs.declared.code.Instruction.{Instruction}

@@ -7,14 +7,14 @@ use Rattle.std.proofs.lemmas.Option.{slice_get_within}
 use Rattle.std.proofs.lemmas.List.{length-append, length-take-le, length-drop, take-append-drop, append_assoc, nil_from_length}
 use Rattle.std.proofs.lemmas.List.Sums.{sum_by-cons}
 use Rattle.tta_list.proofs.Lists.{all_one}
-use Rattle.tta_machine.specs.declared.parts.Template.{Template}
-use Rattle.tta_machine.specs.Machine.{Machine}
-use Rattle.tta_machine.specs.Joins.{has_bit, joins}
-use Rattle.tta_machine.specs.Fields.{template_width, bus_width, taken_width, word_width}
-use Rattle.tta_machine.specs.Legal.{Ends, all_slots}
-use Rattle.tta_machine.specs.Rules.{IsMachine}
-use Rattle.tta_machine.proofs.Layouts.{set_width_at, no_bus_in_none}
-use Rattle.tta_machine.proofs.Widths.{pow_le}
+use Rattle.tta_arch.specs.declared.parts.Template.{Template}
+use Rattle.tta_arch.specs.Machine.{Machine}
+use Rattle.tta_arch.specs.Joins.{has_bit, joins}
+use Rattle.tta_arch.specs.Fields.{template_width, bus_width, taken_width, word_width}
+use Rattle.tta_arch.specs.Legal.{Ends, all_slots}
+use Rattle.tta_arch.specs.Rules.{IsMachine}
+use Rattle.tta_arch.proofs.Layouts.{set_width_at, no_bus_in_none}
+use Rattle.tta_arch.proofs.Widths.{pow_le}
 use Rattle.tta_code.specs.declared.code.Move.{Move}
 use Rattle.tta_code.specs.declared.code.Long.{Long}
 use Rattle.tta_code.specs.declared.code.Instruction.{Instruction}

@@ -4,11 +4,11 @@ use Rattle.std.specs.List.{flat_map, AllByRecursion}
 use Rattle.std.proofs.lemmas.Bool.{cases_eq}
 use Rattle.std.proofs.lemmas.List.{append_assoc, append-nil}
 use Rattle.std.proofs.lemmas.Nat.{shl_below}
-use Rattle.tta_machine.specs.Machine.{Machine}
-use Rattle.tta_code.specs.declared.code.Code.{Code}
+use Rattle.tta_arch.specs.Machine.{Machine}
+use Rattle.tta_code.specs.Whole.{Whole, rises, fits}
 use Rattle.tta_code.specs.Legal.{IsLegalCode}
 use Rattle.tta_image.specs.Bits.{bits_of, code_bits}
-use Rattle.tta_image.specs.Image.{AreBytesOf, Image, header}
+use Rattle.tta_image.specs.Image.{AreBytesOf, Image, header, version_of, data_section}
 use Rattle.tta_image.specs.Sink.{bit_value}
 use Rattle.tta_image.proofs.BitLemmas.{shows_full, shows_more, bytes_push, bytes_of_full, bytes_of_filled}
 
@@ -47,8 +47,11 @@ packed (b ∷ bs) bytes filled last shown below small all was =
           (r.0, subst (λ (l : List Bool). AreBytesOf l r.0) regroup r.1)
     ]
 
--- legal code has an image
-pub has_image : (m : Machine) (digest : List ℕ) (code : Code) → IsLegalCode m code → (bytes : List ℕ) × Image m digest code bytes
-has_image m digest code legal =
-    let body = packed (code_bits m code) [] 0 0 [] (lit< tt) (lit< tt) tt refl in
-    (header m digest (length code.words) ++ body.0, record { body = body.0; parts = refl; words = body.1; legal = legal })
+-- legal code with data that keep their rules has an image
+pub has_image : (m : Machine) (digest : List ℕ) (whole : Whole) → IsLegalCode m whole.code → rises whole.init ≡ true → fits m.data_words whole.init ≡ true
+    → (bytes : List ℕ) × Image m digest whole bytes
+has_image m digest whole legal rise fit =
+    let body = packed (code_bits m whole.code) [] 0 0 [] (lit< tt) (lit< tt) tt refl in (
+      header m digest (version_of whole.init) (length whole.code.words) ++ (data_section whole.init ++ body.0),
+      record { body = body.0; parts = refl; words = body.1; legal = legal; rises = rise; fits = fit },
+    )

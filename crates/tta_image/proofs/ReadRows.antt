@@ -1,15 +1,18 @@
 -- What the bytes of small images decode to, and of bytes that are nearly images.
 use Rattle.std.specs.Prelude.{◌≡◌, ℕ, List, [], ◌∷◌, ◌++◌, replicate, true, None, Some, Ok, Err, refl}
-use Rattle.tta_machine.specs.Fields.{width_for}
-use Rattle.tta_machine.proofs.Samples.{one_bus, three_buses}
-use Rattle.tta_machine.specs.declared.ends.Source.TheVariants as source
-use Rattle.tta_machine.specs.declared.ends.Dest.TheVariants as dest
-use Rattle.tta_machine.specs.Layout.{layout_of}
-use Rattle.tta_machine.specs.Legal.{can_move}
+use Rattle.tta_arch.specs.Fields.{width_for}
+use Rattle.tta_arch.proofs.Samples.{one_bus, three_buses}
+use Rattle.tta_arch.specs.declared.ends.Source.TheVariants as source
+use Rattle.tta_arch.specs.declared.ends.Dest.TheVariants as dest
+use Rattle.tta_arch.specs.Layout.{layout_of}
+use Rattle.tta_arch.specs.Legal.{can_move}
 use Rattle.tta_code.specs.declared.code.Instruction.{Instruction}
+use Rattle.tta_arch.specs.Machine.{Machine}
+use Rattle.tta_code.specs.declared.code.Code.{Code}
+use Rattle.tta_code.specs.Whole.{Whole}
 use Rattle.tta_code.specs.Legal.{is_legal}
 use Rattle.tta_code.proofs.Rows.{wide}
-use Rattle.tta_image.specs.declared.refusal.ImageRefusal.TheVariants.{Magic, Version, WrongMachine, Length, Field, Illegal, Padding}
+use Rattle.tta_image.specs.declared.refusal.ImageRefusal.TheVariants.{Magic, Version, WrongMachine, Length, Field, Illegal, Padding, Data}
 use Rattle.tta_image.specs.Bits.{instruction_bits}
 use Rattle.tta_image.specs.Image.{header}
 use Rattle.tta_image.specs.Refusals.{of_all, of_word}
@@ -21,11 +24,15 @@ use Rattle.tta_image.proofs.Rows.{seven}
 abbrev digest : List ℕ
 digest = replicate 32 7
 
+-- code without data
+abbrev bare : Code → Whole
+bare code = record { code = code; init = [] }
+
 -- two words of 12 bits after their header
 abbrev two_words : List ℕ → List ℕ
-two_words body = header one_bus digest 2 ++ body
+two_words body = header one_bus digest 1 2 ++ body
 
-seven-decoded : decoded_image one_bus digest (two_words (0x83 ∷ 0x98 ∷ 0x04 ∷ [])) ≡ Ok seven
+seven-decoded : decoded_image one_bus digest (two_words (0x83 ∷ 0x98 ∷ 0x04 ∷ [])) ≡ Ok (bare seven)
 unfolding width_for decoded_header decoded_instruction decoded_image is_legal can_move
 seven-decoded = refl
 
@@ -53,12 +60,12 @@ unfolding decoded_header decoded_image
 no-digest = refl
 
 -- a word of -1 in a field of nine bits, and a long immediate of 2 ^ 31 over two buses
-wide-decoded : decoded_image three_buses digest (header three_buses digest 2 ++ (0x1f ∷ 0xf0 ∷ 0x80 ∷ 0x00 ∷ 0x00 ∷ 0x00 ∷ 0x20 ∷ 0x00 ∷ 0x08 ∷ 0x00 ∷ 0x00 ∷ 0x00 ∷ 0x00 ∷ [])) ≡ Ok wide
+wide-decoded : decoded_image three_buses digest (header three_buses digest 1 2 ++ (0x1f ∷ 0xf0 ∷ 0x80 ∷ 0x00 ∷ 0x00 ∷ 0x00 ∷ 0x20 ∷ 0x00 ∷ 0x08 ∷ 0x00 ∷ 0x00 ∷ 0x00 ∷ 0x00 ∷ [])) ≡ Ok (bare wide)
 unfolding width_for decoded_header decoded_instruction decoded_image is_legal can_move
 wide-decoded = refl
 
 -- a bit that fills up the last byte
-filled-up : decoded_image three_buses digest (header three_buses digest 2 ++ (0x1f ∷ 0xf0 ∷ 0x80 ∷ 0x00 ∷ 0x00 ∷ 0x00 ∷ 0x20 ∷ 0x00 ∷ 0x08 ∷ 0x00 ∷ 0x00 ∷ 0x00 ∷ 0x01 ∷ [])) ≡ Err (of_all Padding)
+filled-up : decoded_image three_buses digest (header three_buses digest 1 2 ++ (0x1f ∷ 0xf0 ∷ 0x80 ∷ 0x00 ∷ 0x00 ∷ 0x00 ∷ 0x20 ∷ 0x00 ∷ 0x08 ∷ 0x00 ∷ 0x00 ∷ 0x00 ∷ 0x01 ∷ [])) ≡ Err (of_all Padding)
 unfolding width_for decoded_header decoded_instruction decoded_image is_legal can_move
 filled-up = refl
 
@@ -80,3 +87,39 @@ wrong-field = refl
 illegal-first : decoded_words three_buses (layout_of three_buses) 2 0 (instruction_bits three_buses twice ++ replicate 50 true) ≡ Err (of_word 0 Illegal 0)
 unfolding width_for decoded_instruction instruction_bits is_legal can_move
 illegal-first = refl
+
+-- ---- data
+
+-- the machine of one bus with a data space of four words
+abbrev with_space : Machine
+with_space = record one_bus { data_words = 4 }
+
+-- data and two words of 12 bits after their header
+abbrev with_data : List ℕ → List ℕ
+with_data section = header with_space digest 2 2 ++ (section ++ (0x83 ∷ 0x98 ∷ 0x04 ∷ []))
+
+-- the word 9 at address 2
+nine-decoded : decoded_image with_space digest (with_data (0 ∷ 0 ∷ 0 ∷ 1 ∷ 0 ∷ 0 ∷ 0 ∷ 2 ∷ 0 ∷ 0 ∷ 0 ∷ 9 ∷ []))
+    ≡ Ok (record { code = seven; init = record { address = 2; value = 9 } ∷ [] })
+unfolding width_for decoded_header decoded_instruction decoded_image is_legal can_move
+nine-decoded = refl
+
+-- no data where there are to be some
+no-data : decoded_image with_space digest (with_data (0 ∷ 0 ∷ 0 ∷ 0 ∷ [])) ≡ Err (of_word 0 Data 0)
+unfolding width_for decoded_header decoded_image
+no-data = refl
+
+-- an address past the data space, and one that stands twice
+past-space : decoded_image with_space digest (with_data (0 ∷ 0 ∷ 0 ∷ 1 ∷ 0 ∷ 0 ∷ 0 ∷ 4 ∷ 0 ∷ 0 ∷ 0 ∷ 9 ∷ [])) ≡ Err (of_word 0 Data 0)
+unfolding width_for decoded_header decoded_image
+past-space = refl
+
+address-twice : decoded_image with_space digest (with_data (
+    0 ∷ 0 ∷ 0 ∷ 2 ∷ 0 ∷ 0 ∷ 0 ∷ 2 ∷ 0 ∷ 0 ∷ 0 ∷ 9 ∷ 0 ∷ 0 ∷ 0 ∷ 2 ∷ 0 ∷ 0 ∷ 0 ∷ 8 ∷ [])) ≡ Err (of_word 1 Data 0)
+unfolding width_for decoded_header decoded_image
+address-twice = refl
+
+-- a number of data that is cut short
+cut-number : decoded_image with_space digest (header with_space digest 2 2 ++ (0x83 ∷ 0x98 ∷ 0x04 ∷ [])) ≡ Err (of_all Length)
+unfolding width_for decoded_header decoded_image
+cut-number = refl

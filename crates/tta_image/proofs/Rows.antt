@@ -2,11 +2,11 @@
 use Rattle.std.specs.Prelude.{◌≡◌, [], ◌∷◌, ◌++◌, false, None, Some, refl, replicate}
 use Rattle.std.proofs.Common.{lit≤}
 use Rattle.std.specs.List.{flat_map}
-use Rattle.tta_machine.specs.declared.ends.Source.TheVariants as source
-use Rattle.tta_machine.specs.declared.ends.Dest.TheVariants as dest
-use Rattle.tta_machine.specs.Fields.{width_for}
-use Rattle.tta_machine.specs.Legal.{can_move}
-use Rattle.tta_machine.proofs.Samples.{one_bus, three_buses}
+use Rattle.tta_arch.specs.declared.ends.Source.TheVariants as source
+use Rattle.tta_arch.specs.declared.ends.Dest.TheVariants as dest
+use Rattle.tta_arch.specs.Fields.{width_for}
+use Rattle.tta_arch.specs.Legal.{can_move}
+use Rattle.tta_arch.proofs.Samples.{one_bus, three_buses}
 use Rattle.tta_code.specs.declared.code.Code.{Code}
 use Rattle.tta_code.specs.Legal.{is_legal, IsLegalCode}
 use Rattle.tta_code.proofs.Rows.{wide}
@@ -31,7 +31,7 @@ seven-bits : code_bits one_bus seven ≡ flat_map (bits_of 8) (0x83 ∷ 0x98 ∷
 unfolding width_for instruction_bits
 seven-bits = refl
 
-seven-header : header one_bus [] 2 ≡ 0x54 ∷ 0x54 ∷ 0x41 ∷ 0x49 ∷ 0 ∷ 0 ∷ 0 ∷ 1 ∷ 0 ∷ 0 ∷ 0 ∷ 0x0c ∷ 0 ∷ 0 ∷ 0 ∷ 2 ∷ []
+seven-header : header one_bus [] 1 2 ≡ 0x54 ∷ 0x54 ∷ 0x41 ∷ 0x49 ∷ 0 ∷ 0 ∷ 0 ∷ 1 ∷ 0 ∷ 0 ∷ 0 ∷ 0x0c ∷ 0 ∷ 0 ∷ 0 ∷ 2 ∷ []
 unfolding width_for
 seven-header = refl
 

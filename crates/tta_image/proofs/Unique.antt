@@ -3,10 +3,10 @@ use Rattle.std.proofs.Common.{◌≡◌, ℕ, zero, suc, ◌+◌, ◌*◌, ◌/�
 use Rattle.std.specs.List.{flat_map, AllByRecursion}
 use Rattle.std.proofs.lemmas.List.{same_from_push, take_at, drop_at, length-append, length-replicate}
 use Rattle.std.proofs.lemmas.Bool.{cases_eq, eq-eqb, ne_eqb}
-use Rattle.tta_machine.specs.Machine.{Machine}
-use Rattle.tta_code.specs.declared.code.Code.{Code}
+use Rattle.tta_arch.specs.Machine.{Machine}
+use Rattle.tta_code.specs.Whole.{Whole}
 use Rattle.tta_image.specs.Bits.{bits_of, code_bits}
-use Rattle.tta_image.specs.Image.{AreBytesOf, Image, header}
+use Rattle.tta_image.specs.Image.{AreBytesOf, Image, header, version_of, data_section}
 use Rattle.tta_image.specs.Sink.{bit_value}
 use Rattle.tta_image.proofs.BitLemmas.{bits_of-with_bit}
 
@@ -70,7 +70,9 @@ one_filling bits bytes bytes' h h' =
     let same : h.filling ≡ h'.filling = omega arith in
     same_bytes bytes bytes' h.are_bytes h'.are_bytes (h.same_bits ∙ ap (λ (k : ℕ). bits ++ replicate k false) same ∙ sym h'.same_bits)
 
--- code has one image
-pub has_one_image : (m : Machine) (digest : List ℕ) (code : Code) (bytes bytes' : List ℕ) → Image m digest code bytes → Image m digest code bytes' → bytes ≡ bytes'
-has_one_image m digest code bytes bytes' h h' =
-    h.parts ∙ ap (λ (l : List ℕ). header m digest (length code.words) ++ l) (one_filling (code_bits m code) h.body h'.body h.words h'.words) ∙ sym h'.parts
+-- code with data has one image
+pub has_one_image : (m : Machine) (digest : List ℕ) (whole : Whole) (bytes bytes' : List ℕ) → Image m digest whole bytes → Image m digest whole bytes' → bytes ≡ bytes'
+has_one_image m digest whole bytes bytes' h h' =
+    h.parts
+    ∙ ap (λ (l : List ℕ). header m digest (version_of whole.init) (length whole.code.words) ++ (data_section whole.init ++ l)) (one_filling (code_bits m whole.code) h.body h'.body h.words h'.words)
+    ∙ sym h'.parts

@@ -5,10 +5,10 @@ use Rattle.std.proofs.lemmas.Bool.{not-false}
 use Rattle.std.proofs.lemmas.List.{append_assoc, length-drop, drop_at, take-append-drop}
 use Rattle.tta_reading.specs.Steps.{◌>>=◌, refuse_if}
 use Rattle.tta_reading.proofs.Steps.{same_ok, refuse_if-ok, then-ok}
-use Rattle.tta_machine.specs.Machine.{Machine}
-use Rattle.tta_machine.specs.Fields.{word_width}
-use Rattle.tta_machine.specs.Layout.{layout_of}
-use Rattle.tta_machine.specs.Rules.{IsMachine}
+use Rattle.tta_arch.specs.Machine.{Machine}
+use Rattle.tta_arch.specs.Fields.{word_width}
+use Rattle.tta_arch.specs.Layout.{layout_of}
+use Rattle.tta_arch.specs.Rules.{IsMachine}
 use Rattle.tta_code.specs.declared.code.Instruction.{Instruction}
 use Rattle.tta_code.specs.Legal.{is_legal}
 use Rattle.tta_image.specs.declared.refusal.ImageError.{ImageError}

@@ -5,19 +5,20 @@ use Rattle.std.proofs.lemmas.Bool.{eqb-true}
 use Rattle.std.proofs.lemmas.List.{append-nil, length-drop, take_all}
 use Rattle.std.proofs.lemmas.Nat.{mul-le}
 use Rattle.tta_reading.specs.Steps.{◌>>=◌, refuse_if}
-use Rattle.tta_machine.specs.declared.layout.Layout.{Layout}
-use Rattle.tta_machine.specs.Machine.{Machine}
-use Rattle.tta_machine.specs.Fields.{word_width}
-use Rattle.tta_machine.specs.Layout.{layout_of}
-use Rattle.tta_machine.specs.Rules.{IsMachine}
+use Rattle.tta_arch.specs.declared.layout.Layout.{Layout}
+use Rattle.tta_arch.specs.Machine.{Machine}
+use Rattle.tta_arch.specs.Fields.{word_width}
+use Rattle.tta_arch.specs.Layout.{layout_of}
+use Rattle.tta_arch.specs.Rules.{IsMachine}
 use Rattle.tta_code.specs.declared.code.Instruction.{Instruction}
-use Rattle.tta_code.specs.declared.code.Code.{Code}
+use Rattle.tta_code.specs.declared.whole.Datum.{Datum}
+use Rattle.tta_code.specs.Whole.{Whole}
 use Rattle.tta_image.specs.declared.refusal.ImageError.{ImageError}
 use Rattle.tta_image.specs.declared.refusal.ImageError.TheVariants.{Refused, NoMemory}
 use Rattle.tta_image.specs.declared.refusal.ImageRefusal.TheVariants.{Padding}
 use Rattle.tta_image.specs.Refusals.{of_all, Answers}
 use Rattle.tta_image.specs.Decoding.{bits_in, number_of, field}
-use Rattle.tta_image.specs.Reading.{decoded_header, decoded_word, decoded_words, decoded_image}
+use Rattle.tta_image.specs.Reading.{section_length, decoded_header, decoded_data, decoded_word, decoded_words, whole_of, body_in, decoded_image}
 use Rattle.tta_image.proofs.ImageLemmas.{short_address, pow_most}
 use Rattle.tta_image.proofs.Numbers.{some_from_number, none_from_number}
 use Rattle.tta_image.proofs.Walks.{answers_same, with_front, front_more}
@@ -75,40 +76,46 @@ set_bit bits at width n is all =
 
 -- ---- the whole image
 
--- the code that consists of the instructions of an image, one from each word
-abbrev pub code_of_words : List Instruction → Code
-code_of_words words = record { words = words }
-
 -- what is said of the words is the answer
-pub image_answer : (m : Machine) (digest bytes body : List ℕ) (l : Layout) (count : ℕ) (r : Result (List Instruction) ImageError) → l ≡ layout_of m → body ≡ drop 48 bytes
-    → decoded_header m digest bytes ≡ Ok count → Answers r (decoded_words m l count 0 (bits_in body))
-    → Answers (r >>= λ words. Ok (code_of_words words)) (decoded_image m digest bytes)
+pub image_answer : (m : Machine) (digest bytes body : List ℕ) (l : Layout) (count : ℕ) (init : List Datum) (r : Result (List Instruction) ImageError) → l ≡ layout_of m → body ≡ body_in bytes
+    → decoded_header m digest bytes ≡ Ok count → decoded_data m bytes ≡ Ok init → Answers r (decoded_words m l count 0 (bits_in body))
+    → Answers (r >>= λ words. Ok (whole_of init words)) (decoded_image m digest bytes)
 unfolding decoded_image
-image_answer m digest bytes body l count r layout tail head said =
-    let whole : decoded_image m digest bytes ≡ (decoded_words m l count 0 (bits_in body) >>= λ words. Ok (code_of_words words)) =
-    ap (λ (h : Result ℕ ImageError). h >>= λ count. decoded_words m (layout_of m) count 0 (bits_in (drop 48 bytes)) >>= λ words. Ok (code_of_words words)) head
-    ∙ ap (λ (x : Layout). decoded_words m x count 0 (bits_in (drop 48 bytes)) >>= λ words. Ok (code_of_words words)) (sym layout)
-    ∙ ap (λ (b : List ℕ). decoded_words m l count 0 (bits_in b) >>= λ words. Ok (code_of_words words)) (sym tail) in
+image_answer m digest bytes body l count init r layout tail head given said =
+    let whole : decoded_image m digest bytes ≡ (decoded_words m l count 0 (bits_in body) >>= λ words. Ok (whole_of init words)) =
+    ap (λ (h : Result ℕ ImageError). h >>= λ count. decoded_data m bytes >>= λ init. decoded_words m (layout_of m) count 0 (bits_in (body_in bytes)) >>= λ words. Ok (whole_of init words)) head
+    ∙ ap (λ (h : Result (List Datum) ImageError). h >>= λ init. decoded_words m (layout_of m) count 0 (bits_in (body_in bytes)) >>= λ words. Ok (whole_of init words)) given
+    ∙ ap (λ (x : Layout). decoded_words m x count 0 (bits_in (body_in bytes)) >>= λ words. Ok (whole_of init words)) (sym layout)
+    ∙ ap (λ (b : List ℕ). decoded_words m l count 0 (bits_in b) >>= λ words. Ok (whole_of init words)) (sym tail) in
     by r said whole where
       by : (x : Result (List Instruction) ImageError) → Answers x (decoded_words m l count 0 (bits_in body))
-          → decoded_image m digest bytes ≡ (decoded_words m l count 0 (bits_in body) >>= λ words. Ok (code_of_words words))
-          → Answers (x >>= λ words. Ok (code_of_words words)) (decoded_image m digest bytes)
-      by (Ok words) h whole = whole ∙ ap (λ (y : Result (List Instruction) ImageError). y >>= λ words. Ok (code_of_words words)) h
+          → decoded_image m digest bytes ≡ (decoded_words m l count 0 (bits_in body) >>= λ words. Ok (whole_of init words))
+          → Answers (x >>= λ words. Ok (whole_of init words)) (decoded_image m digest bytes)
+      by (Ok words) h whole = whole ∙ ap (λ (y : Result (List Instruction) ImageError). y >>= λ words. Ok (whole_of init words)) h
       by (Err NoMemory) h whole = tt
-      by (Err (Refused code word bus)) h whole = whole ∙ ap (λ (y : Result (List Instruction) ImageError). y >>= λ words. Ok (code_of_words words)) h
+      by (Err (Refused code word bus)) h whole = whole ∙ ap (λ (y : Result (List Instruction) ImageError). y >>= λ words. Ok (whole_of init words)) h
+
+-- data that are refused
+pub data_answer : (m : Machine) (digest bytes : List ℕ) (count : ℕ) (e : ImageError) → decoded_header m digest bytes ≡ Ok count
+    → Answers {A = List Datum} (Err e) (decoded_data m bytes) → Answers {A = Whole} (Err e) (decoded_image m digest bytes)
+unfolding decoded_image
+data_answer m digest bytes count NoMemory head said = tt
+data_answer m digest bytes count (Refused code word bus) head said =
+    ap (λ (h : Result ℕ ImageError). h >>= λ count. decoded_data m bytes >>= λ init. decoded_words m (layout_of m) count 0 (bits_in (body_in bytes)) >>= λ words. Ok (whole_of init words)) head
+    ∙ ap (λ (h : Result (List Datum) ImageError). h >>= λ init. decoded_words m (layout_of m) count 0 (bits_in (body_in bytes)) >>= λ words. Ok (whole_of init words)) said
 
 -- the words have their bits in the bytes after the header
-pub words_room : (m : Machine) (digest bytes body : List ℕ) (count width : ℕ) → Checked m digest bytes count → body ≡ drop 48 bytes → width ≡ word_width m
+pub words_room : (m : Machine) (digest bytes body : List ℕ) (count width : ℕ) → Checked m digest bytes count → body ≡ body_in bytes → width ≡ word_width m
     → (count * width ≤ 8 * length body) × (8 * length body < count * width + 8)
 words_room m digest bytes body count width room tail wide =
-    let d = ap length tail ∙ length-drop 48 bytes in
+    let d = ap length tail ∙ length-drop (48 + section_length bytes) bytes in
     let long = room.long in
     let product : count * width ≡ count * word_width m = ap (λ (w : ℕ). count * w) wide in
     let all : length body ≡ (count * word_width m + 7) / 8 = omega arith in
     (omega arith, omega arith)
 
 -- these bits are few enough to be counted
-pub words_few : (m : Machine) (digest bytes body : List ℕ) (count width : ℕ) → IsMachine m → Checked m digest bytes count → body ≡ drop 48 bytes → width ≡ word_width m → width < 2 ^ 32
+pub words_few : (m : Machine) (digest bytes body : List ℕ) (count width : ℕ) → IsMachine m → Checked m digest bytes count → body ≡ body_in bytes → width ≡ word_width m → width < 2 ^ 32
     → 8 * length body < 2 ^ 64
 words_few m digest bytes body count width rules room tail wide small =
     let fits = words_room m digest bytes body count width room tail wide in
@@ -119,8 +126,8 @@ words_few m digest bytes body count width rules room tail wide small =
     omega arith
 
 -- a header that is refused
-pub header_answer : (m : Machine) (digest bytes : List ℕ) (e : ImageError) → decoded_header m digest bytes ≡ Err e → Answers {A = Code} (Err e) (decoded_image m digest bytes)
+pub header_answer : (m : Machine) (digest bytes : List ℕ) (e : ImageError) → decoded_header m digest bytes ≡ Err e → Answers {A = Whole} (Err e) (decoded_image m digest bytes)
 unfolding decoded_image
 header_answer m digest bytes e head =
     answers_same (Err e) (decoded_image m digest bytes)
-    (sym (ap (λ (h : Result ℕ ImageError). h >>= λ count. decoded_words m (layout_of m) count 0 (bits_in (drop 48 bytes)) >>= λ words. Ok (code_of_words words)) head))
+    (sym (ap (λ (h : Result ℕ ImageError). h >>= λ count. decoded_data m bytes >>= λ init. decoded_words m (layout_of m) count 0 (bits_in (body_in bytes)) >>= λ words. Ok (whole_of init words)) head))

@@ -3,15 +3,15 @@ use Rattle.std.specs.Prelude.{ℕ, ◌+◌, ◌-◌, ◌*◌, ◌^◌, ◌==◌,
 use Rattle.std.specs.Option.{option_map_or}
 use Rattle.std.specs.List.{flat_map, position_or_len}
 use Rattle.tta_reading.specs.Steps.{◌>>=◌, ◌>>?◌, or_refuse}
-use Rattle.tta_machine.specs.declared.ends.GuardRef.{GuardRef}
-use Rattle.tta_machine.specs.declared.ends.Source.{Source}
-use Rattle.tta_machine.specs.declared.ends.Source.TheVariants as source
-use Rattle.tta_machine.specs.declared.ends.Dest.{Dest}
-use Rattle.tta_machine.specs.declared.layout.BusFields.{BusFields}
-use Rattle.tta_machine.specs.declared.layout.Layout.{Layout}
-use Rattle.tta_machine.specs.Machine.{Machine}
-use Rattle.tta_machine.specs.Joins.{has_bit}
-use Rattle.tta_machine.specs.Fields.{numbers}
+use Rattle.tta_arch.specs.declared.ends.GuardRef.{GuardRef}
+use Rattle.tta_arch.specs.declared.ends.Source.{Source}
+use Rattle.tta_arch.specs.declared.ends.Source.TheVariants as source
+use Rattle.tta_arch.specs.declared.ends.Dest.{Dest}
+use Rattle.tta_arch.specs.declared.layout.BusFields.{BusFields}
+use Rattle.tta_arch.specs.declared.layout.Layout.{Layout}
+use Rattle.tta_arch.specs.Machine.{Machine}
+use Rattle.tta_arch.specs.Joins.{has_bit}
+use Rattle.tta_arch.specs.Fields.{numbers}
 use Rattle.tta_code.specs.declared.code.Move.{Move}
 use Rattle.tta_code.specs.declared.code.Long.{Long}
 use Rattle.tta_code.specs.declared.code.Instruction.{Instruction}

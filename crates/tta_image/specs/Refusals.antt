@@ -1,7 +1,7 @@
 -- Why bytes are refused as an image.
 use Rattle.std.specs.Prelude.{◌≡◌, ℕ, Result, Err}
 use Rattle.tta_image.specs.declared.refusal.ImageRefusal.{ImageRefusal}
-use Rattle.tta_image.specs.declared.refusal.ImageRefusal.TheVariants.{Magic, Version, WrongMachine, Width, Length, Field, Illegal, Padding}
+use Rattle.tta_image.specs.declared.refusal.ImageRefusal.TheVariants.{Magic, Version, WrongMachine, Width, Length, Field, Illegal, Padding, Data}
 use Rattle.tta_image.specs.declared.refusal.ImageError.{ImageError}
 use Rattle.tta_image.specs.declared.refusal.ImageError.TheVariants.{Refused, NoMemory}
 
@@ -15,6 +15,7 @@ code_of Length = 44
 code_of Field = 45
 code_of Illegal = 46
 code_of Padding = 47
+code_of Data = 48
 
 -- a refusal of the bytes as a whole
 abbrev pub of_all : ImageRefusal → ImageError

@@ -2,8 +2,8 @@
 
 ghost use Rattle.std.specs.Prelude.{◌≡◌, ◌+◌, ◌≤◌, ◌<◌, ◌%◌, ◌^◌, true, ◌++◌, IfOk, OnOk};
 ghost use Rattle.std.specs.List.{position, position_or_len};
-ghost use Rattle.tta_machine.specs.Joins.{is_same_guard};
-ghost use Rattle.tta_machine.specs.Fields.{same_source, same_dest};
+ghost use Rattle.tta_arch.specs.Joins.{is_same_guard};
+ghost use Rattle.tta_arch.specs.Fields.{same_source, same_dest};
 ghost use Rattle.tta_image.specs.Ranks.{IsInOrder};
 ghost use Rattle.tta_image.specs.Fields.{guard_number, dest_number, source_field, slot_field};
 ghost use Rattle.tta_image.specs.Fields.{bus_field, left_after};
@@ -11,8 +11,8 @@ ghost use Rattle.tta_image.specs.Fields.{bus_field, left_after};
 use crate::search::{place_of_dest, place_of_source};
 use crate::sink::{BitSink, without_low};
 use std::alloc::AllocError;
+use tta_arch::{BusFields, Dest, Guard, GuardRef, Source};
 use tta_code::Move;
-use tta_machine::{BusFields, Dest, Guard, GuardRef, Source};
 
 /// Whether two guards are of one register and one sense.
 fn same_guard(a: GuardRef, b: GuardRef) -> bool

@@ -1,12 +1,13 @@
 //! The header of an image.
 
 ghost use Rattle.std.specs.Prelude.{◌≡◌, ◌+◌, ◌*◌, ◌<◌, ◌≤◌, ◌^◌, length, IsTrue, IfOk};
-ghost use Rattle.tta_machine.specs.Fields.{word_width};
-ghost use Rattle.tta_image.specs.Reading.{stands_at, bytes_for, word_count, has_length};
+ghost use Rattle.tta_arch.specs.Fields.{word_width};
+ghost use Rattle.tta_image.specs.Reading.{stands_at, has_data, is_version, data_told, bytes_for};
+ghost use Rattle.tta_image.specs.Reading.{word_count, section_length, has_length};
 ghost use Rattle.tta_image.specs.Reading.{decoded_header};
 
 use crate::refusal::{ImageError, ImageRefusal};
-use tta_machine::Machine;
+use tta_arch::Machine;
 
 /// Whether the bytes hold a piece after so many bytes. Bytes that are missing are wrong ones.
 fn stands_at(bytes: &[u8], at: usize, piece: &[u8]) -> bool
@@ -28,6 +29,41 @@ fn word_count(bytes: &[u8]) -> u32
     u32::from_be_bytes([bytes[12], bytes[13], bytes[14], bytes[15]])
 }
 
+/// Whether the version is that of images with data.
+pub fn has_data(bytes: &[u8]) -> bool
+    ensures { result ≡ has_data bytes.now }
+{
+    stands_at(bytes, 4, &2u32.to_be_bytes())
+}
+
+/// Whether the version is one of the two.
+fn is_version(bytes: &[u8]) -> bool
+    ensures { result ≡ is_version bytes.now }
+{
+    stands_at(bytes, 4, &1u32.to_be_bytes()) || has_data(bytes)
+}
+
+/// How many data the bytes behind the header tell.
+pub fn data_told(bytes: &[u8]) -> u32
+    requires { 52 ≤ length bytes.now }
+    ensures { result ≡ data_told bytes.now }
+{
+    u32::from_be_bytes([bytes[48], bytes[49], bytes[50], bytes[51]])
+}
+
+/// How many bytes the data take.
+pub fn section_length(bytes: &[u8]) -> u64
+    requires { IsTrue (has_data bytes.now) → 52 ≤ length bytes.now }
+    ensures value { result ≡ section_length bytes.now }
+    ensures few { result < 2 ^ 36 }
+{
+    if has_data(bytes) {
+        4 + 8 * u64::from(data_told(bytes))
+    } else {
+        0
+    }
+}
+
 /// How many bytes so many words take.
 fn bytes_for(words: u32, width: u32) -> u64
     requires { words ≤ 65536 }
@@ -36,13 +72,16 @@ fn bytes_for(words: u32, width: u32) -> u64
     (u64::from(words) * u64::from(width) + 7) / 8
 }
 
-/// Whether the machine has an address for each word, and the bytes are just those of the header and
-/// the words.
+/// Whether the machine has an address for each word, and the bytes are just those of the header,
+/// the data and the words.
 fn has_length(m: &Machine, width: u32, bytes: &[u8], words: u32) -> bool
     requires { width ≡ word_width m.now }
     ensures { result ≡ has_length m.now bytes.now words }
 {
-    words <= m.addresses() && bytes.len() as u64 == 48 + bytes_for(words, width)
+    if words > m.addresses() || (has_data(bytes) && bytes.len() < 52) {
+        return false;
+    }
+    bytes.len() as u64 == 48 + section_length(bytes) + bytes_for(words, width)
 }
 
 /// How many words the image has, whose instructions have so many bits; or the first refusal of its
@@ -59,7 +98,7 @@ pub fn read_header(
     if !stands_at(bytes, 0, b"TTAI") {
         return Err(ImageRefusal::Magic.of_all());
     }
-    if !stands_at(bytes, 4, &1u32.to_be_bytes()) {
+    if !is_version(bytes) {
         return Err(ImageRefusal::Version.of_all());
     }
     if !stands_at(bytes, 16, digest) {

@@ -1,24 +1,27 @@
 //! The reader of images.
 
 ghost use Rattle.std.specs.Prelude.{◌≡◌, ◌≢◌, ◌+◌, ◌*◌, ◌<◌, ◌≤◌, ◌^◌, length, drop, IfOk, IfErr};
+ghost use Rattle.std.specs.Prelude.{IsTrue};
 ghost use Rattle.std.specs.List.{list_any};
-ghost use Rattle.tta_machine.specs.Layout.{layout_of};
+ghost use Rattle.tta_arch.specs.Layout.{layout_of};
 ghost use Rattle.tta_connect.specs.Net.{IsNetOf};
 ghost use Rattle.tta_image.specs.Decoding.{bits_in};
 ghost use Rattle.tta_image.specs.Image.{Image, IsNoImage};
-ghost use Rattle.tta_image.specs.Reading.{decoded_word, decoded_words, decoded_image};
+ghost use Rattle.tta_image.specs.Reading.{decoded_word, decoded_words, decoded_image, body_in};
+ghost use Rattle.tta_image.specs.Reading.{has_data, section_length};
 ghost use Rattle.tta_image.specs.Refusals.{Answers};
 ghost use Rattle.tta_image.specs.declared.refusal.ImageError.TheVariants.{NoMemory};
 
 use crate::bits::number_at;
-use crate::header::read_header;
+use crate::header::{read_header, section_length};
+use crate::pairs::read_data;
 use crate::refusal::{ImageError, ImageRefusal};
 use crate::words::read_instruction;
 use std::alloc::Global;
-use tta_code::{Code, Instruction, legal};
+use tta_arch::{Layout, Machine};
+use tta_code::{Code, Instruction, Whole, legal};
 use tta_connect::Net;
 use tta_list::Items;
-use tta_machine::{Layout, Machine};
 
 /// The instruction of a word that begins after so many bits.
 #[tactic(auto, using(crate::proofs::DecodedRules::is_decoded))]
@@ -100,27 +103,28 @@ fn read_words(
     Ok(words)
 }
 
-/// The bytes after the header.
+/// The bytes after the header and the data.
 fn body_of(bytes: &[u8]) -> &[u8]
-    requires { 48 ≤ length bytes.now }
-    ensures { result.now ≡ drop 48 bytes.now }
+    requires number { IsTrue (has_data bytes.now) → 52 ≤ length bytes.now }
+    requires data { 48 + section_length bytes.now ≤ length bytes.now }
+    ensures { result.now ≡ body_in bytes.now }
 {
-    &bytes[48..]
+    &bytes[48 + section_length(bytes) as usize..]
 }
 
-/// The code of an image, whose machine has this layout and this net.
-fn read_code(
+/// The code of an image with its data, whose machine has this layout and this net.
+fn read_whole(
     alloc: Global,
     bytes: &[u8],
     m: &Machine,
     layout: &Layout,
     net: &Net,
     digest: &[u8; 32],
-) -> Result<Code, ImageError>
+) -> Result<Whole, ImageError>
     requires layout { layout.now ≡ layout_of m.now }
     requires net { IsNetOf net.now m.now }
     ensures decoded { Answers result (decoded_image m.now digest.now bytes.now) }
-    ensures image { IfOk result (λ code. Image m.now digest.now code bytes.now) }
+    ensures image { IfOk result (λ whole. Image m.now digest.now whole bytes.now) }
     ensures refused { IfErr result
         (λ e. e ≢ NoMemory → IsNoImage m.now digest.now bytes.now) }
 {
@@ -130,9 +134,19 @@ fn read_code(
         Ok(count) => count,
         Err(e) => return Err(e),
     };
+    let init = match read_data(alloc, m, bytes) {
+        Ok(init) => init,
+        Err(e) => return Err(e),
+    };
     match read_words(alloc, m, layout, net, body_of(bytes), count) {
-        Ok(words) => Ok(Code { words }),
-        Err(e) => Err(e),
+        Ok(words) => Ok(Whole {
+            code: Code { words },
+            init,
+        }),
+        Err(e) => {
+            drop(init);
+            Err(e)
+        }
     }
 }
 
@@ -144,9 +158,9 @@ pub fn read_image(
     bytes: &[u8],
     m: &Machine,
     digest: &[u8; 32],
-) -> Result<Code, ImageError>
+) -> Result<Whole, ImageError>
     ensures decoded { Answers result (decoded_image m.now digest.now bytes.now) }
-    ensures image { IfOk result (λ code. Image m.now digest.now code bytes.now) }
+    ensures image { IfOk result (λ whole. Image m.now digest.now whole bytes.now) }
     ensures refused { IfErr result
         (λ e. e ≢ NoMemory → IsNoImage m.now digest.now bytes.now) }
 {
@@ -158,8 +172,8 @@ pub fn read_image(
         drop(layout);
         return Err(ImageError::NoMemory);
     };
-    let code = read_code(alloc, bytes, m, &layout, &net, digest);
+    let whole = read_whole(alloc, bytes, m, &layout, &net, digest);
     drop(layout);
     drop(net);
-    code
+    whole
 }

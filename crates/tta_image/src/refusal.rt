@@ -6,19 +6,20 @@ ghost use Rattle.tta_image.specs.declared.refusal.ImageError.TheVariants.{NoMemo
 
 use std::alloc::{AllocError, AllocFailed};
 
-/// Why bytes are refused as an image, in the order in which the refusals are looked for. `Field`
-/// and `Illegal` are looked for word by word.
+/// Why bytes are refused as an image. They are looked for in this order, but `Data` directly behind
+/// `Length`; `Field` and `Illegal` are looked for word by word.
 #[derive(Clone, Copy, Debug, PartialEq, Eq)]
 pub enum ImageRefusal {
     /// The bytes do not begin with the mark of images.
     Magic,
-    /// The version is not 1.
+    /// The version is neither 1 nor 2.
     Version,
     /// The digest is not that of the machine's text.
     WrongMachine,
     /// A word is not as wide as an instruction of the machine.
     Width,
-    /// There are more words than addresses, or the bytes are not as many as the words ask for.
+    /// There are more words than addresses, or the bytes are not as many as the data and the words
+    /// ask for.
     Length,
     /// A field of a word has no meaning.
     Field,
@@ -26,13 +27,17 @@ pub enum ImageRefusal {
     Illegal,
     /// A bit after the last word is not zero.
     Padding,
+    /// There are to be data and are none, or an address is not above the one before it or not one of
+    /// the data space.
+    Data,
 }
 
 /// Why no code was read.
 #[derive(Clone, Copy, Debug, PartialEq, Eq)]
 pub enum ImageError {
     /// The bytes are refused with this number. A field is refused with its word, counted from 0,
-    /// and its bus, an illegal instruction with its word; all else is 0.
+    /// and its bus, an illegal instruction with its word, and a datum with its place, counted from
+    /// 0, as the word; all else is 0.
     Refused { code: u8, word: u32, bus: u8 },
     NoMemory,
 }
@@ -51,6 +56,7 @@ impl ImageRefusal {
             ImageRefusal::Field => 45,
             ImageRefusal::Illegal => 46,
             ImageRefusal::Padding => 47,
+            ImageRefusal::Data => 48,
         }
     }
 

@@ -3,10 +3,10 @@
 
 ghost use Rattle.std.specs.Prelude.{◌≡◌, nat_lt};
 ghost use Rattle.std.specs.List.{position};
-ghost use Rattle.tta_machine.specs.Fields.{same_source, same_dest};
+ghost use Rattle.tta_arch.specs.Fields.{same_source, same_dest};
 ghost use Rattle.tta_image.specs.Ranks.{source_rank, dest_rank, Rising, IsPlaceOf};
 
-use tta_machine::{Dest, Source};
+use tta_arch::{Dest, Source};
 
 /// Whether two sources are one.
 fn same_source(a: Source, b: Source) -> bool

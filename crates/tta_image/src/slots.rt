@@ -8,8 +8,8 @@ ghost use Rattle.tta_image.specs.Decoding.{decoded_slot};
 ghost use Rattle.tta_image.specs.Narrow.{IsNarrow};
 
 use crate::bits::number_at;
+use tta_arch::{BusFields, Dest, GuardRef, Source};
 use tta_code::Move;
-use tta_machine::{BusFields, Dest, GuardRef, Source};
 
 /// The numbers in the fields of a slot.
 #[derive(Clone, Copy, Debug, PartialEq, Eq)]

@@ -3,7 +3,7 @@
 ghost use Rattle.std.specs.Prelude.{◌≡◌, ◌+◌, ◌*◌, ◌<◌, ◌≤◌, ◌^◌, if◌then◌else◌, Some, length};
 ghost use Rattle.std.specs.Prelude.{drop};
 ghost use Rattle.std.specs.List.{sum_by};
-ghost use Rattle.tta_machine.specs.Layout.{layout_of};
+ghost use Rattle.tta_arch.specs.Layout.{layout_of};
 ghost use Rattle.tta_image.specs.Decoding.{number_of, bits_in, is_signed, decoded_template};
 ghost use Rattle.tta_image.specs.Decoding.{taken_by, least_bus, taken_bits, decoded_long};
 ghost use Rattle.tta_image.specs.Decoding.{decoded_bus, decoded_slots, decoded_instruction};
@@ -15,9 +15,9 @@ use crate::bits::number_at;
 use crate::refusal::{ImageError, ImageRefusal};
 use crate::slots::slot_at;
 use std::alloc::Global;
+use tta_arch::{BusFields, Layout, Machine, has_bus};
 use tta_code::{Instruction, Long, Move};
 use tta_list::Items;
-use tta_machine::{BusFields, Layout, Machine, has_bus};
 
 /// Whether the short field of a bus is signed.
 fn is_signed(m: &Machine, bus: usize) -> bool

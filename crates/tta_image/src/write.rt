@@ -1,23 +1,24 @@
 //! The writer of images.
 
 ghost use Rattle.std.specs.Prelude.{◌≡◌, ◌<◌, ◌^◌, if◌then◌else◌, ◌++◌, [], length, codes, All};
-ghost use Rattle.std.specs.Prelude.{IfOk, OnOk};
+ghost use Rattle.std.specs.Prelude.{IfOk, OnOk, true};
 ghost use Rattle.std.specs.Int.{w32, to_be_bytes};
 ghost use Rattle.std.specs.List.{flat_map, sum_by};
-ghost use Rattle.tta_machine.specs.Joins.{has_bit};
-ghost use Rattle.tta_machine.specs.Fields.{taken_width, word_width};
-ghost use Rattle.tta_machine.specs.Layout.{layout_of};
+ghost use Rattle.tta_arch.specs.Joins.{has_bit};
+ghost use Rattle.tta_arch.specs.Fields.{taken_width, word_width};
+ghost use Rattle.tta_arch.specs.Layout.{layout_of};
 ghost use Rattle.tta_code.specs.Legal.{IsLegalCode};
 ghost use Rattle.tta_image.specs.Bits.{bits_of, template_code, slots_bits, instruction_bits};
-ghost use Rattle.tta_image.specs.Image.{Image, AreBytesOf};
+ghost use Rattle.tta_image.specs.Image.{Image, AreBytesOf, version_of, datum_bytes, data_section};
+ghost use Rattle.tta_code.specs.Whole.{fits};
 ghost use Rattle.tta_image.specs.Ranks.{AreInOrder};
 ghost use Rattle.tta_image.specs.Fields.{buses_of, value_of};
 
 use crate::fields::push_bus;
 use crate::sink::BitSink;
 use std::alloc::{AllocError, Global};
-use tta_code::{Code, Instruction, Long, Move};
-use tta_machine::{Layout, Machine, has_bus};
+use tta_arch::{Layout, Machine, has_bus};
+use tta_code::{Code, Datum, Instruction, Long, Move, Whole};
 
 /// The code of a template, 0 for none.
 fn template_code(long: Option<Long>) -> u64
@@ -116,24 +117,65 @@ fn push_words(
     Ok(())
 }
 
+/// Puts a datum at the end: its address and its value.
+fn push_datum(bytes: &mut Vec<u8>, datum: &Datum) -> Result<(), AllocError>
+    ensures { OnOk result (bytes.new.items ≡ bytes.old.items ++ datum_bytes datum.now) }
+{
+    bytes.extend_from_slice(&datum.address.to_be_bytes())?;
+    bytes.extend_from_slice(&datum.value.to_be_bytes())
+}
+
+/// Puts data at the end.
+fn push_pairs(bytes: &mut Vec<u8>, init: &[Datum]) -> Result<(), AllocError>
+    ensures { OnOk result (bytes.new.items ≡ bytes.old.items ++ flat_map datum_bytes init.now) }
+{
+    for datum in init {
+        push_datum(bytes, datum)?;
+    }
+    Ok(())
+}
+
+/// Puts the data section at the end, which is empty where there are no data.
+fn push_section(bytes: &mut Vec<u8>, init: &[Datum]) -> Result<(), AllocError>
+    requires { length init.now < 2 ^ 32 }
+    ensures { OnOk result (bytes.new.items ≡ bytes.old.items ++ data_section init.now) }
+{
+    if init.is_empty() {
+        return Ok(());
+    }
+    bytes.extend_from_slice(&(init.len() as u32).to_be_bytes())?;
+    push_pairs(bytes, init)
+}
+
+/// The version of an image with these data.
+fn version_of(init: &[Datum]) -> u32
+    ensures { result ≡ version_of init.now }
+{
+    if init.is_empty() { 1 } else { 2 }
+}
+
 /// Puts the parts of an image, the last of which is the instructions, where nothing stands yet.
 fn push_parts(
     bytes: &mut Vec<u8>,
     width: u32,
     words: u32,
     digest: &[u8; 32],
+    init: &[Datum],
     body: &[u8],
 ) -> Result<(), AllocError>
-    requires { bytes.old.items ≡ [] }
-    ensures { OnOk result (bytes.new.items ≡ (codes "TTAI"
-        ++ (to_be_bytes w32 1
-        ++ (to_be_bytes w32 width ++ (to_be_bytes w32 words ++ digest.now)))) ++ body.now) }
+    requires empty { bytes.old.items ≡ [] }
+    requires few { length init.now < 2 ^ 32 }
+    ensures { OnOk result (bytes.new.items ≡ ((codes "TTAI"
+        ++ (to_be_bytes w32 (version_of init.now)
+        ++ (to_be_bytes w32 width ++ (to_be_bytes w32 words ++ digest.now))))
+        ++ data_section init.now) ++ body.now) }
 {
     bytes.extend_from_slice(b"TTAI")?;
-    bytes.extend_from_slice(&1u32.to_be_bytes())?;
+    bytes.extend_from_slice(&version_of(init).to_be_bytes())?;
     bytes.extend_from_slice(&width.to_be_bytes())?;
     bytes.extend_from_slice(&words.to_be_bytes())?;
     bytes.extend_from_slice(digest)?;
+    push_section(bytes, init)?;
     bytes.extend_from_slice(body)
 }
 
@@ -169,23 +211,25 @@ fn pack_words(
     sink.into_bytes()
 }
 
-/// The image of code: a header with the digest of the machine's text, and the instructions bit by
-/// bit. The code must be legal for the machine. It fails only where there is no memory.
+/// The image of code with data: a header with the digest of the machine's text, the data if any,
+/// and the instructions bit by bit. The code must be legal for the machine, and the data be within
+/// its data space. It fails only where there is no memory.
 pub fn write_image(
     alloc: Global,
-    code: &Code,
+    whole: &Whole,
     m: &Machine,
     digest: &[u8; 32],
 ) -> Result<Vec<u8>, AllocError>
-    requires { IsLegalCode m.now code.now }
-    ensures { IfOk result (λ v. Image m.now digest.now code.now v.items) }
+    requires legal { IsLegalCode m.now whole.now.code }
+    requires data { fits m.now.data_words whole.now.init ≡ true }
+    ensures { IfOk result (λ v. Image m.now digest.now whole.now v.items) }
 {
     // The sources and destinations of a bus are in order by the rules of a machine.
     let _control = &m.control;
     // What was taken so far is dropped by name, so that a way out is left with nothing.
     let layout = Layout::of(alloc, m)?;
     let width = layout.width;
-    let body = pack_words(alloc, &layout, m, code.words.as_slice());
+    let body = pack_words(alloc, &layout, m, whole.code.words.as_slice());
     drop(layout);
     let Ok(body) = body else {
         return Err(AllocError);
@@ -194,8 +238,9 @@ pub fn write_image(
     let written = push_parts(
         &mut bytes,
         width,
-        count_words(code, m),
+        count_words(&whole.code, m),
         digest,
+        whole.init.as_slice(),
         body.as_slice(),
     );
     drop(body);

@@ -1,15 +1,16 @@
 -- A cycle of what is held is a cycle of the state that it stands for.
-use Rattle.std.proofs.Common.{◌≡◌, ℕ, ◌<◌, ◌+◌, ◌==◌, true, false, IsTrue, List, ◌++◌, length, map, Option, Some, None, refl, sym, ap, ◌∙◌, subst, arith}
-use Rattle.std.specs.Prelude.{is_some, option_map, option_to_list, fold, if◌then◌else◌}
-use Rattle.std.specs.List.{filter_map, find, AllByRecursion}
+use Rattle.std.proofs.Common.{◌≡◌, ℕ, ◌<◌, ◌+◌, ◌==◌, true, false, IsTrue, List, ◌++◌, length, map, Option, Some, None, Bool, ◌&&◌, refl, sym, ap, ◌∙◌, subst, arith}
+use Rattle.std.specs.Prelude.{is_some, is_none, option_map, slice_get, slice_index, option_to_list, fold, if◌then◌else◌}
+use Rattle.std.specs.Option.{unwrap_or}
+use Rattle.std.specs.List.{filter_map, find, list_any, AllByRecursion}
 use Rattle.tta_ops.specs.Units.{Units}
-use Rattle.tta_machine.specs.Machine.{Machine}
-use Rattle.tta_machine.specs.Rules.{IsMachine}
-use Rattle.tta_machine.specs.Effects.{Kind, Jumps, Calls, Halts, KeptOperand, Written, Brought, Start, Reads, bring, write_of, start_of, first_some, control_of, store_data, store_frame, put_out}
+use Rattle.tta_arch.specs.Machine.{Machine}
+use Rattle.tta_arch.specs.Rules.{IsMachine}
+use Rattle.tta_arch.specs.Effects.{Kind, Jumps, Calls, Halts, KeptOperand, Written, Brought, Start, Reads, bring, write_of, start_of, first_some, control_of, store_data, store_frame, put_out, takes, take_in}
 use Rattle.tta_code.specs.declared.code.Instruction.{Instruction}
 use Rattle.tta_code.specs.Legal.{is_legal}
-use Rattle.tta_code.specs.Cycle.{Result', Pending as Underway, State, Running, Fault, read_source, effects_of, fault_of, result_of, pending_after, takes_effect, lands, acts, or_fault, carry_out}
-use Rattle.tta_sim.specs.declared.answer.CycleStep.TheVariants.{Ran, Fault as Faults}
+use Rattle.tta_code.specs.Cycle.{Result', Pending as Underway, State, Running, Waiting, Fault, read_source, effects_of, fault_of, result_of, pending_after, takes_effect, lands, acts, or_fault, or_wait, waits, carry_out}
+use Rattle.tta_sim.specs.declared.answer.CycleStep.TheVariants.{Ran, Waiting as Waits, Fault as Faults}
 use Rattle.tta_sim.specs.declared.arrivals.Arrival.{Arrival}
 use Rattle.tta_sim.specs.declared.control.Control.{Control}
 use Rattle.tta_sim.specs.declared.control.Pending.{Pending}
@@ -23,11 +24,13 @@ use Rattle.tta_sim.specs.Moves.{is_possible_slot, reads_of, arrivals_of, brought
 use Rattle.tta_sim.specs.Starts.{starts_of, is_fitting, operand_with, fault_in, begun, puts, told_in}
 use Rattle.tta_sim.specs.Writing.{long_writes}
 use Rattle.tta_sim.specs.Controls.{underway, outcome_of, controlled, pending_with}
+use Rattle.tta_list.specs.Input.{IsFed, left}
 use Rattle.tta_sim.specs.Held.{Stands, is_fault}
 use Rattle.tta_sim.specs.Kept.{held_of, IsCarried}
 use Rattle.tta_sim.proofs.Possible.{possible}
 use Rattle.tta_sim.proofs.Agreeing.{long_brought, brings_all}
-use Rattle.tta_sim.proofs.Starting.{reachable, outputs_apart, put_once, all_fitting}
+use Rattle.tta_sim.proofs.Starting.{reachable, outputs_apart, inputs_apart, put_once, all_fitting}
+use Rattle.tta_sim.proofs.Taking.{take_once, next_word}
 use Rattle.tta_sim.proofs.Wrote.{writes_all, starts_all}
 use Rattle.tta_sim.proofs.Faulting.{fault_same, told_all}
 
@@ -54,6 +57,14 @@ lands_runs s (Some p) running = elim (p.time == s.cycle) as (λ b. is_fault (if 
   takes Jumps = ap is_fault running
   takes Calls = ap is_fault running
   takes Halts = refl
+
+lands_rest : (s : State) (p : Option Underway) → (lands s p).rest ≡ s.rest
+lands_rest s None = refl
+lands_rest s (Some p) = elim (p.time == s.cycle) as (λ b. (if b then takes_effect s p else s).rest ≡ s.rest) [ true ↦ same p.kind | false ↦ refl ] where
+  same : (k : Kind) → (takes_effect s (record p { kind = k })).rest ≡ s.rest
+  same Jumps = refl
+  same Calls = refl
+  same Halts = refl
 
 -- ---- a cycle
 
@@ -110,7 +121,7 @@ module _ (u : Units) (m : Machine) (rules : IsMachine m) (i : Instruction) (lega
       → IsCarried (held_of lines store (record control { phase = phase.Fault number })) s (carry_out u m s (Some i)) (Faults number)
   carried_fault number faults =
       let next : carry_out u m s (Some i) ≡ record s { outcome = Fault number s.cycle } =
-      ap (λ o. or_fault s o (acts u m s bs ts written)) (sym fault_is ∙ faults) in
+      ap (λ o. or_fault s o (or_wait s (waits s ts) (acts u m s bs ts written))) (sym fault_is ∙ faults) in
       subst (λ after. IsCarried (held_of lines store (record control { phase = phase.Fault number })) s after (Faults number)) (sym next) (record {
         stands = record {
           places = same.places;
@@ -125,9 +136,22 @@ module _ (u : Units) (m : Machine) (rules : IsMachine m) (i : Instruction) (lega
         answers = refl;
       })
 
-  -- a cycle without a fault
+  -- a cycle that waits
+  pub carried_wait : (none : fault_in m store.places store.results (is_some control.pending) i.moves ≡ None)
+      (next : Option ℕ) → IsFed s.rest next → (list_any takes (starts_of m store.places arrivals) && is_none next) ≡ true
+      → IsCarried (held_of lines store control) s (carry_out u m s (Some i)) Waits
+  carried_wait none next fed must =
+      let waiting : waits s ts ≡ true = ap (λ xs. list_any takes xs && is_none (slice_get s.rest 0)) starting
+      ∙ ap (λ o. list_any takes (starts_of m store.places arrivals) && is_none o) fed ∙ must in
+      let after : carry_out u m s (Some i) ≡ record s { outcome = Waiting } =
+      ap (λ o. or_fault s o (or_wait s (waits s ts) (acts u m s bs ts written))) (sym fault_is ∙ none)
+      ∙ ap (λ b. or_wait s b (acts u m s bs ts written)) waiting in
+      record { stands = same; answers = after }
+
+  -- a cycle without a fault, which does not wait
   module _ (none : fault_in m store.places store.results (is_some control.pending) i.moves ≡ None) (running : control.phase ≡ phase.Running)
       (after : Store) (control' : Control) (arrivals' : List Arrival) (starts' : List Start) (word : Option ℕ) (told : Option (Kind × ℕ))
+      (next : Option ℕ) (took : Bool) (fed : IsFed s.rest next) (took_is : took ≡ list_any takes starts') (goes_on : (took && is_none next) ≡ false)
       (arrivals_are : arrivals' ≡ arrivals) (starts_are : starts' ≡ starts_of m store.places arrivals') where
     starts_ts : starts' ≡ ts
     starts_ts = starts_are ∙ ap (starts_of m store.places) arrivals_are ∙ sym starting
@@ -137,12 +161,13 @@ module _ (u : Units) (m : Machine) (rules : IsMachine m) (i : Instruction) (lega
     pending = pending_after m s (first_some control_of bs)
 
     -- the state after the cycle, before a control move whose time has come takes effect
-    abbrev next : State
-    next = record {
+    abbrev after_all : State
+    after_all = record {
       written = written;
       started = filter_map (result_of u s) ts ++ s.started;
       memory = fold store_data s.memory ts;
       frame = fold store_frame s.frame ts;
+      rest = fold take_in s.rest ts;
       output = fold put_out s.output ts;
       pc = s.pc + 1;
       cycle = s.cycle + 1;
@@ -150,13 +175,17 @@ module _ (u : Units) (m : Machine) (rules : IsMachine m) (i : Instruction) (lega
       outcome = Running;
     }
 
-    acted : carry_out u m s (Some i) ≡ lands next pending
-    acted = ap (λ o. or_fault s o (acts u m s bs ts written)) (sym fault_is ∙ none)
+    acted : carry_out u m s (Some i) ≡ lands after_all pending
+    acted =
+        let on : waits s ts ≡ false = ap (λ o. list_any takes ts && is_none o) fed ∙ ap (λ xs. list_any takes xs && is_none next) (sym starts_ts)
+        ∙ ap (λ b. b && is_none next) (sym took_is) ∙ goes_on in
+        ap (λ o. or_fault s o (or_wait s (waits s ts) (acts u m s bs ts written))) (sym fault_is ∙ none)
+        ∙ ap (λ b. or_wait s b (acts u m s bs ts written)) on
 
     pub carried : ((ws : Written) → HasWritten store.places ws
         → HasWritten after.places (filter_map (write_of m (control.pc + 1 + m.control.delay)) (map brought_of arrivals') ++ (long_writes m i.long ++ ws)))
         → ((started : List Result') → AreResultsOf started store.results
-        → AreResultsOf (filter_map (begun u store.results.cycle store.memory.items store.frame.items) starts' ++ started) after.results)
+        → AreResultsOf (filter_map (begun u store.results.cycle store.memory.items store.frame.items (unwrap_or next 0)) starts' ++ started) after.results)
         → after.results.cycle ≡ store.results.cycle + 1
         → after.memory.items ≡ fold store_data store.memory.items starts'
         → after.frame.items ≡ fold store_frame store.frame.items starts'
@@ -165,7 +194,7 @@ module _ (u : Units) (m : Machine) (rules : IsMachine m) (i : Instruction) (lega
         → ((t : State) → t.cycle ≡ after.results.cycle
         → let p = pending_with after.results.cycle m.control.delay (option_map underway control.pending) told in
         controlled t control' ≡ lands (record t { pc = control.pc + 1; pending = p; outcome = outcome_of after.results.cycle control.phase }) p)
-        → IsCarried (held_of lines after control') s (carry_out u m s (Some i)) (Ran word)
+        → IsCarried (held_of lines after control') s (carry_out u m s (Some i)) (Ran word took)
     carried has_written have_results cycle memory frame puts_it tells advances =
         let now : after.results.cycle ≡ s.cycle + 1 = cycle ∙ ap (λ n. n + 1) same.cycle in
         let p = pending_with after.results.cycle m.control.delay (option_map underway control.pending) told in
@@ -173,30 +202,37 @@ module _ (u : Units) (m : Machine) (rules : IsMachine m) (i : Instruction) (lega
         tells ∙ ap told_in arrivals_are ∙ sym (told_all m (map brought_of arrivals) i.long) ∙ ap (first_some control_of) (sym brought) in
         let p_is : p ≡ pending = pending_same m s after.results.cycle (option_map underway control.pending) told (first_some control_of bs) now same.pending tells_all in
         let pc : control.pc ≡ s.pc = same.pc in
-        let goes : State = record next { pc = control.pc + 1; pending = p; outcome = outcome_of after.results.cycle control.phase } in
-        let goes_is : goes ≡ next =
-        ap {A = ℕ} (λ n. record next { pc = n + 1; pending = p; outcome = outcome_of after.results.cycle control.phase }) pc
-        ∙ ap {A = Option Underway} (λ o. record next { pending = o; outcome = outcome_of after.results.cycle control.phase }) p_is
-        ∙ ap {A = Phase} (λ f. record next { outcome = outcome_of after.results.cycle f }) running in
-        let lands_is : lands next pending ≡ controlled next control' =
-        sym (ap (λ o. lands next o) p_is) ∙ sym (ap (λ t. lands t p) goes_is) ∙ sym (advances next (sym now)) in
-        let total : carry_out u m s (Some i) ≡ controlled next control' = acted ∙ lands_is in
+        let goes : State = record after_all { pc = control.pc + 1; pending = p; outcome = outcome_of after.results.cycle control.phase } in
+        let goes_is : goes ≡ after_all =
+        ap {A = ℕ} (λ n. record after_all { pc = n + 1; pending = p; outcome = outcome_of after.results.cycle control.phase }) pc
+        ∙ ap {A = Option Underway} (λ o. record after_all { pending = o; outcome = outcome_of after.results.cycle control.phase }) p_is
+        ∙ ap {A = Phase} (λ f. record after_all { outcome = outcome_of after.results.cycle f }) running in
+        let lands_is : lands after_all pending ≡ controlled after_all control' =
+        sym (ap (λ o. lands after_all o) p_is) ∙ sym (ap (λ t. lands t p) goes_is) ∙ sym (advances after_all (sym now)) in
+        let total : carry_out u m s (Some i) ≡ controlled after_all control' = acted ∙ lands_is in
         let writes : filter_map (write_of m (control.pc + 1 + m.control.delay)) (map brought_of arrivals') ++ (long_writes m i.long ++ s.written) ≡ written =
         ap (λ n. filter_map (write_of m (n + 1 + m.control.delay)) (map brought_of arrivals') ++ (long_writes m i.long ++ s.written)) pc
         ∙ ap (λ list. filter_map (write_of m back) (map brought_of list) ++ (long_writes m i.long ++ s.written)) arrivals_are
         ∙ sym (writes_all m back (map brought_of arrivals) i.long s.written) ∙ ap (λ b. filter_map (write_of m back) b ++ s.written) (sym brought) in
-        let begins : filter_map (begun u store.results.cycle store.memory.items store.frame.items) starts' ≡ filter_map (result_of u s) ts =
-        ap (λ n. filter_map (begun u n store.memory.items store.frame.items) starts') same.cycle
-        ∙ ap (λ w. filter_map (begun u s.cycle w store.frame.items) starts') same.memory
-        ∙ ap (λ w. filter_map (begun u s.cycle s.memory w) starts') same.frame
+        let begins : filter_map (begun u store.results.cycle store.memory.items store.frame.items (unwrap_or next 0)) starts' ≡ filter_map (result_of u s) ts =
+        ap (λ n. filter_map (begun u n store.memory.items store.frame.items (unwrap_or next 0)) starts') same.cycle
+        ∙ ap (λ w. filter_map (begun u s.cycle w store.frame.items (unwrap_or next 0)) starts') same.memory
+        ∙ ap (λ w. filter_map (begun u s.cycle s.memory w (unwrap_or next 0)) starts') same.frame
+        ∙ ap (λ n. filter_map (begun u s.cycle s.memory s.frame n) starts') (next_word s.rest next fed)
         ∙ ap (filter_map (result_of u s)) starts_ts in
         let output : fold put_out s.output ts ≡ s.output ++ option_to_list word =
         ap (fold put_out s.output) starting
         ∙ put_once s.output (starts_of m store.places arrivals) (outputs_apart m rules i legal reads (operand_with store.places arrivals))
         ∙ ap (λ list. s.output ++ option_to_list (option_map (λ t. t.word) (find puts list))) (sym starting ∙ sym starts_ts)
         ∙ ap (λ o. s.output ++ option_to_list o) (sym puts_it) in
-        let runs : is_fault (controlled next control').outcome ≡ false = ap (λ t. is_fault t.outcome) (sym lands_is) ∙ lands_runs next pending refl in
-        subst (λ t. IsCarried (held_of lines after control') s t (Ran word)) (sym total) (record {
+        let rest : fold take_in s.rest ts ≡ left took s.rest =
+        ap (fold take_in s.rest) starting
+        ∙ take_once s.rest (starts_of m store.places arrivals) (inputs_apart m rules i legal reads (operand_with store.places arrivals))
+        ∙ ap (λ list. left (list_any takes list) s.rest) (sym starting ∙ sym starts_ts)
+        ∙ ap (λ b. left b s.rest) (sym took_is) in
+        let kept : (controlled after_all control').rest ≡ fold take_in s.rest ts = ap (λ t. t.rest) (sym lands_is) ∙ lands_rest after_all pending in
+        let runs : is_fault (controlled after_all control').outcome ≡ false = ap (λ t. is_fault t.outcome) (sym lands_is) ∙ lands_runs after_all pending refl in
+        subst (λ t. IsCarried (held_of lines after control') s t (Ran word took)) (sym total) (record {
           stands = record {
             places = subst (HasWritten after.places) writes (has_written s.written same.places);
             results = subst (λ list. AreResultsOf (list ++ s.started) after.results) begins (have_results s.started same.results);
@@ -207,7 +243,7 @@ module _ (u : Units) (m : Machine) (rules : IsMachine m) (i : Instruction) (lega
             pending = refl;
             outcome = ap (λ n. outcome_of n control'.phase) now;
           };
-          answers = (runs, output);
+          answers = (runs, output, kept ∙ rest);
         })
 
     -- the same, where the numbers come by other names
@@ -215,7 +251,7 @@ module _ (u : Units) (m : Machine) (rules : IsMachine m) (i : Instruction) (lega
         → ((ws : Written) → HasWritten store.places ws
         → HasWritten after.places (filter_map (write_of m back') (map brought_of arrivals') ++ (long_writes m i.long ++ ws)))
         → ((started : List Result') → AreResultsOf started store.results
-        → AreResultsOf (filter_map (begun u store.results.cycle store.memory.items store.frame.items) starts' ++ started) after.results)
+        → AreResultsOf (filter_map (begun u store.results.cycle store.memory.items store.frame.items (unwrap_or next 0)) starts' ++ started) after.results)
         → after.results.cycle ≡ store.results.cycle + 1
         → after.memory.items ≡ fold store_data store.memory.items starts'
         → after.frame.items ≡ fold store_frame store.frame.items starts'
@@ -224,7 +260,7 @@ module _ (u : Units) (m : Machine) (rules : IsMachine m) (i : Instruction) (lega
         → ((t : State) → t.cycle ≡ now
         → let p = pending_with now delay (option_map underway control.pending) told in
         controlled t control' ≡ lands (record t { pc = control.pc + 1; pending = p; outcome = outcome_of now control.phase }) p)
-        → IsCarried (held_of lines after control') s (carry_out u m s (Some i)) (Ran word)
+        → IsCarried (held_of lines after control') s (carry_out u m s (Some i)) (Ran word took)
     carried_at back' delay now back_is delay_is now_is has_written have_results cycle memory frame puts_it tells advances =
         let address : back' ≡ control.pc + 1 + m.control.delay = back_is ∙ ap (λ n. control.pc + 1 + n) delay_is in
         carried

@@ -5,7 +5,7 @@ use Rattle.std.specs.List.{filter_map, list_any}
 use Rattle.std.proofs.lemmas.List.{take_more, map-append, length-take-le}
 use Rattle.std.proofs.lemmas.List.Elements.{filter_map-append}
 use Rattle.std.proofs.lemmas.List.Folds.{list_any-append}
-use Rattle.tta_machine.specs.Effects.{Reads, Effect, is_port, has_unset}
+use Rattle.tta_arch.specs.Effects.{Reads, Effect, is_port, has_unset}
 use Rattle.tta_code.specs.declared.code.Move.{Move}
 use Rattle.tta_code.specs.Cycle.{effect_of, first_fault}
 use Rattle.tta_sim.specs.declared.arrivals.Arrival.{Arrival}

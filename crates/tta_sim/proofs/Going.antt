@@ -3,17 +3,17 @@ use Rattle.std.proofs.Common.{◌≡◌, ℕ, zero, suc, ◌+◌, ◌≤◌, get
 use Rattle.std.specs.Prelude.{slice_get}
 use Rattle.std.specs.List.{AllByRecursion}
 use Rattle.tta_ops.specs.Units.{Units}
-use Rattle.tta_machine.specs.Machine.{Machine}
-use Rattle.tta_machine.specs.Rules.{IsMachine}
-use Rattle.tta_machine.proofs.Facts.{address_most}
-use Rattle.tta_machine.proofs.Widths.{pow_le}
+use Rattle.tta_arch.specs.Machine.{Machine}
+use Rattle.tta_arch.specs.Rules.{IsMachine}
+use Rattle.tta_arch.proofs.Facts.{address_most}
+use Rattle.tta_arch.proofs.Widths.{pow_le}
 use Rattle.std.proofs.lemmas.List.{length-replicate}
 use Rattle.tta_code.specs.declared.code.Instruction.{Instruction}
 use Rattle.tta_code.specs.declared.code.Code.{Code}
 use Rattle.tta_code.specs.Legal.{is_legal, IsLegalCode}
-use Rattle.tta_code.specs.Cycle.{Result', State, Running, Halted, Fault, next, start, carry_out}
+use Rattle.tta_code.specs.Cycle.{Result', State, Running, Halted, Waiting, Fault, next, start, carry_out}
 use Rattle.tta_sim.specs.declared.answer.CycleStep.{CycleStep}
-use Rattle.tta_sim.specs.declared.answer.CycleStep.TheVariants.{Ran, Halted as HadHalted, Fault as Faults}
+use Rattle.tta_sim.specs.declared.answer.CycleStep.TheVariants.{Ran, Halted as HadHalted, Waiting as Waits, Fault as Faults}
 use Rattle.tta_sim.specs.declared.control.Control.{Control}
 use Rattle.tta_sim.specs.declared.control.Phase.TheVariants as phase
 use Rattle.tta_sim.specs.declared.decoded.Line.{Line}
@@ -21,7 +21,7 @@ use Rattle.tta_sim.specs.declared.store.Store.{Store}
 use Rattle.tta_sim.specs.Decoded.{line_of, lines_from}
 use Rattle.tta_sim.specs.Places.{HasWritten}
 use Rattle.tta_sim.specs.Results.{AreResultsOf}
-use Rattle.tta_sim.specs.Held.{Held, Stands, IsAnswer, IsRunOf, is_fault}
+use Rattle.tta_sim.specs.Held.{Held, Stands, GoesTo, IsAnswer, IsRunOf, is_fault}
 use Rattle.tta_sim.specs.Controls.{outcome_of}
 use Rattle.tta_sim.specs.Kept.{held_of, IsCarried}
 use Rattle.tta_sim.proofs.Rows.{nothing_at}
@@ -85,14 +85,15 @@ module _ (u : Units) (m : Machine) (code : Code) (lines : List Line) (store : St
   past_answer none = ap (λ t. t.outcome) (past none)
 
   pub goes_stands : (i : Instruction) (h : Held) (answer : CycleStep) → slice_get code.words control.pc ≡ Some i
-      → IsCarried h s (carry_out u m s (Some i)) answer → Stands h (next u m code s)
-  goes_stands i h answer at carried = subst (Stands h) (sym (next_is (Some i) at)) carried.stands
+      → IsCarried h s (carry_out u m s (Some i)) answer → GoesTo h s (next u m code s) answer
+  goes_stands i h answer at carried = subst (λ t. GoesTo h s t answer) (sym (next_is (Some i) at)) carried.stands
 
   pub goes_answer : (i : Instruction) (h : Held) (answer : CycleStep) → slice_get code.words control.pc ≡ Some i
       → IsCarried h s (carry_out u m s (Some i)) answer → IsAnswer u m code s answer
-  goes_answer i h (Ran word) at carried =
+  goes_answer i h (Ran word took) at carried =
       let is = next_is (Some i) at in
-      (runs, (ap (λ t. is_fault t.outcome) is ∙ carried.answers.0, ap (λ t. t.output) is ∙ carried.answers.1))
+      (runs, (ap (λ t. is_fault t.outcome) is ∙ carried.answers.0, ap (λ t. t.output) is ∙ carried.answers.1, ap (λ t. t.rest) is ∙ carried.answers.2))
+  goes_answer i h Waits at carried = (runs, next_is (Some i) at ∙ carried.answers)
   goes_answer i h HadHalted at carried = absurd carried.answers
   goes_answer i h (Faults number) at carried = ap (λ t. t.outcome) (next_is (Some i) at) ∙ carried.answers
 
@@ -123,11 +124,11 @@ all_reached m code rules legal =
 
 -- ---- the start
 
-pub first_stands : (m : Machine) (memory : List ℕ) (lines : List Line) (store : Store) (control : Control) (units : ℕ) → HasWritten store.places []
+pub first_stands : (m : Machine) (memory input : List ℕ) (lines : List Line) (store : Store) (control : Control) (units : ℕ) → HasWritten store.places []
     → store.results ≡ record { cycle = 0; shown = replicate units None; coming = [] }
     → store.memory.items ≡ memory → store.frame.items ≡ replicate m.frame_words 0
-    → control ≡ record { pc = 0; pending = None; phase = phase.Running } → Stands (held_of lines store control) (start m memory)
-first_stands m memory lines store control units written results words frame first = rw first (record {
+    → control ≡ record { pc = 0; pending = None; phase = phase.Running } → Stands (held_of lines store control) (start m memory input)
+first_stands m memory input lines store control units written results words frame first = rw first (record {
   places = written;
   results = subst (AreResultsOf []) (sym results) (record { shown = λ unit there. sym (nothing_at units unit); coming = λ unit due less. refl });
   memory = words;

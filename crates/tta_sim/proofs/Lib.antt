@@ -20,3 +20,4 @@ pub mod Facing
 pub mod Brought
 pub mod Readying
 pub mod Going
+pub mod Taking

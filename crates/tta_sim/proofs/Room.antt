@@ -7,7 +7,7 @@ use Rattle.std.proofs.lemmas.List.Folds.{list_any-append}
 use Rattle.std.proofs.lemmas.Map.Keys.{IsDistinct-cons}
 use Rattle.std.proofs.lemmas.Map.Steps.{length-le_from_distinct_below}
 use Rattle.tta_list.proofs.Lists.{all_append}
-use Rattle.tta_machine.specs.Rules.{are_different}
+use Rattle.tta_arch.specs.Rules.{are_different}
 use Rattle.tta_code.specs.Cycle.{Result'}
 use Rattle.tta_sim.specs.Results.{Results, HaveRoom, is_due, due_at, meet}
 

@@ -6,7 +6,7 @@ use Rattle.std.specs.List.{AllByRecursion, list_any}
 use Rattle.std.proofs.lemmas.List.{get_or-set_same, get_or-set_other, get_or_read, length-set}
 use Rattle.std.proofs.lemmas.List.Folds.{find-append}
 use Rattle.std.proofs.lemmas.List.Sums.{fold-append}
-use Rattle.tta_machine.specs.Rules.{are_different}
+use Rattle.tta_arch.specs.Rules.{are_different}
 use Rattle.tta_code.specs.Cycle.{Result', later}
 use Rattle.tta_sim.specs.Results.{Results, AreResultsOf, latest, is_due, due_at, shown_first, meet}
 use Rattle.tta_sim.specs.Landing.{shows}

@@ -7,16 +7,16 @@ use Rattle.std.proofs.lemmas.Bool.{and_parts, and_from, or_parts, or_from, not-t
 use Rattle.std.proofs.lemmas.Option.{slice_get_within}
 use Rattle.std.proofs.lemmas.List.{append-nil}
 use Rattle.tta_list.proofs.Lists.{list_all_one}
-use Rattle.tta_machine.specs.declared.parts.Unit.{Unit as OpUnit}
-use Rattle.tta_machine.specs.declared.parts.UnitOp.{UnitOp}
-use Rattle.tta_machine.specs.declared.parts.Op.{Op}
-use Rattle.tta_machine.specs.declared.parts.Op.TheVariants.{Ldw, Stw, Ldf, Stf, Out, Set}
-use Rattle.tta_machine.specs.declared.ends.Dest.{Dest}
-use Rattle.tta_machine.specs.declared.ends.Dest.TheVariants as dest
-use Rattle.tta_machine.specs.Machine.{Machine}
-use Rattle.tta_machine.specs.Legal.{are_apart, same_place, ends_of as ends_in}
-use Rattle.tta_machine.specs.Rules.{IsMachine, is_unit, is_unit_op, fits_kind, same_op, are_different}
-use Rattle.tta_machine.specs.Effects.{Start, Reads, has_result, put_out, moved}
+use Rattle.tta_arch.specs.declared.parts.Unit.{Unit as OpUnit}
+use Rattle.tta_arch.specs.declared.parts.UnitOp.{UnitOp}
+use Rattle.tta_arch.specs.declared.parts.Op.{Op}
+use Rattle.tta_arch.specs.declared.parts.Op.TheVariants.{Ldw, Stw, Ldf, Stf, Out, Take, Set}
+use Rattle.tta_arch.specs.declared.ends.Dest.{Dest}
+use Rattle.tta_arch.specs.declared.ends.Dest.TheVariants as dest
+use Rattle.tta_arch.specs.Machine.{Machine}
+use Rattle.tta_arch.specs.Legal.{are_apart, same_place, ends_of as ends_in}
+use Rattle.tta_arch.specs.Rules.{IsMachine, is_unit, is_unit_op, fits_kind, same_op, is_stream_op, are_different}
+use Rattle.tta_arch.specs.Effects.{Start, Reads, has_result, put_out, moved, takes, takes_in}
 use Rattle.tta_code.specs.declared.code.Move.{Move}
 use Rattle.tta_code.specs.declared.code.Instruction.{Instruction}
 use Rattle.tta_code.specs.Cycle.{effect_of}
@@ -156,6 +156,7 @@ module _ (m : Machine) (rules : IsMachine m) where
       by_kind Ldf kind = grind arith
       by_kind Stf kind = refl
       by_kind Out kind = refl
+      by_kind Take kind = grind arith
       by_kind (Set id) kind = grind arith
 
   pub all_fitting : (operand : ℕ → Option ℕ) (arrivals : List Arrival) → AllByRecursion (λ t. IsTrue (is_fitting (length m.units) t)) (filter_map (start_by m operand) arrivals)
@@ -233,29 +234,49 @@ any_there p [] k x at is = cc
 any_there p (y ∷ ys) zero x at is = let here : p y ≡ true = ap (λ o. option_map_or p o false) at ∙ is in rw here refl
 any_there p (y ∷ ys) (suc k) x at is = let rest = any_there p ys k x at is in grind (arith, rest)
 
--- two operations that put out are of one unit
-put_by_one : (m : Machine) → IsMachine m → (operand : ℕ → Option ℕ) (a b : Arrival) (p q : Start) → start_by m operand a ≡ Some p → start_by m operand b ≡ Some q
-    → meet_arrivals a b ≡ false → (puts p && puts q) ≡ false
-put_by_one m rules operand a b p q is it differ =
-    elim (puts p && puts q) as (λ both. (puts p && puts q) ≡ both → both ≡ false) [
+-- two operations of a kind that belongs to the streams are of one unit
+stream_by_one : (m : Machine) → IsMachine m → (kind : Op → Bool) → ((o : Op) → kind o ≡ true → is_stream_op o ≡ true) → (operand : ℕ → Option ℕ) (a b : Arrival) (p q : Start)
+    → start_by m operand a ≡ Some p → start_by m operand b ≡ Some q
+    → meet_arrivals a b ≡ false → (kind p.does.op && kind q.does.op) ≡ false
+stream_by_one m rules kind of operand a b p q is it differ =
+    elim (kind p.does.op && kind q.does.op) as (λ both. (kind p.does.op && kind q.does.op) ≡ both → both ≡ false) [
       | true ↦ λ both.
-          let each = and_parts (puts p) (puts q) both in
+          let each = and_parts (kind p.does.op) (kind q.does.op) both in
           let one = is_started m operand a p is in
           let two = is_started m operand b q it in
-          let first = any_there (λ o. same_op o.op Out) one.unit.ops one.op p.does one.does each.0 in
-          let second = any_there (λ o. same_op o.op Out) two.unit.ops two.op q.does two.does each.1 in
-          let few : length (filter (λ u. list_any (λ o. same_op o.op Out) u.ops) m.units) ≤ 1 = grind (arith, rules.one_output) in
-          let same : p.unit ≡ q.unit = one_owner (λ u. list_any (λ o. same_op o.op Out) u.ops) m.units p.unit q.unit one.unit two.unit few one.at first two.at second in
+          let first = any_there (λ o. is_stream_op o.op) one.unit.ops one.op p.does one.does (of p.does.op each.0) in
+          let second = any_there (λ o. is_stream_op o.op) two.unit.ops two.op q.does two.does (of q.does.op each.1) in
+          let few : length (filter (λ u. list_any (λ o. is_stream_op o.op) u.ops) m.units) ≤ 1 = grind (arith, rules.one_stream) in
+          let same : p.unit ≡ q.unit = one_owner (λ u. list_any (λ o. is_stream_op o.op) u.ops) m.units p.unit q.unit one.unit two.unit few one.at first two.at second in
           let apart : (p.unit == q.unit) ≡ false = sym (ap (λ d. same_place d (dest.Trigger q.unit two.op)) one.dst) ∙ sym (ap (same_place a.dst) two.dst) ∙ differ in
           grind (arith, same, apart)
       | false ↦ λ both. refl
     ] refl
 
+puts_stream : (o : Op) → same_op o Out ≡ true → is_stream_op o ≡ true
+puts_stream o is = ap (λ b. b || same_op o Take) is
+
+takes_stream : (o : Op) → takes_in o ≡ true → is_stream_op o ≡ true
+takes_stream Ldw is = cc
+takes_stream Stw is = cc
+takes_stream Ldf is = cc
+takes_stream Stf is = cc
+takes_stream Out is = cc
+takes_stream Take is = refl
+takes_stream (Set id) is = cc
+
 -- at most one of the operations puts out
 pub outputs_apart : (m : Machine) → IsMachine m → (i : Instruction) → is_legal m i ≡ true → (reads : Reads) (operand : ℕ → Option ℕ)
     → are_different (λ p q. puts p && puts q) (filter_map (start_by m operand) (arrivals_of reads i.moves)) ≡ true
 outputs_apart m rules i legal reads operand =
-    apart_filter_map meet_arrivals (λ p q. puts p && puts q) (start_by m operand) (put_by_one m rules operand)
+    apart_filter_map meet_arrivals (λ p q. puts p && puts q) (start_by m operand) (stream_by_one m rules (λ o. same_op o Out) puts_stream operand)
+    (arrivals_of reads i.moves) (arrivals_apart reads i.moves (legal_parts m i legal).apart)
+
+-- and at most one takes a word of the input
+pub inputs_apart : (m : Machine) → IsMachine m → (i : Instruction) → is_legal m i ≡ true → (reads : Reads) (operand : ℕ → Option ℕ)
+    → are_different (λ p q. takes p && takes q) (filter_map (start_by m operand) (arrivals_of reads i.moves)) ≡ true
+inputs_apart m rules i legal reads operand =
+    apart_filter_map meet_arrivals (λ p q. takes p && takes q) (start_by m operand) (stream_by_one m rules takes_in takes_stream operand)
     (arrivals_of reads i.moves) (arrivals_apart reads i.moves (legal_parts m i legal).apart)
 
 puts_word : (output : List ℕ) (t : Start) → puts t ≡ true → put_out output t ≡ output ++ t.word ∷ []
@@ -266,6 +287,7 @@ puts_word output t = by t.does.op where
   by Ldf is = cc
   by Stf is = cc
   by Out is = refl
+  by Take is = cc
   by (Set id) is = cc
 
 puts_nothing : (output : List ℕ) (t : Start) → puts t ≡ false → put_out output t ≡ output
@@ -276,6 +298,7 @@ puts_nothing output t = by t.does.op where
   by Ldf is = refl
   by Stf is = refl
   by Out is = cc
+  by Take is = refl
   by (Set id) is = refl
 
 put_no_more : (t : Start) (output : List ℕ) (starts : List Start) → puts t ≡ true → list_any (λ q. puts t && puts q) starts ≡ false → fold put_out output starts ≡ output

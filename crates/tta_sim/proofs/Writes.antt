@@ -3,9 +3,9 @@ use Rattle.std.proofs.Common.{◌≡◌, ◌<◌, ◌≤◌, ◌+◌, ◌-◌, �
 use Rattle.std.specs.Prelude.{not, if◌then◌else◌, filter, fold}
 use Rattle.std.specs.List.{find}
 use Rattle.std.proofs.lemmas.List.{drop_more, length-set}
-use Rattle.tta_machine.specs.declared.parts.Op.{Op}
-use Rattle.tta_machine.specs.declared.parts.Op.TheVariants.{Ldw, Stw, Ldf, Stf, Out, Set}
-use Rattle.tta_machine.specs.Effects.{Place, KeptRa, Written, Start, operand_word, store_data, store_frame, has_result}
+use Rattle.tta_arch.specs.declared.parts.Op.{Op}
+use Rattle.tta_arch.specs.declared.parts.Op.TheVariants.{Ldw, Stw, Ldf, Stf, Out, Take, Set}
+use Rattle.tta_arch.specs.Effects.{Place, KeptRa, Written, Start, operand_word, store_data, store_frame, has_result}
 use Rattle.tta_sim.specs.declared.lines.Write.{Write}
 use Rattle.tta_sim.specs.Places.{HasWritten, is_place, number_of}
 use Rattle.tta_sim.specs.Starts.{is_resultless, puts}
@@ -21,6 +21,7 @@ length-store_data words t = by t.does.op where
   by Ldf = refl
   by Stf = refl
   by Out = refl
+  by Take = refl
   by (Set id) = refl
 
 length-store_frame : (words : List ℕ) (t : Start) → length (store_frame words t) ≡ length words
@@ -31,6 +32,7 @@ length-store_frame words t = by t.does.op where
   by Ldf = refl
   by Stf = length-set words (operand_word t) t.word
   by Out = refl
+  by Take = refl
   by (Set id) = refl
 
 -- stores leave a space as large as it was
@@ -52,6 +54,7 @@ kept_data words t shows = by t.does.op shows where
   by Ldf shows = refl
   by Stf shows = refl
   by Out shows = refl
+  by Take shows = refl
   by (Set id) shows = refl
 
 kept_frame : (words : List ℕ) (t : Start) → is_resultless t ≡ false → store_frame words t ≡ words
@@ -62,6 +65,7 @@ kept_frame words t shows = by t.does.op shows where
   by Ldf shows = refl
   by Stf shows = cc
   by Out shows = refl
+  by Take shows = refl
   by (Set id) shows = refl
 
 kept_in : (t : Start) → is_resultless t ≡ false → puts t ≡ false
@@ -72,6 +76,7 @@ kept_in t shows = by t.does.op shows where
   by Ldf shows = refl
   by Stf shows = refl
   by Out shows = cc
+  by Take shows = refl
   by (Set id) shows = refl
 
 -- ---- writes by number

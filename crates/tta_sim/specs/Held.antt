@@ -1,12 +1,13 @@
 -- What a simulator holds, and which state it stands for.
-use Rattle.std.specs.Prelude.{◌≡◌, ℕ, ◌+◌, ◌≤◌, Bool, true, false, List, ◌++◌, length, Option, None, Some, option_to_list}
+use Rattle.std.specs.Prelude.{◌≡◌, ℕ, ◌+◌, ◌≤◌, Bool, true, false, List, ◌++◌, length, drop, if◌then◌else◌, slice_get, Option, None, Some, option_to_list}
+use Rattle.tta_list.specs.Input.{left}
 use Rattle.tta_ops.specs.Units.{Units}
-use Rattle.tta_machine.specs.Machine.{Machine}
+use Rattle.tta_arch.specs.Machine.{Machine}
 use Rattle.tta_code.specs.declared.code.Code.{Code}
 use Rattle.tta_code.specs.Legal.{IsLegalCode}
-use Rattle.tta_code.specs.Cycle.{Result', Pending, Outcome, Running, Halted, Fault, State, next}
+use Rattle.tta_code.specs.Cycle.{Result', Pending, Outcome, Running, Halted, Waiting, Fault, State, next}
 use Rattle.tta_sim.specs.declared.answer.CycleStep.{CycleStep}
-use Rattle.tta_sim.specs.declared.answer.CycleStep.TheVariants.{Ran, Halted as HadHalted, Fault as Faults}
+use Rattle.tta_sim.specs.declared.answer.CycleStep.TheVariants.{Ran, Halted as HadHalted, Waiting as Waits, Fault as Faults}
 use Rattle.tta_sim.specs.declared.decoded.Line.{Line}
 use Rattle.tta_sim.specs.declared.told.Ending.{Ending}
 use Rattle.tta_sim.specs.declared.told.Ending.TheVariants as ending
@@ -16,7 +17,7 @@ use Rattle.tta_sim.specs.Results.{Results, AreResultsOf}
 
 -- The code, decoded; the words of registers and operand ports in a row; what each unit's result port shows, and the results due later; the
 -- spaces; the address of the next instruction, how many cycles were made, the control move under way, and how the run
--- stands. What was put out, and every result that no port can show any more, is not held.
+-- stands. The input, what was put out, and every result that no port can show any more, is not held.
 pub record Held : Type 0 where
   pub lines : List Line
   pub places : List (Option ℕ)
@@ -33,7 +34,8 @@ pub record Held : Type 0 where
 abbrev pub results_held : Held → Results
 results_held h = record { cycle = h.cycle; shown = h.shown; coming = h.coming }
 
--- A simulator stands for each state that agrees with all that it holds.
+-- A simulator stands for each state that agrees with all that it holds. So it stands for none that waits, since it holds
+-- no input: one that waits goes on where there is a word.
 pub record Stands (h : Held) (s : State) : Type 0 where
   pub places : HasWritten h.places s.written
   pub results : AreResultsOf s.started (results_held h)
@@ -48,32 +50,45 @@ pub record Stands (h : Held) (s : State) : Type 0 where
 abbrev pub is_fault : Outcome → Bool
 is_fault Running = false
 is_fault Halted = false
+is_fault Waiting = false
 is_fault (Fault number at) = true
 
+-- What a simulator stands for after a cycle that took a state to the next: the next, and where the cycle waits the same.
+abbrev pub GoesTo : Held → (s next : State) → CycleStep → Type 0
+GoesTo h s next Waits = Stands h s
+GoesTo h s next answer = Stands h next
+
 -- The answer of a cycle from a state: Halted where the state has halted; the fault that the next state is at, now or since
--- earlier; and else the word that the cycle puts out, if any.
+-- earlier; Waiting where the cycle makes it wait; and else the word that the cycle puts out, if any, and whether it takes a
+-- word of the input.
 abbrev pub IsAnswer : Units → Machine → Code → State → CycleStep → Type 0
-IsAnswer u m code s (Ran word) =
-    (s.outcome ≡ Running) × ((is_fault (next u m code s).outcome ≡ false) × ((next u m code s).output ≡ s.output ++ option_to_list word))
+IsAnswer u m code s (Ran word took) =
+    (s.outcome ≡ Running) × ((is_fault (next u m code s).outcome ≡ false)
+    × ((next u m code s).output ≡ s.output ++ option_to_list word)
+    × ((next u m code s).rest ≡ left took s.rest))
 IsAnswer u m code s HadHalted = s.outcome ≡ Halted
+IsAnswer u m code s Waits = (s.outcome ≡ Running) × (next u m code s ≡ record s { outcome = Waiting })
 IsAnswer u m code s (Faults number) = (next u m code s).outcome ≡ Fault number s.cycle
 
 -- the cycles that an answer stands for: one where it was carried out
 abbrev pub cycles_of : CycleStep → ℕ
-cycles_of (Ran word) = 1
+cycles_of (Ran word took) = 1
 cycles_of HadHalted = 0
+cycles_of Waits = 0
 cycles_of (Faults number) = 0
 
 -- whether a run has halted
 abbrev pub is_halted : Outcome → Bool
 is_halted Running = false
 is_halted Halted = true
+is_halted Waiting = false
 is_halted (Fault number at) = false
 
 -- the number of the fault that a run is at, if it is
 abbrev pub fault_number : Outcome → Option ℕ
 fault_number Running = None
 fault_number Halted = None
+fault_number Waiting = None
 fault_number (Fault number at) = Some number
 
 -- the outcome that is told

@@ -1,12 +1,13 @@
 -- How a run is kept, and what a cycle of it comes to.
 use Rattle.std.specs.Prelude.{◌≡◌, ◌++◌, List, false, option_map, option_to_list}
-use Rattle.tta_code.specs.Cycle.{State, Fault}
+use Rattle.tta_code.specs.Cycle.{State, Waiting, Fault}
 use Rattle.tta_sim.specs.declared.answer.CycleStep.{CycleStep}
-use Rattle.tta_sim.specs.declared.answer.CycleStep.TheVariants.{Ran, Halted as HadHalted, Fault as Faults}
+use Rattle.tta_sim.specs.declared.answer.CycleStep.TheVariants.{Ran, Halted as HadHalted, Waiting as Waits, Fault as Faults}
 use Rattle.tta_sim.specs.declared.decoded.Line.{Line}
 use Rattle.tta_sim.specs.declared.store.Store.{Store}
 use Rattle.tta_sim.specs.declared.control.Control.{Control}
-use Rattle.tta_sim.specs.Held.{Held, Stands, is_fault}
+use Rattle.tta_list.specs.Input.{left}
+use Rattle.tta_sim.specs.Held.{Held, GoesTo, is_fault}
 use Rattle.tta_sim.specs.Controls.{underway, outcome_of}
 
 -- what is held where these are kept
@@ -26,11 +27,13 @@ held_of lines store control = record {
 
 -- the answer of a cycle that took a state to the next
 abbrev pub Answers : (s next : State) → CycleStep → Type 0
-Answers s next (Ran word) = (is_fault next.outcome ≡ false) × (next.output ≡ s.output ++ option_to_list word)
+Answers s next (Ran word took) =
+    (is_fault next.outcome ≡ false) × (next.output ≡ s.output ++ option_to_list word) × (next.rest ≡ left took s.rest)
 Answers s next HadHalted = ⊥
+Answers s next Waits = next ≡ record s { outcome = Waiting }
 Answers s next (Faults number) = next.outcome ≡ Fault number s.cycle
 
--- what is held stands for the next state, and this was answered
+-- what is held stands for the next state, or for the same where the cycle waits, and this was answered
 pub record IsCarried (h : Held) (s next : State) (answer : CycleStep) : Type 0 where
-  pub stands : Stands h next
+  pub stands : GoesTo h s next answer
   pub answers : Answers s next answer

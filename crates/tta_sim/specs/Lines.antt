@@ -2,7 +2,7 @@
 use Rattle.std.specs.Prelude.{◌≡◌, ℕ, ◌≤◌, ◌%◌, ◌==◌, Bool, true, false, not, ◌&&◌, ◌||◌, nat_lt, if◌then◌else◌, List, Option, None, Some, is_none, is_some, option_map, option_to_list, filter, length, slice_index_or, IsTrue}
 use Rattle.std.specs.Option.{option_map_or, option_or}
 use Rattle.std.specs.List.{list_any, filter_map, find, AllByRecursion}
-use Rattle.tta_machine.specs.Effects.{Kind, KeptOperand, Start, first_some, has_result}
+use Rattle.tta_arch.specs.Effects.{Kind, KeptOperand, Start, first_some, has_result, takes_in}
 use Rattle.tta_code.specs.Cycle.{Result'}
 use Rattle.tta_sim.specs.declared.decoded.DecodedSource.{DecodedSource}
 use Rattle.tta_sim.specs.declared.decoded.DecodedSource.TheVariants as decoded
@@ -119,6 +119,10 @@ start_brought places shown operand s = option_map (started operand s.unit s.does
 abbrev pub cannot_start : (places : List (Option ℕ)) → Results → (operand : ℕ → Option ℕ) → DecodedStart → Bool
 cannot_start places r operand s =
     is_unread places r.shown s.reading || list_any (is_stopped r) (option_to_list (start_brought places r.shown operand s))
+
+-- whether a move starts an operation that takes a word of the input
+abbrev pub takes_brought : (places : List (Option ℕ)) → (shown : List (Option Result')) → DecodedStart → Bool
+takes_brought places shown s = takes_in s.does.op && is_some (word_read places shown s.reading)
 
 -- what a move tells control
 abbrev pub tell_brought : (places : List (Option ℕ)) → (shown : List (Option Result')) → DecodedTell → Option (Kind × ℕ)

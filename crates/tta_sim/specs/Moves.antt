@@ -2,13 +2,13 @@
 use Rattle.std.specs.Prelude.{ℕ, ◌≤◌, Bool, true, false, ◌&&◌, ◌||◌, nat_lt, if◌then◌else◌, List, [], ◌∷◌, map, Option, None, Some, option_map, length, slice_index_or, IsTrue}
 use Rattle.std.specs.Option.{option_map_or}
 use Rattle.std.specs.List.{list_any, filter_map, AllByRecursion}
-use Rattle.tta_machine.specs.declared.ends.GuardRef.{GuardRef}
-use Rattle.tta_machine.specs.declared.ends.Source.{Source}
-use Rattle.tta_machine.specs.declared.ends.Source.TheVariants as source
-use Rattle.tta_machine.specs.declared.ends.Dest.{Dest}
-use Rattle.tta_machine.specs.declared.ends.Dest.TheVariants as dest
-use Rattle.tta_machine.specs.Effects.{KeptReg, KeptImm, KeptOperand, KeptRa, Effect, Brought, Reads, target_of, moved, is_register, is_port, has_unset_guard, has_unset}
-use Rattle.tta_machine.specs.Machine.{Machine}
+use Rattle.tta_arch.specs.declared.ends.GuardRef.{GuardRef}
+use Rattle.tta_arch.specs.declared.ends.Source.{Source}
+use Rattle.tta_arch.specs.declared.ends.Source.TheVariants as source
+use Rattle.tta_arch.specs.declared.ends.Dest.{Dest}
+use Rattle.tta_arch.specs.declared.ends.Dest.TheVariants as dest
+use Rattle.tta_arch.specs.Effects.{KeptReg, KeptImm, KeptOperand, KeptRa, Effect, Brought, Reads, target_of, moved, is_register, is_port, has_unset_guard, has_unset}
+use Rattle.tta_arch.specs.Machine.{Machine}
 use Rattle.tta_code.specs.declared.code.Move.{Move}
 use Rattle.tta_code.specs.declared.code.Instruction.{Instruction}
 use Rattle.tta_code.specs.Cycle.{Result', effect_of, first_fault}

@@ -1,7 +1,7 @@
 -- The results of units: those that show, and those that are still to come.
 use Rattle.std.specs.Prelude.{◌≡◌, ℕ, ◌+◌, ◌*◌, ◌<◌, ◌≤◌, ◌==◌, Bool, true, ◌&&◌, List, length, take, fold, if◌then◌else◌, Option, None, Some, slice_index_or}
 use Rattle.std.specs.List.{AllByRecursion, find}
-use Rattle.tta_machine.specs.Rules.{are_different}
+use Rattle.tta_arch.specs.Rules.{are_different}
 use Rattle.tta_code.specs.Cycle.{Result', later}
 
 -- the latest result of a unit that is due by now

@@ -3,13 +3,13 @@ use Rattle.std.specs.Prelude.{◌≡◌, ℕ, ◌+◌, ◌==◌, Bool, true, fal
 use Rattle.std.specs.Option.{option_or}
 use Rattle.std.specs.List.{list_any, filter_map, find, AllByRecursion}
 use Rattle.tta_ops.specs.Units.{Units}
-use Rattle.tta_machine.specs.declared.parts.Op.TheVariants.{Out}
-use Rattle.tta_machine.specs.declared.parts.UnitOp.{UnitOp}
-use Rattle.tta_machine.specs.declared.ends.Dest.{Dest}
-use Rattle.tta_machine.specs.declared.ends.Dest.TheVariants as dest
-use Rattle.tta_machine.specs.Machine.{Machine}
-use Rattle.tta_machine.specs.Rules.{are_different, same_op}
-use Rattle.tta_machine.specs.Effects.{KeptOperand, Start, Kind, Jumps, Calls, Halts, op_at, has_result, result_word, lacks_operand, first_some, control_of, is_port, has_unset}
+use Rattle.tta_arch.specs.declared.parts.Op.TheVariants.{Out}
+use Rattle.tta_arch.specs.declared.parts.UnitOp.{UnitOp}
+use Rattle.tta_arch.specs.declared.ends.Dest.{Dest}
+use Rattle.tta_arch.specs.declared.ends.Dest.TheVariants as dest
+use Rattle.tta_arch.specs.Machine.{Machine}
+use Rattle.tta_arch.specs.Rules.{are_different, same_op}
+use Rattle.tta_arch.specs.Effects.{KeptOperand, Start, Kind, Jumps, Calls, Halts, op_at, has_result, result_word, lacks_operand, first_some, control_of, is_port, has_unset}
 use Rattle.tta_code.specs.Cycle.{Result', first_fault}
 use Rattle.tta_code.specs.declared.code.Move.{Move}
 use Rattle.tta_sim.specs.declared.arrivals.Arrival.{Arrival}
@@ -95,10 +95,10 @@ abbrev pub due_of : (now : ℕ) → Start → (value : ℕ) → Result'
 due_of now t value = due_after now t.unit t.does.latency value
 
 -- the result that an operation begins, if it has one
-abbrev pub begun : Units → (now : ℕ) → (memory frame : List ℕ) → Start → Option Result'
-begun u now memory frame t =
+abbrev pub begun : Units → (now : ℕ) → (memory frame : List ℕ) → (next : ℕ) → Start → Option Result'
+begun u now memory frame next t =
     if has_result t.does.op
-    then Some (due_of now t (result_word u memory frame t t.does.op))
+    then Some (due_of now t (result_word u memory frame next t t.does.op))
     else None
 
 -- whether an operation shows no result: it stores its word or puts it out

@@ -3,10 +3,13 @@
 /// What became of a cycle.
 #[derive(Clone, Copy, Debug, PartialEq, Eq)]
 pub enum CycleStep {
-    /// The cycle was carried out, and put out this word, if any.
-    Ran(Option<u32>),
+    /// The cycle was carried out. It put out this word, if any, and it took a word of the input or
+    /// did not.
+    Ran { put: Option<u32>, took: bool },
     /// The run has halted before, and nothing was changed.
     Halted,
+    /// The cycle takes a word of the input, and none is left. Nothing was changed.
+    Waiting,
     /// This cycle faults, or an earlier one did: 60 for a register that was never written, 61 for a
     /// result port that shows nothing yet, 62 for an operand port that never got a word, 63 for two
     /// results of a unit that would be due at one time, 64 for a control move in the delay of

@@ -2,7 +2,7 @@
 
 ghost use Rattle.std.specs.Prelude.{◌≡◌, ◌<◌, ◌≤◌, [], ◌∷◌, ◌++◌, is_none, is_some, length, IsTrue};
 ghost use Rattle.std.specs.List.{AllByRecursion};
-ghost use Rattle.tta_machine.specs.Effects.{control_of};
+ghost use Rattle.tta_arch.specs.Effects.{control_of};
 ghost use Rattle.tta_sim.specs.Moves.{is_possible_slot, reads_of, effects_in, fault_reading};
 ghost use Rattle.tta_sim.specs.Moves.{earlier_fault, arrivals_of, brought_of};
 ghost use Rattle.tta_sim.specs.Starts.{told_in};
@@ -12,8 +12,8 @@ use crate::reading::{Taken, take};
 use crate::results::Results;
 use crate::short::Short;
 use crate::truth::both;
+use tta_arch::Dest;
 use tta_code::Move;
-use tta_machine::Dest;
 
 /// A word that a move brings.
 #[derive(Clone, Copy)]

@@ -4,11 +4,12 @@ ghost use Rattle.std.specs.Prelude.{◌≡◌, ℕ, ◌+◌, ◌<◌, ◌^◌, �
 ghost use Rattle.std.specs.Prelude.{is_some, option_map, option_to_list, IsTrue};
 ghost use Rattle.std.specs.List.{filter_map, list_any, AllByRecursion};
 ghost use Rattle.tta_ops.specs.Set.{stated};
-ghost use Rattle.tta_machine.specs.Effects.{has_result};
-ghost use Rattle.tta_machine.specs.Rules.{are_different};
+ghost use Rattle.tta_arch.specs.Effects.{has_result};
+ghost use Rattle.tta_arch.specs.Rules.{are_different};
 ghost use Rattle.tta_sim.specs.Starts.{begun, due_of, clashes_with, is_fitting};
 ghost use Rattle.tta_sim.specs.Results.{IsGrown};
-ghost use Rattle.tta_sim.specs.Lines.{is_start_there, start_brought, operand_in, cannot_start};
+ghost use Rattle.tta_sim.specs.Lines.{is_start_there, start_brought, takes_brought, operand_in};
+ghost use Rattle.tta_sim.specs.Lines.{cannot_start};
 
 use crate::decoded::DecodedStart;
 use crate::lines::{Read, Write, operand_of, read_move};
@@ -16,18 +17,25 @@ use crate::places::Places;
 use crate::results::Results;
 use crate::spaces::load;
 use crate::starts::{Start, clashes};
-use tta_machine::Op;
+use tta_arch::Op;
 use tta_ops::UnitSet;
 
-/// The word that an operation shows, if it shows one.
-fn result_of(units: &UnitSet, memory: &[u32], frame: &[u32], start: &Start) -> Option<u32>
+/// The word that an operation shows, if it shows one, where `next` is the next word of the input.
+fn result_of(
+    units: &UnitSet,
+    memory: &[u32],
+    frame: &[u32],
+    next: u32,
+    start: &Start,
+) -> Option<u32>
     ensures some { is_some result ≡ has_result start.now.does.op }
     ensures begun { let U = stated unit_meaning units.now in (now : ℕ)
-        → option_map (due_of now start.now) result ≡ begun U now memory.now frame.now start.now }
+        → option_map (due_of now start.now) result ≡ begun U now memory.now frame.now next start.now }
 {
     match start.does.op {
         Op::Ldw => Some(load(memory, start.word)),
         Op::Ldf => Some(load(frame, start.word)),
+        Op::Take => Some(next),
         Op::Set(op) => Some(units.apply(op, start.operand.unwrap_or(0), start.word)),
         Op::Stw | Op::Stf | Op::Out => None,
     }
@@ -57,6 +65,7 @@ fn begin_one(
     units: &UnitSet,
     memory: &[u32],
     frame: &[u32],
+    next: u32,
     s: &DecodedStart,
 ) -> bool
     requires there { IsTrue (is_start_there (length results.old.shown) s.now) }
@@ -70,7 +79,7 @@ fn begin_one(
     ensures begun { let U = stated unit_meaning units.now in
         let operand = operand_in places.now writes.now in
         let brought = start_brought places.now results.old.shown operand in
-        let begins = begun U results.old.cycle memory.now frame.now in
+        let begins = begun U results.old.cycle memory.now frame.now next in
         result ≡ false → results.new ≡ record results.old {
           coming = results.old.coming ++ filter_map begins (option_to_list (brought s.now));
         } }
@@ -90,7 +99,7 @@ fn begin_one(
                 operand,
                 word,
             };
-            let value = result_of(units, memory, frame, &start);
+            let value = result_of(units, memory, frame, next, &start);
             begin(results, &start, value);
             false
         }
@@ -106,6 +115,7 @@ pub fn begin_each(
     units: &UnitSet,
     memory: &[u32],
     frame: &[u32],
+    next: u32,
     moves: &[DecodedStart],
 ) -> bool
     requires there { AllByRecursion
@@ -123,16 +133,41 @@ pub fn begin_each(
     ensures begun { let U = stated unit_meaning units.now in
         let operand = operand_in places.now writes.now in
         let brought = start_brought places.now results.old.shown operand in
-        let begins = begun U results.old.cycle memory.now frame.now in
+        let begins = begun U results.old.cycle memory.now frame.now next in
         result ≡ true → results.new ≡ record results.old {
           coming = results.old.coming ++ filter_map begins (filter_map brought moves.now);
         } }
     ensures kept { IsGrown results.old results.new }
 {
     for s in moves {
-        if begin_one(results, writes, places, units, memory, frame, s) {
+        if begin_one(results, writes, places, units, memory, frame, next, s) {
             return false;
         }
     }
     true
+}
+
+/// Whether a move starts an operation that takes a word of the input.
+fn takes(places: &Places, results: &Results, s: &DecodedStart) -> bool
+    requires { IsTrue (is_start_there (length results.now.shown) s.now) }
+    ensures { result ≡ takes_brought places.now results.now.shown s.now }
+{
+    match s.does.op {
+        Op::Take => matches!(read_move(places, results, &s.reading), Read::Word(_)),
+        _ => false,
+    }
+}
+
+/// Whether some of the moves start an operation that takes a word of the input.
+pub fn any_takes(places: &Places, results: &Results, moves: &[DecodedStart]) -> bool
+    requires { AllByRecursion
+        (λ s. IsTrue (is_start_there (length results.now.shown) s)) moves.now }
+    ensures { result ≡ list_any (takes_brought places.now results.now.shown) moves.now }
+{
+    for s in moves {
+        if takes(places, results, s) {
+            return true;
+        }
+    }
+    false
 }

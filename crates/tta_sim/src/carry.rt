@@ -1,12 +1,12 @@
 //! One instruction.
 
 ghost use Rattle.std.specs.Prelude.{◌≡◌, ◌+◌, ◌<◌, ◌^◌, ◌++◌, ◌&&◌, None, Some, Option, List};
-ghost use Rattle.std.specs.Prelude.{length, map};
+ghost use Rattle.std.specs.Prelude.{length, map, take, is_none};
 ghost use Rattle.std.specs.Prelude.{ℕ, true, false, not, filter, is_some, IsTrue};
 ghost use Rattle.std.specs.List.{filter_map, list_any, AllByRecursion};
 ghost use Rattle.tta_ops.specs.Set.{stated};
-ghost use Rattle.tta_machine.specs.Effects.{Written, write_of, first_some};
-ghost use Rattle.tta_machine.specs.Rules.{IsMachine};
+ghost use Rattle.tta_arch.specs.Effects.{Written, write_of, first_some, takes};
+ghost use Rattle.tta_arch.specs.Rules.{IsMachine};
 ghost use Rattle.tta_code.specs.Cycle.{State, Result', carry_out};
 ghost use Rattle.tta_code.specs.Legal.{is_legal};
 ghost use Rattle.tta_sim.specs.Places.{HasWritten};
@@ -16,13 +16,15 @@ ghost use Rattle.tta_sim.specs.Starts.{starts_of, fault_in, begun, is_resultless
 ghost use Rattle.tta_sim.specs.Writing.{long_writes, numbered, ArePlaces};
 ghost use Rattle.tta_sim.specs.Decoded.{line_of};
 ghost use Rattle.tta_sim.specs.Lines.{write_brought, start_brought, operand_in, cannot_start};
-ghost use Rattle.tta_sim.specs.Lines.{tells_well, is_ready, IsLineThere};
+ghost use Rattle.tta_sim.specs.Lines.{tells_well, takes_brought, is_ready, IsLineThere};
+ghost use Rattle.tta_list.specs.Input.{IsFed};
 ghost use Rattle.tta_sim.specs.Held.{Stands, cycles_of};
+ghost use Rattle.tta_sim.specs.declared.answer.CycleStep.TheVariants.{Waiting};
 ghost use Rattle.tta_sim.specs.Kept.{held_of, IsCarried};
 
 use crate::answer::CycleStep;
 use crate::arrivals::{any_tells, gather};
-use crate::begin::begin_each;
+use crate::begin::{any_takes, begin_each};
 use crate::control::{Control, Phase};
 use crate::decoded::Line;
 use crate::lines::{Write, note_stores, note_writes};
@@ -32,8 +34,8 @@ use crate::store::{Doings, Store};
 use crate::telling::{tells_well, told_by};
 use crate::writing::write_all;
 use crate::{arrivals, starts};
+use tta_arch::Machine;
 use tta_code::Instruction;
-use tta_machine::Machine;
 use tta_ops::UnitSet;
 
 /// Starts the results of a line's operations, and answers whether all of them can start, and
@@ -43,6 +45,7 @@ fn begin_line(
     writes: &[Write],
     control: &Control,
     units: &UnitSet,
+    next: u32,
     line: &Line,
 ) -> bool
     requires there { IsLineThere (length store.old.results.shown) line.now }
@@ -62,7 +65,7 @@ fn begin_line(
         let old = store.old in
         let operand = operand_in old.places writes.now in
         let brought = start_brought old.places old.results.shown operand in
-        let begins = begun U old.results.cycle old.memory.items old.frame.items in
+        let begins = begun U old.results.cycle old.memory.items old.frame.items next in
         result ≡ true → store.new.results ≡ record old.results {
           coming = old.results.coming ++ filter_map begins (filter_map brought line.now.starts);
         } }
@@ -76,6 +79,7 @@ fn begin_line(
         units,
         store.memory.as_slice(),
         store.frame.as_slice(),
+        next,
         line.starts.as_slice(),
     );
     let pending = control.pending.is_some();
@@ -93,6 +97,7 @@ fn is_ready(
     store: &mut Store,
     control: &Control,
     units: &UnitSet,
+    next: u32,
     line: &Line,
 ) -> bool
     requires there { IsLineThere (length store.old.results.shown) line.now }
@@ -117,7 +122,7 @@ fn is_ready(
         let writes = write_brought old.places old.results.shown in
         let operand = operand_in old.places (filter_map writes line.now.writes) in
         let brought = start_brought old.places old.results.shown operand in
-        let begins = begun U old.results.cycle old.memory.items old.frame.items in
+        let begins = begun U old.results.cycle old.memory.items old.frame.items next in
         result ≡ true → store.new.results ≡ record old.results {
           coming = old.results.coming ++ filter_map begins (filter_map brought line.now.starts);
         } }
@@ -132,7 +137,7 @@ fn is_ready(
     if !note_stores(&mut doings.starts, writes, places, results, line) {
         return false;
     }
-    begin_line(store, writes, control, units, line)
+    begin_line(store, writes, control, units, next, line)
 }
 
 /// The fault of a cycle, move by move.
@@ -177,6 +182,7 @@ fn find_fault(
     i: &Instruction,
     line: &Line,
     units: &UnitSet,
+    next: u32,
 ) -> Option<u8>
     requires rules { IsMachine m.now }
     requires legal { IsTrue (is_legal m.now i.now) }
@@ -200,16 +206,38 @@ fn find_fault(
     ensures begun { let U = stated unit_meaning units.now in
         let old = store.old in
         let arrivals = arrivals_of (reads_of old.places old.results.shown) i.now.moves in
-        let begins = begun U old.results.cycle old.memory.items old.frame.items in
+        let begins = begun U old.results.cycle old.memory.items old.frame.items next in
         result ≡ None → store.new.results ≡ record old.results {
           coming = old.results.coming ++ filter_map begins (starts_of m.now old.places arrivals);
         } }
+    ensures taken { let old = store.old in
+        let arrivals = arrivals_of (reads_of old.places old.results.shown) i.now.moves in
+        result ≡ None → list_any (takes_brought old.places old.results.shown) line.now.starts
+        ≡ list_any takes (starts_of m.now old.places arrivals) }
     ensures kept { is_some result ≡ true → store.new.results ≡ store.old.results }
 {
-    if is_ready(doings, store, control, units, line) {
+    if is_ready(doings, store, control, units, next, line) {
         return None;
     }
     fault_of(doings, store, control, m, i)
+}
+
+/// Whether a cycle has to wait: it takes a word of the input, and none is left.
+fn is_stuck(took: bool, next: Option<u32>) -> bool
+    ensures { result ≡ (took && is_none next) }
+{
+    took && next.is_none()
+}
+
+/// Drops the results behind so many that are to come.
+fn undo(store: &mut Store, count: usize)
+    ensures results { let results = store.old.results in
+        store.new.results ≡ record results { coming = take count results.coming } }
+    ensures places { store.new.places ≡ store.old.places }
+    ensures data { store.new.memory.items ≡ store.old.memory.items }
+    ensures frame { store.new.frame.items ≡ store.old.frame.items }
+{
+    store.results.keep(count);
 }
 
 /// Writes the words that were collected, and goes on to the next cycle.
@@ -230,7 +258,8 @@ fn go_on(store: &mut Store, writes: &[Write])
     store.results.advance();
 }
 
-/// Carries out a cycle of a run that goes on, with the instruction at its address.
+/// Carries out a cycle of a run that goes on, with the instruction at its address, where `next` is
+/// the next word of the input.
 pub fn carry(
     store: &mut Store,
     control: &mut Control,
@@ -239,6 +268,7 @@ pub fn carry(
     i: &Instruction,
     line: &Line,
     units: &UnitSet,
+    next: Option<u32>,
 ) -> CycleStep
     requires running { control.old.phase ≡ Phase.Running }
     requires legal { IsTrue (is_legal m.now i.now) }
@@ -252,25 +282,34 @@ pub fn carry(
     ensures frame { length store.new.frame.items ≡ length store.old.frame.items }
     ensures counted { store.new.results.cycle ≡ store.old.results.cycle + cycles_of result }
     ensures carried { let U = stated unit_meaning units.now in (lines : List Line)
-        → (s : State) → Stands (held_of lines store.old control.old) s
+        → (s : State) → Stands (held_of lines store.old control.old) s → IsFed s.rest next
         → IsCarried (held_of lines store.new control.new) s
         (carry_out U m.now s (Some i.now)) result }
+    ensures waits { (lines : List Line) → result ≡ Waiting
+        → held_of lines store.new control.new ≡ held_of lines store.old control.old }
 {
     let delay = m.control.delay;
-    if let Some(number) = find_fault(doings, store, control, m, i, line, units) {
+    let word = next.unwrap_or(0);
+    let count = store.results.count();
+    if let Some(number) = find_fault(doings, store, control, m, i, line, units, word) {
         control.phase = Phase::Fault(number);
         return CycleStep::Fault(number);
+    }
+    let took = any_takes(&store.places, &store.results, line.starts.as_slice());
+    if is_stuck(took, next) {
+        undo(store, count);
+        return CycleStep::Waiting;
     }
     if line.quiet {
         go_on(store, doings.writes.as_slice());
         control.advance(None, store.results.cycle(), delay);
-        return CycleStep::Ran(None);
+        return CycleStep::Ran { put: None, took };
     }
     let told = told_by(&store.places, &store.results, line.tells.as_slice());
     let starts = doings.starts.as_slice();
     store_all(&mut store.memory, &mut store.frame, starts);
-    let word = put_out(starts);
+    let put = put_out(starts);
     go_on(store, doings.writes.as_slice());
     control.advance(told, store.results.cycle(), delay);
-    CycleStep::Ran(word)
+    CycleStep::Ran { put, took }
 }

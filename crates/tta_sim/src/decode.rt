@@ -5,7 +5,7 @@ ghost use Rattle.std.specs.Prelude.{length};
 ghost use Rattle.std.specs.Prelude.{is_some, option_and_then, option_copied, option_map};
 ghost use Rattle.std.specs.Prelude.{option_to_list};
 ghost use Rattle.std.specs.Prelude.{IfOk, OnOk, IsTrue};
-ghost use Rattle.tta_machine.specs.Effects.{KeptReg, KeptImm, KeptOperand, op_at, width_of};
+ghost use Rattle.tta_arch.specs.Effects.{KeptReg, KeptImm, KeptOperand, op_at, width_of};
 ghost use Rattle.tta_sim.specs.Places.{number_of};
 ghost use Rattle.tta_sim.specs.Decoded.{source_decoded, guard_decoded, reading_of, write_decoded};
 ghost use Rattle.tta_sim.specs.Decoded.{start_decoded, store_decoded, tell_decoded, is_nil};
@@ -17,9 +17,9 @@ use crate::decoded::{
 };
 use crate::starts::has_result;
 use std::alloc::{AllocError, Global};
+use tta_arch::{Dest, GuardRef, Machine, Source, UnitOp};
 use tta_code::{Code, Instruction, Long, Move};
 use tta_list::Items;
-use tta_machine::{Dest, GuardRef, Machine, Source, UnitOp};
 
 /// The number of a register's place.
 fn register(file: u8, index: u8) -> u32

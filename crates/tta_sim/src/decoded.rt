@@ -4,8 +4,8 @@
 //! do, and each end is looked up in the machine once.
 
 use crate::control::Kind;
+use tta_arch::UnitOp;
 use tta_list::Items;
-use tta_machine::UnitOp;
 
 /// Where a move takes its word from.
 #[derive(Clone, Copy)]

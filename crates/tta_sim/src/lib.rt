@@ -1,5 +1,4 @@
-//! The cycle-by-cycle run of a machine's code. It stands on the code of `tta_code`, the machine of
-//! `tta_machine`, the operations of `tta_ops`, and `tta_list`.
+//! The run of a machine's code by its meaning, one cycle a call.
 #![tactic(auto)]
 
 mod answer;

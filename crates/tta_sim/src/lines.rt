@@ -3,7 +3,7 @@
 ghost use Rattle.std.specs.Prelude.{◌≡◌, ◌<◌, ◌≤◌, ◌+◌, ◌^◌, ◌++◌, ◌||◌, not, true, false, is_none};
 ghost use Rattle.std.specs.Prelude.{◌==◌, Some, if◌then◌else◌, length, option_to_list, IsTrue};
 ghost use Rattle.std.specs.List.{filter_map, list_any, AllByRecursion};
-ghost use Rattle.tta_machine.specs.Effects.{KeptOperand};
+ghost use Rattle.tta_arch.specs.Effects.{KeptOperand};
 ghost use Rattle.tta_sim.specs.Places.{is_place};
 ghost use Rattle.tta_sim.specs.Lines.{source_word, word_read, is_unread, word_of, is_unset};
 ghost use Rattle.tta_sim.specs.Lines.{is_source_there, is_reading_there, is_write_there};
@@ -16,7 +16,7 @@ use crate::places::Places;
 use crate::results::Results;
 use crate::short::Short;
 use crate::starts::{Start, clashes};
-use tta_machine::UnitOp;
+use tta_arch::UnitOp;
 
 /// A word that is brought to a place.
 #[derive(Clone, Copy)]

@@ -1,7 +1,7 @@
 //! The words of registers and operand ports.
 
 ghost use Rattle.std.specs.Prelude.{◌≡◌, ◌<◌, [], ◌∷◌, None, slice_index_or, IfOk, IsTrue};
-ghost use Rattle.tta_machine.specs.Effects.{KeptReg, KeptImm, KeptOperand, KeptRa, Place, Written};
+ghost use Rattle.tta_arch.specs.Effects.{KeptReg, KeptImm, KeptOperand, KeptRa, Place, Written};
 ghost use Rattle.tta_sim.specs.Places.{is_place, number_of, word_at, HasWritten};
 
 use std::alloc::{AllocError, Global};

@@ -3,7 +3,7 @@
 ghost use Rattle.std.specs.Prelude.{◌≡◌, ◌<◌, [], ◌∷◌, None, false, true, is_none, if◌then◌else◌};
 ghost use Rattle.std.specs.Prelude.{length, IsTrue};
 ghost use Rattle.std.specs.Option.{option_map_or};
-ghost use Rattle.tta_machine.specs.Effects.{KeptReg, moved, passes, is_port};
+ghost use Rattle.tta_arch.specs.Effects.{KeptReg, moved, passes, is_port};
 ghost use Rattle.tta_code.specs.Cycle.{effect_of};
 ghost use Rattle.tta_sim.specs.Places.{word_at};
 ghost use Rattle.tta_sim.specs.Moves.{is_readable, is_askable, is_possible, is_acting, is_unset};
@@ -12,8 +12,8 @@ ghost use Rattle.tta_sim.specs.Moves.{fault_reading};
 
 use crate::places::Places;
 use crate::results::Results;
+use tta_arch::{GuardRef, Source};
 use tta_code::Move;
-use tta_machine::{GuardRef, Source};
 
 /// The word of a source.
 pub fn read(places: &Places, results: &Results, src: Source) -> Option<u32>

@@ -1,15 +1,19 @@
 //! A run.
 
-ghost use Rattle.std.specs.Prelude.{◌≡◌, ◌+◌, ◌<◌, ◌^◌, length, option_copied, option_map};
+ghost use Rattle.std.specs.Prelude.{◌≡◌, ◌+◌, ◌<◌, ◌^◌, ℕ, List, length, option_copied};
+ghost use Rattle.std.specs.Prelude.{option_map};
 ghost use Rattle.std.specs.Prelude.{slice_get, slice_index, IfOk, IsTrue};
 ghost use Rattle.tta_ops.specs.Set.{stated};
-ghost use Rattle.tta_machine.specs.Effects.{KeptReg, kept};
-ghost use Rattle.tta_code.specs.Cycle.{State, next, start};
+ghost use Rattle.tta_arch.specs.Effects.{KeptReg, kept};
+ghost use Rattle.tta_code.specs.Cycle.{State, next as next_state, start};
 ghost use Rattle.tta_code.specs.Cycle.{port as port_of};
 ghost use Rattle.tta_code.specs.Legal.{IsLegalCode};
 ghost use Rattle.tta_sim.specs.Places.{is_place};
 ghost use Rattle.tta_sim.specs.Results.{due_at};
-ghost use Rattle.tta_sim.specs.Held.{Stands, IsAnswer, IsRunOf, cycles_of, is_halted, fault_number};
+ghost use Rattle.tta_list.specs.Input.{IsFed};
+ghost use Rattle.tta_sim.specs.Held.{Stands, GoesTo, IsAnswer, IsRunOf, cycles_of};
+ghost use Rattle.tta_sim.specs.Held.{is_halted, fault_number};
+ghost use Rattle.tta_sim.specs.declared.answer.CycleStep.TheVariants.{Waiting};
 
 use crate::answer::CycleStep;
 use crate::carry::carry;
@@ -20,13 +24,13 @@ use crate::spaces::load;
 use crate::store::{Doings, Store};
 use std::alloc::{AllocError, Global};
 use std::marker::Model;
+use tta_arch::Machine;
 use tta_code::{Code, Instruction};
 use tta_list::Items;
-use tta_machine::Machine;
 use tta_ops::UnitSet;
 
 /// The run of a machine's code, cycle by cycle: the words of registers, ports and spaces, the
-/// results that are still to come, and control. What was put out is not kept.
+/// results that are still to come, and control. The input and what was put out are not kept.
 #[derive(Drop)]
 pub struct Sim {
     pub(crate) store: Store,
@@ -66,7 +70,8 @@ impl Sim {
     ) -> Result<Self, AllocError>
         requires size { length memory.items ≡ m.now.data_words }
         requires legal { IsLegalCode m.now code.now }
-        ensures start { IfOk result (λ r. Stands r (start m.now memory.items)) }
+        ensures start { IfOk result (λ r. (input : List ℕ)
+            → Stands r (start m.now memory.items input)) }
         ensures loaded { IfOk result (λ r. IsRunOf m.now code.now r) }
     {
         // What was taken so far is dropped by name, so that a way out is left with nothing.
@@ -91,19 +96,28 @@ impl Sim {
         })
     }
 
-    /// Carries out one cycle of the code that was loaded, and answers `Ran` with the word that it
-    /// put out, if any. It answers `Halted` exactly where the run has halted before, and `Fault`
-    /// exactly where this cycle faults or an earlier one did; the run then stays as it is. It takes
-    /// no memory.
-    pub fn cycle(&mut self, m: &Machine, code: &Code, units: &UnitSet) -> CycleStep
+    /// Carries out one cycle of the code that was loaded, where `next` is the next word of the
+    /// input, `None` where none is left. It answers `Ran` with the word that it put out, if any. It
+    /// answers `Halted` exactly where the run has halted before, `Fault` exactly where this cycle
+    /// faults or an earlier one did, and `Waiting` exactly where a cycle without a fault takes a
+    /// word of the input and there is none; the run then stays as it is. It takes no memory.
+    pub fn cycle(
+        &mut self,
+        m: &Machine,
+        code: &Code,
+        units: &UnitSet,
+        next: Option<u32>,
+    ) -> CycleStep
         requires loaded { IsRunOf m.now code.now self.old }
         requires few { self.old.cycle < 2 ^ 62 }
         ensures loaded { IsRunOf m.now code.now self.new }
         ensures counted { self.new.cycle ≡ self.old.cycle + cycles_of result }
         ensures next { let U = stated unit_meaning units.now in (s : State)
-            → Stands self.old s → Stands self.new (next U m.now code.now s) }
+            → Stands self.old s → IsFed s.rest next
+            → GoesTo self.new s (next_state U m.now code.now s) result }
         ensures answer { let U = stated unit_meaning units.now in (s : State)
-            → Stands self.old s → IsAnswer U m.now code.now s result }
+            → Stands self.old s → IsFed s.rest next → IsAnswer U m.now code.now s result }
+        ensures waits { result ≡ Waiting → self.new ≡ self.old }
     {
         match self.control.phase {
             Phase::Running => {}
@@ -123,6 +137,7 @@ impl Sim {
             i,
             line,
             units,
+            next,
         )
     }
 

@@ -3,12 +3,12 @@
 ghost use Rattle.std.specs.Prelude.{◌≡◌, fold, length, option_map, replicate, slice_index};
 ghost use Rattle.std.specs.Prelude.{slice_set, IfOk};
 ghost use Rattle.std.specs.List.{find};
-ghost use Rattle.tta_machine.specs.Effects.{store_data, store_frame};
+ghost use Rattle.tta_arch.specs.Effects.{store_data, store_frame};
 ghost use Rattle.tta_sim.specs.Starts.{puts};
 
 use crate::starts::Start;
 use std::alloc::{AllocError, Global};
-use tta_machine::Op;
+use tta_arch::Op;
 
 /// A space of so many words, each 0.
 pub fn zeros(alloc: Global, count: usize) -> Result<Vec<u32>, AllocError>

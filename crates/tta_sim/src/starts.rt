@@ -4,7 +4,7 @@ ghost use Rattle.std.specs.Prelude.{◌≡◌, ◌==◌, ◌+◌, ◌<◌, ◌�
 ghost use Rattle.std.specs.Prelude.{length, true, Some};
 ghost use Rattle.std.specs.Prelude.{is_some, option_copied, option_to_list, IsTrue};
 ghost use Rattle.std.specs.List.{list_any, AllByRecursion};
-ghost use Rattle.tta_machine.specs.Effects.{KeptOperand, has_result, lacks_operand, op_at};
+ghost use Rattle.tta_arch.specs.Effects.{KeptOperand, has_result, lacks_operand, op_at};
 ghost use Rattle.tta_sim.specs.Places.{is_place};
 ghost use Rattle.tta_sim.specs.Results.{Results};
 ghost use Rattle.tta_sim.specs.Starts.{operand_with, start_by, starts_of, started, clashes_at};
@@ -17,7 +17,7 @@ use crate::results::Results;
 use crate::short::Short;
 use crate::truth::either;
 use std::marker::Model;
-use tta_machine::{Dest, Machine, Op, UnitOp};
+use tta_arch::{Dest, Machine, Op, UnitOp};
 
 /// An operation that starts: its unit, its operand where there is one, and the moved word.
 #[derive(Clone, Copy)]
@@ -29,7 +29,7 @@ pub struct Start {
 }
 
 impl Model for Start {
-    ghost use Rattle.tta_machine.specs.Effects.{Start};
+    ghost use Rattle.tta_arch.specs.Effects.{Start};
 
     ghost Value = { Start };
 
@@ -53,7 +53,7 @@ pub fn has_result(op: Op) -> bool
     ensures { result ≡ has_result op }
 {
     match op {
-        Op::Ldw | Op::Ldf | Op::Set(_) => true,
+        Op::Ldw | Op::Ldf | Op::Take | Op::Set(_) => true,
         Op::Stw | Op::Stf | Op::Out => false,
     }
 }

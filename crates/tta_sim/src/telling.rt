@@ -2,7 +2,7 @@
 
 ghost use Rattle.std.specs.Prelude.{◌≡◌, length, option_map, IsTrue};
 ghost use Rattle.std.specs.List.{list_any, AllByRecursion};
-ghost use Rattle.tta_machine.specs.Effects.{first_some};
+ghost use Rattle.tta_arch.specs.Effects.{first_some};
 ghost use Rattle.tta_sim.specs.Starts.{told_of};
 ghost use Rattle.tta_sim.specs.Lines.{is_unread, is_reading_there, is_tell_there, tell_brought};
 ghost use Rattle.tta_sim.specs.Lines.{tells_well, IsLineThere};

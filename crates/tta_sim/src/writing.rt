@@ -2,7 +2,7 @@
 
 ghost use Rattle.std.specs.Prelude.{◌≡◌, ◌<◌, ◌++◌};
 ghost use Rattle.std.specs.List.{AllByRecursion};
-ghost use Rattle.tta_machine.specs.Effects.{Written};
+ghost use Rattle.tta_arch.specs.Effects.{Written};
 ghost use Rattle.tta_sim.specs.Places.{HasWritten};
 ghost use Rattle.tta_sim.specs.Writing.{numbered, ArePlaces};
 

@@ -1,20 +1,21 @@
 -- A step leads to a step.
 use Rattle.std.proofs.Common.{◌≡◌, ◌+◌, ◌&&◌, ◌==◌, ℕ, zero, suc, Bool, true, false, not, List, [], ◌∷◌, length, map, slice_get, Option, Some, None, is_some, refl, ap, ◌∙◌, add-one}
-use Rattle.std.specs.Prelude.{if◌then◌else◌, nat_lt}
+use Rattle.std.specs.Prelude.{if◌then◌else◌, nat_lt, slice_index}
 use Rattle.std.specs.Option.{option_map_or}
 use Rattle.tta_list.proofs.Lists.{list_all_one, some_below, all_one}
 use Rattle.tta_list.proofs.Tests.{and_right, and_left}
 use Rattle.tta_ops.specs.Units.{Units}
-use Rattle.tta_tac.specs.declared.step.Step.{Step}
-use Rattle.tta_tac.specs.declared.step.Step.TheVariants.{Copy, Apply, Load, Store, Put, If, Goto, When, Invoke, Return, Halt, End}
-use Rattle.tta_tac.specs.declared.program.Proc.{Proc}
-use Rattle.tta_tac.specs.Program.{Program}
-use Rattle.tta_tac.specs.Rules.{IsProgram, IsProc, is_src, is_step, ends_once, calls_proc}
-use Rattle.tta_tac.specs.Sequential.{Frame, State, step_at, carry_out, enter, assigns, goes_to, holds, operand, returns, take_value}
-use Rattle.tta_tac.proofs.LinkedSteps.{is_end}
+use Rattle.tta_program.specs.declared.step.Step.{Step}
+use Rattle.tta_program.specs.declared.step.Step.TheVariants.{Copy, Apply, Load, Store, Put, Take, If, Goto, When, Invoke, Return, Halt, End}
+use Rattle.tta_program.specs.declared.program.Proc.{Proc}
+use Rattle.tta_program.specs.Program.{Program}
+use Rattle.tta_program.specs.Rules.{IsProgram, IsProc, is_src, is_step, ends_once, calls_proc}
+use Rattle.tta_program.specs.Sequential.{Frame, State, step_at, takes, carry_out, enter, assigns, goes_to, holds, operand, returns, take_value}
+use Rattle.tta_program.specs.Rules.{is_end}
 use Rattle.tta_tacrun.specs.declared.phase.Phase.{Phase}
-use Rattle.tta_tacrun.specs.declared.phase.Phase.TheVariants.{Running as GoesOn, Stopped, Returned}
+use Rattle.tta_tacrun.specs.declared.phase.Phase.TheVariants.{Running as Runs, Stopped, Returned}
 use Rattle.tta_tacrun.specs.Calls.{Calls}
+use Rattle.tta_list.specs.Input.{left}
 use Rattle.tta_tacrun.specs.Run.{AreCallsOf, IsRunOf, is_called, is_path, is_placed, put, run_of, stack_of, state_of}
 use Rattle.tta_tacrun.proofs.Calling.{call_of}
 
@@ -113,6 +114,7 @@ module _ (p : Program) (rules : IsProgram p) where
     carried_placed (Load d a) here = next_placed f.proc f.at (Load d a) here refl
     carried_placed (Store a v) here = next_placed f.proc f.at (Store a v) here refl
     carried_placed (Put v) here = next_placed f.proc f.at (Put v) here refl
+    carried_placed (Take d) here = next_placed f.proc f.at (Take d) here refl
     carried_placed (If rel a b to) here =
         elim (holds u rel (operand f.vars a) (operand f.vars b)) as (λ held. is_some (step_at p f.proc (if held then to else f.at + 1)) ≡ true) [
           | true ↦ target_placed f.proc f.at (If rel a b to) to here (λ q good. and_right (is_src q.vars a && is_src q.vars b) _ good)
@@ -136,27 +138,33 @@ module _ (p : Program) (rules : IsProgram p) where
 -- ---- runs
 
 pub path_of : (p : Program) (phase : Phase) (c : Calls) → AreCallsOf p c → is_path p (stack_of phase c) ≡ true
-path_of p GoesOn c calls = calls.path
+path_of p Runs c calls = calls.path
 path_of p Stopped c calls = calls.path
 path_of p Returned c calls = refl
 
+-- what a step made of the calls, the data words and the phase, whatever was put out and is left of the input
+abbrev pub Carries : Units → Program → (before after : Calls) (memory new_memory : List ℕ) → Phase → (word : Option ℕ) → Step → (next : ℕ) → Type 0
+Carries u p c after memory new_memory phase word step next =
+    (rest output : List ℕ) (n : ℕ) → slice_index rest 0 ≡ next
+    → state_of phase after new_memory (left (takes step) rest) (put output word) n ≡ carry_out u p (state_of Runs c memory rest output n) c.top c.below step
+
 pub run_carried : (p : Program) → IsProgram p → (u : Units) (c after : Calls) (memory new_memory : List ℕ) (phase : Phase) (word : Option ℕ)
-    (step : Step) (steps : ℕ)
+    (step : Step) (next steps : ℕ)
     → is_path p (c.top ∷ c.below) ≡ true → step_at p c.top.proc c.top.at ≡ Some step → AreCallsOf p after
-    → ((output : List ℕ) (n : ℕ) → state_of phase after new_memory (put output word) n ≡ carry_out u p (state_of GoesOn c memory output n) c.top c.below step)
+    → Carries u p c after memory new_memory phase word step next
     → IsRunOf p (run_of phase after new_memory steps)
-run_carried p rules u c after memory new_memory phase word step steps path here calls carried = record {
+run_carried p rules u c after memory new_memory phase word step next steps path here calls carried = record {
   sizes = calls.sizes;
   path = path_of p phase after calls;
   placed =
-      ap (λ s. is_placed p s.stack) (carried [] 0)
-      ∙ carried_placed p rules u (state_of GoesOn c memory [] 0) c.top c.below path refl step here;
+      ap (λ s. is_placed p s.stack) (carried (next ∷ []) [] 0 refl)
+      ∙ carried_placed p rules u (state_of Runs c memory (next ∷ []) [] 0) c.top c.below path refl step here;
 }
 
 pub run_started : (p : Program) → IsProgram p → (c : Calls) (memory : List ℕ) (steps : ℕ)
     → c ≡ record { sizes = map (λ q. q.vars) p.procs; top = enter p p.main []; below = [] }
-    → IsRunOf p (run_of GoesOn c memory steps)
+    → IsRunOf p (run_of Runs c memory steps)
 run_started p rules c memory steps is = rw is (
-    let run : IsRunOf p (run_of GoesOn (record { sizes = map (λ q. q.vars) p.procs; top = enter p p.main []; below = [] }) memory steps) =
+    let run : IsRunOf p (run_of Runs (record { sizes = map (λ q. q.vars) p.procs; top = enter p p.main []; below = [] }) memory steps) =
     record { sizes = refl; path = refl; placed = main_placed p rules } in
     run)

@@ -1,52 +1,59 @@
 -- What a step makes of the states that a run stands for.
-use Rattle.std.proofs.Common.{◌≡◌, ◌+◌, ℕ, List, ◌++◌, Option, Some, None, refl, ap, sym, ◌∙◌}
-use Rattle.std.specs.Prelude.{option_to_list}
+use Rattle.std.proofs.Common.{◌≡◌, ◌+◌, ℕ, Bool, true, false, List, ◌++◌, [], ◌∷◌, Option, Some, None, refl, ap, sym, ◌∙◌}
+use Rattle.std.specs.Prelude.{◌&&◌, is_none, option_to_list, slice_get, slice_index}
+use Rattle.std.specs.Option.{unwrap_or}
 use Rattle.std.proofs.lemmas.List.{append-nil}
 use Rattle.tta_ops.specs.Units.{Units}
-use Rattle.tta_tac.specs.declared.step.Step.{Step}
-use Rattle.tta_tac.specs.Program.{Program}
-use Rattle.tta_tac.specs.Sequential.{State, Halted, step_at, carry_out, next}
-use Rattle.tta_tacrun.specs.declared.answer.SeqStep.TheVariants.{Ran, Halted as DoesNotRun}
+use Rattle.tta_program.specs.declared.step.Step.{Step}
+use Rattle.tta_program.specs.Program.{Program}
+use Rattle.tta_program.specs.Sequential.{State, Halted, Waiting, step_at, takes, waits, goes_through, next}
+use Rattle.tta_tacrun.specs.declared.answer.SeqStep.TheVariants.{Ran, Halted as DoesNotRun, Waiting as Waits}
 use Rattle.tta_tacrun.specs.declared.phase.Phase.{Phase}
-use Rattle.tta_tacrun.specs.declared.phase.Phase.TheVariants.{Running as GoesOn}
+use Rattle.tta_tacrun.specs.declared.phase.Phase.TheVariants.{Running as Runs}
 use Rattle.tta_tacrun.specs.Calls.{Calls}
+use Rattle.tta_list.specs.Input.{left}
 use Rattle.tta_tacrun.specs.Run.{Run, Stands, IsAnswer, put, run_of, state_of}
+use Rattle.tta_tacrun.proofs.Placed.{Carries}
 
--- a state is what it stands for, and its output
+-- a state is what it stands for, its input and its output
 state_is : (phase : Phase) (c : Calls) (memory : List ℕ) (steps : ℕ) (s : State)
-    → Stands (run_of phase c memory steps) s → s ≡ state_of phase c memory s.output steps
+    → Stands (run_of phase c memory steps) s → s ≡ state_of phase c memory s.rest s.output steps
 state_is phase c memory steps s same = rw (same.stack, same.memory, same.steps, same.outcome) refl
 
 put_is : (output : List ℕ) (word : Option ℕ) → put output word ≡ output ++ option_to_list word
 put_is output None = sym (append-nil output)
 put_is output (Some word) = refl
 
-module _ (u : Units) (p : Program) (c : Calls) (memory : List ℕ) (steps : ℕ) where
-  -- a step of a run that goes on
-  next_is : (after : Calls) (new_memory : List ℕ) (phase : Phase) (word : Option ℕ) (step : Step)
-      → step_at p c.top.proc c.top.at ≡ Some step
-      → ((output : List ℕ) (n : ℕ) → state_of phase after new_memory (put output word) n ≡ carry_out u p (state_of GoesOn c memory output n) c.top c.below step)
-      → (s : State) → Stands (run_of GoesOn c memory steps) s
-      → next u p s ≡ state_of phase after new_memory (put s.output word) (steps + 1)
+module _ (u : Units) (p : Program) (c : Calls) (memory : List ℕ) (steps : ℕ) (step : Step) (here : step_at p c.top.proc c.top.at ≡ Some step)
+    (s : State) (same : Stands (run_of Runs c memory steps) s) where
+  -- the step of a run that goes on
+  goes : next u p s ≡ goes_through u p (state_of Runs c memory s.rest s.output steps) c.top c.below step
   unfolding next
-  next_is after new_memory phase word step here carried s same =
-      ap (next u p) (state_is GoesOn c memory steps s same) ∙ rw here (sym (carried s.output (steps + 1)))
+  goes = ap (next u p) (state_is Runs c memory steps s same) ∙ rw here refl
 
-  pub ran_stands : (after : Calls) (new_memory : List ℕ) (phase : Phase) (word : Option ℕ) (step : Step)
-      → step_at p c.top.proc c.top.at ≡ Some step
-      → ((output : List ℕ) (n : ℕ) → state_of phase after new_memory (put output word) n ≡ carry_out u p (state_of GoesOn c memory output n) c.top c.below step)
-      → (s : State) → Stands (run_of GoesOn c memory steps) s
-      → Stands (run_of phase after new_memory (steps + 1)) (next u p s)
-  ran_stands after new_memory phase word step here carried s same =
-      rw (next_is after new_memory phase word step here carried s same) (record { stack = refl; memory = refl; steps = refl; outcome = refl })
+  -- a step that has to wait
+  pub waits_answer : waits s step ≡ true → IsAnswer u p s Waits
+  waits_answer must =
+      let kept : record (state_of Runs c memory s.rest s.output steps) { outcome = Waiting } ≡ record s { outcome = Waiting } =
+      ap {A = State} (λ t. record t { outcome = Waiting }) (sym (state_is Runs c memory steps s same)) in
+      (sym same.outcome, goes ∙ rw must kept)
 
-  pub ran_answer : (after : Calls) (new_memory : List ℕ) (phase : Phase) (word : Option ℕ) (step : Step)
-      → step_at p c.top.proc c.top.at ≡ Some step
-      → ((output : List ℕ) (n : ℕ) → state_of phase after new_memory (put output word) n ≡ carry_out u p (state_of GoesOn c memory output n) c.top c.below step)
-      → (s : State) → Stands (run_of GoesOn c memory steps) s
-      → IsAnswer u p s (Ran word)
-  ran_answer after new_memory phase word step here carried s same =
-      (sym same.outcome, ap (λ t. t.output) (next_is after new_memory phase word step here carried s same) ∙ put_is s.output word)
+  module _ (after : Calls) (new_memory : List ℕ) (phase : Phase) (word : Option ℕ) (next_word : ℕ)
+      (carried : Carries u p c after memory new_memory phase word step next_word)
+      (goes_on : waits s step ≡ false) (fed : slice_index s.rest 0 ≡ next_word) where
+    next_is : next u p s ≡ state_of phase after new_memory (left (takes step) s.rest) (put s.output word) (steps + 1)
+    next_is = goes ∙ rw goes_on (sym (carried s.rest s.output (steps + 1) fed))
+
+    pub ran_stands : Stands (run_of phase after new_memory (steps + 1)) (next u p s)
+    ran_stands = rw next_is (record { stack = refl; memory = refl; steps = refl; outcome = refl })
+
+    pub ran_answer : IsAnswer u p s (Ran word (takes step))
+    ran_answer = (sym same.outcome, ap (λ t. t.output) next_is ∙ put_is s.output word, ap (λ t. t.rest) next_is)
+
+-- the next word, 0 where none is left
+pub next_word : (rest : List ℕ) (next : Option ℕ) → slice_get rest 0 ≡ next → slice_index rest 0 ≡ unwrap_or next 0
+next_word [] next fed = ap (λ o. unwrap_or o 0) fed
+next_word (x ∷ rest) next fed = ap (λ o. unwrap_or o 0) fed
 
 -- a run that has halted
 module _ (u : Units) (p : Program) (r : Run) (over : r.outcome ≡ Halted) (s : State) (same : Stands r s) where

@@ -1,19 +1,20 @@
 -- What a run holds, and which state it stands for.
-use Rattle.std.specs.Prelude.{◌≡◌, ℕ, Bool, true, false, ◌&&◌, List, [], ◌∷◌, ◌++◌, map, Option, None, Some, is_some, option_to_list}
+use Rattle.std.specs.Prelude.{◌≡◌, ℕ, Bool, true, false, ◌&&◌, List, [], ◌∷◌, ◌++◌, map, drop, if◌then◌else◌, slice_get, Option, None, Some, is_some, option_to_list}
 use Rattle.std.specs.Option.{option_map_or}
+use Rattle.tta_list.specs.Input.{left}
 use Rattle.tta_ops.specs.Units.{Units}
-use Rattle.tta_tac.specs.declared.step.Step.{Step}
-use Rattle.tta_tac.specs.declared.step.Step.TheVariants.{Invoke}
-use Rattle.tta_tac.specs.Program.{Program}
-use Rattle.tta_tac.specs.Rules.{calls_proc}
-use Rattle.tta_tac.specs.Sequential.{Frame, Outcome, State, Running, Halted, step_at, next}
+use Rattle.tta_program.specs.declared.step.Step.{Step}
+use Rattle.tta_program.specs.declared.step.Step.TheVariants.{Invoke}
+use Rattle.tta_program.specs.Program.{Program}
+use Rattle.tta_program.specs.Rules.{calls_proc}
+use Rattle.tta_program.specs.Sequential.{Frame, Outcome, State, Running, Halted, Waiting, step_at, takes, next}
 use Rattle.tta_tacrun.specs.declared.answer.SeqStep.{SeqStep}
-use Rattle.tta_tacrun.specs.declared.answer.SeqStep.TheVariants.{Ran, Halted as DoesNotRun}
+use Rattle.tta_tacrun.specs.declared.answer.SeqStep.TheVariants.{Ran, Halted as DoesNotRun, Waiting as Waits}
 use Rattle.tta_tacrun.specs.declared.phase.Phase.{Phase}
-use Rattle.tta_tacrun.specs.declared.phase.Phase.TheVariants.{Running as GoesOn, Stopped, Returned}
+use Rattle.tta_tacrun.specs.declared.phase.Phase.TheVariants.{Running as Runs, Stopped, Returned}
 use Rattle.tta_tacrun.specs.Calls.{Calls}
 
--- all of a state but what was put out, and how many variables each procedure of the program has
+-- all of a state but the input and the output, and how many variables each procedure of the program has
 pub record Run : Type 0 where
   pub sizes : List ℕ
   pub stack : List Frame
@@ -21,27 +22,38 @@ pub record Run : Type 0 where
   pub steps : ℕ
   pub outcome : Outcome
 
--- A run stands for each state that agrees with all that it holds.
+-- A run stands for each state that agrees with all that it holds. So it stands for none that waits, since it holds no
+-- input: one that waits goes on where there is a word.
 pub record Stands (r : Run) (s : State) : Type 0 where
   pub stack : r.stack ≡ s.stack
   pub memory : r.memory ≡ s.memory
   pub steps : r.steps ≡ s.steps
   pub outcome : r.outcome ≡ s.outcome
 
--- The answer of a step from a state: Halted where the state has halted, and else the word that the step puts out, if any.
+-- The answer of a step from a state: Halted where the state has halted, Waiting where the step makes it wait, and else the
+-- word that the step puts out, if any, and whether it takes a word of the input.
 abbrev pub IsAnswer : Units → Program → State → SeqStep → Type 0
 IsAnswer u p s DoesNotRun = s.outcome ≡ Halted
-IsAnswer u p s (Ran word) = (s.outcome ≡ Running) × ((next u p s).output ≡ s.output ++ option_to_list word)
+IsAnswer u p s Waits = (s.outcome ≡ Running) × (next u p s ≡ record s { outcome = Waiting })
+IsAnswer u p s (Ran word took) =
+    (s.outcome ≡ Running) × ((next u p s).output ≡ s.output ++ option_to_list word) × ((next u p s).rest ≡ left took s.rest)
 
--- the steps that an answer stands for: one, but for a run that has halted before
+-- A run after a step stands for the next state, and where the step waits for the same one.
+abbrev pub GoesOn : Units → Program → Run → State → SeqStep → Type 0
+GoesOn u p after s Waits = Stands after s
+GoesOn u p after s answer = Stands after (next u p s)
+
+-- the steps that an answer stands for: one, but for a run that has halted before, or waits
 abbrev pub steps_of : SeqStep → ℕ
 steps_of DoesNotRun = 0
-steps_of (Ran word) = 1
+steps_of Waits = 0
+steps_of (Ran word took) = 1
 
 -- whether a state has halted
 abbrev pub is_over : Outcome → Bool
 is_over Running = false
 is_over Halted = true
+is_over Waiting = false
 
 -- ---- the program of a run
 
@@ -71,20 +83,20 @@ pub record IsRunOf (p : Program) (r : Run) : Type 0 where
 
 -- the frames of a run, the topmost first, by its phase
 abbrev pub stack_of : Phase → Calls → List Frame
-stack_of GoesOn c = c.top ∷ c.below
+stack_of Runs c = c.top ∷ c.below
 stack_of Stopped c = c.top ∷ c.below
 stack_of Returned c = []
 
 -- how a run stands, by its phase
 abbrev pub outcome_of : Phase → Outcome
-outcome_of GoesOn = Running
+outcome_of Runs = Running
 outcome_of Stopped = Halted
 outcome_of Returned = Halted
 
 -- a state of which the calls, the data words and the phase are kept
-abbrev pub state_of : Phase → Calls → (memory output : List ℕ) (steps : ℕ) → State
-state_of phase c memory output steps =
-    record { stack = stack_of phase c; memory = memory; output = output; steps = steps; outcome = outcome_of phase }
+abbrev pub state_of : Phase → Calls → (memory rest output : List ℕ) (steps : ℕ) → State
+state_of phase c memory rest output steps =
+    record { stack = stack_of phase c; memory = memory; rest = rest; output = output; steps = steps; outcome = outcome_of phase }
 
 -- what is held where these are kept
 abbrev pub run_of : Phase → Calls → (memory : List ℕ) (steps : ℕ) → Run

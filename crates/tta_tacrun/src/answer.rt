@@ -3,8 +3,11 @@
 /// What became of a step.
 #[derive(Clone, Copy, Debug, PartialEq, Eq)]
 pub enum SeqStep {
-    /// The step was carried out, and put out this word, if any.
-    Ran(Option<u32>),
+    /// The step was carried out. It put out this word, if any, and it took a word of the input or
+    /// did not.
+    Ran { put: Option<u32>, took: bool },
     /// The run has halted before, and nothing was changed.
     Halted,
+    /// The step takes a word of the input, and none is left. Nothing was changed.
+    Waiting,
 }

@@ -2,8 +2,8 @@
 
 ghost use Rattle.std.specs.Prelude.{◌≡◌, ◌+◌, ◌<◌, ◌≤◌, ◌^◌, ◌∷◌, [], length, map, replicate};
 ghost use Rattle.std.specs.Prelude.{if◌then◌else◌, slice_index, slice_set, IfOk, IsFalse};
-ghost use Rattle.tta_tac.specs.Rules.{IsProgram};
-ghost use Rattle.tta_tac.specs.Sequential.{operand, enter};
+ghost use Rattle.tta_program.specs.Rules.{IsProgram};
+ghost use Rattle.tta_program.specs.Sequential.{operand, enter};
 ghost use Rattle.tta_tacrun.specs.Calls.{IsFresh, begun};
 
 use crate::entry::Entry;
@@ -11,7 +11,7 @@ use crate::pass::{pass, value_of};
 use crate::words::Words;
 use std::alloc::{AllocError, Global};
 use std::marker::Model;
-use tta_tac::{Program, Src};
+use tta_program::{Program, Src};
 
 /// The calls that are under way. One always is.
 ///

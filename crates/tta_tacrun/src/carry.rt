@@ -4,9 +4,11 @@ ghost use Rattle.std.specs.Prelude.{◌≡◌, ℕ, List, ◌+◌, ◌<◌, ◌^
 ghost use Rattle.std.specs.Prelude.{Some, OnSome, IsSome, option_copied, slice_index, slice_set};
 ghost use Rattle.std.specs.Option.{option_map_or};
 ghost use Rattle.tta_ops.specs.Set.{stated};
-ghost use Rattle.tta_tac.specs.Rules.{IsProgram};
-ghost use Rattle.tta_tac.specs.Sequential.{State, operand, holds, step_at, returns, carry_out};
-ghost use Rattle.tta_tac.specs.Sequential.{take_value as value_taken};
+ghost use Rattle.tta_program.specs.Rules.{IsProgram};
+ghost use Rattle.tta_program.specs.Sequential.{State, operand, holds, step_at, takes, returns};
+ghost use Rattle.tta_program.specs.Sequential.{carry_out};
+ghost use Rattle.tta_program.specs.Sequential.{take_value as value_taken};
+ghost use Rattle.tta_list.specs.Input.{left};
 ghost use Rattle.tta_tacrun.specs.Run.{AreCallsOf, state_of, put, destination};
 
 use crate::calls::Calls;
@@ -15,7 +17,7 @@ use crate::phase::Phase;
 use crate::relations::Relations;
 use crate::words::Words;
 use tta_ops::{OpId, UnitSet};
-use tta_tac::{Program, Rel, Src, Step};
+use tta_program::{Program, Rel, Src, Step};
 
 /// The step that a call has come to, if there is one.
 pub fn step_of(p: &Program, call: Entry) -> Option<&Step>
@@ -26,6 +28,16 @@ pub fn step_of(p: &Program, call: Entry) -> Option<&Step>
     match p.procs.as_slice().get(call.proc) {
         Some(q) => q.steps.as_slice().get(call.at),
         None => None,
+    }
+}
+
+/// Whether a step takes a word of the input.
+pub fn takes(step: &Step) -> bool
+    ensures { result ≡ takes step.now }
+{
+    match step {
+        Step::Take { .. } => true,
+        _ => false,
     }
 }
 
@@ -60,9 +72,9 @@ fn take_value(calls: &mut Calls, p: &Program, value: u32)
 fn give_back(calls: &mut Calls, p: &Program, value: u32) -> Phase
     requires { AreCallsOf p.now calls.old }
     ensures loaded { AreCallsOf p.now calls.new }
-    ensures returned { (memory output : List ℕ) (steps : ℕ)
-        → let s = state_of Phase.Running calls.old memory output steps in
-        state_of result calls.new memory output steps ≡ returns p.now s calls.old.below value }
+    ensures returned { (memory rest output : List ℕ) (steps : ℕ)
+        → let s = state_of Phase.Running calls.old memory rest output steps in
+        state_of result calls.new memory rest output steps ≡ returns p.now s calls.old.below value }
 {
     if !calls.leave() {
         return Phase::Returned;
@@ -75,10 +87,10 @@ fn give_back(calls: &mut Calls, p: &Program, value: u32) -> Phase
 fn give_back_of(calls: &mut Calls, p: &Program, s: Option<Src>) -> Phase
     requires { AreCallsOf p.now calls.old }
     ensures loaded { AreCallsOf p.now calls.new }
-    ensures returned { (memory output : List ℕ) (steps : ℕ)
-        → let running = state_of Phase.Running calls.old memory output steps in
+    ensures returned { (memory rest output : List ℕ) (steps : ℕ)
+        → let running = state_of Phase.Running calls.old memory rest output steps in
         let value = option_map_or (operand calls.old.top.vars) s 0 in
-        state_of result calls.new memory output steps
+        state_of result calls.new memory rest output steps
         ≡ returns p.now running calls.old.below value }
 {
     let value = match s {
@@ -92,9 +104,9 @@ fn give_back_of(calls: &mut Calls, p: &Program, s: Option<Src>) -> Phase
 fn end_call(calls: &mut Calls, p: &Program) -> Phase
     requires { AreCallsOf p.now calls.old }
     ensures loaded { AreCallsOf p.now calls.new }
-    ensures returned { (memory output : List ℕ) (steps : ℕ)
-        → let s = state_of Phase.Running calls.old memory output steps in
-        state_of result calls.new memory output steps ≡ returns p.now s calls.old.below 0 }
+    ensures returned { (memory rest output : List ℕ) (steps : ℕ)
+        → let s = state_of Phase.Running calls.old memory rest output steps in
+        state_of result calls.new memory rest output steps ≡ returns p.now s calls.old.below 0 }
 {
     give_back(calls, p, 0)
 }
@@ -147,7 +159,8 @@ fn store(calls: &Calls, memory: &mut Words, a: Src, v: Src)
     memory.set(calls.value(a) as usize, calls.value(v));
 }
 
-/// Carries out a step. It answers whether the run goes on, and the word put out, if any.
+/// Carries out a step, where `next` is the next word of the input. It answers whether the run goes
+/// on, and the word put out, if any.
 pub fn carry(
     calls: &mut Calls,
     memory: &mut Words,
@@ -155,6 +168,7 @@ pub fn carry(
     p: &Program,
     units: &UnitSet,
     step: &Step,
+    next: u32,
 ) -> (Phase, Option<u32>)
     requires rules { IsProgram p.now }
     requires loaded { AreCallsOf p.now calls.old }
@@ -162,13 +176,14 @@ pub fn carry(
     requires more { calls.old.top.at + 1 < 2 ^ 64 }
     ensures loaded { AreCallsOf p.now calls.new }
     ensures space { length memory.new ≡ length memory.old }
-    ensures carried { (output : List ℕ) (steps : ℕ)
+    ensures carried { (rest output : List ℕ) (steps : ℕ) → slice_index rest 0 ≡ next
         → let U = stated unit_meaning units.now in
-        let s = state_of Phase.Running calls.old memory.old output steps in
-        state_of result.0 calls.new memory.new (put output result.1) steps
+        let s = state_of Phase.Running calls.old memory.old rest output steps in
+        let after = left (takes step.now) rest in
+        state_of result.0 calls.new memory.new after (put output result.1) steps
         ≡ carry_out U p.now s calls.old.top calls.old.below step.now }
 {
-    let next = calls.top().at + 1;
+    let behind = calls.top().at + 1;
     let mut word = None;
     match step {
         Step::Copy { d, s } => calls.copy(*d, *s),
@@ -176,22 +191,23 @@ pub fn carry(
         Step::Load { d, a } => load(calls, memory, *d, *a),
         Step::Store { a, v } => {
             store(calls, memory, *a, *v);
-            calls.go_to(next);
+            calls.go_to(behind);
         }
         Step::Put { v } => {
             word = Some(calls.value(*v));
-            calls.go_to(next);
+            calls.go_to(behind);
         }
+        Step::Take { d } => calls.assign(*d, next),
         Step::If { rel, a, b, to } => {
             let held = is_held(calls, relations, units, *rel, *a, *b);
-            calls.go_to(if held { *to as usize } else { next });
+            calls.go_to(if held { *to as usize } else { behind });
         }
         Step::Goto { to } => calls.go_to(*to as usize),
         Step::When { rel, a, b, d, s } => {
             if is_held(calls, relations, units, *rel, *a, *b) {
                 calls.copy(*d, *s);
             } else {
-                calls.go_to(next);
+                calls.go_to(behind);
             }
         }
         Step::Invoke { callee, args, .. } => calls.enter(*callee as usize, args.as_slice()),

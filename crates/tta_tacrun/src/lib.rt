@@ -1,5 +1,4 @@
-//! The run of a three-address program by its sequential meaning, one step a call. It stands on the
-//! programs of `tta_tac`, the operations of `tta_ops`, and `tta_list`.
+//! The run of a three-address program by its sequential meaning, one step a call.
 #![tactic(auto)]
 
 mod answer;

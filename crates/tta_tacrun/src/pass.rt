@@ -1,11 +1,11 @@
 //! Operands, and the arguments of a call.
 
 ghost use Rattle.std.specs.Prelude.{◌≡◌, ◌≢◌, ◌<◌, ◌≤◌, [], length, map, slice_index_or, slice_set};
-ghost use Rattle.tta_tac.specs.Sequential.{operand};
+ghost use Rattle.tta_program.specs.Sequential.{operand};
 ghost use Rattle.tta_tacrun.specs.Calls.{begun};
 
 use crate::words::Words;
-use tta_tac::Src;
+use tta_program::Src;
 
 /// The word that an operand stands for.
 pub fn value_of(variables: &Words, s: Src) -> u32

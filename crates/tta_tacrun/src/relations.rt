@@ -3,10 +3,10 @@
 ghost use Rattle.std.specs.Prelude.{◌≡◌, option_map};
 ghost use Rattle.tta_ops.specs.Set.{stated};
 ghost use Rattle.tta_ops.specs.Units.{named};
-ghost use Rattle.tta_tac.specs.Sequential.{holds, is_odd};
+ghost use Rattle.tta_program.specs.Sequential.{holds, is_odd};
 
 use tta_ops::{OpId, UnitSet};
-use tta_tac::Rel;
+use tta_program::Rel;
 
 /// The operation of a name. A look at the operation that was found last comes before the search
 /// by name, which takes longer.

@@ -1,23 +1,27 @@
 //! A run.
 
-ghost use Rattle.std.specs.Prelude.{◌≡◌, ◌+◌, ◌<◌, ◌^◌, length, slice_index, IfOk};
+ghost use Rattle.std.specs.Prelude.{◌≡◌, ◌+◌, ◌<◌, ◌^◌, List, ℕ, length, slice_index, IfOk};
+ghost use Rattle.std.specs.Prelude.{◌&&◌, is_none, false};
 ghost use Rattle.tta_ops.specs.Set.{stated};
-ghost use Rattle.tta_tac.specs.Sequential.{State, next, start};
-ghost use Rattle.tta_tacrun.specs.Run.{Stands, IsAnswer, IsRunOf, is_over, steps_of};
+ghost use Rattle.tta_program.specs.Sequential.{State, Running, next, start};
+ghost use Rattle.tta_list.specs.Input.{IsFed};
+ghost use Rattle.tta_tacrun.specs.Run.{Stands, IsAnswer, GoesOn, IsRunOf};
+ghost use Rattle.tta_tacrun.specs.Run.{is_over, steps_of};
+ghost use Rattle.tta_tacrun.specs.declared.answer.SeqStep.TheVariants.{Waiting};
 
 use crate::answer::SeqStep;
 use crate::calls::Calls;
-use crate::carry::{carry, step_of};
+use crate::carry::{carry, step_of, takes};
 use crate::phase::Phase;
 use crate::relations::Relations;
 use crate::words::Words;
 use std::alloc::{AllocError, Global};
 use std::marker::Model;
 use tta_ops::UnitSet;
-use tta_tac::Program;
+use tta_program::Program;
 
 /// The run of a program by its sequential meaning: the calls that are under way, the data words
-/// and the number of steps. What was put out is not kept.
+/// and the number of steps. The input and what was put out are not kept.
 #[derive(Drop)]
 pub struct Seq {
     calls: Calls,
@@ -35,13 +39,21 @@ impl Model for Seq {
     ghost view = { λ s. run_of s.phase s.calls s.memory s.steps };
 }
 
+/// Whether a step has to wait: it takes a word of the input, and none is left.
+fn is_stuck(took: bool, next: Option<u32>) -> bool
+    ensures { result ≡ (took && is_none next) }
+{
+    took && next.is_none()
+}
+
 impl Seq {
     /// The start of a run: `main` at its first step with every variable 0, and these data words.
     ///
     /// It takes all memory that the run needs: room for the variables of each procedure and for a
     /// call of each.
     pub fn load(alloc: Global, p: &Program, memory: Vec<u32>) -> Result<Self, AllocError>
-        ensures start { IfOk result (λ r. Stands r (start p.now memory.items)) }
+        ensures start { IfOk result (λ r. (input : List ℕ)
+            → Stands r (start p.now memory.items input)) }
         ensures loaded { IfOk result (λ r. IsRunOf p.now r) }
     {
         Ok(Seq {
@@ -53,41 +65,50 @@ impl Seq {
         })
     }
 
-    /// Carries out one step of the program that was loaded, and answers `Ran` with the word that
-    /// it put out, if any. It answers `Halted` exactly where the run has halted before, and then
-    /// changes nothing. It takes no memory.
-    pub fn step(&mut self, p: &Program, units: &UnitSet) -> SeqStep
+    /// Carries out one step of the program that was loaded, where `next` is the next word of the
+    /// input, `None` where none is left. It answers `Ran` with the word that it put out, if any. It
+    /// answers `Halted` exactly where the run has halted before, and `Waiting` exactly where the
+    /// step takes a word of the input and there is none; then it changes nothing. It takes no
+    /// memory.
+    pub fn step(&mut self, p: &Program, units: &UnitSet, next: Option<u32>) -> SeqStep
         requires loaded { IsRunOf p.now self.old }
         requires few { self.old.steps < 2 ^ 62 }
         ensures loaded { IsRunOf p.now self.new }
         ensures space { length self.new.memory ≡ length self.old.memory }
         ensures counted { self.new.steps ≡ self.old.steps + steps_of result }
-        ensures next { let U = stated unit_meaning units.now in
-            (s : State) → Stands self.old s → Stands self.new (next U p.now s) }
-        ensures answer { let U = stated unit_meaning units.now in
-            (s : State) → Stands self.old s → IsAnswer U p.now s result }
+        ensures next { let U = stated unit_meaning units.now in (s : State)
+            → Stands self.old s → IsFed s.rest next → GoesOn U p.now self.new s result }
+        ensures answer { let U = stated unit_meaning units.now in (s : State)
+            → Stands self.old s → IsFed s.rest next → IsAnswer U p.now s result }
+        ensures waits { result ≡ Waiting → self.new ≡ self.old }
     {
         match self.phase {
             Phase::Running => {}
             Phase::Stopped | Phase::Returned => return SeqStep::Halted,
         }
         let step = step_of(p, self.calls.top()).unwrap();
-        let (phase, word) = carry(
+        let took = takes(step);
+        if is_stuck(took, next) {
+            return SeqStep::Waiting;
+        }
+        let (phase, put) = carry(
             &mut self.calls,
             &mut self.memory,
             &mut self.relations,
             p,
             units,
             step,
+            next.unwrap_or(0),
         );
         self.phase = phase;
         self.steps += 1;
-        SeqStep::Ran(word)
+        SeqStep::Ran { put, took }
     }
 
     /// Whether the run has halted.
     pub fn halted(&self) -> bool
-        ensures { result ≡ is_over self.now.outcome }
+        ensures over { result ≡ is_over self.now.outcome }
+        ensures goes_on { result ≡ false → self.now.outcome ≡ Running }
     {
         match self.phase {
             Phase::Running => false,

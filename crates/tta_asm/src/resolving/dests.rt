@@ -14,7 +14,7 @@ use crate::forms::DestForm;
 use crate::parts::Part;
 use crate::places::{file_at, index_below, unit_at};
 use crate::table::Table;
-use tta_machine::{Dest, Machine};
+use tta_arch::{Dest, Machine};
 use tta_ops::UnitSet;
 
 /// The register of a file that has this index.

@@ -3,7 +3,7 @@
 ghost use Rattle.std.specs.Prelude.{◌≡◌, Some, is_some};
 ghost use Rattle.tta_reading.specs.Names.{named_in};
 ghost use Rattle.tta_reading.specs.Steps.{◌>>?◌, only_if};
-ghost use Rattle.tta_machine.specs.declared.ends.Source.TheVariants.{Ra};
+ghost use Rattle.tta_arch.specs.declared.ends.Source.TheVariants.{Ra};
 ghost use Rattle.tta_asm.specs.declared.parts.Part.TheVariants.{File, Imm};
 ghost use Rattle.tta_asm.specs.Parts.{parts_of};
 ghost use Rattle.tta_asm.specs.Resolving.{word_of, source_at, result_of, source_of};
@@ -16,7 +16,7 @@ use crate::parts::Part;
 use crate::places::{file_at, imm_at, index_below, unit_at};
 use crate::refusal::AsmRefusal;
 use crate::table::Table;
-use tta_machine::{Machine, Source};
+use tta_arch::{Machine, Source};
 use tta_reading::Names;
 
 /// The word of a value. It is refused as `Label` where a name is no label.

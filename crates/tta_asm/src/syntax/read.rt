@@ -2,7 +2,7 @@
 
 ghost use Rattle.std.specs.Prelude.{◌≡◌, map, drop, option_map};
 ghost use Rattle.tta_reading.specs.Lines.{plain};
-ghost use Rattle.tta_reading.specs.Words.{name_of, value_of};
+ghost use Rattle.tta_reading.specs.Words.{name_of, value_of, constant_of};
 ghost use Rattle.tta_asm.specs.Seen.{placed_seen, value_seen};
 ghost use Rattle.tta_asm.specs.Syntax as spec;
 ghost use Rattle.tta_asm.specs.WordsRead.{name_before, reading_seen, result_seen};
@@ -62,6 +62,23 @@ pub fn next_number<'w, 't>(end: u32, words: &'w [PlacedWord<'t>]) -> Result<Read
     match words {
         [] => Err(end),
         [first, rest @ ..] => match first.word.value() {
+            Some(value) => Ok(Read { value, rest }),
+            None => Err(first.line),
+        },
+    }
+}
+
+/// The value of the next word, where it is a constant.
+pub fn next_constant<'w, 't>(
+    end: u32,
+    words: &'w [PlacedWord<'t>],
+) -> Result<Read<'w, 't, u32>, u32>
+    ensures { reading_seen (λ n. n) result
+        ≡ spec.next_word constant_of end (map placed_seen words.now) }
+{
+    match words {
+        [] => Err(end),
+        [first, rest @ ..] => match first.word.constant() {
             Some(value) => Ok(Read { value, rest }),
             None => Err(first.line),
         },

@@ -1,3 +1,4 @@
+use Rattle.std.proofs.Common.{drop}
 use Rattle.tta_ops.specs.Set.{stated}
 use Rattle.tta_asm.specs.Drafts.{draft_seen}
 use Rattle.tta_asm.specs.Pieces.{pieces_of}
@@ -8,5 +9,5 @@ use Rattle.tta_asm.proofs.assembling.code_over.Goals as goal
 pub returns-in-Ok-clause-legal : goal.returns-in-Ok-clause-legal
 returns-in-Ok-clause-legal g c =
     let U = stated (λ v. (goal.OpUnit-dyn g v).unit_meaning v.1) c.args.units.now in
-    taken_legal U c.args.m.now c.args.labels.now (draft_seen c.take_rest.new.draft) (pieces_of c.args.text.now)
-    (rw (c.new-pieces.ensures.pieces, c.new-draft.ensures) at c.in-Ok.ensures)
+    taken_legal U c.args.m.now c.args.labels.now (draft_seen c.take_rest.new.draft) (drop c.args.count (pieces_of c.args.text.now))
+    (rw (c.in_ok-pieces.ensures.pieces, c.new-draft.ensures) at c.in-Ok.ensures)

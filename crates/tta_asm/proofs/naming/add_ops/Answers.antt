@@ -1,5 +1,5 @@
-use Rattle.tta_machine.specs.declared.parts.UnitOp.{UnitOp}
-use Rattle.tta_machine.specs.declared.parts.Op.TheVariants.{Ldw}
+use Rattle.tta_arch.specs.declared.parts.UnitOp.{UnitOp}
+use Rattle.tta_arch.specs.declared.parts.Op.TheVariants.{Ldw}
 use Rattle.tta_ops.specs.Set.{stated}
 use Rattle.tta_asm.proofs.MachineNames.{ops_more, ops_end}
 use Rattle.tta_asm.proofs.naming.add_ops.Goals as goal

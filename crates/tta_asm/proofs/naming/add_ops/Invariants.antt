@@ -1,5 +1,5 @@
 use Rattle.std.proofs.Common.{map, drop, ◌++◌}
-use Rattle.tta_machine.specs.declared.parts.UnitOp.{UnitOp}
+use Rattle.tta_arch.specs.declared.parts.UnitOp.{UnitOp}
 use Rattle.tta_ops.specs.Set.{stated}
 use Rattle.tta_asm.specs.Parts.{by_place, op_name}
 use Rattle.tta_asm.specs.Table.{NameTheSame}

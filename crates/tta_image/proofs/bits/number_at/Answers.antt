@@ -1,6 +1,6 @@
 use Rattle.std.proofs.Common.{◌+◌, ◌∙◌, arith}
 use Rattle.tta_image.specs.Decoding.{bits_in}
-use Rattle.tta_machine.proofs.Widths.{pow_le}
+use Rattle.tta_arch.proofs.Widths.{pow_le}
 use Rattle.tta_image.proofs.Unique.{length-bytes}
 use Rattle.tta_image.proofs.BitsAt.{field_below}
 use Rattle.tta_image.proofs.FieldParts.{number_more}

@@ -1,5 +1,5 @@
-use Rattle.tta_machine.specs.Fields.{same_source}
-use Rattle.tta_machine.proofs.CodeLists.{place_or_len}
+use Rattle.tta_arch.specs.Fields.{same_source}
+use Rattle.tta_arch.proofs.CodeLists.{place_or_len}
 use Rattle.tta_image.proofs.fields.source_code.Goals as goal
 
 pub returns : goal.returns

@@ -1,5 +1,5 @@
 use Rattle.std.proofs.Common.{sym}
-use Rattle.tta_machine.proofs.Widths.{no_high}
+use Rattle.tta_arch.proofs.Widths.{no_high}
 use Rattle.tta_image.proofs.sink.without_low.Goals as goal
 
 pub returns-else-count-lt-BITS : goal.returns-else-count-lt-BITS

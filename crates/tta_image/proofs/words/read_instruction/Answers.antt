@@ -1,8 +1,8 @@
 use Rattle.std.proofs.Common.{◌+◌, Ok, Err, length, drop, subst, sym, ap, ◌∙◌, arith}
-use Rattle.tta_machine.specs.Machine.{Machine}
-use Rattle.tta_machine.specs.declared.layout.Layout.{Layout}
-use Rattle.tta_machine.specs.Rules.{IsMachine}
-use Rattle.tta_machine.proofs.Layouts.{layout_buses}
+use Rattle.tta_arch.specs.Machine.{Machine}
+use Rattle.tta_arch.specs.declared.layout.Layout.{Layout}
+use Rattle.tta_arch.specs.Rules.{IsMachine}
+use Rattle.tta_arch.proofs.Layouts.{layout_buses}
 use Rattle.tta_image.specs.Decoding.{bits_in, decoded_template}
 use Rattle.tta_image.proofs.Walks.{rest_after}
 use Rattle.tta_image.proofs.InstructionRead.{template_refused, long_refused, slots_answer}

@@ -1,6 +1,6 @@
 use Rattle.std.proofs.Common.{◌<◌, ◌^◌, subst, arith}
-use Rattle.tta_machine.specs.Machine.{Machine}
-use Rattle.tta_machine.specs.Rules.{IsMachine}
+use Rattle.tta_arch.specs.Machine.{Machine}
+use Rattle.tta_arch.specs.Rules.{IsMachine}
 use Rattle.tta_image.proofs.ImageLemmas.{words_fit}
 use Rattle.tta_image.proofs.write.count_words.Goals as goal
 

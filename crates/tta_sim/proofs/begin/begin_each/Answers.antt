@@ -12,7 +12,7 @@ begin_one-requires-clause-fitting g c =
     let first = c.args.results.now in
     let places = c.args.places.now in
     let operand = operand_in places c.args.writes.now in
-    fits_next U first.cycle c.args.memory.now c.args.frame.now places operand first c.loop-s.results c.args.moves.now c.loop-s.s-index _ c.loop-s-test.true c.loop-s.invariant.begun
+    fits_next U first.cycle c.args.memory.now c.args.frame.now c.args.next places operand first c.loop-s.results c.args.moves.now c.loop-s.s-index _ c.loop-s-test.true c.loop-s.invariant.begun
     c.requires.fitting
 
 pub returns-then-begin_one-clause-can : goal.returns-then-begin_one-clause-can
@@ -23,7 +23,7 @@ returns-then-begin_one-clause-can g c =
     let operand = operand_in places c.args.writes.now in
     let moves = c.args.moves.now in
     let k = c.loop-s.s-index in
-    let same = cannot_next U first.cycle c.args.memory.now c.args.frame.now places operand first c.loop-s.results moves k _ c.loop-s-test.true c.loop-s.invariant.begun c.requires.apart in
+    let same = cannot_next U first.cycle c.args.memory.now c.args.frame.now c.args.next places operand first c.loop-s.results moves k _ c.loop-s-test.true c.loop-s.invariant.begun c.requires.apart in
     sym (ap not (any_here (cannot_start places first operand) moves k _ _ c.loop-s-test.true c.loop-s.invariant.can (sym same ∙ sym c.begin_one.ensures.stopped ∙ c.if-begin_one.true)))
 
 pub loop-s-preserved : goal.loop-s-preserved
@@ -34,10 +34,10 @@ loop-s-preserved g c =
     let operand = operand_in places c.args.writes.now in
     let moves = c.args.moves.now in
     let k = c.loop-s.s-index in
-    let same = cannot_next U first.cycle c.args.memory.now c.args.frame.now places operand first c.loop-s.results moves k _ c.loop-s-test.true c.loop-s.invariant.begun c.requires.apart in
+    let same = cannot_next U first.cycle c.args.memory.now c.args.frame.now c.args.next places operand first c.loop-s.results moves k _ c.loop-s-test.true c.loop-s.invariant.begun c.requires.apart in
     record {
       can = any_left (cannot_start places first operand) moves k _ _ c.loop-s-test.true c.loop-s.invariant.can (sym same ∙ sym c.begin_one.ensures.stopped ∙ c.if-begin_one.false);
       begun =
-          begun_next U first.cycle c.args.memory.now c.args.frame.now places operand first c.loop-s.results moves k _ c.loop-s-test.true c.loop-s.invariant.begun
+          begun_next U first.cycle c.args.memory.now c.args.frame.now c.args.next places operand first c.loop-s.results moves k _ c.loop-s-test.true c.loop-s.invariant.begun
           c.begin_one.new.results refl (c.begin_one.ensures.begun c.if-begin_one.false);
     }

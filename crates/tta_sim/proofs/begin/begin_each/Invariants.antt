@@ -14,5 +14,5 @@ invariant-loop-s g l =
     let starts = filter_map (start_brought l.places first.shown operand) (take l.s-index l.moves) in
     record {
       can : list_any cannot l.moves ≡ list_any cannot (drop l.s-index l.moves);
-      begun : l.results ≡ record first { coming = first.coming ++ filter_map (begun U first.cycle l.memory l.frame) starts };
+      begun : l.results ≡ record first { coming = first.coming ++ filter_map (begun U first.cycle l.memory l.frame l.next) starts };
     }

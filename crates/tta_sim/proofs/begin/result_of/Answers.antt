@@ -2,7 +2,7 @@ use Rattle.std.proofs.Common.{◌≡◌, ℕ, Option, Some, None, refl, sym, ap,
 use Rattle.std.specs.Prelude.{if◌then◌else◌}
 use Rattle.std.specs.Option.{option_map_or, unwrap_or}
 use Rattle.tta_ops.specs.Set.{stated}
-use Rattle.tta_machine.specs.Effects.{Start, has_result, operand_word, result_word}
+use Rattle.tta_arch.specs.Effects.{Start, has_result, operand_word, result_word}
 use Rattle.tta_sim.specs.Starts.{due_of}
 use Rattle.tta_sim.proofs.begin.result_of.Goals as goal
 
@@ -20,4 +20,4 @@ returns-in-Set-clause-begun g c = λ now.
     ∙ ap (λ a. U.value id a c.start.inside.word) (c.unwrap_or.ensures ∙ operand_is c.start.inside.operand)
     ∙ ap (λ (s : Start). U.value id (operand_word s) s.word) c.start.view_is in
     ap (λ w. Some (due_of now t w)) word
-    ∙ sym (ap (λ op. if has_result op then Some (due_of now t (result_word U c.args.memory.now c.args.frame.now t op)) else None) is)
+    ∙ sym (ap (λ op. if has_result op then Some (due_of now t (result_word U c.args.memory.now c.args.frame.now c.args.next t op)) else None) is)

@@ -28,7 +28,7 @@ returns-clause-begun g c = λ ready.
     let U = stated (λ v. (goal.OpUnit-dyn g v).unit_meaning v.1) c.args.units.now in
     let store = c.args.store.now in
     let brought = start_brought store.places store.results.shown in
-    let begins = begun U store.results.cycle store.memory.items store.frame.items in
+    let begins = begun U store.results.cycle store.memory.items store.frame.items c.args.next in
     let noted = noted_are c.args.store.now.places c.args.store.now.results (is_some c.args.control.now.pending) c.args.line.now _ _ _ c.as_slice.ensures
     c.as_slice-writes.ensures _ c.note_writes.ensures.read c.if-not-note_writes.false c.note_writes.ensures.writes in
     c.begin_line.ensures.begun ready

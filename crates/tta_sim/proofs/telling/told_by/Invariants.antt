@@ -1,5 +1,5 @@
 use Rattle.std.proofs.Common.{◌≡◌, drop}
-use Rattle.tta_machine.specs.Effects.{first_some}
+use Rattle.tta_arch.specs.Effects.{first_some}
 use Rattle.tta_sim.specs.Lines.{tell_brought}
 use Rattle.tta_sim.proofs.telling.told_by.Given as goal
 

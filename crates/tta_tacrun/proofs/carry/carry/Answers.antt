@@ -1,6 +1,6 @@
 use Rattle.std.proofs.Common.{Some, length, refl, ap, ◌∙◌, arith}
 use Rattle.std.proofs.lemmas.List.{length-map}
-use Rattle.tta_tac.specs.declared.program.Proc.{Proc}
+use Rattle.tta_program.specs.declared.program.Proc.{Proc}
 use Rattle.tta_tacrun.proofs.Calling.{met, size_at}
 use Rattle.tta_tacrun.proofs.carry.carry.Goals as goal
 
@@ -22,5 +22,5 @@ enter-requires-clause-fit g c =
     rw (c.as_slice.ensures.all, c.requires.loaded.sizes) call.fit
 
 pub returns-in-Invoke-clause-carried : goal.returns-in-Invoke-clause-carried
-returns-in-Invoke-clause-carried g c = λ output steps.
+returns-in-Invoke-clause-carried g c = λ rest output steps fed.
     rw (c.in-Invoke.is, c.enter.ensures, c.as_slice.ensures.all, c.requires.loaded.sizes, size_at c.args.p.now.procs c.in-Invoke.callee) refl

@@ -1,6 +1,6 @@
 use Rattle.std.proofs.Common.{ℕ, ◌+◌, ◌*◌, ◌%◌, ◌^◌, ap, ◌∙◌, arith}
 use Rattle.std.proofs.lemmas.Nat.{mod_below, pow_pos}
-use Rattle.tta_machine.proofs.Widths.{pow_le}
+use Rattle.tta_arch.proofs.Widths.{pow_le}
 use Rattle.tta_image.proofs.BitParts.{more_below, front_full, front_more}
 use Rattle.tta_image.proofs.sink.BitSink.push_front.Goals as goal
 use Rattle.tta_image.proofs.sink.BitSink.push_front.Goals.{then-count-room+in_ok-push, else-count-room}

@@ -9,32 +9,32 @@ use Rattle.tta_sim.proofs.Going.{halted_stands, fault_stands, fault_answer, past
 use Rattle.tta_sim.proofs.sim.Sim.cycle.Goals as goal
 
 pub returns-in-Halted-clause-next : goal.returns-in-Halted-clause-next
-returns-in-Halted-clause-next g c = λ s same.
+returns-in-Halted-clause-next g c = λ s same fed.
     let U = stated (λ v. (goal.OpUnit-dyn g v).unit_meaning v.1) c.args.units.now in
     let over = ap (λ h. h.outcome) (sym c.self.view_is) ∙ ap (outcome_of c.self.inside.store.results.cycle) c.in-Halted.is in
     halted_stands U c.args.m.now c.args.code.now c.args.self.now s same over
 
 pub returns-in-Fault-clause-next : goal.returns-in-Fault-clause-next
-returns-in-Fault-clause-next g c = λ s same.
+returns-in-Fault-clause-next g c = λ s same fed.
     let U = stated (λ v. (goal.OpUnit-dyn g v).unit_meaning v.1) c.args.units.now in
     let over = ap (λ h. h.outcome) (sym c.self.view_is) ∙ ap (outcome_of c.self.inside.store.results.cycle) c.in-Fault.is in
     fault_stands U c.args.m.now c.args.code.now c.args.self.now s same c.in-Fault.number _ over
 
 pub returns-in-Fault-clause-answer : goal.returns-in-Fault-clause-answer
-returns-in-Fault-clause-answer g c = λ s same.
+returns-in-Fault-clause-answer g c = λ s same fed.
     let U = stated (λ v. (goal.OpUnit-dyn g v).unit_meaning v.1) c.args.units.now in
     let over = ap (λ h. h.outcome) (sym c.self.view_is) ∙ ap (outcome_of c.self.inside.store.results.cycle) c.in-Fault.is in
     let at = over ∙ ap (Fault c.in-Fault.number) (ap (λ h. h.cycle) c.self.view_is) in
     fault_answer U c.args.m.now c.args.code.now c.args.self.now s same c.in-Fault.number at
 
 pub returns-in_default-clause-next : goal.returns-in_default-clause-next
-returns-in_default-clause-next g c = λ s same.
+returns-in_default-clause-next g c = λ s same fed.
     let U = stated (λ v. (goal.OpUnit-dyn g v).unit_meaning v.1) c.args.units.now in
     let none = sym c.instruction_at.ensures ∙ ap option_copied c.in_default.is in
     past_stands U c.args.m.now c.args.code.now c.self.inside.lines c.self.inside.store c.self.inside.control s (rw (← c.self.view_is) at same) c.in-Running.is none
 
 pub returns-in_default-clause-answer : goal.returns-in_default-clause-answer
-returns-in_default-clause-answer g c = λ s same.
+returns-in_default-clause-answer g c = λ s same fed.
     let U = stated (λ v. (goal.OpUnit-dyn g v).unit_meaning v.1) c.args.units.now in
     let none = sym c.instruction_at.ensures ∙ ap option_copied c.in_default.is in
     past_answer U c.args.m.now c.args.code.now c.self.inside.lines c.self.inside.store c.self.inside.control s (rw (← c.self.view_is) at same) c.in-Running.is none
@@ -51,20 +51,23 @@ carry-requires-clause-within g c =
     omega (arith, within, c.requires.loaded.reached)
 
 pub returns-clause-next : goal.returns-clause-next
-returns-clause-next g c = λ s same.
+returns-clause-next g c = λ s same fed.
     let U = stated (λ v. (goal.OpUnit-dyn g v).unit_meaning v.1) c.args.units.now in
     let here = sym c.instruction_at.ensures ∙ ap option_copied c.in-Some.is in
     let held = rw (← c.self.view_is) at same in
     goes_stands U c.args.m.now c.args.code.now c.self.inside.lines c.self.inside.store c.self.inside.control s held c.in-Running.is c.in-Some.i.now _ c.carry.result here
-    (c.carry.ensures.carried c.self.inside.lines s held)
+    (c.carry.ensures.carried c.self.inside.lines s held fed)
 
 pub returns-clause-answer : goal.returns-clause-answer
-returns-clause-answer g c = λ s same.
+returns-clause-answer g c = λ s same fed.
     let U = stated (λ v. (goal.OpUnit-dyn g v).unit_meaning v.1) c.args.units.now in
     let here = sym c.instruction_at.ensures ∙ ap option_copied c.in-Some.is in
     let held = rw (← c.self.view_is) at same in
     goes_answer U c.args.m.now c.args.code.now c.self.inside.lines c.self.inside.store c.self.inside.control s held c.in-Running.is c.in-Some.i.now _ c.carry.result here
-    (c.carry.ensures.carried c.self.inside.lines s held)
+    (c.carry.ensures.carried c.self.inside.lines s held fed)
+
+pub returns-clause-waits : goal.returns-clause-waits
+returns-clause-waits g c = λ is. c.carry.ensures.waits c.self.inside.lines is ∙ c.self.view_is
 
 pub bounds-as_slice-self-inside : goal.bounds-as_slice-self-inside
 bounds-as_slice-self-inside g c =

@@ -1,12 +1,12 @@
 use Rattle.std.proofs.Common.{length, replicate, ap, ◌∙◌, subst}
-use Rattle.tta_machine.specs.Rules.{IsMachine}
+use Rattle.tta_arch.specs.Rules.{IsMachine}
 use Rattle.tta_sim.proofs.Going.{all_reached, first_stands, first_run}
 use Rattle.tta_sim.proofs.sim.Sim.load.Goals as goal
 
 pub returns-clause-start : goal.returns-clause-start
-returns-clause-start c =
+returns-clause-start c = λ input.
     let s = c.in-Ok.ensures in
-    first_stands c.args.m.now c.args.memory.items c.in-Ok-decode.lines c.in-Ok.store c.first.result
+    first_stands c.args.m.now c.args.memory.items input c.in-Ok-decode.lines c.in-Ok.store c.first.result
     _ s.places s.results s.memory (s.frame ∙ ap (λ m. replicate m.frame_words 0) c.m.view_is) c.first.ensures
 
 pub returns-clause-loaded : goal.returns-clause-loaded
