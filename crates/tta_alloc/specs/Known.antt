@@ -1,0 +1,16 @@
+-- What is known of a procedure when its intervals are made.
+use Rattle.std.specs.Prelude.{◌≡◌, ◌↔◌, ℕ, ◌<◌, ◌-◌, ◌^◌, true, List, length}
+use Rattle.tta_program.specs.declared.program.Proc.{Proc}
+use Rattle.tta_flow.specs.declared.live.Live.{Live}
+use Rattle.tta_flow.specs.Paths.{Reached, IsClosed, LiveBefore, LiveAfter}
+use Rattle.tta_flow.specs.Live.{live_before, live_after}
+use Rattle.tta_flow.specs.Search.{is_found}
+
+-- the steps that paths come to stand in a list, and the answers on what is live are those of the procedure
+pub record Known (q : Proc) (owner : ℕ) (reached : List ℕ) (live : Live) : Type 0 where
+  pub closed : IsClosed q.steps
+  pub few : length q.steps < 2 ^ 32 - 1
+  pub sound : (i : ℕ) → is_found reached i ≡ true → Reached q.steps i
+  pub whole : (i : ℕ) → Reached q.steps i → is_found reached i ≡ true
+  pub before : (step x : ℕ) → x < q.vars → (live_before live owner step x ≡ true) ↔ LiveBefore q.steps x step
+  pub after : (step x : ℕ) → x < q.vars → (live_after live owner step x ≡ true) ↔ LiveAfter q.steps x step

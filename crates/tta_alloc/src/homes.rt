@@ -1,0 +1,116 @@
+//! The homes of the variables of a program.
+
+ghost use Rattle.std.specs.Prelude.{◌≡◌, ◌==◌, ◌&&◌, ◌||◌, ◌<◌, ℕ, nat_le, true, length, IfOk, OnOk};
+ghost use Rattle.std.specs.Prelude.{slice_get, List};
+ghost use Rattle.std.specs.Option.{option_map_or};
+ghost use Rattle.tta_flow.specs.Blocks.{IsFlow, Holds};
+ghost use Rattle.tta_flow.specs.Live.{IsLive};
+ghost use Rattle.tta_flow.specs.Table.{is_listed};
+ghost use Rattle.tta_alloc.specs.Homes.{IsScan, IsScanOf, count_of, home_of};
+ghost use Rattle.tta_alloc.specs.Law.{KeepsLaw};
+ghost use Rattle.tta_program.specs.declared.program.Proc.{Proc};
+ghost use Rattle.tta_alloc.specs.Ranges.{AddsRange};
+
+use crate::home::Home;
+use crate::scan::scan_homes;
+use crate::taken::taken_of;
+use std::alloc::{AllocError, Global};
+use tta_flow::{Block, Flow, Live, Table};
+use tta_program::Program;
+
+/// The homes of the variables of each procedure.
+#[derive(Drop)]
+pub struct Homes {
+    procs: Vec<Vec<Home>>,
+    count: u32,
+}
+
+impl Homes {
+    /// How many home registers the homes were made for.
+    #[tactic(auto, unfolding(crate::specs::Homes::count_of))]
+    pub fn count(&self) -> u32
+        ensures { result ≡ count_of self.now }
+    {
+        self.count
+    }
+
+    /// The home of a variable of a procedure.
+    #[tactic(auto, unfolding(crate::specs::Homes::home_of))]
+    pub fn home(&self, owner: u32, var: u32) -> Home
+        ensures { result ≡ home_of self.now owner var }
+    {
+        let owner = owner as usize;
+        if owner < self.procs.len() {
+            entry(self.procs[owner].as_slice(), var)
+        } else {
+            Home::Slot(var)
+        }
+    }
+}
+
+/// The home of a variable, its slot where the list has none.
+fn entry(homes: &[Home], var: u32) -> Home
+    ensures { result ≡ option_map_or (λ home. home) (slice_get homes.now var) (Home.Slot var) }
+{
+    match homes.get(var as usize) {
+        Some(home) => *home,
+        None => Home::Slot(var),
+    }
+}
+
+/// The linear scan over so many home registers.
+pub fn assign(
+    alloc: Global,
+    p: &Program,
+    f: &Flow,
+    live: &Live,
+    homes: u32,
+) -> Result<Homes, AllocError>
+    requires flow { IsFlow p.now f.now.blocks }
+    requires live { IsLive p.now live.now }
+    ensures { IfOk result (λ h. IsScan p.now homes h) }
+{
+    let procs = p.procs.as_slice();
+    let steps = steps_of(alloc, f.blocks.as_slice(), procs.len())?;
+    let mut all = Vec::new(alloc);
+    for owner in 0..procs.len() {
+        let q = &procs[owner];
+        let taken = taken_of(alloc, q, owner as u32, steps.at(owner), live)?;
+        all.push(scan_homes(alloc, taken.as_slice(), q.vars, homes)?)?;
+    }
+    Ok(Homes {
+        procs: all,
+        count: homes,
+    })
+}
+
+/// For each procedure the steps that its blocks hold.
+fn steps_of(alloc: Global, blocks: &[Block], procs: usize) -> Result<Table, AllocError>
+    ensures size { IfOk result (λ t. length t.lists.items ≡ procs) }
+    ensures sound { IfOk result (λ t. (o i : ℕ) → o < procs
+        → is_listed t o i ≡ true → Holds blocks.now o i) }
+    ensures whole { IfOk result (λ t. (o i : ℕ) → o < procs
+        → Holds blocks.now o i → is_listed t o i ≡ true) }
+{
+    let mut table = Table::new(alloc, procs)?;
+    for block in blocks {
+        add_steps(&mut table, *block)?;
+    }
+    Ok(table)
+}
+
+/// Puts the steps of a block into the list of its procedure.
+fn add_steps(table: &mut Table, block: Block) -> Result<(), AllocError>
+    ensures { OnOk result (AddsRange block.owner block.first block.last table.old table.new) }
+{
+    for at in block.first as usize..block.last as usize + 1 {
+        table.add(block.owner as usize, at)?;
+    }
+    Ok(())
+}
+
+/// Every linear scan keeps variables apart, and has few slots.
+pub fn scans_keep_apart()
+    ensures { (q : Proc) (homes : ℕ) (answer : List Home)
+        → IsScanOf q homes answer → KeepsLaw q homes answer }
+{}

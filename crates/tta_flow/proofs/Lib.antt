@@ -1,0 +1,13 @@
+pub mod BitLemmas
+pub mod GrowthLemmas
+pub mod Searches
+pub mod Tables
+pub mod Reaching
+pub mod RunLemmas
+pub mod FirstLemmas
+pub mod BlockLemmas
+pub mod Programs
+pub mod RowLemmas
+pub mod LiveLemmas
+pub mod FlowLawLemmas
+pub mod Samples

@@ -1,0 +1,5 @@
+use Rattle.tta_flow.proofs.RowLemmas.{IsNew}
+use Rattle.tta_flow.proofs.rows.Work.new.Given as goal
+
+abbrev pub invariant-loop-at : goal.invariant-loop-at
+invariant-loop-at l = IsNew l.steps l.vars l.at l.rows.items l.due

@@ -1,0 +1,11 @@
+pub mod Steps
+pub mod Paths
+pub mod Blocks
+pub mod Bits
+pub mod Growth
+pub mod Search
+pub mod Table
+pub mod Runs
+pub mod Rows
+pub mod Live
+pub mod Laws
