@@ -1,0 +1,85 @@
+-- How a block ends, exit by exit.
+use Rattle.std.proofs.Common.{◌≡◌, ◌+◌, ◌++◌, ◌∷◌, [], ℕ, zero, suc, List, Option, Some, true, false, drop, slice_get, refl, sym, ap, ◌∙◌, arith, add-zero, append_assoc}
+use Rattle.std.specs.Option.{option_map_or}
+use Rattle.tta_ops.specs.Units.{Units}
+use Rattle.tta_program.specs.declared.operand.Rel.{Rel}
+use Rattle.tta_program.specs.declared.step.Step.{Step}
+use Rattle.tta_program.specs.Program.{Program}
+use Rattle.tta_program.specs.Sequential.{Running, Halted, Waiting, step_at, holds}
+use Rattle.tta_rcode.specs.declared.code.RSrc.{RSrc}
+use Rattle.tta_rcode.specs.declared.code.RBlock.{RBlock}
+use Rattle.tta_rcode.specs.declared.code.Exit.TheVariants.{Next, Goto, If, Invoke, Back, Halt}
+use Rattle.tta_rcode.specs.Meaning.{State, Kept, Return, found, operand, steps_of, walk, stay}
+use Rattle.tta_lower.specs.Liveness.{Homes}
+use Rattle.tta_lower.specs.Layout.{steps_for, code_from}
+use Rattle.tta_lower.specs.Relation.{going}
+
+-- what stands at a place begins the rest of the list
+pub drop-there : {A : Type 0} (xs : List A) (k : ℕ) (x : A) → slice_get xs k ≡ Some x → drop k xs ≡ x ∷ drop (k + 1) xs
+drop-there [] k x is = cc
+drop-there (y ∷ ys) zero x is =
+    let same : y ≡ x = cc in
+    rw same refl
+drop-there (y ∷ ys) (suc k) x is =
+    let e : suc k + 1 ≡ suc (k + 1) = omega arith in
+    rw e (drop-there ys k x is)
+
+-- the code of one step more
+pub code_from-more : (p : Program) (home : Homes) (owner at n : ℕ) (st : Step) → step_at p owner (at + n) ≡ Some st
+    → code_from p home owner at (suc n) ≡ code_from p home owner at n ++ (steps_for p home owner st ++ [])
+code_from-more p home owner at zero st there =
+    let here : step_at p owner at ≡ Some st = ap (step_at p owner) (sym (add-zero at)) ∙ there in
+    rw here refl
+code_from-more p home owner at (suc n) st there =
+    let later : step_at p owner (at + 1 + n) ≡ Some st = ap (step_at p owner) (omega arith) ∙ there in
+    ap (λ l. option_map_or (steps_for p home owner) (step_at p owner at) [] ++ l) (code_from-more p home owner (at + 1) n st later)
+    ∙ sym (append_assoc (option_map_or (steps_for p home owner) (step_at p owner at) []) (code_from p home owner (at + 1) n) (steps_for p home owner st ++ []))
+
+module _ (u : Units) (c : RBlock) (bs : List RBlock) (at : ℕ) (regs : List (ℕ × ℕ)) (frame : List (ℕ × Kept)) (ra : Option ℕ) (memory input output : List ℕ) where
+  -- the state before the exit
+  abbrev pub now : State
+  now = going at regs frame ra memory input output Running
+
+  -- what comes where the block falls through
+  abbrev pub onward : State
+  onward = going (at + 1) (stay c.live_out regs) frame ra memory input output Running
+
+  -- a block without a transfer
+  pub fall : (s : State) → steps_of u c.steps s ≡ now → c.exit ≡ Next → walk u (c ∷ bs) s ≡ walk u bs onward
+  fall s steps is = rw (steps, is) refl
+
+  -- a branch that is not taken
+  pub fall-if : (s : State) (rel : Rel) (a b : RSrc) (to v w : ℕ) → steps_of u c.steps s ≡ now → c.exit ≡ If rel a b to
+      → operand now a ≡ Some v → operand now b ≡ Some w → holds u rel v w ≡ false → walk u (c ∷ bs) s ≡ walk u bs onward
+  fall-if s rel a b to v w steps is set_a set_b test = rw (steps, is, set_a, set_b, test) refl
+
+  -- a branch that is taken
+  pub jump-if : (s : State) (rel : Rel) (a b : RSrc) (to v w : ℕ) → steps_of u c.steps s ≡ now → c.exit ≡ If rel a b to
+      → operand now a ≡ Some v → operand now b ≡ Some w → holds u rel v w ≡ true
+      → walk u (c ∷ bs) s ≡ going to (stay c.live_out regs) frame ra memory input output Running
+  jump-if s rel a b to v w steps is set_a set_b test = rw (steps, is, set_a, set_b, test) refl
+
+  -- a jump
+  pub jump : (s : State) (to : ℕ) → steps_of u c.steps s ≡ now → c.exit ≡ Goto to
+      → walk u (c ∷ bs) s ≡ going to (stay c.live_out regs) frame ra memory input output Running
+  jump s to steps is = rw (steps, is) refl
+
+  -- a call
+  pub call : (s : State) (to : ℕ) → steps_of u c.steps s ≡ now → c.exit ≡ Invoke to
+      → walk u (c ∷ bs) s ≡ going to (stay c.live_out regs) frame (Some (at + 1)) memory input output Running
+  call s to steps is = rw (steps, is) refl
+
+  -- a return
+  pub back : (s : State) (slot to : ℕ) → steps_of u c.steps s ≡ now → c.exit ≡ Back slot → found slot frame ≡ Some (Return to)
+      → walk u (c ∷ bs) s ≡ going to (stay c.live_out regs) frame ra memory input output Running
+  back s slot to steps is kept = rw (steps, is, kept) refl
+
+  -- a halt
+  pub halt : (s : State) → steps_of u c.steps s ≡ now → c.exit ≡ Halt
+      → walk u (c ∷ bs) s ≡ going at (stay c.live_out regs) frame ra memory input output Halted
+  halt s steps is = rw (steps, is) refl
+
+  -- a wait for input
+  pub wait : (s : State) → steps_of u c.steps s ≡ going at regs frame ra memory input output Waiting
+      → walk u (c ∷ bs) s ≡ going at regs frame ra memory input output Waiting
+  wait s steps = rw steps refl

@@ -1,0 +1,55 @@
+-- Rows of steps that grow.
+use Rattle.std.proofs.Common.{◌≡◌, ◌<◌, ◌≤◌, ◌+◌, ◌-◌, ◌++◌, ◌∷◌, [], ℕ, zero, suc, Bool, List, Some, true, length, drop, get_or, slice_get, refl, sym, ap, ◌∙◌, arith, append_assoc}
+use Rattle.std.specs.Prelude.{if◌then◌else◌}
+use Rattle.std.specs.List.{list_all}
+use Rattle.std.proofs.lemmas.Bool.{and_parts}
+use Rattle.std.proofs.lemmas.List.{drop_more}
+use Rattle.tta_program.specs.declared.operand.Src.{Src}
+use Rattle.tta_program.specs.Rules.{is_src}
+use Rattle.tta_program.specs.declared.step.Step.{Step}
+use Rattle.tta_program.specs.declared.program.Proc.{Proc}
+use Rattle.tta_program.specs.Sequential.{step_at}
+use Rattle.tta_program.specs.Program.{Program}
+use Rattle.tta_rcode.specs.declared.code.Place.TheVariants as places
+use Rattle.tta_rcode.specs.declared.code.RStep.{RStep}
+use Rattle.tta_rcode.specs.declared.code.RStep.TheVariants as rstep
+use Rattle.tta_lower.specs.Liveness.{Homes}
+use Rattle.tta_lower.specs.Layout.{var_slot, source, passes, steps_for, code_from, sets, sets_from}
+
+-- one argument more was passed
+pub passes_more : (p : Program) (home : Homes) (owner callee x : ℕ) (args : List Src) (s : Src) (front : List RStep) → x < length args → s ≡ get_or args x s
+    → (front ++ rstep.Copy (places.Frame (var_slot p callee x)) (source p home owner s) ∷ []) ++ passes p home owner callee (x + 1) (drop (x + 1) args)
+    ≡ front ++ passes p home owner callee x (drop x args)
+passes_more p home owner callee x args s front lt is =
+    append_assoc front (rstep.Copy (places.Frame (var_slot p callee x)) (source p home owner s) ∷ []) (passes p home owner callee (x + 1) (drop (x + 1) args))
+    ∙ ap (λ l. front ++ passes p home owner callee x l) (ap (λ y. y ∷ drop (x + 1) args) is ∙ sym (drop_more args x s lt))
+
+-- one of operands that are all in range
+pub src_in : (vars : ℕ) (args : List Src) (x : ℕ) (s : Src) → list_all (is_src vars) args ≡ true → x < length args → s ≡ get_or args x s → is_src vars s ≡ true
+src_in vars [] x s all lt is = absurd (omega (arith, lt))
+src_in vars (a ∷ args) zero s all lt is = ap (is_src vars) is ∙ (and_parts (is_src vars a) _ all).0
+src_in vars (a ∷ args) (suc x) s all lt is = src_in vars args x s (and_parts (is_src vars a) _ all).1 (omega (arith, lt)) is
+
+-- one step more of a row
+pub row_more : (p : Program) (home : Homes) (owner at last : ℕ) (st : Step) (front made : List RStep) → step_at p owner at ≡ Some st → at ≤ last
+    → made ≡ front ++ steps_for p home owner st → made ++ code_from p home owner (at + 1) (last + 1 - (at + 1)) ≡ front ++ code_from p home owner at (last + 1 - at)
+row_more p home owner at last st front made there le is =
+    let e : last + 1 - at ≡ suc (last + 1 - (at + 1)) = omega (arith, le) in
+    ap (λ l. l ++ code_from p home owner (at + 1) (last + 1 - (at + 1))) is
+    ∙ append_assoc front (steps_for p home owner st) (code_from p home owner (at + 1) (last + 1 - (at + 1)))
+    ∙ rw (e, there) refl
+
+-- a step there of a procedure that is there
+pub there_at : (p : Program) (owner at : ℕ) (q : Proc) (st : Step) → slice_get p.procs owner ≡ Some q → slice_get q.steps at ≡ Some st → step_at p owner at ≡ Some st
+there_at p owner at q st is here = rw is here
+
+-- one variable more of an entry, live or not
+pub sets_more : (p : Program) (home : Homes) (live : ℕ → Bool) (owner x n : ℕ) (b : Bool) (front made : List RStep) → x < n → b ≡ live x
+    → made ≡ front ++ (if b then sets p home owner x else [])
+    → made ++ sets_from p home live owner (x + 1) (n - (x + 1)) ≡ front ++ sets_from p home live owner x (n - x)
+sets_more p home live owner x n b front made lt here is =
+    let e : n - x ≡ suc (n - (x + 1)) = omega (arith, lt) in
+    ap (λ l. l ++ sets_from p home live owner (x + 1) (n - (x + 1))) is
+    ∙ append_assoc front (if b then sets p home owner x else []) (sets_from p home live owner (x + 1) (n - (x + 1)))
+    ∙ ap (λ t. front ++ ((if t then sets p home owner x else []) ++ sets_from p home live owner (x + 1) (n - (x + 1)))) here
+    ∙ rw e refl

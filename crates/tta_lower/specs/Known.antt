@@ -1,0 +1,47 @@
+-- What is known of blocks, homes and liveness, by what is answered of them.
+use Rattle.std.specs.Prelude.{ℕ, Bool, ◌&&◌, nat_lt, if◌then◌else◌, List, map, Option, Some, None}
+use Rattle.tta_program.specs.Program.{Program}
+use Rattle.tta_program.specs.Rules.{IsProgram}
+use Rattle.tta_flow.specs.declared.flow.Block.{Block}
+use Rattle.tta_flow.specs.declared.live.Live.{Live}
+use Rattle.tta_flow.specs.Blocks.{IsFlow}
+use Rattle.tta_flow.specs.Live.{IsLive, live_before, live_after}
+use Rattle.tta_alloc.specs.declared.home.Home.{Home}
+use Rattle.tta_alloc.specs.declared.home.Home.TheVariants.{Reg, Slot}
+use Rattle.tta_alloc.specs.declared.homes.Homes.{Homes}
+use Rattle.tta_alloc.specs.Homes.{home_of, IsScan}
+use Rattle.tta_lower.specs.declared.part.Span.{Span}
+use Rattle.tta_lower.specs.Layout.{vars_of}
+use Rattle.tta_lower.specs.Law.{IsKnown}
+
+-- a block as lowering takes it
+abbrev pub span_of : Block → Span
+span_of b = record { owner = b.owner; first = b.first; last = b.last }
+
+-- blocks as lowering takes them
+abbrev pub spans : List Block → List Span
+spans blocks = map span_of blocks
+
+-- the home register that a home is, if it is one
+abbrev pub reg_of : Home → Option ℕ
+reg_of (Reg k) = Some k
+reg_of (Slot x) = None
+
+module _ (p : Program) where
+  -- the home register of a variable, if it has one
+  abbrev pub home_by : Homes → (owner x : ℕ) → Option ℕ
+  home_by h owner x = if nat_lt x (vars_of p owner) then reg_of (home_of h owner x) else None
+
+  -- whether a variable is live at a procedure's entry
+  abbrev pub first_by : Live → (owner x : ℕ) → Bool
+  first_by l owner x = nat_lt x (vars_of p owner) && live_before l owner 0 x
+
+  -- whether a variable is live after a step
+  abbrev pub after_by : Live → (owner at x : ℕ) → Bool
+  after_by l owner at x = nat_lt x (vars_of p owner) && live_after l owner at x
+
+-- all that lowering has to know follows from what blocks, liveness and homes answer
+abbrev pub AnswersKnow : Type 0
+AnswersKnow =
+    (p : Program) (homes : ℕ) (blocks : List Block) (l : Live) (h : Homes) → IsProgram p → IsFlow p blocks → IsLive p l → IsScan p homes h
+    → IsKnown p homes (spans blocks) (home_by p h) (first_by p l) (after_by p l)

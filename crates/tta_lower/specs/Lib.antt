@@ -1,0 +1,16 @@
+pub mod Liveness
+pub mod Layout
+pub mod Shape
+pub mod Relation
+pub mod Keeps
+pub mod Lower
+pub mod Counts
+pub mod Law
+pub mod Members
+pub mod FlowFacts
+pub mod Tables
+pub mod Laid
+pub mod Known
+pub mod Plan
+pub mod Statement
+pub mod Squares

@@ -1,0 +1,28 @@
+-- What lowering knows of a program, as its functions are handed it.
+use Rattle.std.specs.Prelude.{ℕ, Bool, slice_index}
+use Rattle.tta_rcode.specs.declared.code.RBlock.{RBlock}
+use Rattle.tta_alloc.specs.Homes.{count_of}
+use Rattle.tta_lower.specs.declared.plan.Plan.{Plan}
+use Rattle.tta_lower.specs.declared.numbers.Numbers.{Numbers}
+use Rattle.tta_lower.specs.Liveness.{Homes}
+use Rattle.tta_lower.specs.Lower.{Part}
+use Rattle.tta_lower.specs.Known.{home_by, first_by, after_by}
+use Rattle.tta_lower.specs.Tables.{AreFirsts, number_in}
+use Rattle.tta_lower.specs.Laid.{test_of, block_by}
+
+-- the slots are those of the program's frames
+abbrev pub IsLaid : Plan → Type 0
+IsLaid s = AreFirsts s.p.now s.firsts.now
+
+-- where the variables are kept
+abbrev pub homes_in : Plan → Homes
+homes_in s = home_by s.p.now s.homes.now
+
+-- the variables that are live where a part ends; at an entry, where it begins
+abbrev pub live_in : Plan → Part → ℕ → Bool
+live_in s x = test_of (first_by s.p.now s.live.now) (after_by s.p.now s.live.now) x
+
+-- the block of a part, with the numbers of blocks as they are held
+abbrev pub block_in : Plan → Numbers → Part → RBlock
+block_in s n x =
+    block_by s.p.now (homes_in s) (number_in n.rows.items) (slice_index n.entries.items) (count_of s.homes.now) (live_in s x) x

@@ -1,0 +1,72 @@
+//! The register code of a program.
+
+ghost use Rattle.std.specs.Prelude.{◌≡◌, length, IfOk, IfErr};
+ghost use Rattle.tta_program.specs.Rules.{IsProgram};
+ghost use Rattle.tta_flow.specs.Blocks.{IsFlow};
+ghost use Rattle.tta_flow.specs.Live.{IsLive};
+ghost use Rattle.tta_alloc.specs.Homes.{IsScan, count_of};
+ghost use Rattle.tta_lower.specs.Known.{spans, first_by, after_by};
+ghost use Rattle.tta_lower.specs.Law.{IsKnown};
+ghost use Rattle.tta_lower.specs.Lower.{lowered};
+ghost use Rattle.tta_lower.specs.Plan.{IsLaid, homes_in};
+ghost use Rattle.tta_lower.specs.Statement.{IsCodeOf};
+ghost use Rattle.tta_lower.specs.Statement.{IsCause};
+
+use crate::error::LowerError;
+use crate::laying::frames_within;
+use crate::made::blocks_for;
+use crate::numbers::numbers_of;
+use crate::parts::all_parts;
+use crate::plan::Plan;
+use std::alloc::{AllocError, Global};
+use tta_alloc::Homes;
+use tta_flow::{Block, Flow, Live};
+use tta_list::Items;
+use tta_program::Program;
+use tta_rcode::Rir;
+
+/// The register code of a program, by its blocks, the liveness and the homes of its variables, for
+/// so many words of the frame space. `FrameFull` comes exactly where the frames need more words.
+pub fn lower(
+    alloc: Global,
+    p: &Program,
+    f: &Flow,
+    live: &Live,
+    homes: &Homes,
+    frame_words: u32,
+) -> Result<Rir, LowerError>
+    requires flow { IsFlow p.now f.now.blocks }
+    requires live { IsLive p.now live.now }
+    requires homes { IsScan p.now (count_of homes.now) homes.now }
+    ensures code { IfOk result (λ r. IsCodeOf p.now f.now.blocks live.now homes.now frame_words r) }
+    ensures cause { IfErr result (λ e. IsCause p.now frame_words e) }
+{
+    let firsts = frames_within(alloc, p, frame_words)?;
+    let plan = Plan {
+        p,
+        live,
+        homes,
+        firsts: firsts.as_slice(),
+    };
+    let code = code_of(alloc, &plan, f.blocks.as_slice())?;
+    Ok(code)
+}
+
+/// The register code of a program whose frames are laid.
+fn code_of(alloc: Global, plan: &Plan<'_>, blocks: &[Block]) -> Result<Rir, AllocError>
+    requires laid { IsLaid plan.now }
+    requires sound { IsProgram plan.now.p.now }
+    requires known { IsKnown plan.now.p.now (count_of plan.now.homes.now) (spans blocks.now)
+        (homes_in plan.now) (first_by plan.now.p.now plan.now.live.now)
+        (after_by plan.now.p.now plan.now.live.now) }
+    ensures { IfOk result (λ r. r ≡ lowered plan.now.p.now (spans blocks.now)
+        (first_by plan.now.p.now plan.now.live.now) (homes_in plan.now)
+        (after_by plan.now.p.now plan.now.live.now) (count_of plan.now.homes.now)) }
+{
+    let parts = all_parts(alloc, plan, blocks)?;
+    let numbers = numbers_of(alloc, plan.p, parts.as_slice())?;
+    let blocks = blocks_for(alloc, plan, &numbers, parts.as_slice())?;
+    Ok(Rir {
+        blocks: Items::of(blocks),
+    })
+}

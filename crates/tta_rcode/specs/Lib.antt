@@ -1,0 +1,4 @@
+pub mod Meaning
+pub mod Closed
+pub mod Counts
+pub mod Direct
