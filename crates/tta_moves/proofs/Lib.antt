@@ -1,0 +1,11 @@
+pub mod Buses
+pub mod Last
+pub mod Places
+pub mod Steps
+pub mod InRange
+pub mod LegsKept
+pub mod BoundLaws
+pub mod FirstFitLaws
+pub mod Addresses
+pub mod Rows
+pub mod Gaps

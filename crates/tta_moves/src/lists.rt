@@ -1,0 +1,118 @@
+//! Which lists a machine can carry out.
+
+ghost use Rattle.std.specs.Prelude.{◌≡◌};
+ghost use Rattle.std.specs.List.{list_all, list_any};
+ghost use Rattle.tta_arch.specs.Rules.{IsMachine};
+ghost use Rattle.tta_connect.specs.Net.{IsNetOf};
+ghost use Rattle.tta_moves.specs.Touches.{is_control};
+ghost use Rattle.tta_moves.specs.Slots.{carried, joined, fills, has_slot, control_is_last, is_list};
+
+use crate::items::{BlockList, Item, ItemSource};
+use tta_arch::{Dest, GuardRef, Machine, Source, Template};
+use tta_connect::Net;
+
+/// How many items a list has at most.
+const MAX_ITEMS: usize = 1 << 24;
+
+/// The greatest address of a machine.
+fn greatest_address(m: &Machine) -> u32
+    ensures value { Source.Value result ≡ carried m.now (ItemSource.Address 0) }
+    ensures rules { IsMachine m.now }
+{
+    (1 << m.control.address) - 1
+}
+
+/// A source as a bus has to carry it: an address as the greatest that there is.
+fn carried(m: &Machine, src: ItemSource) -> Source
+    ensures value { result ≡ carried m.now src }
+    ensures rules { IsMachine m.now }
+{
+    let greatest = greatest_address(m);
+    match src {
+        ItemSource::Port(port) => port,
+        ItemSource::Address(_) => Source::Value(greatest),
+    }
+}
+
+/// Whether some bus joins the ends of a move and has its guard. For an address its field has to
+/// hold every address of the machine.
+pub fn is_joined(
+    m: &Machine,
+    net: &Net,
+    src: ItemSource,
+    dst: Dest,
+    guard: Option<GuardRef>,
+) -> bool
+    requires { IsNetOf net.now m.now }
+    ensures { result ≡ joined m.now src dst guard }
+{
+    let from = carried(m, src);
+    match net.bus_for(m, &from, &dst, &guard) {
+        Some(_) => true,
+        None => false,
+    }
+}
+
+fn fills(t: &Template, imm: u8, reg: u8) -> bool
+    ensures { result ≡ fills imm reg t.now }
+{
+    t.imm == imm && t.reg == reg
+}
+
+/// Whether some template writes an immediate register.
+fn is_filled(m: &Machine, imm: u8, reg: u8) -> bool
+    ensures { result ≡ list_any (fills imm reg) m.now.templates }
+{
+    m.templates.as_slice().iter().any(|t| fills(t, imm, reg))
+}
+
+/// Whether an item has a bus or a template where it is alone in its cycle.
+fn has_slot(m: &Machine, net: &Net, x: Item) -> bool
+    requires { IsNetOf net.now m.now }
+    ensures { result ≡ has_slot m.now x }
+{
+    match x {
+        Item::Move { guard, src, dst } => is_joined(m, net, src, dst, guard),
+        Item::Long { imm, reg, .. } => is_filled(m, imm, reg),
+    }
+}
+
+fn is_control(x: Item) -> bool
+    ensures { result ≡ is_control x }
+{
+    match x {
+        Item::Move { dst, .. } => matches!(dst, Dest::Jump | Dest::Call | Dest::Halt),
+        Item::Long { .. } => false,
+    }
+}
+
+fn have_slots(m: &Machine, net: &Net, items: &[Item]) -> bool
+    requires { IsNetOf net.now m.now }
+    ensures { result ≡ list_all (has_slot m.now) items.now }
+{
+    items.iter().all(|x| has_slot(m, net, *x))
+}
+
+fn control_is_last(items: &[Item]) -> bool
+    ensures { result ≡ control_is_last items.now }
+{
+    for (i, x) in items.iter().enumerate() {
+        if is_control(*x) && i + 1 != items.len() {
+            return false;
+        }
+    }
+    true
+}
+
+/// Whether a machine can carry out a list: each item alone has a bus or a template, control is
+/// only last, and there are at most 2^24 items. It takes no memory.
+pub fn is_list(m: &Machine, net: &Net, b: &BlockList) -> bool
+    requires { IsNetOf net.now m.now }
+    ensures { result ≡ is_list m.now b.now.items }
+{
+    let items = b.items.as_slice();
+    if items.len() > MAX_ITEMS {
+        return false;
+    }
+    have_slots(m, net, items) && control_is_last(items)
+}

@@ -1,0 +1,90 @@
+-- When one list of items can stand for another.
+use Rattle.std.specs.Prelude.{◌≡◌, ◌≢◌, ℕ, ◌≤◌, ◌==◌, Bool, true, false, List, length, count_by, Option, Some, None}
+use Rattle.std.specs.List.{list_any, filter_map}
+use Rattle.tta_ops.specs.Units.{Units}
+use Rattle.tta_arch.specs.declared.ends.GuardRef.{GuardRef}
+use Rattle.tta_arch.specs.Machine.{Machine}
+use Rattle.tta_arch.specs.Effects.{Target, Reg, Imm, Operand, Trigger, Control, Place, kept}
+use Rattle.tta_moves.specs.declared.items.ItemSource.{ItemSource}
+use Rattle.tta_moves.specs.declared.items.ItemSource.TheVariants.{Port, Address}
+use Rattle.tta_moves.specs.declared.items.Item.{Item}
+use Rattle.tta_moves.specs.Touches.{guard_of, source_of, target_of_item}
+use Rattle.tta_moves.specs.Meaning.{Held, is_waiting, do_items, has_meaning}
+use Rattle.tta_moves.specs.declared.items.BlockList.{BlockList}
+use Rattle.tta_list.specs.Legs.{Run, Undefined, AllPairs}
+use Rattle.tta_moves.specs.Runs.{lives, lrun}
+use Rattle.tta_moves.specs.Slots.{is_list}
+use Rattle.tta_moves.specs.Forms.{is_straight}
+
+-- Two states are alike for what comes behind a list: the spaces, the rest of the input, what was put out and how the list
+-- goes on are equal, and so are, unless it waits, the return address and the registers that are read after it.
+pub record Alike (live : List (ℕ × ℕ)) (h k : Held) : Type 0 where
+  pub memory : k.memory ≡ h.memory
+  pub frame : k.frame ≡ h.frame
+  pub rest : k.rest ≡ h.rest
+  pub output : k.output ≡ h.output
+  pub exit : k.exit ≡ h.exit
+  pub registers : is_waiting h.exit ≡ false → (p : Place) → lives live p ≡ true → kept k.written p ≡ kept h.written p
+
+-- From every state from which a list has a meaning, the other has one, and they leave states that are alike.
+pub record KeepsMeaning (m : Machine) (live : List (ℕ × ℕ)) (items others : List Item) : Type 0 where
+  pub meaning : (u : Units) (addr : List ℕ) (back : ℕ) (h : Held)
+      → has_meaning u m addr back h items ≡ true → has_meaning u m addr back h others ≡ true
+  pub end : (u : Units) (addr : List ℕ) (back : ℕ) (h : Held)
+      → has_meaning u m addr back h items ≡ true → Alike live (do_items u m addr back h items) (do_items u m addr back h others)
+
+-- ---- what is triggered, and what is written
+
+-- the operation that a target triggers, with a guard
+abbrev pub triggered : Option GuardRef → Target → Option (Option GuardRef × (ℕ × ℕ))
+triggered guard (Reg file index) = None
+triggered guard (Imm unit index) = None
+triggered guard (Operand unit) = None
+triggered guard (Trigger unit op) = Some (guard, (unit, op))
+triggered guard (Control kind) = None
+
+-- the operation that an item triggers, with its guard
+abbrev pub trigger_of : Item → Option (Option GuardRef × (ℕ × ℕ))
+trigger_of x = triggered (guard_of x) (target_of_item x)
+
+-- whether a source is the address of a block
+abbrev pub is_address : (block : ℕ) → ItemSource → Bool
+is_address block (Port src) = false
+is_address block (Address b) = b == block
+
+-- whether an item moves the address of a block, or writes it into an immediate register
+abbrev pub names : (block : ℕ) → Item → Bool
+names block x = is_address block (source_of x)
+
+-- A list does no more than another: it has no more items and is a list of the machine where that is one; it triggers the
+-- same operations in the same order; it brings words to targets of any kind, as to a register, no more often; the addresses
+-- in it stand in the other; and it is straight where the other is.
+pub record DoesNoMore (m : Machine) (items others : List Item) : Type 0 where
+  pub few : length others ≤ length items
+  pub list : is_list m items ≡ true → is_list m others ≡ true
+  pub triggers : filter_map trigger_of others ≡ filter_map trigger_of items
+  pub targets : (p : Target → Bool) → count_by (λ x. p (target_of_item x)) others ≤ count_by (λ x. p (target_of_item x)) items
+  pub addresses : (block : ℕ) → list_any (names block) others ≡ true → list_any (names block) items ≡ true
+  pub straight : (hub : Option ℕ) → is_straight m hub items ≡ true → is_straight m hub others ≡ true
+
+-- ---- runs
+
+-- a block's list stands for another: it leaves the same registers, and keeps the meaning
+pub record StandsFor (m : Machine) (b other : BlockList) : Type 0 where
+  pub live : other.live_out ≡ b.live_out
+  pub meaning : KeepsMeaning m b.live_out b.items other.items
+
+-- two runs of lists have the same outcome, data, rest of the input and output
+pub record SameRun (r q : Run Held) : Type 0 where
+  pub outcome : q.outcome ≡ r.outcome
+  pub memory : q.state.memory ≡ r.state.memory
+  pub rest : q.state.rest ≡ r.state.rest
+  pub output : q.state.output ≡ r.state.output
+
+-- Where each list stands for another, all of them run as the others do, for all words of the blocks, all data, all input
+-- and all numbers of legs for which the others have a meaning.
+abbrev pub KeepsRuns : Type 0
+KeepsRuns =
+    (u : Units) (m : Machine) (lists others : List BlockList) (addr memory input : List ℕ) (n : ℕ) → AllPairs (StandsFor m) lists others
+    → (lrun u m lists addr memory input n).outcome ≢ Undefined
+    → SameRun (lrun u m lists addr memory input n) (lrun u m others addr memory input n)

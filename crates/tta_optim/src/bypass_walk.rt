@@ -1,0 +1,116 @@
+//! Reads that a result port serves.
+
+ghost use Rattle.std.specs.Prelude.{◌≡◌, true, [], reverse, IfOk};
+ghost use Rattle.std.specs.List.{list_all};
+ghost use Rattle.tta_connect.specs.Net.{IsNetOf};
+ghost use Rattle.tta_moves.specs.Slots.{has_slot};
+ghost use Rattle.tta_moves.specs.Forms.{is_port_source, is_wide_file};
+ghost use Rattle.tta_optim.specs.Notes.{shown_by, port_by, bypassed_by};
+ghost use Rattle.tta_optim.specs.Passes.{bypass_items};
+
+use crate::notes::Notes;
+use crate::places::{keeps_rules, register};
+use std::alloc::{AllocError, Global};
+use tta_arch::{Dest, GuardRef, Machine, Source};
+use tta_connect::Net;
+use tta_list::entry_at;
+use tta_moves::{Item, ItemSource, is_joined};
+
+fn is_wide_file(m: &Machine, file: u8) -> bool
+    ensures { result ≡ is_wide_file m.now file }
+{
+    match entry_at(m.files.as_slice(), file) {
+        None => false,
+        Some(f) => f.width == 32,
+    }
+}
+
+fn is_port_source(src: ItemSource) -> bool
+    ensures { result ≡ is_port_source src }
+{
+    match src {
+        ItemSource::Port(from) => matches!(from, Source::Shown { .. }),
+        ItemSource::Address(_) => false,
+    }
+}
+
+/// The result port that still shows what a source has, where that is a register of 32 bits.
+fn shown_by(m: &Machine, notes: &Notes, src: ItemSource) -> Option<ItemSource>
+    ensures { result ≡ shown_by m.now notes.now src }
+{
+    let ItemSource::Port(Source::Reg { file, index }) = src else {
+        return None;
+    };
+    if !is_wide_file(m, file) {
+        return None;
+    }
+    let Some(port) = notes.copied(register(file, index)) else {
+        return None;
+    };
+    if is_port_source(port) {
+        Some(port)
+    } else {
+        None
+    }
+}
+
+/// The result port that a move can read in place of its source.
+fn port_by(
+    m: &Machine,
+    net: &Net,
+    notes: &Notes,
+    guard: Option<GuardRef>,
+    src: ItemSource,
+    dst: Dest,
+) -> Option<ItemSource>
+    requires { IsNetOf net.now m.now }
+    ensures { result ≡ port_by m.now notes.now guard src dst }
+{
+    let Some(port) = shown_by(m, notes, src) else {
+        return None;
+    };
+    if is_joined(m, net, port, dst, guard) {
+        Some(port)
+    } else {
+        None
+    }
+}
+
+fn bypassed(m: &Machine, net: &Net, notes: &Notes, x: Item) -> Item
+    requires { IsNetOf net.now m.now }
+    ensures { result ≡ bypassed_by m.now notes.now x }
+{
+    let Item::Move { guard, src, dst } = x else {
+        return x;
+    };
+    match port_by(m, net, notes, guard, src, dst) {
+        None => x,
+        Some(port) => Item::Move {
+            guard,
+            src: port,
+            dst,
+        },
+    }
+}
+
+/// The items, each reading the result port that it could read, in one walk down.
+pub fn bypass_items(
+    alloc: Global,
+    m: &Machine,
+    net: &Net,
+    items: &[Item],
+) -> Result<Vec<Item>, AllocError>
+    requires net { IsNetOf net.now m.now }
+    requires slots { list_all (has_slot m.now) items.now ≡ true }
+    ensures { IfOk result (λ v. v.items ≡ bypass_items m.now [] items.now) }
+{
+    keeps_rules(m);
+    let mut notes = Notes::new(alloc)?;
+    let mut kept = Vec::new(alloc);
+    for (at, x) in items.iter().enumerate() {
+        let y = bypassed(m, net, &notes, *x);
+        notes.pass(m, at + 1, y);
+        kept.push(y)?;
+    }
+    Ok(kept)
+}

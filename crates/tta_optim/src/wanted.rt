@@ -1,0 +1,141 @@
+//! Which places are wanted, on the way up a list.
+
+ghost use Rattle.std.specs.Prelude.{◌≡◌, option_map, if◌then◌else◌, ◌&&◌, nat_lt, Some, None};
+ghost use Rattle.tta_arch.specs.Effects.{KeptReg};
+ghost use Rattle.tta_moves.specs.Touches.{source_of, guard_of, guard_place, target_of_item};
+ghost use Rattle.tta_moves.specs.Touches.{is_unguarded};
+ghost use Rattle.tta_moves.specs.Numbers.{place_number};
+ghost use Rattle.tta_moves.specs.Forms.{register_of};
+ghost use Rattle.tta_optim.specs.Notes.{wanted_at};
+
+use crate::notes::source_of;
+use crate::places::{PLACES, immediate, read_place, register, written_place};
+use std::alloc::{AllocError, Global};
+use std::marker::Model;
+use tta_arch::{Dest, Machine};
+use tta_moves::Item;
+
+/// Whether the word of each place is read later, which contracts see as a list by the numbers of
+/// places.
+#[derive(Drop)]
+pub struct Wanted {
+    wanted: Vec<bool>,
+}
+
+impl Model for Wanted {
+    ghost use Rattle.std.specs.Prelude.{List, Bool};
+
+    ghost Value = { List Bool };
+
+    ghost view = { λ w. w.wanted.items };
+}
+
+/// The number of the register or immediate register that an item writes.
+fn written_register(x: Item) -> Option<usize>
+    ensures { result ≡ option_map place_number (register_of (target_of_item x)) }
+{
+    match x {
+        Item::Move { dst, .. } => match dst {
+            Dest::Reg { file, index } => Some(register(file, index)),
+            _ => None,
+        },
+        Item::Long { imm, reg, .. } => Some(immediate(imm, reg)),
+    }
+}
+
+/// The number of the register of an item's guard.
+fn guard_register(x: Item) -> Option<usize>
+    ensures { result ≡ option_map (λ g. place_number (guard_place g)) (guard_of x) }
+{
+    let Item::Move { guard, .. } = x else {
+        return None;
+    };
+    match guard {
+        None => None,
+        Some(on) => Some(register(on.file, on.index)),
+    }
+}
+
+fn is_unguarded(x: Item) -> bool
+    ensures { result ≡ is_unguarded x }
+{
+    match x {
+        Item::Move { guard, .. } => guard.is_none(),
+        Item::Long { .. } => true,
+    }
+}
+
+/// The number of a register that is within the limits of machines.
+fn live_register(on: (u8, u8)) -> Option<usize>
+    ensures { result ≡ (if nat_lt on.0 8 && nat_lt on.1 64
+        then Some (place_number (KeptReg on.0 on.1)) else None) }
+{
+    if on.0 < 8 && on.1 < 64 {
+        Some(register(on.0, on.1))
+    } else {
+        None
+    }
+}
+
+impl Wanted {
+    ghost use Rattle.std.specs.Prelude.{replicate, reverse, false, true, IfOk};
+    ghost use Rattle.tta_moves.specs.Touches.{place_of_source, place_written};
+    ghost use Rattle.tta_optim.specs.Notes.{set_wanted, dead_by, wanted_before, wanted_behind};
+
+    /// Behind a list the registers are wanted that are read after it, and the return address.
+    pub fn behind(alloc: Global, live: &[(u8, u8)]) -> Result<Self, AllocError>
+        ensures { IfOk result (λ w. w ≡ wanted_behind live.now (replicate 641 false)) }
+    {
+        let mut behind = Wanted {
+            wanted: vec![in alloc; false; PLACES]?,
+        };
+        behind.set(Some(640), true);
+        let mut first = live.len();
+        while first > 0 {
+            first -= 1;
+            behind.set(live_register(live[first]), true);
+        }
+        Ok(behind)
+    }
+
+    fn set(&mut self, place: Option<usize>, is: bool)
+        ensures { self.new ≡ set_wanted self.old place is }
+    {
+        let Some(n) = place else {
+            return;
+        };
+        if n < self.wanted.len() {
+            self.wanted[n] = is;
+        }
+    }
+
+    fn is_wanted(&self, place: usize) -> bool
+        ensures { result ≡ wanted_at self.now place }
+    {
+        match self.wanted.get(place) {
+            None => false,
+            Some(is) => *is,
+        }
+    }
+
+    /// Whether an item writes a register or an immediate register that is not wanted.
+    pub fn is_dead(&self, x: Item) -> bool
+        ensures { result ≡ dead_by self.now x }
+    {
+        match written_register(x) {
+            None => false,
+            Some(place) => !self.is_wanted(place),
+        }
+    }
+
+    /// Goes before an item: what it writes in any case is not wanted, and what it reads is.
+    pub fn before(&mut self, m: &Machine, x: Item)
+        ensures { self.new ≡ wanted_before m.now self.old x }
+    {
+        if is_unguarded(x) {
+            self.set(written_place(m, x), false);
+        }
+        self.set(guard_register(x), true);
+        self.set(read_place(source_of(x)), true);
+    }
+}

@@ -1,0 +1,58 @@
+-- The rules and the choice on machines of one bus and of three.
+use Rattle.std.specs.Prelude.{◌≡◌, ℕ, List, [], ◌∷◌, ◌++◌, map, length, Some, None, true, false, refl}
+use Rattle.tta_arch.specs.Machine.{Machine}
+use Rattle.tta_arch.specs.declared.parts.Guard.{Guard}
+use Rattle.tta_arch.specs.declared.parts.Op.TheVariants.{Ldf, Stf, Out, Take}
+use Rattle.tta_arch.specs.declared.ends.Source.TheVariants as source
+use Rattle.tta_arch.specs.declared.ends.Dest.TheVariants as dest
+use Rattle.tta_arch.proofs.Samples.{one_bus, three_buses}
+use Rattle.tta_connect.specs.declared.choice.Choice.{Choice}
+use Rattle.tta_connect.specs.Coverage.{hub_of, guard_register, homes_of, failed_rule, registers_from}
+use Rattle.tta_moves.specs.declared.items.ItemSource.TheVariants.{Port, Address}
+use Rattle.tta_moves.specs.declared.items.LongValue.TheVariants as long
+use Rattle.tta_moves.specs.declared.items.Item.TheVariants.{Move, Long}
+use Rattle.tta_rcode.specs.declared.code.Place.TheVariants.{Reg, Frame}
+use Rattle.tta_rcode.specs.declared.code.RSrc.TheVariants as rsrc
+use Rattle.tta_select.specs.Select.{constant, value, merged, brings_old}
+
+covered : failed_rule three_buses ≡ None
+covered = refl
+
+the_hub : hub_of three_buses ≡ Some 0
+the_hub = refl
+
+the_guard : guard_register three_buses 0 ≡ Some (2, 0)
+the_guard = refl
+
+the_homes : homes_of three_buses 0 ≡ registers_from 0 3 5 ++ registers_from 1 0 8
+the_homes = refl
+
+-- without a register file there is no hub
+one_bus-fails : failed_rule one_bus ≡ Some 1
+one_bus-fails = refl
+
+-- with the second condition's guards in place of the first one's inverted
+abbrev other_guards : Machine
+other_guards = record three_buses {
+  guards = record { bus = 0; on = record { file = 2; index = 0; inverted = false } } ∷ record { bus = 0; on = record { file = 2; index = 1; inverted = false } }
+      ∷ record { bus = 1; on = record { file = 2; index = 0; inverted = false } } ∷ record { bus = 1; on = record { file = 2; index = 1; inverted = false } } ∷ [];
+}
+
+other_guards-fails : failed_rule other_guards ≡ Some 3
+other_guards-fails = refl
+
+-- the choice: the units with the numbers 0 to 3 are usable
+abbrev chosen : Choice
+chosen = record { hub = 0; guard_file = 2; guard_index = 0; homes = registers_from 0 3 5 ++ registers_from 1 0 8; usable = 15 }
+
+-- a word that fits a short field goes at once, and another by the immediate register
+short-word : constant three_buses chosen None (long.Word 7) (dest.Reg 1 0) ≡ Move None (Port (source.Value 7)) (dest.Reg 1 0) ∷ []
+short-word = refl
+
+long-word : constant three_buses chosen None (long.Word 100000) (dest.Reg 1 0) ≡ Long 0 0 (long.Word 100000) ∷ Move None (Port (source.Imm 0 0)) (dest.Reg 1 0) ∷ []
+long-word = refl
+
+-- a slot is loaded by its number
+slot-word : value three_buses chosen None (rsrc.At (Frame 5)) (dest.Reg 1 0)
+    ≡ Move None (Port (source.Value 5)) (dest.Trigger 2 2) ∷ Move None (Port (source.Shown 2)) (dest.Reg 1 0) ∷ []
+slot-word = refl

@@ -1,0 +1,68 @@
+-- How much lists do: items, triggers of operations, and writes of home registers.
+use Rattle.std.specs.Prelude.{◌≡◌, ℕ, ◌+◌, ◌≤◌, ◌==◌, Bool, true, false, ◌&&◌, if◌then◌else◌, List, length, Option, Some, None}
+use Rattle.std.specs.Option.{option_map_or}
+use Rattle.std.specs.List.{list_all, list_any, sum_by}
+use Rattle.tta_ops.specs.Units.{Units}
+use Rattle.tta_arch.specs.declared.parts.UnitOp.{UnitOp}
+use Rattle.tta_arch.specs.declared.parts.Op.{Op}
+use Rattle.tta_arch.specs.declared.parts.Op.TheVariants.{Ldw, Stw, Ldf, Stf, Out, Take, Set}
+use Rattle.tta_arch.specs.Machine.{Machine}
+use Rattle.tta_arch.specs.Effects.{Target, Reg, Imm, Operand, Trigger, Control, op_at}
+use Rattle.tta_arch.specs.Rules.{is_frame_op}
+use Rattle.tta_connect.specs.declared.choice.Choice.{Choice}
+use Rattle.tta_moves.specs.declared.items.Item.{Item}
+use Rattle.tta_moves.specs.declared.items.BlockList.{BlockList}
+use Rattle.tta_moves.specs.Touches.{target_of_item}
+use Rattle.tta_rcode.specs.declared.code.RBlock.{RBlock}
+use Rattle.tta_rcode.specs.declared.code.Rir.{Rir}
+use Rattle.tta_rcode.specs.Counts.{Need, Loads, Stores, Puts, Takes, Named, asks, names, assigns_block, weight}
+use Rattle.tta_select.specs.Select.{items_of_block, selected}
+
+-- one for each item whose target passes a test
+abbrev pub targets : (Target → Bool) → List Item → ℕ
+targets test items = sum_by (λ x. if test (target_of_item x) then 1 else 0) items
+
+-- whether a target is a home register
+abbrev pub is_home : Choice → Target → Bool
+is_home c (Reg file index) = list_any (λ h. h.0 == file && h.1 == index) c.homes
+is_home c (Imm unit index) = false
+is_home c (Operand unit) = false
+is_home c (Trigger unit op) = false
+is_home c (Control kind) = false
+
+-- whether a target starts a load or a store of the frame space
+abbrev pub is_frame_trigger : Machine → Target → Bool
+is_frame_trigger m (Reg file index) = false
+is_frame_trigger m (Imm unit index) = false
+is_frame_trigger m (Operand unit) = false
+is_frame_trigger m (Trigger unit op) = option_map_or (λ o. is_frame_op o.op) (op_at m unit op) false
+is_frame_trigger m (Control kind) = false
+
+-- whether a target starts an operation of a unit
+abbrev pub is_trigger_of : (unit op : ℕ) → Target → Bool
+is_trigger_of unit op (Reg file index) = false
+is_trigger_of unit op (Imm i index) = false
+is_trigger_of unit op (Operand i) = false
+is_trigger_of unit op (Trigger i k) = i == unit && k == op
+is_trigger_of unit op (Control kind) = false
+
+-- whether an operation is what is needed
+abbrev pub is_need : Op → Need → Bool
+is_need Ldw Loads = true
+is_need Stw Stores = true
+is_need Out Puts = true
+is_need Take Takes = true
+is_need (Set id) (Named op) = id.0 == op
+is_need o need = false
+
+-- A list of a block triggers each operation of a unit but those on the frame at most as often as the block asks for it,
+-- those on the frame together at most as often as the block names slots, and writes home registers at most as often as
+-- the block assigns.
+pub record IsSpare (u : Units) (m : Machine) (c : Choice) (b : RBlock) (items : List Item) : Type 0 where
+  pub triggers : (unit k : ℕ) (o : UnitOp) → op_at m unit k ≡ Some o → is_frame_op o.op ≡ false → targets (is_trigger_of unit k) items ≤ asks u (is_need o.op) b
+  pub frame : targets (is_frame_trigger m) items ≤ names b
+  pub homes : targets (is_home c) items ≤ assigns_block b
+
+-- how many items some lists have
+abbrev pub items_in : List BlockList → ℕ
+items_in lists = sum_by (λ b. length b.items) lists

@@ -1,0 +1,94 @@
+//! Programs of constants.
+
+ghost use Rattle.std.specs.Prelude.{◌≡◌, ◌++◌, ◌∷◌, [], IfOk};
+ghost use Rattle.std.specs.Prelude.{ℕ, List, map};
+ghost use Rattle.std.specs.List.{flat_map};
+ghost use Rattle.tta_rcode.specs.Direct.{one_block};
+ghost use Rattle.tta_select.specs.Direct.{out_of, direct_step, direct_items};
+ghost use Rattle.tta_select.specs.Direct.{direct_block, direct_lists, direct_list};
+
+use crate::calling::no_call;
+use crate::operands::trigger_at;
+use crate::putting::put_move;
+use std::alloc::{AllocError, Global};
+use tta_arch::{Dest, Machine, Op, Source};
+use tta_connect::{Call, anywhere};
+use tta_list::Items;
+use tta_moves::{BlockList, Item, ItemSource};
+use tta_rcode::{RBlock, RSrc, RStep, Rir};
+
+/// The operation that outputs words.
+fn out_of(m: &Machine) -> Call
+    ensures { result ≡ out_of m.now }
+{
+    match anywhere(m, Op::Out) {
+        Some(f) => f,
+        None => no_call(Op::Out),
+    }
+}
+
+/// Puts the move of a constant to the output at the end.
+fn put_direct(items: &mut Items<Item>, f: Call, step: RStep) -> Result<(), AllocError>
+    ensures { IfOk result (λ x. items.new ≡ items.old ++ direct_step f step) }
+{
+    match step {
+        RStep::Put { v: RSrc::Word(w) } => {
+            put_move(
+                items,
+                None,
+                ItemSource::Port(Source::Value(w)),
+                trigger_at(f),
+            )
+        }
+        _ => Ok(()),
+    }
+}
+
+/// Puts the moves of constants to the output at the end.
+#[tactic(auto, using(crate::proofs::Walks::flat_more, crate::proofs::Walks::flat_done))]
+fn put_all(items: &mut Items<Item>, f: Call, steps: &[RStep]) -> Result<(), AllocError>
+    ensures { IfOk result (λ x. items.new ≡ items.old ++ flat_map (direct_step f) steps.now) }
+{
+    for step in steps {
+        put_direct(items, f, *step)?;
+    }
+    Ok(())
+}
+
+fn direct_block(alloc: Global, f: Call, b: &RBlock) -> Result<BlockList, AllocError>
+    ensures { IfOk result (λ x. x ≡ direct_block f b.now) }
+{
+    let mut items = Items::new(alloc);
+    put_all(&mut items, f, b.steps.as_slice())?;
+    put_move(
+        &mut items,
+        None,
+        ItemSource::Port(Source::Value(0)),
+        Dest::Halt,
+    )?;
+    Ok(BlockList {
+        items,
+        live_out: Items::new(alloc),
+    })
+}
+
+#[tactic(auto, using(crate::proofs::Walks::map_more, crate::proofs::Walks::map_done))]
+fn direct_blocks(alloc: Global, f: Call, blocks: &[RBlock]) -> Result<Vec<BlockList>, AllocError>
+    ensures { IfOk result (λ lists. lists.items ≡ map (direct_block f) blocks.now) }
+{
+    let mut lists = Vec::new(alloc);
+    for b in blocks {
+        lists.push(direct_block(alloc, f, b)?)?;
+    }
+    Ok(lists)
+}
+
+/// The list of a program of constants: one item a step, and one for the exit.
+pub fn select_direct(alloc: Global, r: &Rir, m: &Machine) -> Result<Vec<BlockList>, AllocError>
+    ensures all { IfOk result (λ lists. lists.items ≡ direct_lists m.now r.now) }
+    ensures one { IfOk result (λ lists. (words : List ℕ) → r.now.blocks ≡ one_block words ∷ []
+        → lists.items ≡ direct_list (out_of m.now) words ∷ []) }
+{
+    let lists = direct_blocks(alloc, out_of(m), r.blocks.as_slice())?;
+    Ok(lists)
+}

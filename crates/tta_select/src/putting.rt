@@ -1,0 +1,197 @@
+//! Ways: the moves that bring a word to a place.
+
+ghost use Rattle.std.specs.Prelude.{◌≡◌, true, None, ◌∷◌, ◌++◌, [], IfOk, option_map, find};
+ghost use Rattle.tta_connect.specs.Net.{IsNetOf};
+ghost use Rattle.tta_moves.specs.Touches.{source_of_long};
+ghost use Rattle.tta_moves.specs.Slots.{joined};
+ghost use Rattle.tta_select.specs.Select.{filled, through_hub, long_hub, long_way, constant, carry};
+ghost use Rattle.tta_select.specs.Select.{call_of, home_pair, fetch, value, operate, address_slot};
+ghost use Rattle.tta_select.specs.Select.{result as result_items};
+ghost use Rattle.tta_select.specs.Relation.{is_place_of, is_src_of};
+
+use std::alloc::AllocError;
+use tta_arch::{Dest, GuardRef, Machine, Source, Template};
+use tta_connect::{Call, Choice, Net};
+use tta_list::Items;
+use tta_moves::{Item, ItemSource, LongValue, is_joined};
+
+/// The hub's register for ways.
+pub const PASSING: u8 = 0;
+
+pub fn hub_at(c: &Choice, index: u8) -> Dest
+    ensures { result ≡ Dest.Reg c.now.hub index }
+{
+    Dest::Reg { file: c.hub, index }
+}
+
+pub fn from_hub(c: &Choice, index: u8) -> ItemSource
+    ensures { result ≡ ItemSource.Port (Source.Reg c.now.hub index) }
+{
+    ItemSource::Port(Source::Reg { file: c.hub, index })
+}
+
+pub fn source_of_long(value: LongValue) -> ItemSource
+    ensures { result ≡ source_of_long value }
+{
+    match value {
+        LongValue::Word(word) => ItemSource::Port(Source::Value(word)),
+        LongValue::Address(block) => ItemSource::Address(block),
+    }
+}
+
+/// Puts a move at the end.
+pub fn put_move(
+    items: &mut Items<Item>,
+    guard: Option<GuardRef>,
+    src: ItemSource,
+    dst: Dest,
+) -> Result<(), AllocError>
+    ensures { IfOk result (λ x. items.new ≡ items.old ++ Item.Move guard src dst ∷ []) }
+{
+    items.push(Item::Move { guard, src, dst })?;
+    Ok(())
+}
+
+/// Puts the two moves of a way through the hub at the end.
+fn put_through_hub(
+    items: &mut Items<Item>,
+    m: &Machine,
+    c: &Choice,
+    guard: Option<GuardRef>,
+    src: ItemSource,
+    dst: Dest,
+) -> Result<(), AllocError>
+    ensures { IfOk result (λ x. items.new ≡ items.old ++ through_hub m.now c.now guard src dst) }
+{
+    put_move(items, None, src, hub_at(c, PASSING))?;
+    put_move(items, guard, from_hub(c, PASSING), dst)
+}
+
+/// Puts the way of a register, a result or the return address at the end.
+pub fn carry(
+    items: &mut Items<Item>,
+    m: &Machine,
+    net: &Net,
+    c: &Choice,
+    guard: Option<GuardRef>,
+    src: ItemSource,
+    dst: Dest,
+) -> Result<(), AllocError>
+    requires { IsNetOf net.now m.now }
+    ensures { IfOk result (λ x. items.new ≡ items.old ++ carry m.now c.now guard src dst) }
+{
+    if is_joined(m, net, src, dst, guard) {
+        return put_move(items, guard, src, dst);
+    }
+    put_through_hub(items, m, c, guard, src, dst)
+}
+
+fn filled(t: &Template) -> ItemSource
+    ensures { result ≡ filled t.now }
+{
+    ItemSource::Port(Source::Imm {
+        unit: t.imm,
+        index: t.reg,
+    })
+}
+
+/// The first template whose register some bus joins to a place, with a guard.
+pub fn long_for<'a>(
+    m: &'a Machine,
+    net: &Net,
+    dst: Dest,
+    guard: Option<GuardRef>,
+) -> Option<&'a Template>
+    requires { IsNetOf net.now m.now }
+    ensures { option_map (λ t. t.now) result
+        ≡ find (λ t. joined m.now (filled t) dst guard) m.now.templates }
+{
+    let templates = m.templates.as_slice();
+    templates
+        .iter()
+        .find(|t| is_joined(m, net, filled(t), dst, guard))
+}
+
+/// Puts a long immediate at the end.
+fn put_long(items: &mut Items<Item>, t: &Template, value: LongValue) -> Result<(), AllocError>
+    ensures { IfOk result (λ x. items.new
+        ≡ items.old ++ Item.Long t.now.imm t.now.reg value ∷ []) }
+{
+    items.push(Item::Long {
+        imm: t.imm,
+        reg: t.reg,
+        value,
+    })?;
+    Ok(())
+}
+
+/// Puts the way of a constant by an immediate register and the hub at the end.
+fn put_long_hub(
+    items: &mut Items<Item>,
+    m: &Machine,
+    net: &Net,
+    c: &Choice,
+    guard: Option<GuardRef>,
+    v: LongValue,
+    dst: Dest,
+) -> Result<(), AllocError>
+    requires { IsNetOf net.now m.now }
+    ensures { IfOk result (λ x. items.new ≡ items.old ++ long_hub m.now c.now guard v dst
+        (find (λ t. joined m.now (filled t) (Dest.Reg c.now.hub 0) None) m.now.templates)) }
+{
+    match long_for(m, net, hub_at(c, PASSING), None) {
+        None => put_move(items, guard, source_of_long(v), dst),
+        Some(t) => {
+            put_long(items, t, v)?;
+            put_through_hub(items, m, c, guard, filled(t), dst)
+        }
+    }
+}
+
+/// Puts the way of a constant by an immediate register at the end.
+fn put_long_way(
+    items: &mut Items<Item>,
+    m: &Machine,
+    net: &Net,
+    c: &Choice,
+    guard: Option<GuardRef>,
+    v: LongValue,
+    dst: Dest,
+) -> Result<(), AllocError>
+    requires { IsNetOf net.now m.now }
+    ensures { IfOk result (λ x. items.new ≡ items.old ++ long_way m.now c.now guard v dst
+        (find (λ t. joined m.now (filled t) dst guard) m.now.templates)) }
+{
+    match long_for(m, net, dst, guard) {
+        None => put_long_hub(items, m, net, c, guard, v, dst),
+        Some(t) => {
+            put_long(items, t, v)?;
+            put_move(items, guard, filled(t), dst)
+        }
+    }
+}
+
+/// Puts the way of a word or an address at the end.
+pub fn constant(
+    items: &mut Items<Item>,
+    m: &Machine,
+    net: &Net,
+    c: &Choice,
+    guard: Option<GuardRef>,
+    v: LongValue,
+    dst: Dest,
+) -> Result<(), AllocError>
+    requires { IsNetOf net.now m.now }
+    ensures { IfOk result (λ x. items.new ≡ items.old ++ constant m.now c.now guard v dst) }
+{
+    let src = source_of_long(v);
+    if is_joined(m, net, src, dst, guard) {
+        return put_move(items, guard, src, dst);
+    }
+    if is_joined(m, net, from_hub(c, PASSING), dst, guard)
+        && is_joined(m, net, src, hub_at(c, PASSING), None)
+    {
+        return put_through_hub(items, m, c, guard, src, dst);
+    }
+    put_long_way(items, m, net, c, guard, v, dst)
+}
