@@ -1,0 +1,62 @@
+-- Code that is linked from the placed lists of a program agrees with the program.
+use Rattle.std.proofs.Common.{◌≡◌, ℕ, zero, suc, ◌<◌, ◌≤◌, ◌^◌, true, false, List, [], ◌∷◌, refl, ◌∙◌, arith, lit<, length}
+use Rattle.std.specs.Prelude.{slice_set, ◌&&◌, nat_le}
+use Rattle.std.specs.List.{AllByRecursion}
+use Rattle.std.proofs.lemmas.Bool.{and_parts}
+use Rattle.std.proofs.lemmas.Bool.Decides.{nat_tests}
+use Rattle.std.proofs.lemmas.List.{length-set}
+use Rattle.std.proofs.Math.Pow.{pow_mono}
+use Rattle.tta_ops.specs.Units.{Units}
+use Rattle.tta_arch.specs.Machine.{Machine}
+use Rattle.tta_arch.specs.Rules.{IsMachine, is_from_to, is_socket, is_port_socket}
+use Rattle.tta_program.specs.Program.{Program, Laid, over, data_of}
+use Rattle.tta_code.specs.Whole.{Whole}
+use Rattle.tta_code.specs.Agrees.{AreWords, IsGiven, Agrees}
+use Rattle.tta_moves.specs.declared.items.BlockList.{BlockList}
+use Rattle.tta_moves.specs.declared.items.Placed.{Placed}
+use Rattle.tta_link.specs.Linked.{starts_from}
+use Rattle.tta_overlap.specs.Laws.{IsBuilt}
+use Rattle.tta_overlap.proofs.Rowed.{linked_row, linked_addresses}
+use Rattle.tta_overlap.proofs.Agree.{code_agrees}
+
+-- ---- what is laid over a memory
+
+words_set : (xs : List ℕ) (i v : ℕ) → AreWords xs → v < 2 ^ 32 → AreWords (slice_set xs i v)
+words_set [] i v h w = h
+words_set (x ∷ xs) zero v h w = (w, h.1)
+words_set (x ∷ xs) (suc i) v h w = (h.0, words_set xs i v h.1 w)
+
+words_over : (laid : Laid) (memory : List ℕ) → AreWords memory → AllByRecursion (λ (d : ℕ × ℕ). d.1 < 2 ^ 32) laid → AreWords (over laid memory)
+words_over [] memory h w = h
+words_over (d ∷ laid) memory h w = words_over laid (slice_set memory d.0 d.1) (words_set memory d.0 d.1 h w.0) w.1
+
+size_over : (laid : Laid) (memory : List ℕ) → length (over laid memory) ≡ length memory
+size_over [] memory = refl
+size_over (d ∷ laid) memory = size_over laid (slice_set memory d.0 d.1) ∙ length-set memory d.0 d.1
+
+given_over : (m : Machine) (p : Program) → AllByRecursion (λ (d : ℕ × ℕ). d.1 < 2 ^ 32) (data_of p) → (memory input : List ℕ) → IsGiven m memory input → IsGiven m (over (data_of p) memory) input
+given_over m p w memory input g = record { size = size_over (data_of p) memory ∙ g.size; words = words_over (data_of p) memory g.words w; inputs = g.inputs }
+
+-- ---- addresses
+
+room_is : (m : Machine) → IsMachine m → 2 ^ m.control.address < 2 ^ 32
+room_is m rules =
+    let c = m.control in
+    let a = and_parts (nat_le c.delay 4 && is_from_to 1 16 c.address && is_socket m.sockets true c.trigger) (is_port_socket m.sockets false c.ra) rules.control in
+    let b = and_parts (nat_le c.delay 4 && is_from_to 1 16 c.address) (is_socket m.sockets true c.trigger) a.0 in
+    let d = and_parts (nat_le c.delay 4) (is_from_to 1 16 c.address) b.0 in
+    let e = and_parts (nat_le 1 c.address) (nat_le c.address 16) d.1 in
+    let le : c.address ≤ 16 = let q = e.1 in grind (arith, nat_tests) in
+    let top : 2 ^ c.address ≤ 2 ^ 16 = pow_mono le in
+    let big : 2 ^ 16 < 2 ^ 32 = lit< tt in
+    omega (arith, top, big)
+
+-- ---- code
+
+pub built_agrees : (u : Units) (m : Machine) → IsMachine m → (p : Program) (whole : Whole) (lists : List BlockList) (ps : List Placed) → IsBuilt u m p whole lists ps → Agrees u m p whole
+built_agrees u m rules p whole lists ps built =
+    let room = room_is m rules in
+    let few = built.legal.room in
+    code_agrees u m rules p whole built.legal.words (starts_from 0 ps) lists
+    (linked_addresses m whole.code lists ps built.placed built.linked (omega arith))
+    (linked_row m whole.code lists ps built.placed built.linked) built.means built.laid (given_over m p built.words)

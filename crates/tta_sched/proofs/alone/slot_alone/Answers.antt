@@ -1,0 +1,13 @@
+use Rattle.std.proofs.Common.{◌≡◌, false, true, sym, length, subst}
+use Rattle.std.specs.List.{range_with_len, list_any}
+use Rattle.tta_arch.specs.Joins.{joins}
+use Rattle.tta_moves.specs.Slots.{carried, has_slot}
+use Rattle.tta_moves.proofs.Buses.{none_of}
+use Rattle.tta_sched.proofs.alone.slot_alone.Goals as goal
+
+pub unreachable-requires : goal.unreachable-requires
+unreachable-requires c =
+    let none : list_any (λ bus. joins c.args.m.now bus (carried c.args.m.now c.in-Move.src) c.in-Move.dst c.in-Move.guard) (range_with_len 0 (length c.args.m.now.buses)) ≡ false
+    = none_of _ (range_with_len 0 (length c.args.m.now.buses)) (λ k. rw (sym c.carried.ensures.value) (c.in-None.ensures.none k)) in
+    let some = subst (λ x. has_slot c.args.m.now x ≡ true) c.in-Move.is c.requires.slot in
+    cc

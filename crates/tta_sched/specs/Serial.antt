@@ -1,0 +1,31 @@
+-- The placement of one item a cycle.
+use Rattle.std.specs.Option.{option_map_or}
+use Rattle.tta_moves.specs.Touches.{is_control}
+use Rattle.std.specs.Prelude.{◌≡◌, ℕ, ◌+◌, ◌-◌, true, if◌then◌else◌, length, max, List, [], ◌∷◌, map, take, Some, slice_get}
+use Rattle.tta_arch.specs.Machine.{Machine}
+use Rattle.tta_moves.specs.declared.items.Item.{Item}
+use Rattle.tta_moves.specs.declared.items.PlacedItem.{PlacedItem}
+use Rattle.tta_moves.specs.declared.items.Placed.{Placed}
+use Rattle.tta_moves.specs.Slots.{carries}
+use Rattle.tta_moves.specs.Bounds.{lasts, length_of}
+
+-- the cycle after the last that an item takes, 0 where there is none
+abbrev pub horizon : Machine → List PlacedItem → ℕ
+horizon m [] = 0
+horizon m (x ∷ placed) = max (x.cycle + lasts m x.item) (horizon m placed)
+
+-- an item stands in the first cycle in which all items before it are over, on a slot that carries it
+pub record StandsAlone (m : Machine) (placed : List PlacedItem) (x : PlacedItem) : Type 0 where
+  pub cycle : x.cycle ≡ horizon m placed
+  pub carried : carries m x.slot x.item ≡ true
+
+-- A serial placement has the items in their order; each stands in the first cycle in which all items before it are over; and
+-- it is as long as a block of these items is.
+pub record IsSerial (m : Machine) (items : List Item) (p : Placed) : Type 0 where
+  pub order : map (λ x. x.item) p.items ≡ items
+  pub alone : (k : ℕ) (x : PlacedItem) → slice_get p.items k ≡ Some x → StandsAlone m (take k p.items) x
+  pub long : p.length ≡ length_of m p.items
+
+-- the length of a block of these items that are over in so many cycles, one after another
+abbrev pub serial_length : Machine → List Item → (end : ℕ) → ℕ
+serial_length m items end = option_map_or (λ x. if is_control x then end + m.control.delay else max end 1) (slice_get items (length items - 1)) (max end 1)

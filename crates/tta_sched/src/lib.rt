@@ -1,0 +1,10 @@
+//! Placement of the items of a block in cycles, one item in a cycle, and how long placed blocks are
+//! at most.
+#![tactic(auto)]
+
+mod alone;
+mod laws;
+mod serial;
+
+pub use laws::{first_fit_has_room, fits_after};
+pub use serial::place_serial;
