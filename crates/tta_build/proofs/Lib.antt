@@ -1,8 +1,5 @@
-pub mod Lists
-pub mod Pushed
-pub mod Steps
-pub mod Cycles
-pub mod Shapes
-pub mod Legal
-pub mod Joined
-pub mod Agreement
+pub mod Offers
+pub mod FewHomes
+pub mod Inside
+pub mod CoveredCode
+pub mod Directs

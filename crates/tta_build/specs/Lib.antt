@@ -1,3 +1,3 @@
-pub mod Constants
-pub mod First
-pub mod Causes
+pub mod Statement
+pub mod Errors
+pub mod Parts

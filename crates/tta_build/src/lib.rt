@@ -1,10 +1,13 @@
-//! The compiler: code of a machine that does what a program does. It stands on the programs of
-//! `tta_tac`, the code of `tta_code`, the machine of `tta_machine`, the operations of `tta_ops`,
-//! and `tta_list`.
+//! The compiler: code for a machine that does what a program does. It composes the compiler's parts,
+//! and holds no algorithm of its own.
 #![tactic(auto)]
 
-mod compile;
-mod first;
+mod covered;
+mod direct;
+mod error;
+mod lists;
+mod program;
+mod register;
 
-pub use compile::{BuildError, Built, build};
-pub use first::{is_direct, is_first_machine};
+pub use error::BuildError;
+pub use program::{Built, build};

@@ -1,0 +1,155 @@
+-- The code of a pair that is no direct one.
+use Rattle.std.proofs.Common.{◌≡◌, ℕ, zero, suc, ◌<◌, ◌≤◌, Bool, true, false, List, [], ◌∷◌, Option, Some, None, Result, Ok, Err, length, refl, sym, ◌∙◌, ap, subst, arith}
+use Rattle.std.specs.Prelude.{◌&&◌, slice_get, nat_lt, IfOk, IfErr}
+use Rattle.std.specs.List.{list_all}
+use Rattle.std.proofs.lemmas.Bool.{and_from}
+use Rattle.tta_ops.specs.Units.{Units}
+use Rattle.tta_arch.specs.Machine.{Machine}
+use Rattle.tta_arch.specs.Rules.{IsMachine}
+use Rattle.tta_arch.specs.Over.{StandsOver}
+use Rattle.tta_connect.specs.declared.choice.Choice.{Choice}
+use Rattle.tta_connect.specs.Coverage.{IsChoice, failed_rule}
+use Rattle.tta_program.specs.Program.{Program}
+use Rattle.tta_program.specs.Rules.{IsProgram}
+use Rattle.tta_program.specs.Sizes.{frame_need}
+use Rattle.tta_rcode.specs.declared.code.Rir.{Rir}
+use Rattle.tta_alloc.specs.Homes.{IsScan}
+use Rattle.tta_lower.specs.declared.part.Part.{Part}
+use Rattle.tta_lower.specs.Law.{IsKnown}
+use Rattle.tta_lower.specs.Lower.{lowered, parts}
+use Rattle.tta_lower.specs.Known.{spans, home_by, first_by, after_by}
+use Rattle.tta_lower.proofs.SameHomes.{answers_know}
+use Rattle.tta_moves.specs.declared.items.BlockList.{BlockList}
+use Rattle.tta_moves.specs.declared.items.Placed.{Placed}
+use Rattle.tta_moves.specs.Slots.{is_list}
+use Rattle.tta_select.specs.Select.{selected}
+use Rattle.tta_select.specs.Needs.{fits_block}
+use Rattle.tta_link.specs.Blocks.{AreBlocks}
+use Rattle.tta_code.specs.declared.code.Code.{Code}
+use Rattle.tta_compose.specs.Compiler.{IsPair, AreStandIns, raw}
+use Rattle.tta_compose.specs.Needs.{are_offered}
+use Rattle.tta_compose.specs.Direct.{is_direct}
+use Rattle.tta_compose.specs.Linking.{AreRespected}
+use Rattle.tta_compose.specs.Ends.{IsCodeOf, IsTooLong}
+use Rattle.tta_compose.proofs.Composed.{fit, selected_stand}
+use Rattle.tta_compose.proofs.Planning.{lists_planned}
+use Rattle.tta_compose.proofs.Linking.{lists_link, lists_agree}
+use Rattle.tta_compose.proofs.Room.{lists_fit}
+use Rattle.tta_build.specs.declared.error.BuildError.{BuildError}
+use Rattle.tta_build.specs.declared.error.BuildError.TheVariants as cause
+use Rattle.tta_build.specs.Statement.{IsAccepted, Covered, LacksRoom, HasCause, unsupplied}
+use Rattle.tta_build.specs.Parts.{IsLowered, AreListsOf, IsCodeFor, IsListsCause}
+
+-- a test of each element of a list, by the elements of another at the same places
+all_by : {A B : Type 0} (test : B → Bool) (xs : List A) (ys : List B) → length ys ≡ length xs
+    → ((k : ℕ) (x : A) (y : B) → slice_get xs k ≡ Some x → slice_get ys k ≡ Some y → test y ≡ true) → list_all test ys ≡ true
+all_by test xs [] same each = refl
+all_by test [] (y ∷ ys) same each = absurd (omega arith)
+all_by test (x ∷ xs) (y ∷ ys) same each =
+    and_from (test y) (list_all test ys) (each 0 x y refl refl)
+    (all_by test xs ys (omega arith) (λ k a b e f. each (suc k) a b e f))
+
+-- ---- the register code of a pair
+
+module _ (u : Units) (m : Machine) (c : Choice) (p : Program) (machine : IsMachine m) (over : StandsOver u m) (choice : IsChoice m c)
+    (program : IsProgram p) (offers : are_offered u m c p ≡ true) where
+  -- the pair, where there is room for the frames
+  abbrev pair : frame_need p ≤ m.frame_words → IsPair u m c p
+  pair room = record { machine = machine; over = over; choice = choice; program = program; offered = offers; room = room }
+
+  -- what is known of register code
+  abbrev known : (r : Rir) (is : IsLowered p (length c.homes) m.frame_words r)
+      → IsKnown p (length c.homes) (spans is.blocks) (home_by p is.kept) (first_by p is.live) (after_by p is.live)
+  known r is = answers_know p (length c.homes) is.blocks is.live is.kept program is.flow is.lives is.scan
+
+  -- it is the code that the laws of the parts speak of
+  code_is : (r : Rir) (is : IsLowered p (length c.homes) m.frame_words r)
+      → r ≡ lowered p (spans is.blocks) (first_by p is.live) (home_by p is.kept) (after_by p is.live) (length c.homes)
+  code_is r is =
+      is.code.is ∙ ap (lowered p (spans is.blocks) (first_by p is.live) (home_by p is.kept) (after_by p is.live)) is.scan.count
+
+  -- its blocks fit the machine
+  pub blocks_fit : (r : Rir) → IsLowered p (length c.homes) m.frame_words r → list_all (fits_block u m c (length r.blocks)) r.blocks ≡ true
+  blocks_fit r is =
+      subst (λ (x : Rir). list_all (fits_block u m c (length x.blocks)) x.blocks ≡ true) (sym (code_is r is))
+      (fit u m c p (spans is.blocks) (home_by p is.kept) (first_by p is.live) (after_by p is.live) (pair is.code.room) (known r is)).blocks
+
+  -- its lists are those of the program
+  pub lists_are : (r : Rir) (lists : List BlockList) → IsLowered p (length c.homes) m.frame_words r
+      → lists ≡ selected m c u r → AreListsOf u m c p lists
+  lists_are r lists is same = record {
+    blocks = is.blocks;
+    live = is.live;
+    kept = is.kept;
+    flow = is.flow;
+    lives = is.lives;
+    scan = is.scan;
+    room = is.code.room;
+    are = same ∙ ap (selected m c u) (code_is r is);
+  }
+
+-- ---- the lists of a pair
+
+module _ (u : Units) (m : Machine) (c : Choice) (p : Program) (lists : List BlockList) (machine : IsMachine m) (over : StandsOver u m) (choice : IsChoice m c)
+    (program : IsProgram p) (offers : are_offered u m c p ≡ true) (of : AreListsOf u m c p lists) where
+  pair_of : IsPair u m c p
+  pair_of = record { machine = machine; over = over; choice = choice; program = program; offered = offers; room = of.room }
+
+  known_of : IsKnown p (length c.homes) (spans of.blocks) (home_by p of.kept) (first_by p of.live) (after_by p of.live)
+  known_of = answers_know p (length c.homes) of.blocks of.live of.kept program of.flow of.lives of.scan
+
+  abbrev selected_for : List BlockList
+  selected_for = raw u m c p (spans of.blocks) (home_by p of.kept) (first_by p of.live) (after_by p of.live)
+
+  -- the lists may be placed as they are
+  stand_in : AreStandIns m selected_for lists
+  stand_in = subst (AreStandIns m selected_for) (sym of.are) (selected_stand m selected_for)
+
+  pub are_lists : list_all (λ (b : BlockList). is_list m b.items) lists ≡ true
+  are_lists =
+      let planned = lists_planned u m c p (spans of.blocks) (home_by p of.kept) (first_by p of.live) (after_by p of.live) lists pair_of known_of stand_in in
+      all_by (λ (b : BlockList). is_list m b.items) (parts p (spans of.blocks) (first_by p of.live)) lists planned.count
+      (λ k x b e f. (planned.each k x b e f).list)
+
+  pub can_link : (ps : List Placed) → AreRespected m lists ps → AreBlocks m ps
+  can_link ps are =
+      lists_link u m c p (spans of.blocks) (home_by p of.kept) (first_by p of.live) (after_by p of.live) lists ps pair_of known_of stand_in are
+
+  accepted : is_direct m p ≡ false → failed_rule m ≡ None → unsupplied u m p ≡ None → IsAccepted u m p
+  accepted other kept supplied = Covered other kept supplied of.room
+
+  -- their code is code for the pair
+  pub code_for : is_direct m p ≡ false → failed_rule m ≡ None → unsupplied u m p ≡ None → (code : Code) → IsCodeOf m lists code → IsCodeFor u m p code
+  code_for other kept supplied code is = record {
+    accepted = accepted other kept supplied;
+    legal = is.legal;
+    agrees = λ init laid.
+        lists_agree u m c p (spans of.blocks) (home_by p of.kept) (first_by p of.live) (after_by p of.live) lists is.placements (record { code = code; init = init })
+        pair_of known_of stand_in is.roomy.respected is.linked is.legal laid;
+  }
+
+  -- and where it is too long, it has no more words than the pair's room
+  pub room_for : is_direct m p ≡ false → failed_rule m ≡ None → unsupplied u m p ≡ None → (words have : ℕ) → IsTooLong m lists words have → LacksRoom u m p words have
+  room_for other kept supplied words have is =
+      let fits = lists_fit u m c p (spans of.blocks) (home_by p of.kept) (first_by p of.live) (after_by p of.live) lists is.placements pair_of known_of stand_in is.roomy in
+      let same = is.length in record {
+        accepted = accepted other kept supplied;
+        addresses = is.addresses;
+        more = is.more;
+        room = omega (arith, fits, same);
+      }
+
+  -- so what their linking answers is what is answered for the pair
+  pub ok_for : is_direct m p ≡ false → failed_rule m ≡ None → unsupplied u m p ≡ None → (xs : List BlockList) → xs ≡ lists → (r : Result Code BuildError)
+      → IfOk r (λ code. IsCodeOf m xs code) → IfOk r (λ code. IsCodeFor u m p code)
+  ok_for other kept supplied xs same (Ok code) is =
+      code_for other kept supplied code (subst (λ (l : List BlockList). IsCodeOf m l code) same is)
+  ok_for other kept supplied xs same (Err e) is = tt
+
+  pub err_for : is_direct m p ≡ false → failed_rule m ≡ None → unsupplied u m p ≡ None → (xs : List BlockList) → xs ≡ lists → (r : Result Code BuildError)
+      → IfErr r (λ e. IsListsCause m xs e) → IfErr r (λ e. HasCause u m p e)
+  err_for other kept supplied xs same (Ok code) is = tt
+  err_for other kept supplied xs same (Err (cause.CodeFull words have)) is =
+      room_for other kept supplied words have (subst (λ (l : List BlockList). IsTooLong m l words have) same is)
+  err_for other kept supplied xs same (Err cause.NoMemory) is = tt
+  err_for other kept supplied xs same (Err e) is = absurd is

@@ -1,0 +1,170 @@
+-- The code of a direct pair.
+use Rattle.std.proofs.Common.{◌≡◌, ℕ, zero, suc, ◌+◌, ◌*◌, ◌<◌, ◌≤◌, Bool, true, false, List, [], ◌∷◌, Option, Some, None, length, refl, sym, ◌∙◌, ap, subst, arith}
+use Rattle.std.specs.Prelude.{slice_get, Result, Ok, Err, IfOk, IfErr, Vec}
+use Rattle.std.specs.Global.{Global}
+use Rattle.std.specs.declared.alloc.AllocError.{AllocError}
+use Rattle.std.specs.List.{list_all}
+use Rattle.std.proofs.Math.Nat.{mul-le-mul}
+use Rattle.tta_ops.specs.Units.{Units}
+use Rattle.tta_arch.specs.Machine.{Machine}
+use Rattle.tta_arch.specs.Rules.{IsMachine}
+use Rattle.tta_program.specs.declared.operand.Src.TheVariants.{Var, Word}
+use Rattle.tta_program.specs.declared.step.Step.{Step}
+use Rattle.tta_program.specs.declared.step.Step.TheVariants.{Put, Halt, End}
+use Rattle.tta_program.specs.declared.program.Proc.{Proc}
+use Rattle.tta_program.specs.Program.{Program, step_count}
+use Rattle.tta_program.specs.Rules.{IsProgram}
+use Rattle.tta_program.specs.Sizes.{frame_need, arg_count, var_count}
+use Rattle.tta_program.specs.Direct.{only_constants, puts, alone}
+use Rattle.tta_rcode.specs.declared.code.Rir.{Rir}
+use Rattle.tta_rcode.specs.Direct.{one_block}
+use Rattle.tta_lower.specs.Lower.{lowered}
+use Rattle.tta_lower.specs.Known.{spans, home_by, first_by, after_by}
+use Rattle.tta_moves.specs.declared.items.BlockList.{BlockList}
+use Rattle.tta_moves.specs.declared.items.Placed.{Placed}
+use Rattle.tta_moves.specs.Slots.{is_list}
+use Rattle.tta_connect.specs.declared.calls.Call.{Call}
+use Rattle.tta_select.specs.Direct.{out_of, constants_out, direct_list}
+use Rattle.tta_link.specs.Blocks.{AreBlocks, total_length}
+use Rattle.tta_sched.specs.Room.{longest, HasRoom}
+use Rattle.tta_code.specs.declared.code.Code.{Code}
+use Rattle.tta_compose.specs.Direct.{is_direct, constants_of, list_of_direct}
+use Rattle.tta_compose.specs.Linking.{AreRespected}
+use Rattle.tta_compose.specs.Room.{AreRoomy, room_on}
+use Rattle.tta_compose.specs.Ends.{IsCodeOf, IsTooLong}
+use Rattle.tta_compose.proofs.Pairs.{IsAlone, is_alone}
+use Rattle.tta_compose.proofs.Directly.{direct_lowers, direct_is_list, direct_links, direct_agrees}
+use Rattle.tta_build.specs.declared.error.BuildError.{BuildError}
+use Rattle.tta_build.specs.declared.error.BuildError.TheVariants as cause
+use Rattle.tta_build.specs.Statement.{IsAccepted, Direct, LacksRoom, HasCause}
+use Rattle.tta_build.specs.Parts.{IsLowered, AreDirect, IsCodeFor, IsListsCause}
+
+-- ---- frames
+
+-- a direct pair's program needs no more frame words than a procedure has variables at the most
+pub need_small : (m : Machine) (p : Program) → IsProgram p → is_direct m p ≡ true → frame_need p ≤ 4096
+need_small m p program direct =
+    let one = is_alone m p program direct in
+    let q : Proc = one.proc in
+    let rules : IsProgram (alone q p.init) = subst IsProgram one.is program in
+    let few : q.vars ≤ 4096 = rules.procs.0.vars in
+    let need : frame_need p ≡ 0 + q.vars + 0 = ap frame_need one.is ∙ refl in
+    omega (arith, few, need)
+
+-- so its frames always have room
+pub never_full : (m : Machine) (p : Program) → IsProgram p → is_direct m p ≡ true → (need have : ℕ) → need ≡ frame_need p → have ≡ 4096 → have < need → ⊥
+never_full m p program direct need have same there more =
+    let small = need_small m p program direct in omega (arith, small, same, there, more)
+
+-- ---- lists
+
+-- the list of a direct pair's register code
+pub list_is : (m : Machine) (p : Program) (r : Rir) (lists : List BlockList) → IsProgram p → is_direct m p ≡ true → IsLowered p 0 4096 r
+    → ((words : List ℕ) → r.blocks ≡ one_block words ∷ [] → lists ≡ direct_list (out_of m) words ∷ []) → AreDirect m p lists
+list_is m p r lists program direct is one =
+    let lower = direct_lowers m p program direct is.blocks is.live is.kept is.flow is.lives is.scan in
+    let same : r ≡ record { blocks = one_block (constants_of p) ∷ [] } =
+    is.code.is ∙ ap (lowered p (spans is.blocks) (first_by p is.live) (home_by p is.kept) (after_by p is.live)) is.scan.count ∙ lower in
+    record {
+      blocks = is.blocks;
+      live = is.live;
+      kept = is.kept;
+      flow = is.flow;
+      lives = is.lives;
+      scan = is.scan;
+      are = one (constants_of p) (ap (λ (x : Rir). x.blocks) same);
+    }
+
+-- the machine can carry out the list
+pub are_lists : (m : Machine) (p : Program) (lists : List BlockList) → IsMachine m → IsProgram p → is_direct m p ≡ true → AreDirect m p lists
+    → list_all (λ (b : BlockList). is_list m b.items) lists ≡ true
+are_lists m p lists machine program direct of =
+    subst (λ (x : List BlockList). list_all (λ (b : BlockList). is_list m b.items) x ≡ true) (sym of.are)
+    (let e = direct_is_list m p machine program direct in rw e refl)
+
+-- its placement can be linked
+pub can_link : (m : Machine) (p : Program) (lists : List BlockList) → AreDirect m p lists → (ps : List Placed) → AreRespected m lists ps → AreBlocks m ps
+can_link m p lists of ps are = direct_links m p ps (subst (λ (x : List BlockList). AreRespected m x ps) of.are are)
+
+-- its code is code for the pair
+pub code_for : (u : Units) (m : Machine) (p : Program) (lists : List BlockList) (code : Code) → IsMachine m → IsProgram p → is_direct m p ≡ true → AreDirect m p lists
+    → IsCodeOf m lists code → IsCodeFor u m p code
+code_for u m p lists code machine program direct of is = record {
+  accepted = Direct direct;
+  legal = is.legal;
+  agrees = λ init laid.
+      direct_agrees u m p machine program direct of.blocks of.live of.kept of.flow of.lives of.scan is.placements (record { code = code; init = init })
+      (subst (λ (x : List BlockList). AreRespected m x is.placements) of.are is.roomy.respected) is.linked is.legal laid;
+}
+
+-- ---- room
+
+-- the constants are fewer than the steps, of which the last is `end`
+fewer_constants : (steps : List Step) → only_constants steps ≡ true → length (puts steps) + 1 ≤ length steps
+fewer_constants (Put (Word w) ∷ steps) only = let less = fewer_constants steps only in omega (arith, less)
+fewer_constants (Put (Var x) ∷ steps) only = absurd cc
+fewer_constants (Halt ∷ steps) only = omega arith
+fewer_constants (End ∷ []) only = omega arith
+fewer_constants (End ∷ s ∷ steps) only = absurd cc
+fewer_constants [] only = absurd cc
+fewer_constants (s ∷ steps) only = absurd cc
+
+-- an item for each constant, and one for the exit
+length-constants_out : (f : Call) (words : List ℕ) → length (constants_out f words) ≡ length words + 1
+length-constants_out f [] = refl
+length-constants_out f (w ∷ words) = let e = length-constants_out f words in omega (arith, e)
+
+-- the placement of the list has the program's room
+one_fits : (m : Machine) (p : Program) (ps : List Placed) → IsProgram p → is_direct m p ≡ true → AreRoomy m (list_of_direct m p ∷ []) ps → total_length ps ≤ room_on m p
+one_fits m p [] program direct are = absurd (let e = are.respected.count in omega (arith, e))
+one_fits m p (q ∷ r ∷ ps) program direct are = absurd (let e = are.respected.count in omega (arith, e))
+one_fits m p (q ∷ []) program direct are =
+    let alone = is_alone m p program direct in
+    let steps = alone.proc.steps in
+    let room : HasRoom m (list_of_direct m p).items q = are.room 0 (list_of_direct m p) q refl refl in
+    let items = length-constants_out (out_of m) (constants_of p) in
+    let words : length (constants_of p) ≡ length (puts steps) = ap length alone.constants in
+    let less = fewer_constants steps alone.only in
+    let count : step_count p ≡ 0 + length steps = ap step_count alone.is ∙ refl in
+    let procs : length p.procs ≡ 1 = ap (λ (x : Program). length x.procs) alone.is in
+    let few : length (list_of_direct m p).items ≤ 32 * step_count p + 8 * (arg_count p + var_count p) + 16 * length p.procs = omega (arith, items, words, less, count) in
+    let one : 1 ≤ 2 * step_count p + 3 * length p.procs = omega (arith, procs) in
+    let a : length (list_of_direct m p).items * (longest m + 1) ≤ (32 * step_count p + 8 * (arg_count p + var_count p) + 16 * length p.procs) * (longest m + 1) =
+    mul-le-mul few (let z : longest m + 1 ≤ longest m + 1 = omega arith in z) in
+    let b : 1 * (m.control.delay + longest m + 2) ≤ (2 * step_count p + 3 * length p.procs) * (m.control.delay + longest m + 2) =
+    mul-le-mul one (let z : m.control.delay + longest m + 2 ≤ m.control.delay + longest m + 2 = omega arith in z) in
+    omega (arith, room, a, b)
+
+-- where the code is too long, it has no more words than the pair's room
+pub room_for : (u : Units) (m : Machine) (p : Program) (lists : List BlockList) → IsProgram p → is_direct m p ≡ true → AreDirect m p lists
+    → (words have : ℕ) → IsTooLong m lists words have → LacksRoom u m p words have
+room_for u m p lists program direct of words have is =
+    let fits = one_fits m p is.placements program direct (subst (λ (x : List BlockList). AreRoomy m x is.placements) of.are is.roomy) in
+    let same = is.length in record {
+      accepted = Direct direct;
+      addresses = is.addresses;
+      more = is.more;
+      room = omega (arith, fits, same);
+    }
+
+-- so what the linking of the list answers is what is answered for the pair
+pub ok_for : (m : Machine) (p : Program) (lists xs : List BlockList) → IsMachine m → IsProgram p → is_direct m p ≡ true → AreDirect m p lists → xs ≡ lists
+    → (r : Result Code BuildError) → IfOk r (λ code. IsCodeOf m xs code) → IfOk r (λ code. (u : Units) → IsCodeFor u m p code)
+ok_for m p lists xs machine program direct of same (Ok code) is =
+    λ u. code_for u m p lists code machine program direct of (subst (λ (l : List BlockList). IsCodeOf m l code) same is)
+ok_for m p lists xs machine program direct of same (Err e) is = tt
+
+pub err_for : (m : Machine) (p : Program) (lists xs : List BlockList) → IsProgram p → is_direct m p ≡ true → AreDirect m p lists → xs ≡ lists
+    → (r : Result Code BuildError) → IfErr r (λ e. IsListsCause m xs e) → IfErr r (λ e. (u : Units) → HasCause u m p e)
+err_for m p lists xs program direct of same (Ok code) is = tt
+err_for m p lists xs program direct of same (Err (cause.CodeFull words have)) is =
+    λ u. room_for u m p lists program direct of words have (subst (λ (l : List BlockList). IsTooLong m l words have) same is)
+err_for m p lists xs program direct of same (Err cause.NoMemory) is = λ u. tt
+err_for m p lists xs program direct of same (Err e) is = absurd is
+
+-- the one list, whether the selection answers it
+pub lists_for : (m : Machine) (p : Program) (r : Rir) → IsProgram p → is_direct m p ≡ true → IsLowered p 0 4096 r → (q : Result (Vec BlockList Global) AllocError)
+    → IfOk q (λ lists. (words : List ℕ) → r.blocks ≡ one_block words ∷ [] → lists.items ≡ direct_list (out_of m) words ∷ [])
+    → IfOk q (λ lists. AreDirect m p lists.items)
+lists_for m p r program direct is (Ok lists) one = list_is m p r lists.items program direct is one
+lists_for m p r program direct is (Err e) one = tt

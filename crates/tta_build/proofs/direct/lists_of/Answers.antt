@@ -1,0 +1,13 @@
+use Rattle.std.proofs.Common.{subst}
+use Rattle.tta_lower.specs.Statement.{IsCause}
+use Rattle.tta_build.proofs.Directs.{never_full, lists_for}
+use Rattle.tta_build.proofs.direct.lists_of.Goals as goal
+
+pub unreachable-requires : goal.unreachable-requires
+unreachable-requires c =
+    let cause = subst (IsCause c.args.p.now 4096) c.in-Err-FrameFull.field-0-is c.in-Err-FrameFull.ensures.cause in
+    never_full c.args.m.now c.args.p.now c.requires.program c.requires.direct c.in-Err-FrameFull.field-0-0 c.in-Err-FrameFull.field-0-1 cause.0 cause.1 cause.2
+
+pub returns-in-Ok : goal.returns-in-Ok
+returns-in-Ok c =
+    lists_for c.args.m.now c.args.p.now c.in-Ok.code c.requires.program c.requires.direct c.in-Ok.ensures.code c.select_direct-lists.result c.select_direct-lists.ensures.one

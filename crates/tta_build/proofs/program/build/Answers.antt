@@ -1,0 +1,15 @@
+use Rattle.tta_build.proofs.Inside.{all_inside}
+use Rattle.tta_build.proofs.program.build.Goals as goal
+
+pub returns-clause-built : goal.returns-clause-built
+returns-clause-built g c =
+    let code = c.in_ok-code.ensures.code in
+    let init = c.in_ok-init.ensures in record {
+      accepted = code.accepted;
+      agrees = code.agrees c.in_ok-init.init init.laid;
+      legal = record {
+        code = code.legal;
+        rises = init.rises;
+        fits = init.fits c.args.m.now.data_words (all_inside c.args.m.now.data_words c.args.p.now.init c.requires.inside);
+      };
+    }

@@ -1,0 +1,73 @@
+-- What the parts of `build` give one another.
+use Rattle.std.specs.Prelude.{◌≡◌, ◌≤◌, ℕ, List, [], ◌∷◌, length}
+use Rattle.tta_ops.specs.Units.{Units}
+use Rattle.tta_arch.specs.Machine.{Machine}
+use Rattle.tta_connect.specs.declared.choice.Choice.{Choice}
+use Rattle.tta_program.specs.Program.{Program, over, data_of}
+use Rattle.tta_program.specs.Sizes.{frame_need}
+use Rattle.tta_rcode.specs.declared.code.Rir.{Rir}
+use Rattle.tta_flow.specs.declared.flow.Block.{Block}
+use Rattle.tta_flow.specs.declared.live.Live.{Live}
+use Rattle.tta_flow.specs.Blocks.{IsFlow}
+use Rattle.tta_flow.specs.Live.{IsLive}
+use Rattle.tta_alloc.specs.declared.homes.Homes.{Homes}
+use Rattle.tta_alloc.specs.Homes.{IsScan}
+use Rattle.tta_lower.specs.Known.{spans, home_by, first_by, after_by}
+use Rattle.tta_lower.specs.Statement.{IsCodeOf}
+use Rattle.tta_moves.specs.declared.items.BlockList.{BlockList}
+use Rattle.tta_code.specs.declared.code.Code.{Code}
+use Rattle.tta_code.specs.declared.whole.Datum.{Datum}
+use Rattle.tta_code.specs.Whole.{laid_by}
+use Rattle.tta_code.specs.Legal.{IsLegalCode}
+use Rattle.tta_code.specs.Agrees.{Agrees}
+use Rattle.tta_compose.specs.Compiler.{raw}
+use Rattle.tta_compose.specs.Direct.{list_of_direct}
+use Rattle.tta_compose.specs.Ends.{IsTooLong}
+use Rattle.tta_build.specs.declared.error.BuildError.{BuildError}
+use Rattle.tta_build.specs.declared.error.BuildError.TheVariants.{CodeFull, NoMemory}
+use Rattle.tta_build.specs.Statement.{IsAccepted}
+
+-- Register code of a program, by blocks, liveness and homes that are the program's, for so many home registers.
+pub record IsLowered (p : Program) (homes frame_words : ℕ) (r : Rir) : Type 0 where
+  pub blocks : List Block
+  pub live : Live
+  pub kept : Homes
+  pub flow : IsFlow p blocks
+  pub lives : IsLive p live
+  pub scan : IsScan p homes kept
+  pub code : IsCodeOf p blocks live kept frame_words r
+
+-- The lists that are selected for a program, by blocks, liveness and homes that are the program's; the frames have room.
+pub record AreListsOf (u : Units) (m : Machine) (c : Choice) (p : Program) (lists : List BlockList) : Type 0 where
+  pub blocks : List Block
+  pub live : Live
+  pub kept : Homes
+  pub flow : IsFlow p blocks
+  pub lives : IsLive p live
+  pub scan : IsScan p (length c.homes) kept
+  pub room : frame_need p ≤ m.frame_words
+  pub are : lists ≡ raw u m c p (spans blocks) (home_by p kept) (first_by p live) (after_by p live)
+
+-- The one list of a direct pair, where blocks, liveness and homes of the program are known.
+pub record AreDirect (m : Machine) (p : Program) (lists : List BlockList) : Type 0 where
+  pub blocks : List Block
+  pub live : Live
+  pub kept : Homes
+  pub flow : IsFlow p blocks
+  pub lives : IsLive p live
+  pub scan : IsScan p 0 kept
+  pub are : lists ≡ list_of_direct m p ∷ []
+
+-- Code for a pair that is accepted: the machine can carry it out, and it does what the program does beside any data that
+-- lay over each memory what the program's data lay.
+pub record IsCodeFor (u : Units) (m : Machine) (p : Program) (code : Code) : Type 0 where
+  pub accepted : IsAccepted u m p
+  pub legal : IsLegalCode m code
+  pub agrees : (init : List Datum) → ((memory : List ℕ) → over (laid_by init) memory ≡ over (data_of p) memory)
+      → Agrees u m p (record { code = code; init = init })
+
+-- why lists have no code: it is too long; being out of memory needs no cause
+abbrev pub IsListsCause : Machine → List BlockList → BuildError → Type 0
+IsListsCause m lists (CodeFull words have) = IsTooLong m lists words have
+IsListsCause m lists NoMemory = Unit {0}
+IsListsCause m lists e = ⊥

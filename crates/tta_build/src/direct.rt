@@ -1,0 +1,60 @@
+//! Code for direct pairs.
+
+ghost use Rattle.std.specs.Prelude.{◌≡◌, true, IfOk, IfErr};
+ghost use Rattle.tta_ops.specs.Units.{Units};
+ghost use Rattle.tta_arch.specs.Rules.{IsMachine};
+ghost use Rattle.tta_connect.specs.Net.{IsNetOf};
+ghost use Rattle.tta_program.specs.Rules.{IsProgram};
+ghost use Rattle.tta_compose.specs.Direct.{is_direct};
+ghost use Rattle.tta_build.specs.Parts.{AreDirect, IsCodeFor};
+ghost use Rattle.tta_build.specs.Statement.{HasCause};
+
+use crate::error::BuildError;
+use crate::lists::code_of_lists;
+use crate::register::register_code;
+use std::alloc::{AllocError, Global};
+use tta_arch::Machine;
+use tta_code::Code;
+use tta_connect::Net;
+use tta_lower::LowerError;
+use tta_moves::BlockList;
+use tta_program::Program;
+use tta_select::select_direct;
+
+/// How many frame words a procedure without calls needs at the most. A direct pair is asked for
+/// none, since its code names no slot.
+const MOST_VARIABLES: u32 = 4096;
+
+/// The one list of a direct pair.
+fn lists_of(alloc: Global, m: &Machine, p: &Program) -> Result<Vec<BlockList>, AllocError>
+    requires program { IsProgram p.now }
+    requires direct { is_direct m.now p.now ≡ true }
+    ensures { IfOk result (λ lists. AreDirect m.now p.now lists.items) }
+{
+    match register_code(alloc, p, 0, MOST_VARIABLES) {
+        Ok(code) => {
+            let lists = select_direct(alloc, &code, m);
+            // Dropped here as a whole, so that no part of it is left to drop at the end.
+            drop(code);
+            lists
+        }
+        Err(LowerError::FrameFull { .. }) => unreachable!(),
+        Err(LowerError::NoMemory) => Err(AllocError),
+    }
+}
+
+/// The code of a direct pair.
+pub fn direct_code(alloc: Global, m: &Machine, net: &Net, p: &Program) -> Result<Code, BuildError>
+    requires machine { IsMachine m.now }
+    requires program { IsProgram p.now }
+    requires net { IsNetOf net.now m.now }
+    requires direct { is_direct m.now p.now ≡ true }
+    ensures code { IfOk result (λ code. (u : Units) → IsCodeFor u m.now p.now code) }
+    ensures cause { IfErr result (λ e. (u : Units) → HasCause u m.now p.now e) }
+{
+    let lists = lists_of(alloc, m, p)?;
+    let code = code_of_lists(alloc, m, net, lists.as_slice());
+    // Dropped here as a whole, so that no part of it is left to drop at the end.
+    drop(lists);
+    code
+}

@@ -1,0 +1,232 @@
+-- What the parts prove of their own, one after another.
+use Rattle.std.proofs.Common.{◌≡◌, ◌≢◌, ◌<◌, ◌^◌, ℕ, suc, ◌+◌, Bool, true, List, [], ◌∷◌, ◌++◌, refl, sym, ap, subst, arith, ◌∙◌, length, map, is_some}
+use Rattle.std.specs.Prelude.{nat_lt}
+use Rattle.std.specs.List.{list_all, AllByRecursion}
+use Rattle.std.proofs.lemmas.Bool.{and_parts}
+use Rattle.std.proofs.lemmas.Bool.Decides.{nat_tests}
+use Rattle.tta_ops.specs.Units.{Units}
+use Rattle.tta_arch.specs.declared.parts.Op.TheVariants.{Ldf, Stf}
+use Rattle.tta_arch.specs.Machine.{Machine}
+use Rattle.tta_connect.specs.declared.choice.Choice.{Choice}
+use Rattle.tta_connect.specs.Coverage.{offered}
+use Rattle.tta_program.specs.declared.program.DataLine.{DataLine}
+use Rattle.tta_program.specs.Program.{Program, datum_of}
+use Rattle.tta_program.specs.Rules.{is_datum}
+use Rattle.tta_program.specs.Sequential as program
+use Rattle.tta_program.specs.Sequential.{Outcome, seq}
+use Rattle.tta_moves.specs.declared.items.BlockList.{BlockList}
+use Rattle.tta_moves.specs.declared.items.Item.{Item}
+use Rattle.tta_list.specs.Legs as legs
+use Rattle.tta_list.specs.Legs.{Run, AllPairs}
+use Rattle.tta_moves.specs.Runs.{AreAddresses, lrun}
+use Rattle.tta_optim.specs.Kept.{StandsFor}
+use Rattle.tta_optim.proofs.Meanings.{optimise_meaning}
+use Rattle.tta_optim.proofs.RunsKept.{keeps_runs}
+use Rattle.tta_optim.specs.Kept.{DoesNoMore}
+use Rattle.tta_optim.proofs.NoMore.{optimise_no_more}
+use Rattle.tta_lower.specs.declared.part.Span.{Span}
+use Rattle.tta_lower.specs.declared.part.Part.{Part}
+use Rattle.tta_rcode.specs.declared.code.RBlock.{RBlock}
+use Rattle.tta_rcode.specs.declared.code.Rir.{Rir}
+use Rattle.tta_lower.specs.Liveness.{Homes}
+use Rattle.tta_lower.specs.Lower.{parts, block_of, lowered}
+use Rattle.tta_rcode.specs.Closed.{is_closed_block}
+use Rattle.tta_rcode.specs.Meaning.{is_running, rrun}
+use Rattle.tta_lower.specs.Law.{IsRegisterCode}
+use Rattle.tta_lower.specs.Keeps as lower
+use Rattle.tta_lower.proofs.Lowering.{lowers_well}
+use Rattle.tta_select.specs.Needs.{fits_block, word_block}
+use Rattle.tta_select.specs.Keeps as select
+use Rattle.tta_select.specs.Keeps.{as_legs, IsFit}
+use Rattle.tta_select.specs.Laws.{SelectedKeeps}
+use Rattle.tta_select.proofs.Covering.{serves, grounds}
+use Rattle.tta_select.proofs.Whole as select_whole
+use Rattle.tta_overlap.specs.Means.{MeanAt}
+use Rattle.tta_lower.specs.Law.{IsKnown}
+use Rattle.tta_compose.specs.Compiler.{IsPair, AreStandIns, optimised, raw}
+use Rattle.tta_compose.specs.Laws.{ListsMean, SelectedStand, CompiledStand}
+use Rattle.tta_compose.proofs.Offered.{part_steps, part_exit}
+use Rattle.tta_compose.proofs.Fitting.{block_fits, block_short}
+use Rattle.tta_compose.proofs.Words.{steps_words, exit_words}
+
+-- ---- selection
+
+select_keeps : SelectedKeeps
+select_keeps u m choice r rules over chosen fit =
+    let frame = and_parts (is_some (offered m choice.usable Ldf)) (is_some (offered m choice.usable Stf)) chosen.frame in
+    select_whole.keeps_meaning u m choice (grounds m choice chosen) (serves m choice rules Ldf frame.0) (serves m choice rules Stf frame.1) over (serves m choice rules) r fit
+
+-- ---- the passes
+
+optimised_stands : (m : Machine) (b : BlockList) → StandsFor m b (optimised m b)
+optimised_stands m b = record { live = refl; meaning = optimise_meaning m b.live_out b.items }
+
+all_stand : (m : Machine) (lists : List BlockList) → AreStandIns m lists (map (optimised m) lists)
+all_stand m [] = tt
+all_stand m (b ∷ lists) = (record { stands = optimised_stands m b; spare = optimise_no_more m b.live_out b.items }, all_stand m lists)
+
+pub compiled_stand : CompiledStand
+compiled_stand u m c p blocks home live_first live_after = all_stand m (raw u m c p blocks home live_first live_after)
+
+-- a list stands for itself
+self_stands : (m : Machine) (b : BlockList) → StandsFor m b b
+self_stands m b = record {
+  live = refl;
+  meaning = record {
+    meaning = λ u addr back h e. e;
+    end = λ u addr back h e. record { memory = refl; frame = refl; rest = refl; output = refl; exit = refl; registers = λ w p l. refl };
+  };
+}
+
+-- and does no more than itself
+self_spare : (m : Machine) (items : List Item) → DoesNoMore m items items
+self_spare m items = record {
+  few = omega arith;
+  list = λ e. e;
+  triggers = refl;
+  targets = λ p. omega arith;
+  addresses = λ block e. e;
+  straight = λ hub e. e;
+}
+
+pub selected_stand : SelectedStand
+selected_stand m [] = tt
+selected_stand m (b ∷ lists) = (record { stands = self_stands m b; spare = self_spare m b.items }, selected_stand m lists)
+
+-- lists that may be placed for others stand for them
+pub stand_for : (m : Machine) (lists others : List BlockList) → AreStandIns m lists others → AllPairs (StandsFor m) lists others
+stand_for m [] [] all = tt
+stand_for m [] (o ∷ others) all = absurd all
+stand_for m (b ∷ lists) [] all = absurd all
+stand_for m (b ∷ lists) (o ∷ others) all = (all.0.stands, stand_for m lists others all.1)
+
+pub pairs_length : {A B : Type 0} (P : A → B → Type 0) (xs : List A) (ys : List B) → AllPairs P xs ys → length ys ≡ length xs
+pairs_length P [] [] all = refl
+pairs_length P [] (y ∷ ys) all = absurd all
+pairs_length P (x ∷ xs) [] all = absurd all
+pairs_length P (x ∷ xs) (y ∷ ys) all = ap suc (pairs_length P xs ys all.1)
+
+-- ---- outcomes
+
+never : (o : Outcome) → as_legs o ≡ legs.Undefined → ⊥
+never program.Running e = cc
+never program.Halted e = cc
+never program.Waiting e = cc
+
+halted_from : (o : Outcome) → as_legs o ≡ legs.Halted → o ≡ program.Halted
+halted_from program.Running e = absurd cc
+halted_from program.Halted e = refl
+halted_from program.Waiting e = absurd cc
+
+waiting_from : (o : Outcome) → as_legs o ≡ legs.Waiting → o ≡ program.Waiting
+waiting_from program.Running e = absurd cc
+waiting_from program.Halted e = absurd cc
+waiting_from program.Waiting e = refl
+
+-- ---- lists that run as register code with a program's meaning mean the program
+
+module _ (u : Units) (m : Machine) (p : Program) (r : Rir) (lists : List BlockList) (addr memory input : List ℕ) (keeps : lower.KeepsMeaning u p r)
+    (runs : (n : ℕ) → select.EndAlike (rrun u r memory input n) (lrun u m lists addr memory input n)) where
+  pub mean_of : MeanAt u m p lists addr memory input
+  mean_of = record {
+    sound = λ n e. never (rrun u r memory input n).outcome (sym (runs n).outcome ∙ e);
+    halts = λ n h.
+        let k = keeps.ends memory input n (ap is_running h) in
+        let s = runs (n + 1) in
+        record { program = h; lists = s.outcome ∙ ap as_legs (k.outcome ∙ h); memory = s.memory ∙ k.memory; output = s.output ∙ k.output; rest = s.rest ∙ k.rest };
+    waits = λ n h.
+        let k = keeps.ends memory input n (ap is_running h) in
+        let s = runs (n + 1) in
+        record { program = h; lists = s.outcome ∙ ap as_legs (k.outcome ∙ h); output = s.output ∙ k.output; rest = s.rest ∙ k.rest };
+    halts_only = λ n h.
+        let s = runs n in
+        let o = halted_from (rrun u r memory input n).outcome (sym s.outcome ∙ h) in
+        let k = keeps.ends_only memory input n (ap is_running o) in
+        record { program = sym k.outcome ∙ o; lists = h; memory = s.memory ∙ k.memory; output = s.output ∙ k.output; rest = s.rest ∙ k.rest };
+    waits_only = λ n h.
+        let s = runs n in
+        let o = waiting_from (rrun u r memory input n).outcome (sym s.outcome ∙ h) in
+        let k = keeps.ends_only memory input n (ap is_running o) in
+        record { program = sym k.outcome ∙ o; lists = h; output = s.output ∙ k.output; rest = s.rest ∙ k.rest };
+    output = λ n. let k = keeps.output memory input n in (k.0, (runs (n + 1)).output ∙ k.1);
+    output_only = λ n. let k = keeps.output_only memory input n in (k.0, k.1 ∙ ap (λ (o : List ℕ). o ++ k.0) (sym (runs n).output));
+  }
+
+-- ---- all together
+
+module _ (u : Units) (m : Machine) (c : Choice) (p : Program) (blocks : List Span) (home : Homes) (live_first : (owner x : ℕ) → Bool) (live_after : (owner at x : ℕ) → Bool)
+    (pair : IsPair u m c p) (known : IsKnown p (length c.homes) blocks home live_first live_after) where
+  abbrev pub code : Rir
+  code = lowered p blocks live_first home live_after (length c.homes)
+
+  pub law : IsRegisterCode u p blocks home live_first live_after (length c.homes) m.frame_words
+  law = lowers_well u p blocks home live_first live_after (length c.homes) m.frame_words pair.program known.flow known.apart known.answers
+
+  parts_fit : (n : ℕ) (xs : List Part)
+      → list_all (is_closed_block (length c.homes) m.frame_words n) (map (block_of p blocks live_first home live_after (length c.homes)) xs) ≡ true
+      → list_all (fits_block u m c n) (map (block_of p blocks live_first home live_after (length c.homes)) xs) ≡ true
+  parts_fit n [] e = refl
+  parts_fit n (x ∷ xs) e =
+      let b : RBlock = block_of p blocks live_first home live_after (length c.homes) x in
+      let halves = and_parts (is_closed_block (length c.homes) m.frame_words n b)
+      (list_all (is_closed_block (length c.homes) m.frame_words n) (map (block_of p blocks live_first home live_after (length c.homes)) xs)) e in
+      let one : fits_block u m c n b ≡ true = block_fits m c u n b halves.0
+      (part_steps u m c p home blocks live_first live_after (length c.homes) pair.offered x)
+      (part_exit u m c p home blocks live_first live_after (length c.homes) pair.offered x) in
+      rw (one, parts_fit n xs halves.1) refl
+
+  parts_words : (n : ℕ) (xs : List Part)
+      → list_all (is_closed_block (length c.homes) m.frame_words n) (map (block_of p blocks live_first home live_after (length c.homes)) xs) ≡ true
+      → list_all word_block (map (block_of p blocks live_first home live_after (length c.homes)) xs) ≡ true
+  parts_words n [] e = refl
+  parts_words n (x ∷ xs) e =
+      let b : RBlock = block_of p blocks live_first home live_after (length c.homes) x in
+      let halves = and_parts (is_closed_block (length c.homes) m.frame_words n b)
+      (list_all (is_closed_block (length c.homes) m.frame_words n) (map (block_of p blocks live_first home live_after (length c.homes)) xs)) e in
+      let one : word_block b ≡ true = rw (
+        steps_words p home pair.program blocks live_first live_after (length c.homes) x,
+        exit_words p home pair.program blocks live_first live_after (length c.homes) x,
+        block_short m c n b halves.0,
+      ) refl in
+      rw (one, parts_words n xs halves.1) refl
+
+  pub fit : IsFit u m c code
+  fit = record {
+    blocks = parts_fit (length code.blocks) (parts p blocks live_first) (law.closed pair.room).blocks;
+    words = parts_words (length code.blocks) (parts p blocks live_first) (law.closed pair.room).blocks;
+    sound = law.keeps.meaning;
+  }
+
+  -- the selected lists run as the register code
+  pub raw_keeps : select.KeepsMeaning u m code (raw u m c p blocks home live_first live_after)
+  raw_keeps = select_keeps u m c code pair.machine pair.over pair.choice fit
+
+  module _ (lists : List BlockList) (stand : AllPairs (StandsFor m) (raw u m c p blocks home live_first live_after) lists)
+      (addr memory input : List ℕ) (are : AreAddresses addr (length lists)) where
+    are_raw : AreAddresses addr (length (raw u m c p blocks home live_first live_after))
+    are_raw = subst (AreAddresses addr) (pairs_length (StandsFor m) (raw u m c p blocks home live_first live_after) lists stand) are
+
+    -- the lists run as the register code
+    runs : (n : ℕ) → select.EndAlike (rrun u code memory input n) (lrun u m lists addr memory input n)
+    runs n =
+        let a = raw_keeps addr are_raw memory input n in
+        let defined : (lrun u m (raw u m c p blocks home live_first live_after) addr memory input n).outcome ≢ legs.Undefined =
+        λ e. never (rrun u code memory input n).outcome (sym a.outcome ∙ e) in
+        let b = keeps_runs u m (raw u m c p blocks home live_first live_after) lists addr memory input n stand defined in
+        record { outcome = b.outcome ∙ a.outcome; memory = b.memory ∙ a.memory; rest = b.rest ∙ a.rest; output = b.output ∙ a.output }
+
+    mean : MeanAt u m p lists addr memory input
+    mean = mean_of u m p code lists addr memory input law.keeps runs
+
+pub lists_mean : ListsMean
+lists_mean u m c p blocks home live_first live_after lists pair known stand addr memory input are given =
+    mean u m c p blocks home live_first live_after pair known lists stand addr memory input are
+
+-- ---- the code
+
+pub data_words : (init : List DataLine) → list_all is_datum init ≡ true → AllByRecursion (λ d. d.1 < 2 ^ 32) (map datum_of init)
+data_words [] e = tt
+data_words (d ∷ init) e =
+    let halves = and_parts (is_datum d) (list_all is_datum init) e in
+    let value = (and_parts (nat_lt d.address (2 ^ 32)) (nat_lt d.value (2 ^ 32)) halves.0).1 in
+    (grind (arith, nat_tests), data_words init halves.1)

@@ -1,0 +1,146 @@
+-- A direct pair: its list, and what the code of its list does.
+use Rattle.std.proofs.Common.{◌≡◌, ◌+◌, ℕ, zero, suc, true, List, [], ◌∷◌, Some, refl, sym, subst, arith, length, slice_get}
+use Rattle.std.specs.Prelude.{nat_le}
+use Rattle.std.specs.List.{list_all}
+use Rattle.std.proofs.lemmas.Bool.{and_parts}
+use Rattle.std.proofs.lemmas.Bool.Decides.{nat_tests}
+use Rattle.tta_arch.specs.Machine.{Machine}
+use Rattle.tta_arch.specs.Rules.{IsMachine}
+use Rattle.tta_connect.specs.declared.calls.Call.{Call}
+use Rattle.tta_program.specs.declared.program.Proc.{Proc}
+use Rattle.tta_program.specs.declared.program.DataLine.{DataLine}
+use Rattle.tta_program.specs.Program.{Program}
+use Rattle.tta_program.specs.Rules.{IsProgram}
+use Rattle.tta_program.specs.Direct.{only_constants, puts, alone}
+use Rattle.tta_rcode.specs.Direct.{one_block}
+use Rattle.tta_flow.specs.declared.flow.Block.{Block}
+use Rattle.tta_flow.specs.declared.live.Live.{Live}
+use Rattle.tta_flow.specs.Blocks.{IsFlow}
+use Rattle.tta_flow.specs.Live.{IsLive}
+use Rattle.tta_alloc.specs.declared.homes.Homes.{Homes}
+use Rattle.tta_alloc.specs.Homes.{IsScan}
+use Rattle.tta_lower.specs.Keeps as lower
+use Rattle.tta_lower.specs.Lower.{lowered}
+use Rattle.tta_lower.specs.Law.{IsKnown}
+use Rattle.tta_lower.specs.Known.{spans, home_by, first_by, after_by}
+use Rattle.tta_lower.proofs.Lowering.{lowers_well}
+use Rattle.tta_lower.proofs.OneBlock.{one-block}
+use Rattle.tta_lower.proofs.SameBlocks.{are_blocks}
+use Rattle.tta_lower.proofs.SameHomes.{answers_know}
+use Rattle.tta_moves.specs.declared.items.Item.{Item}
+use Rattle.tta_moves.specs.declared.items.BlockList.{BlockList}
+use Rattle.tta_moves.specs.declared.items.Placed.{Placed}
+use Rattle.tta_moves.specs.Touches.{source_of}
+use Rattle.tta_moves.specs.Slots.{has_slot, control_is_last, is_list}
+use Rattle.tta_select.specs.Lists.{is_closed}
+use Rattle.tta_select.specs.Direct.{out_of, constants_out}
+use Rattle.tta_link.specs.Blocks.{IsBlock}
+use Rattle.tta_overlap.proofs.Built.{built_agrees}
+use Rattle.tta_compose.specs.Direct.{brings, constants_of, list_of_direct, DirectLowers, DirectIsList, DirectMeans, DirectLinks, DirectAgrees}
+use Rattle.tta_compose.proofs.Composed.{mean_of, data_words}
+use Rattle.tta_compose.proofs.Linking.{is_block}
+use Rattle.tta_compose.proofs.OneList.{CanOutput, alike}
+use Rattle.tta_compose.proofs.Pairs.{IsAlone, is_alone, outputs, halt_joined}
+
+-- ---- the register code
+
+lowers_alone : (q : Proc) (init : List DataLine) → only_constants q.steps ≡ true → IsProgram (alone q init) → (blocks : List Block) (l : Live) (h : Homes) → IsFlow (alone q init) blocks → IsLive (alone q init) l → IsScan (alone q init) 0 h
+    → lowered (alone q init) (spans blocks) (first_by (alone q init) l) (home_by (alone q init) h) (after_by (alone q init) l) 0 ≡ record { blocks = one_block (puts q.steps) ∷ [] }
+lowers_alone q init only rules blocks l h flow live scan =
+    one-block q init only (home_by (alone q init) h) (first_by (alone q init) l) (after_by (alone q init) l) 0 (spans blocks) (are_blocks (alone q init) rules blocks flow)
+    (answers_know (alone q init) 0 blocks l h rules flow live scan).answers
+
+pub direct_lowers : DirectLowers
+direct_lowers m p rules direct blocks l h flow live scan =
+    let a = is_alone m p rules direct in
+    subst (λ (r : Program). IsFlow r blocks → IsLive r l → IsScan r 0 h → lowered r (spans blocks) (first_by r l) (home_by r h) (after_by r l) 0 ≡ record { blocks = one_block (constants_of r) ∷ [] }) (sym a.is)
+    (λ flow live scan. lowers_alone a.proc p.init a.only (subst IsProgram a.is rules) blocks l h flow live scan) flow live scan
+
+-- ---- the list
+
+-- the list ends with its only control item
+pub control_last : (f : Call) (words : List ℕ) → control_is_last (constants_out f words) ≡ true
+control_last f [] = refl
+control_last f (w ∷ words) = control_last f words
+
+slots : (m : Machine) → IsMachine m → (words : List ℕ) → list_all (brings m) words ≡ true → list_all (has_slot m) (constants_out (out_of m) words) ≡ true
+slots m rules [] all = rw (halt_joined m rules) refl
+slots m rules (w ∷ words) all =
+    let two = and_parts (brings m w) (list_all (brings m) words) all in
+    rw (two.0, slots m rules words two.1) refl
+
+size : (f : Call) (words : List ℕ) → length (constants_out f words) ≡ length words + 1
+size f [] = refl
+size f (w ∷ words) = let e = size f words in omega (arith, e)
+
+-- no item moves an address
+no_address : (blocks : ℕ) (f : Call) (words : List ℕ) → list_all (λ (x : Item). is_closed blocks (source_of x)) (constants_out f words) ≡ true
+no_address blocks f [] = refl
+no_address blocks f (w ∷ words) = no_address blocks f words
+
+pub direct_is_list : DirectIsList
+direct_is_list m p machine rules direct =
+    let a = is_alone m p rules direct in
+    let few = a.steps in
+    let n = size (out_of m) (puts (a.proc).steps) in
+    let count : nat_le (length (constants_out (out_of m) (puts (a.proc).steps))) 16777216 ≡ true = grind (arith, nat_tests) in
+    subst (λ (words : List ℕ). is_list m (constants_out (out_of m) words) ≡ true) (sym a.constants)
+    (rw (count, slots m machine (puts (a.proc).steps) a.brought.all, control_last (out_of m) (puts (a.proc).steps)) refl)
+
+-- ---- its meaning
+
+can : (m : Machine) → IsMachine m → (words : List ℕ) → list_all (brings m) words ≡ true → CanOutput m (out_of m) words
+can m rules [] all = tt
+can m rules (w ∷ words) all = outputs m rules w (and_parts (brings m w) (list_all (brings m) words) all).0
+
+pub direct_means : DirectMeans
+direct_means u m p machine rules direct blocks l h flow live scan addr memory input are given =
+    mean_of u m p (record { blocks = one_block (constants_of p) ∷ [] }) (list_of_direct m p ∷ []) addr memory input keeps
+    (alike u m (out_of m) addr memory input (constants_of p) (subst (CanOutput m (out_of m)) (sym a.constants) (can m machine (puts (a.proc).steps) a.brought.all))) where
+      a : IsAlone m p
+      a = is_alone m p rules direct
+
+      known : IsKnown p 0 (spans blocks) (home_by p h) (first_by p l) (after_by p l)
+      known = answers_know p 0 blocks l h rules flow live scan
+
+      keeps : lower.KeepsMeaning u p (record { blocks = one_block (constants_of p) ∷ [] })
+      keeps = subst (lower.KeepsMeaning u p) (direct_lowers m p rules direct blocks l h flow live scan)
+          (lowers_well u p (spans blocks) (home_by p h) (first_by p l) (after_by p l) 0 0 rules known.flow known.apart known.answers).keeps
+
+-- ---- its code
+
+only_one : {A : Type 0} (x : A) (k : ℕ) (y : A) → slice_get (x ∷ []) k ≡ Some y → (k ≡ 0) × (x ≡ y)
+only_one x zero y e = (refl, cc)
+only_one x (suc k) y e = absurd cc
+
+closed : (m : Machine) (p : Program) (k : ℕ) (b : BlockList) → slice_get (list_of_direct m p ∷ []) k ≡ Some b → control_is_last b.items ≡ true
+closed m p k b e = subst (λ (c : BlockList). control_is_last c.items ≡ true) (only_one (list_of_direct m p) k b e).1 (control_last (out_of m) (constants_of p))
+
+pub direct_links : DirectLinks
+direct_links m p ps are = record {
+  few = let n = are.count in omega (arith, n);
+  each = λ k q e. on k q e (placed_at k q e);
+} where
+  placed_at : (k : ℕ) (q : Placed) → slice_get ps k ≡ Some q → k ≡ 0
+  placed_at zero q e = refl
+  placed_at (suc k) q e = absurd (past ps k q are.count e) where
+    past : (qs : List Placed) (k : ℕ) (q : Placed) → length qs ≡ 1 → slice_get qs (suc k) ≡ Some q → ⊥
+    past [] k q n e = cc
+    past (x ∷ []) k q n e = cc
+    past (x ∷ y ∷ qs) k q n e = omega (arith, n)
+
+  on : (k : ℕ) (q : Placed) → slice_get ps k ≡ Some q → k ≡ 0 → IsBlock m (length ps) q
+  on k q e same =
+      is_block m (list_of_direct m p) q (control_last (out_of m) (constants_of p))
+      (are.respects 0 (list_of_direct m p) q refl (subst (λ (j : ℕ). slice_get ps j ≡ Some q) same e)) (length ps) (no_address (length ps) (out_of m) (constants_of p))
+
+pub direct_agrees : DirectAgrees
+direct_agrees u m p machine rules direct blocks l h flow live scan ps whole are linked legal laid =
+    built_agrees u m machine p whole (list_of_direct m p ∷ []) ps (record {
+      legal = legal;
+      placed = record { count = are.count; closed = closed m p; respects = are.respects };
+      linked = linked;
+      means = direct_means u m p machine rules direct blocks l h flow live scan;
+      laid = laid;
+      words = data_words p.init rules.init;
+    })

@@ -1,0 +1,14 @@
+pub mod Words
+pub mod Fitting
+pub mod Offered
+pub mod Composed
+pub mod Planning
+pub mod Linking
+pub mod Room
+pub mod OneList
+pub mod Pairs
+pub mod Directly
+pub mod Sorted
+pub mod Served
+pub mod Only
+pub mod Ending

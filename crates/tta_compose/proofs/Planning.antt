@@ -1,0 +1,146 @@
+-- Lists that may be placed for the selected ones are planned.
+use Rattle.std.proofs.Common.{◌≡◌, inl, inr, ℕ, zero, suc, Bool, true, false, List, [], ◌∷◌, Some, refl, ap, subst, ◌∙◌, arith, length, map, slice_get}
+use Rattle.std.specs.Prelude.{◌==◌, ◌||◌, nat_lt, option_map}
+use Rattle.std.specs.List.{list_all, list_any}
+use Rattle.std.proofs.lemmas.Bool.{and_parts, or_cases}
+use Rattle.std.proofs.lemmas.Bool.Decides.{nat_tests}
+use Rattle.std.proofs.lemmas.List.{length-map}
+use Rattle.std.proofs.lemmas.Option.{slice_get-map}
+use Rattle.tta_ops.specs.Units.{Units}
+use Rattle.tta_arch.specs.Machine.{Machine}
+use Rattle.tta_connect.specs.declared.choice.Choice.{Choice}
+use Rattle.tta_connect.specs.Coverage.{hub_of}
+use Rattle.tta_program.specs.Program.{Program}
+use Rattle.tta_moves.specs.declared.items.BlockList.{BlockList}
+use Rattle.tta_moves.specs.declared.items.Item.{Item}
+use Rattle.tta_moves.specs.declared.items.ItemSource.{ItemSource}
+use Rattle.tta_moves.specs.declared.items.ItemSource.TheVariants.{Port, Address}
+use Rattle.tta_moves.specs.Touches.{source_of}
+use Rattle.tta_list.specs.Legs.{AllPairs}
+use Rattle.tta_optim.specs.Kept.{names, is_address}
+use Rattle.tta_optim.proofs.NoMore.{optimise_bypassed, optimise_shared, optimise_lively}
+use Rattle.tta_lower.specs.declared.part.Span.{Span}
+use Rattle.tta_lower.specs.declared.part.Part.{Part}
+use Rattle.tta_rcode.specs.declared.code.RBlock.{RBlock}
+use Rattle.tta_lower.specs.Members.{In}
+use Rattle.tta_lower.specs.Liveness.{Homes}
+use Rattle.tta_lower.specs.Lower.{parts, block_of}
+use Rattle.tta_select.specs.Select.{list_of}
+use Rattle.tta_select.specs.Counts.{is_trigger_of, is_frame_trigger, is_home, is_need}
+use Rattle.tta_select.specs.Lists.{is_closed, IsSelected}
+use Rattle.tta_select.proofs.Assembly.{all_selected}
+use Rattle.tta_lower.specs.Law.{IsKnown}
+use Rattle.tta_compose.specs.Compiler.{IsPair, IsStandIn, AreStandIns, optimised, raw}
+use Rattle.tta_compose.specs.Planned.{IsListOf, ArePlanned, HasForms, ListsPlanned, CompiledForms}
+use Rattle.tta_compose.proofs.Composed.{code, law, fit, pairs_length}
+
+in_get : {A : Type 0} (xs : List A) (k : ℕ) (x : A) → slice_get xs k ≡ Some x → In x xs
+in_get [] k x e = absurd cc
+in_get (y ∷ xs) zero x e = inl cc
+in_get (y ∷ xs) (suc k) x e = inr (in_get xs k x e)
+
+-- ---- addresses
+
+named_within : (blocks b : ℕ) (items : List Item) → list_all (λ y. is_closed blocks (source_of y)) items ≡ true → list_any (names b) items ≡ true → nat_lt b blocks ≡ true
+named_within blocks b [] all any = absurd cc
+named_within blocks b (y ∷ items) all any =
+    let s = and_parts (is_closed blocks (source_of y)) (list_all (λ y. is_closed blocks (source_of y)) items) all in
+    elim (or_cases (names b y) (list_any (names b) items) any) as (λ c. nat_lt b blocks ≡ true) [
+      | inl e ↦ here (source_of y) s.0 e
+      | inr e ↦ named_within blocks b items s.1 e
+    ] where
+      here : (src : ItemSource) → is_closed blocks src ≡ true → is_address b src ≡ true → nat_lt b blocks ≡ true
+      here (Port src) closed e = absurd cc
+      here (Address a) closed e = let same : a ≡ b = grind (arith, nat_tests) in subst (λ (n : ℕ). nat_lt n blocks ≡ true) same closed
+
+all_closed : (blocks : ℕ) (items ys : List Item) → list_all (λ y. is_closed blocks (source_of y)) items ≡ true
+    → ((b : ℕ) → list_any (names b) ys ≡ true → list_any (names b) items ≡ true) → list_all (λ y. is_closed blocks (source_of y)) ys ≡ true
+all_closed blocks items [] all from = refl
+all_closed blocks items (y ∷ ys) all from =
+    rw (here (source_of y) refl, all_closed blocks items ys all (λ b e. from b (more (names b y) (list_any (names b) ys) e))) refl where
+      more : (a b : Bool) → b ≡ true → (a || b) ≡ true
+      more true b e = refl
+      more false b e = e
+
+      first : (a b : Bool) → a ≡ true → (a || b) ≡ true
+      first a b e = rw e refl
+
+      here : (src : ItemSource) → source_of y ≡ src → is_closed blocks (source_of y) ≡ true
+      here (Port src) e = rw e refl
+      here (Address b) e =
+          let same : (b == b) ≡ true = grind (arith, nat_tests) in
+          let named : names b y ≡ true = ap (is_address b) e ∙ same in
+          ap (is_closed blocks) e ∙ named_within blocks b items all (from b (first (names b y) (list_any (names b) ys) named))
+
+-- ---- pairs of lists
+
+-- the pair at a place
+pub pair_at : {A B : Type 0} (P : A → B → Type 0) (xs : List A) (ys : List B) → AllPairs P xs ys → (k : ℕ) (x : A) (y : B) → slice_get xs k ≡ Some x → slice_get ys k ≡ Some y → P x y
+pair_at P [] ys all k x y at is = absurd cc
+pair_at P (a ∷ xs) [] all k x y at is = absurd cc
+pair_at P (a ∷ xs) (b ∷ ys) all zero x y at is =
+    let same : a ≡ x = cc in
+    let this : b ≡ y = cc in
+    subst (λ (z : _). P x z) this (subst (λ (z : _). P z b) same all.0)
+pair_at P (a ∷ xs) (b ∷ ys) all (suc k) x y at is = pair_at P xs ys all.1 k x y at is
+
+-- ---- all lists
+
+module _ (u : Units) (m : Machine) (c : Choice) (p : Program) (blocks : List Span) (home : Homes) (live_first : (owner x : ℕ) → Bool) (live_after : (owner at x : ℕ) → Bool)
+    (pair : IsPair u m c p) (known : IsKnown p (length c.homes) blocks home live_first live_after) (lists : List BlockList)
+    (stand : AreStandIns m (raw u m c p blocks home live_first live_after) lists) where
+  abbrev block : Part → RBlock
+  block x = block_of p blocks live_first home live_after (length c.homes) x
+
+  picked : IsSelected u m c (code u m c p blocks home live_first live_after pair known) (raw u m c p blocks home live_first live_after)
+  picked = all_selected u m c (code u m c p blocks home live_first live_after pair known) pair.machine pair.over pair.choice (fit u m c p blocks home live_first live_after pair known)
+
+  block_there : (k : ℕ) (x : Part) → slice_get (parts p blocks live_first) k ≡ Some x → slice_get (code u m c p blocks home live_first live_after pair known).blocks k ≡ Some (block x)
+  block_there k x e = slice_get-map (block_of p blocks live_first home live_after (length c.homes)) (parts p blocks live_first) k ∙ ap (option_map (block_of p blocks live_first home live_after (length c.homes))) e
+
+  one : (k : ℕ) (x : Part) (o : BlockList) → slice_get (parts p blocks live_first) k ≡ Some x → slice_get lists k ≡ Some o
+      → IsListOf u m c p blocks home live_first live_after x o
+  one k x o e at =
+      let l : BlockList = list_of m c u (block x) in
+      let b = block_there k x e in
+      let f = picked.fit k (block x) b in
+      let s = picked.spare k (block x) b in
+      let t = pair_at (IsStandIn m) (raw u m c p blocks home live_first live_after) lists stand k l o (picked.each k (block x) b) at in
+      let n = t.spare in
+      let w = law u m c p blocks home live_first live_after pair known in
+      let i = in_get (parts p blocks live_first) k x e in
+      record {
+        live = t.stands.live ∙ picked.live k (block x) b;
+        list = n.list f.list;
+        addresses = all_closed (length (parts p blocks live_first)) l.items o.items
+            (subst (λ (t : ℕ). list_all (λ y. is_closed t (source_of y)) l.items ≡ true) (length-map (parts p blocks live_first) (block_of p blocks live_first home live_after (length c.homes))) f.closed) n.addresses;
+        straight = n.straight (hub_of m) f.straight;
+        triggers = λ unit k o there plain. let a = n.targets (is_trigger_of unit k) in let t = s.triggers unit k o there plain in let q = w.asked (is_need o.op) x i in omega (arith, a, t, q);
+        frame = let a = n.targets (is_frame_trigger m) in let t = s.frame in let q = w.slots x i in omega (arith, a, t, q);
+        homes = let a = n.targets (is_home c) in let t = s.homes in let q = w.assigned x i in omega (arith, a, t, q);
+      }
+
+  pub planned : ArePlanned u m c p blocks home live_first live_after lists
+  planned = record {
+    count = pairs_length (IsStandIn m) (raw u m c p blocks home live_first live_after) lists stand ∙ picked.blocks
+        ∙ length-map (parts p blocks live_first) (block_of p blocks live_first home live_after (length c.homes));
+    each = λ k x l e f. one k x l e f;
+  }
+
+pub lists_planned : ListsPlanned
+lists_planned u m c p blocks home live_first live_after lists pair known stand = planned u m c p blocks home live_first live_after pair known lists stand
+
+-- each list of the passes is one that they made
+from_map : {A B : Type 0} (f : A → B) (xs : List A) (k : ℕ) (y : B) → slice_get (map f xs) k ≡ Some y → (x : A) × (f x ≡ y)
+from_map f [] k y e = absurd cc
+from_map f (x ∷ xs) zero y e = (x, cc)
+from_map f (x ∷ xs) (suc k) y e = from_map f xs k y e
+
+pub compiled_forms : CompiledForms
+compiled_forms u m c p blocks home live_first live_after k l e =
+    let s = from_map (optimised m) (raw u m c p blocks home live_first live_after) k l e in
+    subst (HasForms m) s.1 (record {
+      bypassed = optimise_bypassed m s.0.live_out s.0.items;
+      shared = optimise_shared m s.0.live_out s.0.items;
+      lively = optimise_lively m s.0.live_out s.0.items;
+    })

@@ -1,0 +1,7 @@
+-- The data of a program as the data of its code.
+use Rattle.tta_program.specs.declared.program.DataLine.{DataLine}
+use Rattle.tta_code.specs.declared.whole.Datum.{Datum}
+
+-- a line of data without its line number
+abbrev pub datum_in : DataLine → Datum
+datum_in d = record { address = d.address; value = d.value }

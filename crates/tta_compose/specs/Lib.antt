@@ -1,0 +1,9 @@
+pub mod Needs
+pub mod Compiler
+pub mod Laws
+pub mod Planned
+pub mod Linking
+pub mod Room
+pub mod Data
+pub mod Direct
+pub mod Ends

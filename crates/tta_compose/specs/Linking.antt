@@ -1,0 +1,38 @@
+-- Placements of a program's lists can be linked, and their code agrees with the program.
+use Rattle.std.specs.Prelude.{◌≡◌, ℕ, Bool, List, length, Some, slice_get}
+use Rattle.tta_ops.specs.Units.{Units}
+use Rattle.tta_arch.specs.Machine.{Machine}
+use Rattle.tta_connect.specs.declared.choice.Choice.{Choice}
+use Rattle.tta_program.specs.Program.{Program, over, data_of}
+use Rattle.tta_code.specs.Legal.{IsLegalCode}
+use Rattle.tta_code.specs.Whole.{Whole, data_in}
+use Rattle.tta_code.specs.Agrees.{Agrees}
+use Rattle.tta_moves.specs.declared.items.BlockList.{BlockList}
+use Rattle.tta_moves.specs.declared.items.Placed.{Placed}
+use Rattle.tta_moves.specs.Bounds.{Respects}
+use Rattle.tta_lower.specs.declared.part.Span.{Span}
+use Rattle.tta_lower.specs.Liveness.{Homes}
+use Rattle.tta_link.specs.Linked.{IsLinked}
+use Rattle.tta_link.specs.Blocks.{AreBlocks}
+use Rattle.tta_lower.specs.Law.{IsKnown}
+use Rattle.tta_compose.specs.Compiler.{IsPair, AreStandIns, raw}
+
+-- one placement for each list, which respects it
+pub record AreRespected (m : Machine) (lists : List BlockList) (ps : List Placed) : Type 0 where
+  pub count : length ps ≡ length lists
+  pub respects : (k : ℕ) (b : BlockList) (p : Placed) → slice_get lists k ≡ Some b → slice_get ps k ≡ Some p → Respects m b.items p
+
+-- the linker takes such placements of lists that may be placed for the selected ones
+abbrev pub ListsLink : Type 0
+ListsLink =
+    (u : Units) (m : Machine) (c : Choice) (p : Program) (blocks : List Span) (home : Homes) (live_first : (owner x : ℕ) → Bool) (live_after : (owner at x : ℕ) → Bool)
+    (lists : List BlockList) (ps : List Placed) → IsPair u m c p → IsKnown p (length c.homes) blocks home live_first live_after
+    → AreStandIns m (raw u m c p blocks home live_first live_after) lists → AreRespected m lists ps → AreBlocks m ps
+
+-- and the code that it makes of them agrees with the program, where the data are the program's
+abbrev pub ListsAgree : Type 0
+ListsAgree =
+    (u : Units) (m : Machine) (c : Choice) (p : Program) (blocks : List Span) (home : Homes) (live_first : (owner x : ℕ) → Bool) (live_after : (owner at x : ℕ) → Bool)
+    (lists : List BlockList) (ps : List Placed) (whole : Whole) → IsPair u m c p → IsKnown p (length c.homes) blocks home live_first live_after
+    → AreStandIns m (raw u m c p blocks home live_first live_after) lists → AreRespected m lists ps → IsLinked m whole.code ps → IsLegalCode m whole.code
+    → ((memory : List ℕ) → over (data_in whole) memory ≡ over (data_of p) memory) → Agrees u m p whole

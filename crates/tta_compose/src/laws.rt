@@ -1,0 +1,75 @@
+//! Laws of the parts of the compiler together. A law is a function that does nothing, and whose
+//! contract is the law.
+
+ghost use Rattle.tta_compose.specs.Laws.{ListsMean, SelectedStand, CompiledStand};
+ghost use Rattle.tta_compose.specs.Planned.{ListsPlanned, CompiledForms};
+ghost use Rattle.tta_compose.specs.Linking.{ListsLink, ListsAgree};
+ghost use Rattle.tta_compose.specs.Room.{ListsFit};
+ghost use Rattle.tta_compose.specs.Direct.{DirectLowers, DirectIsList, DirectMeans};
+ghost use Rattle.tta_compose.specs.Direct.{DirectLinks, DirectAgrees};
+
+/// Lists that stand for the selected ones mean the program.
+pub fn lists_mean()
+    ensures { ListsMean }
+{}
+
+/// The selected lists may be placed as they are.
+pub fn selected_stand()
+    ensures { SelectedStand }
+{}
+
+/// The lists that the passes make may be placed for the selected ones.
+pub fn compiled_stand()
+    ensures { CompiledStand }
+{}
+
+/// Lists that may be placed for the selected ones are lists of the machine, and do no more than the
+/// program asks for.
+pub fn lists_planned()
+    ensures { ListsPlanned }
+{}
+
+/// The lists that the passes make are in all forms.
+pub fn compiled_forms()
+    ensures { CompiledForms }
+{}
+
+/// The linker takes placements that respect such lists.
+pub fn lists_link()
+    ensures { ListsLink }
+{}
+
+/// The code that it makes of them agrees with the program.
+pub fn lists_agree()
+    ensures { ListsAgree }
+{}
+
+/// The placed lists of a program take at most its room.
+pub fn lists_fit()
+    ensures { ListsFit }
+{}
+
+/// The register code of a direct pair is one block.
+pub fn direct_lowers()
+    ensures { DirectLowers }
+{}
+
+/// The machine of a direct pair can carry out its list.
+pub fn direct_is_list()
+    ensures { DirectIsList }
+{}
+
+/// The list of a direct pair means its program.
+pub fn direct_means()
+    ensures { DirectMeans }
+{}
+
+/// The linker takes the placement of a direct pair's list.
+pub fn direct_links()
+    ensures { DirectLinks }
+{}
+
+/// The code that it makes of it agrees with the program.
+pub fn direct_agrees()
+    ensures { DirectAgrees }
+{}

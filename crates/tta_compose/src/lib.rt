@@ -1,0 +1,18 @@
+//! What the parts of the compiler prove together, as laws, and the steps between the parts: which
+//! needs of a program no unit offers, direct pairs, code from lists, and a program's data in order.
+#![tactic(auto)]
+
+mod data;
+mod direct;
+mod end;
+mod laws;
+mod needs;
+
+pub use data::data_in_order;
+pub use direct::is_direct;
+pub use end::place_and_link;
+pub use laws::{
+    compiled_forms, compiled_stand, direct_agrees, direct_is_list, direct_links, direct_lowers,
+    direct_means, lists_agree, lists_fit, lists_link, lists_mean, lists_planned, selected_stand,
+};
+pub use needs::unoffered;
