@@ -1,7 +1,5 @@
 //! The program: it takes the words of the command line, carries them out over the files of the host
-//! and its standard output, and ends with the number of the status. It stands on the commands of
-//! `tta_tool`, the files and the sink of `tta_ports`, and the five standard units of `tta_ops`; its
-//! tests also read machines with `tta_machine`.
+//! and its standard output, and ends with the number of the status.
 #![tactic(auto)]
 
 #[cfg(test)]

@@ -1,15 +1,18 @@
-//! The commands over files in memory: a program is compiled or run, and each refusal is told.
+//! The commands over files in memory: a program is compiled or run, and each refusal is reported.
 
 mod assembly;
+mod compiled;
 mod dot_product;
 mod exec;
 mod failing;
 mod handed_in;
 mod host;
+mod laid;
 mod moves;
 mod operations;
 mod programs;
 mod run;
+mod streams;
 mod texts;
 
 use host::{Case, Host};

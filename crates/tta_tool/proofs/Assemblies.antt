@@ -2,14 +2,14 @@
 use Rattle.std.proofs.Common.{◌≡◌, ℕ, List, Result, Ok, Err, refl, sym, subst, inl, inr}
 use Rattle.sha2.specs.Sha256.{sha256}
 use Rattle.tta_ops.specs.Units.{Units}
-use Rattle.tta_machine.specs.Machine.{Machine}
-use Rattle.tta_code.specs.declared.code.Code.{Code}
+use Rattle.tta_arch.specs.Machine.{Machine}
+use Rattle.tta_code.specs.Whole.{Whole}
 use Rattle.tta_tool.specs.declared.status.Status.{Status}
 use Rattle.tta_tool.specs.declared.status.Status.TheVariants as status
 use Rattle.tta_tool.specs.World.{World, IsUntouched}
 use Rattle.tta_tool.specs.Contents.{HasMachine, MachineFails, ReadsMachine}
 use Rattle.tta_tool.specs.Writing.{WriteEnds, WritingEnds}
-use Rattle.tta_tool.specs.Asm.{IsAssembled, IsBadAssembly, Assembles, AssemblyFails, ReadsAssembly, CodeImageEnds, AssembleForEnds, AssembleEnds}
+use Rattle.tta_tool.specs.Asm.{IsAssembled, IsBadAssembly, Assembles, AssemblyFails, ReadsAssembly, WholeImageEnds, AssembleForEnds, AssembleEnds}
 use Rattle.tta_tool.proofs.Worlds.{same_world, writing_ends}
 
 -- ---- a file that is refused ends the command
@@ -32,6 +32,7 @@ assembly_fails u A m before after (status.BadAsm line code) fails M OUT has same
     assembly = record {
       text = fails.1.text;
       holds = fails.1.holds;
+      short = fails.1.short;
       is = subst (λ x. IsBadAssembly u x fails.1.text line code) same fails.1.is;
     };
   },
@@ -44,15 +45,15 @@ assembly_fails u A m before after s fails M OUT has same = absurd fails
 -- ---- the parts
 
 -- an assembly that was read, and what became of its image
-pub code_ends : {T : Type 0} → (u : Units) (A text : List ℕ) (m : Machine) (code : Code) (before after : World) (items : T → List ℕ) (result : Result T Status)
-    → ReadsAssembly u m A code before after → CodeImageEnds m (sha256 text) code items result
+pub whole_ends : {T : Type 0} → (u : Units) (A text : List ℕ) (m : Machine) (whole : Whole) (before after : World) (items : T → List ℕ) (result : Result T Status)
+    → ReadsAssembly u m A whole before after → WholeImageEnds m (sha256 text) whole items result
     → AssembleForEnds u A text m before after items result
-code_ends u A text m code before after items (Ok v) reads ends = record {
-  assembly = record { text = reads.text; code = code; holds = reads.holds; read = reads.read };
+whole_ends u A text m whole before after items (Ok v) reads ends = record {
+  assembly = record { text = reads.text; whole = whole; holds = reads.holds; short = reads.short; read = reads.read };
   image = ends;
   untouched = reads.untouched;
 }
-code_ends u A text m code before after items (Err s) reads ends = λ M OUT has same.
+whole_ends u A text m whole before after items (Err s) reads ends = λ M OUT has same.
     subst (Assembles u M A OUT before after) (sym ends) reads.untouched
 
 -- a machine that was read, and what became of the assembly
@@ -62,7 +63,7 @@ pub assemble_ends : {T : Type 0} → (u : Units) (M A text : List ℕ) (m : Mach
 assemble_ends {T} u M A text m before between after items result reads ends =
     of result (subst (λ w. AssembleForEnds u A text m w after items result) (same_world before between reads.untouched) ends) where
       has : HasMachine u before.contents M
-      has = record { text = text; machine = m; holds = reads.holds; read = reads.read }
+      has = record { text = text; machine = m; holds = reads.holds; short = reads.short; read = reads.read }
 
       of : (r : Result T Status) → AssembleForEnds u A text m before after items r → AssembleEnds u M A before after items r
       of (Ok v) ends = (record { machine = has; assembly = ends.assembly; image = ends.image }, ends.untouched)

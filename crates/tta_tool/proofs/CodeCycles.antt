@@ -5,14 +5,15 @@ use Rattle.tta_print.specs.declared.line.Line.{Line}
 use Rattle.tta_print.specs.declared.line.Line.TheVariants as line
 use Rattle.tta_print.specs.Lines.{lines_text, report_lines}
 use Rattle.tta_ops.specs.Units.{Units}
-use Rattle.tta_machine.specs.declared.parts.Op.{Op}
-use Rattle.tta_machine.specs.declared.parts.Op.TheVariants.{Out}
-use Rattle.tta_machine.specs.Machine.{Machine}
-use Rattle.tta_machine.specs.Effects.{Kind, Jumps, Calls, Halts, Brought, Start, Written, put_out, control_of, first_some, bring, write_of, start_of}
+use Rattle.tta_arch.specs.declared.parts.Op.{Op}
+use Rattle.tta_arch.specs.declared.parts.Op.TheVariants.{Out}
+use Rattle.tta_arch.specs.Machine.{Machine}
+use Rattle.tta_arch.specs.Effects.{Kind, Jumps, Calls, Halts, Brought, Start, Written, put_out, control_of, first_some, bring, write_of, start_of}
 use Rattle.tta_code.specs.declared.code.Code.{Code}
 use Rattle.tta_code.specs.declared.code.Instruction.{Instruction}
-use Rattle.tta_code.specs.Cycle.{State, Outcome, Running, Halted, Fault, Pending, next, next_of, carry_out, or_fault, acts, lands, takes_effect, pending_after, effects_of, read_source, fault_of}
+use Rattle.tta_code.specs.Cycle.{State, Outcome, Running, Halted, Waiting, Fault, Pending, next, next_of, carry_out, or_fault, or_wait, waits, acts, lands, takes_effect, pending_after, effects_of, read_source, fault_of}
 use Rattle.tta_sim.specs.Held.{Held, Stands, is_fault}
+use Rattle.tta_tool.specs.Cycles.{ComesTo}
 use Rattle.tta_tool.specs.Run.{outcome_line}
 use Rattle.tta_tool.proofs.Runs.{Grows, same}
 
@@ -55,6 +56,10 @@ or_faulted : (s t : State) (o : Option ℕ) → Begins s.output t.output → Beg
 or_faulted s t None is = is
 or_faulted s t (Some number) is = same s.output s.output refl
 
+or_waited : (s t : State) (must : Bool) → Begins s.output t.output → Begins s.output (or_wait s must t).output
+or_waited s t false is = is
+or_waited s t true is = same s.output s.output refl
+
 carried : (u : Units) (m : Machine) (s : State) (o : Option Instruction) → Begins s.output (carry_out u m s o).output
 carried u m s None = same s.output s.output refl
 carried u m s (Some i) =
@@ -62,7 +67,7 @@ carried u m s (Some i) =
     let bs = filter_map (bring (read_source s)) effects in
     let written = filter_map (write_of m (s.pc + 1 + m.control.delay)) bs ++ s.written in
     let ts = filter_map (start_of m written) bs in
-    or_faulted s (acts u m s bs ts written) (fault_of s effects bs ts) (acted u m s bs ts written)
+    or_faulted s _ (fault_of s effects bs ts) (or_waited s _ (waits s ts) (acted u m s bs ts written))
 
 -- a cycle puts words behind the output
 pub cycle_grows : (u : Units) (m : Machine) (code : Code) → Grows (λ s. s.output) (next u m code)
@@ -71,6 +76,7 @@ cycle_grows u m code = λ s. of s s.outcome where
   of : (s : State) (o : Outcome) → Begins s.output (next_of u m code s o).output
   of s Running = carried u m s (slice_get code.words s.pc)
   of s Halted = same s.output s.output refl
+  of s Waiting = same s.output s.output refl
   of s (Fault number at) = same s.output s.output refl
 
 -- a state that has halted stays
@@ -82,6 +88,11 @@ halted_stays u m code s is = ap (next_of u m code s) is
 pub fault_stays : (u : Units) (m : Machine) (code : Code) (s : State) (number at : ℕ) → s.outcome ≡ Fault number at → next u m code s ≡ s
 unfolding next
 fault_stays u m code s number at is = ap (next_of u m code s) is
+
+-- a state that waits stays
+pub waiting_stays : (u : Units) (m : Machine) (code : Code) (s : State) → next u m code (record s { outcome = Waiting }) ≡ record s { outcome = Waiting }
+unfolding next
+waiting_stays u m code s = refl
 
 -- ---- a cycle that faults
 
@@ -97,6 +108,10 @@ landed_well s (Some p) well = chosen (p.time == s.cycle) where
   chosen true = took p.kind
   chosen false = well
 
+waited_well : (s t : State) (must : Bool) → is_fault t.outcome ≡ false → is_fault (or_wait s must t).outcome ≡ false
+waited_well s t false well = well
+waited_well s t true well = refl
+
 quiet_fault : (s t : State) (o : Option ℕ) → is_fault t.outcome ≡ false → is_fault (or_fault s o t).outcome ≡ true → (or_fault s o t).output ≡ s.output
 quiet_fault s t None well faulty = absurd (true≢false (sym faulty ∙ well))
 quiet_fault s t (Some number) well faulty = refl
@@ -109,7 +124,8 @@ quiet u m s (Some i) faulty =
     let bs = filter_map (bring (read_source s)) effects in
     let written = filter_map (write_of m (s.pc + 1 + m.control.delay)) bs ++ s.written in
     let ts = filter_map (start_of m written) bs in
-    quiet_fault s (acts u m s bs ts written) (fault_of s effects bs ts) (landed_well _ (pending_after m s (first_some control_of bs)) refl) faulty
+    quiet_fault s (or_wait s (waits s ts) (acts u m s bs ts written)) (fault_of s effects bs ts)
+    (waited_well s (acts u m s bs ts written) (waits s ts) (landed_well _ (pending_after m s (first_some control_of bs)) refl)) faulty
 
 -- a cycle that comes to a fault puts no word
 pub fault_is_quiet : (u : Units) (m : Machine) (code : Code) (s : State) (number at : ℕ)
@@ -119,14 +135,27 @@ fault_is_quiet u m code s number at is = of s s.outcome (ap is_fault is) where
   of : (s : State) (o : Outcome) → is_fault (next_of u m code s o).outcome ≡ true → (next_of u m code s o).output ≡ s.output
   of s Running faulty = quiet u m s (slice_get code.words s.pc) faulty
   of s Halted faulty = refl
+  of s Waiting faulty = refl
   of s (Fault n c) faulty = refl
 
--- the report of a run is that of the state for which it stands
-pub report_of : (h : Held) (s : State) → Stands h s → (outcome : Line) (memory : List ℕ) (cycles : ℕ)
-    → outcome ≡ outcome_line h.outcome → memory ≡ h.memory → cycles ≡ h.cycle
+-- how a run ended that waits, or does not, with its data words and the number of its cycles
+pub told_of : (waits : Bool) (h : Held) (t : State) (ended : Outcome) → ComesTo waits h t → (waits ≡ true → ended ≡ Waiting)
+    → (waits ≡ false → ended ≡ h.outcome) → (ended ≡ t.outcome) × (h.memory ≡ t.memory) × (h.cycle ≡ t.cycle)
+told_of true h t ended comes waiting other =
+    let at = comes.2 in (
+      waiting refl ∙ ap (λ x. x.outcome) (sym at),
+      comes.1.memory ∙ ap (λ x. x.memory) (sym at),
+      comes.1.cycle ∙ ap (λ x. x.cycle) (sym at),
+    )
+told_of false h t ended comes waiting other = (other refl ∙ comes.outcome, comes.memory, comes.cycle)
+
+-- the report of a run is that of the state to which it came
+pub reported : (waits : Bool) (h : Held) (t : State) → ComesTo waits h t → (ended : Outcome) (outcome : Line) (memory : List ℕ) (cycles : ℕ)
+    → (waits ≡ true → ended ≡ Waiting) → (waits ≡ false → ended ≡ h.outcome) → outcome ≡ outcome_line ended → memory ≡ h.memory → cycles ≡ h.cycle
     → lines_text (report_lines outcome memory (line.Cycles cycles))
-    ≡ lines_text (report_lines (outcome_line s.outcome) s.memory (line.Cycles s.cycle))
-report_of h s stands outcome memory cycles is_outcome is_memory is_cycles =
-    ap (λ o. lines_text (report_lines o memory (line.Cycles cycles))) (is_outcome ∙ ap outcome_line stands.outcome)
-    ∙ ap (λ m. lines_text (report_lines (outcome_line s.outcome) m (line.Cycles cycles))) (is_memory ∙ stands.memory)
-    ∙ ap (λ n. lines_text (report_lines (outcome_line s.outcome) s.memory (line.Cycles n))) (is_cycles ∙ stands.cycle)
+    ≡ lines_text (report_lines (outcome_line t.outcome) t.memory (line.Cycles t.cycle))
+reported waits h t comes ended outcome memory cycles waiting other is is_memory is_cycles =
+    let told = told_of waits h t ended comes waiting other in
+    ap (λ o. lines_text (report_lines o memory (line.Cycles cycles))) (is ∙ ap outcome_line told.0)
+    ∙ ap (λ m. lines_text (report_lines (outcome_line t.outcome) m (line.Cycles cycles))) (is_memory ∙ told.1)
+    ∙ ap (λ n. lines_text (report_lines (outcome_line t.outcome) t.memory (line.Cycles n))) (is_cycles ∙ told.2)

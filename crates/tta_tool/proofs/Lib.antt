@@ -1,4 +1,6 @@
 pub mod Worlds
+pub mod TooLongs
+pub mod Laying
 pub mod Readings
 pub mod Endings
 pub mod Assemblies

@@ -1,16 +1,17 @@
 -- The output of a program grows with each step, and a program that has halted stays.
-use Rattle.std.proofs.Common.{◌≡◌, ℕ, ◌+◌, Bool, true, false, if◌then◌else◌, List, [], ◌∷◌, ◌++◌, Option, Some, None, refl, sym, ap, ◌∙◌, true≢false}
+use Rattle.std.proofs.Common.{◌≡◌, ℕ, ◌+◌, Bool, true, false, if◌then◌else◌, List, [], ◌∷◌, ◌++◌, Option, Some, None, refl, sym, ap, ◌∙◌}
 use Rattle.std.specs.Option.{option_map_or}
 use Rattle.tta_ops.specs.Units.{Units}
-use Rattle.tta_tac.specs.declared.step.Step.{Step}
-use Rattle.tta_tac.specs.declared.step.Step.TheVariants.{Put, When, Invoke, Return, End}
-use Rattle.tta_tac.specs.Program.{Program}
-use Rattle.tta_tac.specs.Sequential.{State, Frame, Outcome, Running, Halted, next, next_of, go_on, carry_out, returns, take_value, assigns, goes_to, operand, holds, step_at}
-use Rattle.tta_tacrun.specs.Run.{Run, Stands, is_over}
+use Rattle.tta_program.specs.declared.step.Step.{Step}
+use Rattle.tta_program.specs.declared.step.Step.TheVariants.{Put, When, Invoke, Return, End}
+use Rattle.tta_program.specs.Program.{Program}
+use Rattle.tta_program.specs.Sequential.{State, Frame, Outcome, Running, Halted, Waiting, next, next_of, go_on, goes_through, waits, carry_out, returns, take_value, assigns, goes_to, operand, holds, step_at}
+use Rattle.tta_tacrun.specs.Run.{Run, Stands}
 use Rattle.tta_print.specs.declared.line.Line.{Line}
 use Rattle.tta_print.specs.declared.line.Line.TheVariants as line
 use Rattle.tta_print.specs.Lines.{lines_text, report_lines}
 use Rattle.tta_tool.specs.Exec.{outcome_line}
+use Rattle.tta_tool.specs.Steps.{ComesTo}
 use Rattle.tta_tool.proofs.Runs.{Grows, same}
 
 took : (s : State) (caller : Frame) (rest : List Frame) (v : ℕ) (o : Option Step) → (take_value s caller rest v o).output ≡ s.output
@@ -45,9 +46,13 @@ went_on u p s (f ∷ rest) = at (step_at p f.proc f.at) where
   counted : State
   counted = record s { steps = s.steps + 1 }
 
-  at : (o : Option Step) → Grew s (option_map_or (carry_out u p counted f rest) o s)
+  through : (step : Step) (b : Bool) → Grew s (if b then record s { outcome = Waiting } else carry_out u p counted f rest step)
+  through step true = same s.output s.output refl
+  through step false = carried u p counted f rest step
+
+  at : (o : Option Step) → Grew s (option_map_or (goes_through u p s f rest) o s)
   at None = same s.output s.output refl
-  at (Some step) = carried u p counted f rest step
+  at (Some step) = through step (waits s step)
 
 -- a step puts words behind the output
 pub program_grows : (u : Units) (p : Program) → Grows (λ s. s.output) (next u p)
@@ -56,27 +61,36 @@ program_grows u p = λ s. of s s.outcome where
   of : (s : State) (o : Outcome) → Grew s (next_of u p s o)
   of s Running = went_on u p s s.stack
   of s Halted = same s.output s.output refl
+  of s Waiting = same s.output s.output refl
 
 -- a state that has halted stays
 pub halted_stays : (u : Units) (p : Program) (s : State) → s.outcome ≡ Halted → next u p s ≡ s
 unfolding next
 halted_stays u p s is = ap (next_of u p s) is
 
--- an outcome that is over is that of a run that has halted, and any other that of one that goes on
-pub is_halted : (o : Outcome) → true ≡ is_over o → o ≡ Halted
-is_halted Running is = absurd (true≢false is)
-is_halted Halted is = refl
+-- a state that waits stays
+pub waiting_stays : (u : Units) (p : Program) (s : State) → next u p (record s { outcome = Waiting }) ≡ record s { outcome = Waiting }
+unfolding next
+waiting_stays u p s = refl
 
-pub is_running : (o : Outcome) → false ≡ is_over o → o ≡ Running
-is_running Running is = refl
-is_running Halted is = absurd (true≢false (sym is))
+-- how a run ended that waits, or does not, with its data words and the number of its steps
+pub told_of : (waits : Bool) (r : Run) (t : State) (ended : Outcome) → ComesTo waits r t → (waits ≡ true → ended ≡ Waiting)
+    → (waits ≡ false → ended ≡ r.outcome) → (ended ≡ t.outcome) × (r.memory ≡ t.memory) × (r.steps ≡ t.steps)
+told_of true r t ended comes waiting other =
+    let at = comes.2 in (
+      waiting refl ∙ ap (λ x. x.outcome) (sym at),
+      comes.1.memory ∙ ap (λ x. x.memory) (sym at),
+      comes.1.steps ∙ ap (λ x. x.steps) (sym at),
+    )
+told_of false r t ended comes waiting other = (other refl ∙ comes.outcome, comes.memory, comes.steps)
 
--- the report of a run is that of the state for which it stands
-pub report_of : (r : Run) (s : State) → Stands r s → (outcome : Line) (memory : List ℕ) (steps : ℕ)
-    → outcome ≡ outcome_line r.outcome → memory ≡ r.memory → steps ≡ r.steps
+-- the report of a run is that of the state to which it came
+pub reported : (waits : Bool) (r : Run) (t : State) → ComesTo waits r t → (ended : Outcome) (outcome : Line) (memory : List ℕ) (steps : ℕ)
+    → (waits ≡ true → ended ≡ Waiting) → (waits ≡ false → ended ≡ r.outcome) → outcome ≡ outcome_line ended → memory ≡ r.memory → steps ≡ r.steps
     → lines_text (report_lines outcome memory (line.Steps steps))
-    ≡ lines_text (report_lines (outcome_line s.outcome) s.memory (line.Steps s.steps))
-report_of r s stands outcome memory steps is_outcome is_memory is_steps =
-    ap (λ o. lines_text (report_lines o memory (line.Steps steps))) (is_outcome ∙ ap outcome_line stands.outcome)
-    ∙ ap (λ m. lines_text (report_lines (outcome_line s.outcome) m (line.Steps steps))) (is_memory ∙ stands.memory)
-    ∙ ap (λ n. lines_text (report_lines (outcome_line s.outcome) s.memory (line.Steps n))) (is_steps ∙ stands.steps)
+    ≡ lines_text (report_lines (outcome_line t.outcome) t.memory (line.Steps t.steps))
+reported waits r t comes ended outcome memory steps waiting other is is_memory is_steps =
+    let told = told_of waits r t ended comes waiting other in
+    ap (λ o. lines_text (report_lines o memory (line.Steps steps))) (is ∙ ap outcome_line told.0)
+    ∙ ap (λ m. lines_text (report_lines (outcome_line t.outcome) m (line.Steps steps))) (is_memory ∙ told.1)
+    ∙ ap (λ n. lines_text (report_lines (outcome_line t.outcome) t.memory (line.Steps n))) (is_steps ∙ told.2)

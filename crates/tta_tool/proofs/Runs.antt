@@ -54,6 +54,11 @@ pub run_ended : {S : Type 0} → (next : S → S) (s : S) (k n bound : ℕ) → 
 run_ended {S = S} next s k n bound is stays =
     ap (λ b. iterate {S = S} b next s) is ∙ iterate_more n k next s ∙ run_stays next n (iterate k next s) stays
 
+-- a run that comes to a state that stays before its bound is at its end
+pub ended_at : {S : Type 0} → (next : S → S) (s t : S) (k n bound : ℕ) → bound ≡ n + k → iterate k next s ≡ t → next t ≡ t → iterate bound next s ≡ t
+ended_at {S = S} next s t k n bound is comes stays =
+    ap (λ b. iterate {S = S} b next s) is ∙ iterate_more n k next s ∙ ap (iterate n next) comes ∙ run_stays next n t stays
+
 -- ---- the lines of a step
 
 -- a step that changes nothing puts no word

@@ -1,34 +1,35 @@
 -- What the command `asm` does, and why it does not.
-use Rattle.std.specs.Prelude.{◌≡◌, ℕ, List, Option, Result, Ok, Err}
+use Rattle.std.specs.Prelude.{◌≡◌, ◌≤◌, ℕ, List, length, Option, Result, Ok, Err}
 use Rattle.sha2.specs.Sha256.{sha256}
 use Rattle.tta_ports.specs.Store.{Store}
 use Rattle.tta_ports.specs.Files.{Holds}
 use Rattle.tta_ops.specs.Units.{Units}
-use Rattle.tta_machine.specs.Machine.{Machine}
-use Rattle.tta_code.specs.declared.code.Code.{Code}
+use Rattle.tta_arch.specs.Machine.{Machine}
+use Rattle.tta_code.specs.Whole.{Whole}
 use Rattle.tta_image.specs.Image.{Image}
 use Rattle.tta_asm.specs.declared.refusal.AsmRefusal.{AsmRefusal}
 use Rattle.tta_asm.specs.Refusals.{code_of}
 use Rattle.tta_asm.specs.Assembly.{assembled}
 use Rattle.tta_tool.specs.declared.status.Status.{Status}
 use Rattle.tta_tool.specs.declared.status.Status.TheVariants as status
-use Rattle.tta_tool.specs.World.{World, IsUntouched, ReadFailed, IsTooLong}
+use Rattle.tta_tool.specs.World.{World, IsUntouched, ReadFailed, IsTooLong, limit}
 use Rattle.tta_tool.specs.Stages.{IsBadMachine}
 use Rattle.tta_tool.specs.Contents.{HasMachine, HasText}
 use Rattle.tta_tool.specs.Writing.{IsWritten, WriteFailed, ReadFault, TooLong}
 
--- the file of a name holds the assembly of code for a machine
+-- the file of a name holds the assembly of code with data for a machine
 pub record HasAssembly (u : Units) (m : Machine) (files : Option Store) (A : List ℕ) : Type 0 where
   pub text : List ℕ
-  pub code : Code
+  pub whole : Whole
   pub holds : Holds files A text
-  pub read : assembled u m text ≡ Ok code
+  pub short : length text ≤ limit
+  pub read : assembled u m text ≡ Ok whole
 
--- bytes are the image of the code that a file's text is the assembly of, with the digest of the machine's text
+-- bytes are the image of the code with data that a file's text is the assembly of, with the digest of the machine's text
 pub record IsAssembled (u : Units) (files : Option Store) (M A bytes : List ℕ) : Type 0 where
   pub machine : HasMachine u files M
   pub assembly : HasAssembly u machine.machine files A
-  pub image : Image machine.machine (sha256 machine.text) assembly.code bytes
+  pub image : Image machine.machine (sha256 machine.text) assembly.whole bytes
 
 -- a text is refused as assembly for a machine, with this number at this line
 pub record IsBadAssembly (u : Units) (m : Machine) (text : List ℕ) (line code : ℕ) : Type 0 where
@@ -56,14 +57,14 @@ Assembles u M A OUT before after s = ⊥
 
 -- ---- the command's parts
 
--- code has its image, or there was no memory
-abbrev pub CodeImageEnds : {T : Type 0} → Machine → (digest : List ℕ) → Code → (T → List ℕ) → Result T Status → Type 0
-CodeImageEnds m digest code items (Ok v) = Image m digest code (items v)
-CodeImageEnds m digest code items (Err s) = s ≡ status.NoMemory
+-- code with data has its image, or there was no memory
+abbrev pub WholeImageEnds : {T : Type 0} → Machine → (digest : List ℕ) → Whole → (T → List ℕ) → Result T Status → Type 0
+WholeImageEnds m digest whole items (Ok v) = Image m digest whole (items v)
+WholeImageEnds m digest whole items (Err s) = s ≡ status.NoMemory
 
--- a text is the assembly of code, or there is a cause
-abbrev pub AssemblyEnds : Units → Machine → (text : List ℕ) → Result Code Status → Type 0
-AssemblyEnds u m text (Ok code) = assembled u m text ≡ Ok code
+-- a text is the assembly of code with data, or there is a cause
+abbrev pub AssemblyEnds : Units → Machine → (text : List ℕ) → Result Whole Status → Type 0
+AssemblyEnds u m text (Ok whole) = assembled u m text ≡ Ok whole
 AssemblyEnds u m text (Err (status.BadAsm line code)) = IsBadAssembly u m text line code
 AssemblyEnds u m text (Err status.NoMemory) = Unit {0}
 AssemblyEnds u m text (Err s) = ⊥
@@ -78,15 +79,16 @@ AssemblyFails u m A before after status.NoMemory = IsUntouched before after
 AssemblyFails u m A before after s = ⊥
 
 -- the assembly was read and no file was touched
-pub record ReadsAssembly (u : Units) (m : Machine) (A : List ℕ) (code : Code) (before after : World) : Type 0 where
+pub record ReadsAssembly (u : Units) (m : Machine) (A : List ℕ) (whole : Whole) (before after : World) : Type 0 where
   pub text : List ℕ
   pub holds : Holds before.contents A text
-  pub read : assembled u m text ≡ Ok code
+  pub short : length text ≤ limit
+  pub read : assembled u m text ≡ Ok whole
   pub untouched : IsUntouched before after
 
--- the code of the assembly was read, or it is refused
-abbrev pub AssemblyFileEnds : Units → Machine → (A : List ℕ) → (before after : World) → Result Code Status → Type 0
-AssemblyFileEnds u m A before after (Ok code) = ReadsAssembly u m A code before after
+-- the whole of the assembly was read, or it is refused
+abbrev pub AssemblyFileEnds : Units → Machine → (A : List ℕ) → (before after : World) → Result Whole Status → Type 0
+AssemblyFileEnds u m A before after (Ok whole) = ReadsAssembly u m A whole before after
 AssemblyFileEnds u m A before after (Err s) = AssemblyFails u m A before after s
 
 -- the image was made and no file was touched, or the command ends
@@ -97,7 +99,7 @@ AssembleEnds u M A before after items (Err s) = (OUT : List ℕ) → Assembles u
 -- the same where the machine was read
 pub record MakesAssembled (u : Units) (A text : List ℕ) (m : Machine) (bytes : List ℕ) (before after : World) : Type 0 where
   pub assembly : HasAssembly u m before.contents A
-  pub image : Image m (sha256 text) assembly.code bytes
+  pub image : Image m (sha256 text) assembly.whole bytes
   pub untouched : IsUntouched before after
 
 -- the image was made for that machine, or the command ends

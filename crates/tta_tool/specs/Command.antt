@@ -18,8 +18,8 @@ pub data Request : Type 0 where
   Build : (machine program out : List ℕ) → Request
   Asm : (machine assembly out : List ℕ) → Request
   Dis : (machine image out : List ℕ) → Request
-  Exec : (machine program input : List ℕ) (bound : ℕ) → Request
-  Run : (machine image input : List ℕ) (bound : ℕ) → Request
+  Exec : (machine program input : List ℕ) (stream : Option (List ℕ)) (bound : ℕ) → Request
+  Run : (machine image input : List ℕ) (stream : Option (List ℕ)) (bound : ℕ) → Request
 
 -- the request of the name of a command whose last word is a file that it writes
 abbrev pub writing_request : (word machine second out : List ℕ) → Option Request
@@ -29,17 +29,20 @@ writing_request word machine second out =
     else if bytes_eq word (codes "dis") then Some (Dis machine second out)
     else None
 
--- the request of the name of a command whose last word is a bound
-abbrev pub bounded_request : (word machine second input : List ℕ) → (bound : ℕ) → Option Request
-bounded_request word machine second input bound =
-    if bytes_eq word (codes "exec") then Some (Exec machine second input bound)
-    else if bytes_eq word (codes "run") then Some (Run machine second input bound)
+-- the request of the name of a command with a bound, behind which the file of an input may be named
+abbrev pub bounded_request : (word machine second input : List ℕ) → (stream : Option (List ℕ)) → (bound : ℕ) → Option Request
+bounded_request word machine second input stream bound =
+    if bytes_eq word (codes "exec") then Some (Exec machine second input stream bound)
+    else if bytes_eq word (codes "run") then Some (Run machine second input stream bound)
     else None
 
 -- the request of some words; none where they are no command
 abbrev pub request_of : List (List ℕ) → Option Request
 request_of (word ∷ machine ∷ second ∷ out ∷ []) = writing_request word machine second out
-request_of (word ∷ machine ∷ second ∷ input ∷ bound ∷ []) = option_and_then (bounded_request word machine second input) (bound_of bound)
+request_of (word ∷ machine ∷ second ∷ input ∷ bound ∷ []) =
+    option_and_then (bounded_request word machine second input None) (bound_of bound)
+request_of (word ∷ machine ∷ second ∷ input ∷ bound ∷ stream ∷ []) =
+    option_and_then (bounded_request word machine second input (Some stream)) (bound_of bound)
 request_of words = None
 
 -- words that are no command end as such, and nothing was done
@@ -54,5 +57,5 @@ Ends u None before after old new s = IsUsage before after old new s
 Ends u (Some (Build machine program out)) before after old new s = Builds u machine program out before after s × IsQuiet old new
 Ends u (Some (Asm machine assembly out)) before after old new s = Assembles u machine assembly out before after s × IsQuiet old new
 Ends u (Some (Dis machine image out)) before after old new s = Shows u machine image out before after s × IsQuiet old new
-Ends u (Some (Exec machine program input bound)) before after old new s = Execs u machine program input bound before after old new s
-Ends u (Some (Run machine image input bound)) before after old new s = Runs u machine image input bound before after old new s
+Ends u (Some (Exec machine program input stream bound)) before after old new s = Execs u machine program input stream bound before after old new s
+Ends u (Some (Run machine image input stream bound)) before after old new s = Runs u machine image input stream bound before after old new s

@@ -3,22 +3,22 @@ use Rattle.std.specs.Prelude.{◌≡◌, ℕ, List, Option, Result, Ok, Err}
 use Rattle.sha2.specs.Sha256.{sha256}
 use Rattle.tta_ports.specs.Store.{Store}
 use Rattle.tta_ops.specs.Units.{Units}
-use Rattle.tta_machine.specs.Machine.{Machine}
-use Rattle.tta_code.specs.declared.code.Code.{Code}
+use Rattle.tta_arch.specs.Machine.{Machine}
+use Rattle.tta_code.specs.Whole.{Whole}
 use Rattle.tta_asm.specs.Canonical.{canonical}
 use Rattle.tta_tool.specs.declared.status.Status.{Status}
 use Rattle.tta_tool.specs.declared.status.Status.TheVariants as status
 use Rattle.tta_tool.specs.World.{World, IsUntouched}
 use Rattle.tta_tool.specs.Stages.{IsBadMachine}
-use Rattle.tta_tool.specs.Contents.{HasMachine, HasCode, HasText}
+use Rattle.tta_tool.specs.Contents.{HasMachine, HasWhole, HasText}
 use Rattle.tta_tool.specs.Run.{HasBadImage}
 use Rattle.tta_tool.specs.Writing.{IsWritten, WriteFailed, ReadFault, TooLong}
 
--- bytes are the canonical text of the code of an image, which a file holds for the machine of another
+-- bytes are the canonical text of the code of an image with its data, which a file holds for the machine of another
 pub record IsShown (u : Units) (files : Option Store) (M IMG bytes : List ℕ) : Type 0 where
   pub machine : HasMachine u files M
-  pub code : HasCode machine.machine (sha256 machine.text) files IMG
-  pub text : bytes ≡ canonical u machine.machine code.code
+  pub image : HasWhole machine.machine (sha256 machine.text) files IMG
+  pub text : bytes ≡ canonical u machine.machine image.whole
 
 -- How `dis M IMG OUT` ends. Each ending but want of memory has its cause, and the causes exclude each other: so each
 -- comes exactly where its cause holds, as far as memory and files do not fail.
@@ -36,10 +36,10 @@ Shows u M IMG OUT before after s = ⊥
 
 -- ---- the command's parts
 
--- code has its text, or there was no memory
-abbrev pub CodeTextEnds : {T : Type 0} → Units → Machine → Code → (T → List ℕ) → Result T Status → Type 0
-CodeTextEnds u m code items (Ok v) = items v ≡ canonical u m code
-CodeTextEnds u m code items (Err s) = s ≡ status.NoMemory
+-- code with data has its text, or there was no memory
+abbrev pub WholeTextEnds : {T : Type 0} → Units → Machine → Whole → (T → List ℕ) → Result T Status → Type 0
+WholeTextEnds u m whole items (Ok v) = items v ≡ canonical u m whole
+WholeTextEnds u m whole items (Err s) = s ≡ status.NoMemory
 
 -- the text was made and no file was touched, or the command ends
 abbrev pub ShowEnds : {T : Type 0} → Units → (M IMG : List ℕ) → (before after : World) → (T → List ℕ) → Result T Status → Type 0
@@ -48,8 +48,8 @@ ShowEnds u M IMG before after items (Err s) = (OUT : List ℕ) → Shows u M IMG
 
 -- the same where the machine was read
 pub record MakesShown (u : Units) (IMG text : List ℕ) (m : Machine) (bytes : List ℕ) (before after : World) : Type 0 where
-  pub code : HasCode m (sha256 text) before.contents IMG
-  pub shown : bytes ≡ canonical u m code.code
+  pub image : HasWhole m (sha256 text) before.contents IMG
+  pub shown : bytes ≡ canonical u m image.whole
   pub untouched : IsUntouched before after
 
 -- the text was made for that machine, or the command ends

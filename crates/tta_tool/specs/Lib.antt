@@ -9,6 +9,7 @@ pub mod Asm
 pub mod Dis
 pub mod Bound
 pub mod Steps
+pub mod Cycles
 pub mod Running
 pub mod Exec
 pub mod Run

@@ -1,34 +1,34 @@
-//! The command `asm`: the code of an assembly text, as the image of a machine.
+//! The command `asm`: the code of an assembly text with its data, as the image of a machine.
 
 ghost use Rattle.sha2.specs.Sha256.{sha256};
 ghost use Rattle.tta_ops.specs.Set.{stated};
-ghost use Rattle.tta_code.specs.Legal.{IsLegalCode};
+ghost use Rattle.tta_code.specs.Legal.{IsLegalWhole};
 ghost use Rattle.tta_tool.specs.World.{world};
-ghost use Rattle.tta_tool.specs.Asm.{Assembles, CodeImageEnds, AssembleForEnds, AssembleEnds};
+ghost use Rattle.tta_tool.specs.Asm.{Assembles, WholeImageEnds, AssembleForEnds, AssembleEnds};
 
 use crate::contents::{MachineFile, assembly_file, machine_file};
 use crate::status::Status;
 use crate::write::write_out;
 use sha2::{Digest, Sha256};
 use std::alloc::Global;
-use tta_code::Code;
+use tta_code::Whole;
 use tta_image::write_image;
 use tta_machine::Machine;
 use tta_ops::UnitSet;
 use tta_ports::Files;
 
-/// The image of code for a machine, with the digest of the machine's text.
-pub fn image_of_code(
+/// The image of code with data for a machine, with the digest of the machine's text.
+pub fn image_of_whole(
     alloc: Global,
     text: &[u8],
     machine: &Machine,
-    code: &Code,
+    whole: &Whole,
 ) -> Result<Vec<u8>, Status>
-    requires { IsLegalCode machine.now code.now }
-    ensures { CodeImageEnds machine.now (sha256 text.now) code.now (λ v. v.items) result }
+    requires { IsLegalWhole machine.now whole.now }
+    ensures { WholeImageEnds machine.now (sha256 text.now) whole.now (λ v. v.items) result }
 {
     let digest = Sha256::digest(text);
-    match write_image(alloc, code, machine, &digest) {
+    match write_image(alloc, whole, machine, &digest) {
         Ok(image) => Ok(image),
         Err(_) => Err(Status::NoMemory),
     }
@@ -49,10 +49,10 @@ fn assemble_for<F: Files>(
         (λ v. v.items) result }
 {
     match assembly_file(alloc, units, files, name, &file.machine) {
-        Ok(code) => {
-            let image = image_of_code(alloc, file.text.as_slice(), &file.machine, &code);
+        Ok(whole) => {
+            let image = image_of_whole(alloc, file.text.as_slice(), &file.machine, &whole);
             // Dropped here as a whole, so that no part of it is left to drop at the end.
-            drop(code);
+            drop(whole);
             image
         }
         Err(status) => Err(status),

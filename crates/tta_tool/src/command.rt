@@ -1,10 +1,11 @@
 //! The commands.
 
-ghost use Rattle.std.specs.Prelude.{◌≡◌, ◌<◌, ◌^◌, map};
+ghost use Rattle.std.specs.Prelude.{◌≡◌, ◌<◌, ◌^◌, map, option_map, option_and_then};
 ghost use Rattle.std.specs.String.{string_bytes};
 ghost use Rattle.tta_ops.specs.Set.{stated};
 ghost use Rattle.tta_tool.specs.World.{world};
 ghost use Rattle.tta_tool.specs.Output.{output};
+ghost use Rattle.tta_tool.specs.Bound as spec;
 ghost use Rattle.tta_tool.specs.Command.{Ends, bounded_request, writing_request, request_of};
 
 use crate::asm::assemble_image;
@@ -50,7 +51,8 @@ fn run_writing<F: Files, S: Sink>(
     Status::Usage
 }
 
-// Carries out the command of this name whose last word is a bound.
+// Carries out the command of this name with a bound, behind which the file of an input may be
+// named.
 fn run_bounded<F: Files, S: Sink>(
     alloc: Global,
     units: &UnitSet,
@@ -60,11 +62,13 @@ fn run_bounded<F: Files, S: Sink>(
     machine: &str,
     second: &str,
     input: &str,
+    stream: Option<&str>,
     bound: u64,
 ) -> Status
     requires { bound < 2 ^ 48 }
     ensures { Ends (stated unit_meaning units.now)
-        (bounded_request word.now machine.now second.now input.now bound)
+        (bounded_request word.now machine.now second.now input.now
+        (option_map (λ s. s.now) stream.entry) bound)
         (world (F.contents files.old) (F.faults files.old) (F.latest files.old))
         (world (F.contents files.new) (F.faults files.new) (F.latest files.new))
         (output (S.taken sink.old) (S.faults sink.old))
@@ -72,12 +76,46 @@ fn run_bounded<F: Files, S: Sink>(
         result }
 {
     if word == "exec" {
-        return exec_program(alloc, units, files, sink, machine, second, input, bound);
+        return exec_program(
+            alloc, units, files, sink, machine, second, input, stream, bound,
+        );
     }
     if word == "run" {
-        return run_image(alloc, units, files, sink, machine, second, input, bound);
+        return run_image(
+            alloc, units, files, sink, machine, second, input, stream, bound,
+        );
     }
     Status::Usage
+}
+
+// The same where the bound is a word, which may be none.
+fn run_to_bound<F: Files, S: Sink>(
+    alloc: Global,
+    units: &UnitSet,
+    files: &mut F,
+    sink: &mut S,
+    word: &str,
+    machine: &str,
+    second: &str,
+    input: &str,
+    stream: Option<&str>,
+    bound: &[u8],
+) -> Status
+    ensures { Ends (stated unit_meaning units.now)
+        (option_and_then (bounded_request word.now machine.now second.now input.now
+        (option_map (λ s. s.now) stream.entry)) (spec.bound_of bound.now))
+        (world (F.contents files.old) (F.faults files.old) (F.latest files.old))
+        (world (F.contents files.new) (F.faults files.new) (F.latest files.new))
+        (output (S.taken sink.old) (S.faults sink.old))
+        (output (S.taken sink.new) (S.faults sink.new))
+        result }
+{
+    match bound_of(bound) {
+        Some(bound) => run_bounded(
+            alloc, units, files, sink, word, machine, second, input, stream, bound,
+        ),
+        None => Status::Usage,
+    }
 }
 
 /// Carries out the command that the words ask for, the first of them the command's name, over these
@@ -98,6 +136,9 @@ fn run_bounded<F: Files, S: Sink>(
 ///
 /// `run M IMG IN N` runs the code of the image in the file IMG on the machine of the file M for at
 /// most N cycles, and is otherwise as `exec`, with the number of cycles in place of that of steps.
+///
+/// Both may have one more word, the file of the input, which is read last. Where a run takes a word
+/// of the input and none is left, it waits.
 pub fn tool<F: Files, S: Sink>(
     alloc: Global,
     words: &Vec<String>,
@@ -124,20 +165,30 @@ pub fn tool<F: Files, S: Sink>(
             second.as_str(),
             out.as_str(),
         ),
-        [word, machine, second, input, bound] => match bound_of(bound.as_bytes()) {
-            Some(bound) => run_bounded(
-                alloc,
-                units,
-                files,
-                sink,
-                word.as_str(),
-                machine.as_str(),
-                second.as_str(),
-                input.as_str(),
-                bound,
-            ),
-            None => Status::Usage,
-        },
+        [word, machine, second, input, bound] => run_to_bound(
+            alloc,
+            units,
+            files,
+            sink,
+            word.as_str(),
+            machine.as_str(),
+            second.as_str(),
+            input.as_str(),
+            None,
+            bound.as_bytes(),
+        ),
+        [word, machine, second, input, bound, stream] => run_to_bound(
+            alloc,
+            units,
+            files,
+            sink,
+            word.as_str(),
+            machine.as_str(),
+            second.as_str(),
+            input.as_str(),
+            Some(stream.as_str()),
+            bound.as_bytes(),
+        ),
         _ => Status::Usage,
     }
 }

@@ -1,26 +1,28 @@
 //! What the files of a command hold. The bytes of a file are dropped as soon as they are read,
 //! unless they are kept.
 
-ghost use Rattle.std.specs.Prelude.{◌≡◌, ◌≤◌, ◌^◌, length, IfOk};
+ghost use Rattle.std.specs.Prelude.{◌≡◌, ◌≤◌, ◌^◌, length, option_map, Some, IfOk};
 ghost use Rattle.tta_ops.specs.Set.{stated};
+ghost use Rattle.tta_code.specs.Legal.{IsLegalWhole};
 ghost use Rattle.tta_tool.specs.World.{world};
-ghost use Rattle.tta_tool.specs.Stages.{ReadEnds, MachineEnds, ProgramEnds, CodeEnds, InputEnds};
-ghost use Rattle.tta_code.specs.Legal.{IsLegalCode};
+ghost use Rattle.tta_tool.specs.Stages.{ReadEnds, MachineEnds, ProgramEnds, WholeEnds, InputEnds};
+ghost use Rattle.tta_tool.specs.Stages.{StreamEnds};
+ghost use Rattle.tta_program.specs.Program.{first_outside};
 ghost use Rattle.tta_tool.specs.Asm.{AssemblyEnds, AssemblyFileEnds};
 ghost use Rattle.tta_tool.specs.Contents.{DescribedEnds, MachineFileEnds};
-ghost use Rattle.tta_tool.specs.Contents.{ProgramFileEnds, CodeFileEnds};
-ghost use Rattle.tta_tool.specs.Contents.{InputFileEnds};
+ghost use Rattle.tta_tool.specs.Contents.{ProgramFileEnds, WholeFileEnds};
+ghost use Rattle.tta_tool.specs.Contents.{InputFileEnds, StreamFileEnds, GivenEnds};
 
 use crate::status::Status;
 use std::alloc::Global;
 use tta_asm::{AsmError, assemble};
-use tta_code::Code;
+use tta_code::Whole;
 use tta_image::{ImageError, read_image};
-use tta_input::{InputError, read_input};
+use tta_input::{InputError, read_input, read_stream};
 use tta_machine::{Machine, MachineError, read_machine};
 use tta_ops::UnitSet;
 use tta_ports::{Files, ReadError};
-use tta_tac::{Program, TacError, read_program};
+use tta_tac::{DataLine, Program, TacError, read_program};
 
 /// How many bytes of a file are read at the most: 16 MiB.
 const LIMIT: u64 = 16_777_216;
@@ -52,29 +54,47 @@ fn machine_of(alloc: Global, text: &[u8], units: &UnitSet) -> Result<Machine, St
     }
 }
 
-// The program of a text.
-fn program_of(alloc: Global, text: &[u8], units: &UnitSet) -> Result<Program, Status>
+// The line of the first datum whose address is not below a number.
+fn first_outside(init: &[DataLine], words: u32) -> Option<u32>
+    ensures { result ≡ first_outside words init.now }
+{
+    for datum in init {
+        if datum.address >= words {
+            return Some(datum.line);
+        }
+    }
+    None
+}
+
+// The program of a text, whose data lie in a space of so many words.
+fn program_of(alloc: Global, text: &[u8], units: &UnitSet, space: u32) -> Result<Program, Status>
     requires { length text.now ≤ 2 ^ 24 }
-    ensures { ProgramEnds (stated unit_meaning units.now) text.now result }
+    ensures { ProgramEnds (stated unit_meaning units.now) space text.now result }
 {
     match read_program(alloc, text, units) {
-        Ok(program) => Ok(program),
+        Ok(program) => match first_outside(program.init.as_slice(), space) {
+            None => Ok(program),
+            Some(line) => {
+                drop(program);
+                Err(Status::DataRange { line, have: space })
+            }
+        },
         Err(TacError::Refused { line, code }) => Err(Status::BadProgram { line, code }),
         Err(TacError::NoMemory) => Err(Status::NoMemory),
     }
 }
 
-// The code of an image for a machine, with this digest of the machine's text.
-fn code_of(
+// The code of an image with its data for a machine, with this digest of the machine's text.
+fn whole_of(
     alloc: Global,
     bytes: &[u8],
     machine: &Machine,
     digest: &[u8; 32],
-) -> Result<Code, Status>
-    ensures { CodeEnds machine.now digest.now bytes.now result }
+) -> Result<Whole, Status>
+    ensures { WholeEnds machine.now digest.now bytes.now result }
 {
     match read_image(alloc, bytes, machine, digest) {
-        Ok(code) => Ok(code),
+        Ok(whole) => Ok(whole),
         Err(ImageError::Refused { code, word, bus }) => Err(Status::BadImage { code, word, bus }),
         Err(ImageError::NoMemory) => Err(Status::NoMemory),
     }
@@ -93,19 +113,31 @@ fn words_of(alloc: Global, bytes: &[u8], space: u32) -> Result<Vec<u32>, Status>
     }
 }
 
-// The code of an assembly text for a machine.
+// The words of an input that a file's bytes give.
+fn stream_of(alloc: Global, bytes: &[u8]) -> Result<Vec<u32>, Status>
+    requires { length bytes.now ≤ 2 ^ 24 }
+    ensures { StreamEnds bytes.now (λ v. v.items) result }
+{
+    match read_stream(alloc, bytes) {
+        Ok(words) => Ok(words),
+        Err(InputError::Refused { line }) => Err(Status::BadStream { line }),
+        Err(InputError::NoMemory) => Err(Status::NoMemory),
+    }
+}
+
+// The code of an assembly text with its data for a machine.
 fn assembly_of(
     alloc: Global,
     text: &[u8],
     machine: &Machine,
     units: &UnitSet,
-) -> Result<Code, Status>
+) -> Result<Whole, Status>
     requires { length text.now ≤ 2 ^ 24 }
     ensures ends { AssemblyEnds (stated unit_meaning units.now) machine.now text.now result }
-    ensures legal { IfOk result (λ code. IsLegalCode machine.now code) }
+    ensures legal { IfOk result (λ whole. IsLegalWhole machine.now whole) }
 {
     match assemble(alloc, text, machine, units) {
-        Ok(code) => Ok(code),
+        Ok(whole) => Ok(whole),
         Err(AsmError::Refused { line, code }) => Err(Status::BadAsm { line, code }),
         Err(AsmError::NoMemory) => Err(Status::NoMemory),
     }
@@ -151,20 +183,21 @@ pub fn machine_file<F: Files>(
     }
 }
 
-/// The program of the file that word 2 names.
+/// The program of the file that word 2 names, whose data lie in a space of so many words.
 pub fn program_file<F: Files>(
     alloc: Global,
     units: &UnitSet,
     files: &mut F,
     name: &str,
+    space: u32,
 ) -> Result<Program, Status>
-    ensures { ProgramFileEnds (stated unit_meaning units.now) name.now
+    ensures { ProgramFileEnds (stated unit_meaning units.now) space name.now
         (world (F.contents files.old) (F.faults files.old) (F.latest files.old))
         (world (F.contents files.new) (F.faults files.new) (F.latest files.new)) result }
 {
     match read_file(files, name, 2) {
         Ok(text) => {
-            let program = program_of(alloc, text.as_slice(), units);
+            let program = program_of(alloc, text.as_slice(), units, space);
             drop(text);
             program
         }
@@ -172,46 +205,47 @@ pub fn program_file<F: Files>(
     }
 }
 
-/// The code of the image of the file that word 2 names, for a machine whose text has this digest.
-pub fn code_file<F: Files>(
+/// The code of the image of the file that word 2 names, with its data, for a machine whose text has
+/// this digest.
+pub fn whole_file<F: Files>(
     alloc: Global,
     files: &mut F,
     image: &str,
     machine: &Machine,
     digest: &[u8; 32],
-) -> Result<Code, Status>
-    ensures { CodeFileEnds machine.now digest.now image.now
+) -> Result<Whole, Status>
+    ensures { WholeFileEnds machine.now digest.now image.now
         (world (F.contents files.old) (F.faults files.old) (F.latest files.old))
         (world (F.contents files.new) (F.faults files.new) (F.latest files.new)) result }
 {
     match read_file(files, image, 2) {
         Ok(bytes) => {
-            let code = code_of(alloc, bytes.as_slice(), machine, digest);
+            let whole = whole_of(alloc, bytes.as_slice(), machine, digest);
             drop(bytes);
-            code
+            whole
         }
         Err(status) => Err(status),
     }
 }
 
-/// The code of the assembly of the file that word 2 names, for a machine.
+/// The code of the assembly of the file that word 2 names, with its data, for a machine.
 pub fn assembly_file<F: Files>(
     alloc: Global,
     units: &UnitSet,
     files: &mut F,
     assembly: &str,
     machine: &Machine,
-) -> Result<Code, Status>
+) -> Result<Whole, Status>
     ensures ends { AssemblyFileEnds (stated unit_meaning units.now) machine.now assembly.now
         (world (F.contents files.old) (F.faults files.old) (F.latest files.old))
         (world (F.contents files.new) (F.faults files.new) (F.latest files.new)) result }
-    ensures legal { IfOk result (λ code. IsLegalCode machine.now code) }
+    ensures legal { IfOk result (λ whole. IsLegalWhole machine.now whole) }
 {
     match read_file(files, assembly, 2) {
         Ok(text) => {
-            let code = assembly_of(alloc, text.as_slice(), machine, units);
+            let whole = assembly_of(alloc, text.as_slice(), machine, units);
             drop(text);
-            code
+            whole
         }
         Err(status) => Err(status),
     }
@@ -224,8 +258,8 @@ pub fn data_words(machine: &Machine) -> u32
     machine.data_words
 }
 
-/// The data words of the file that word 3 names, as many as the space has.
-pub fn input_file<F: Files>(
+// The data words of the file that word 3 names, as many as the space has.
+fn input_file<F: Files>(
     alloc: Global,
     files: &mut F,
     name: &str,
@@ -243,6 +277,74 @@ pub fn input_file<F: Files>(
             drop(bytes);
             memory
         }
+        Err(status) => Err(status),
+    }
+}
+
+// The words of the file of the input that word 5 names.
+fn named_stream<F: Files>(alloc: Global, files: &mut F, name: &str) -> Result<Vec<u32>, Status>
+    ensures { StreamFileEnds (Some name.now)
+        (world (F.contents files.old) (F.faults files.old) (F.latest files.old))
+        (world (F.contents files.new) (F.faults files.new) (F.latest files.new))
+        (λ v. v.items) result }
+{
+    match read_file(files, name, 5) {
+        Ok(bytes) => {
+            let words = stream_of(alloc, bytes.as_slice());
+            drop(bytes);
+            words
+        }
+        Err(status) => Err(status),
+    }
+}
+
+// The words of the input: those of its file, or none where no file is named.
+fn stream_file<F: Files>(
+    alloc: Global,
+    files: &mut F,
+    stream: Option<&str>,
+) -> Result<Vec<u32>, Status>
+    ensures { StreamFileEnds (option_map (λ s. s.now) stream.entry)
+        (world (F.contents files.old) (F.faults files.old) (F.latest files.old))
+        (world (F.contents files.new) (F.faults files.new) (F.latest files.new))
+        (λ v. v.items) result }
+{
+    match stream {
+        Some(name) => named_stream(alloc, files, name),
+        None => Ok(Vec::new(alloc)),
+    }
+}
+
+/// What a run is given: the data words, and the words of the input.
+#[derive(Drop)]
+pub struct Given {
+    pub memory: Vec<u32>,
+    pub words: Vec<u32>,
+}
+
+/// The data words of the file that word 3 names, as many as the space has, and the words of the
+/// input.
+pub fn given_files<F: Files>(
+    alloc: Global,
+    files: &mut F,
+    input: &str,
+    stream: Option<&str>,
+    space: u32,
+) -> Result<Given, Status>
+    ensures ends { GivenEnds space input.now (option_map (λ s. s.now) stream.entry)
+        (world (F.contents files.old) (F.faults files.old) (F.latest files.old))
+        (world (F.contents files.new) (F.faults files.new) (F.latest files.new))
+        (λ g. g.memory.items) (λ g. g.words.items) result }
+    ensures whole { IfOk result (λ g. length g.memory.items ≡ space) }
+{
+    match input_file(alloc, files, input, space) {
+        Ok(memory) => match stream_file(alloc, files, stream) {
+            Ok(words) => Ok(Given { memory, words }),
+            Err(status) => {
+                drop(memory);
+                Err(status)
+            }
+        },
         Err(status) => Err(status),
     }
 }

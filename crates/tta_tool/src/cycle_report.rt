@@ -1,14 +1,14 @@
 //! A run of code with all that is printed of it.
 
-ghost use Rattle.std.specs.Prelude.{◌≡◌, ◌+◌, ◌<◌, ◌^◌, [], is_err, IfOk};
+ghost use Rattle.std.specs.Prelude.{◌≡◌, ◌+◌, ◌<◌, ◌^◌, [], true, false, is_err, IfOk};
 ghost use Rattle.tta_list.specs.Iterate.{iterate};
 ghost use Rattle.tta_ops.specs.Set.{stated};
 ghost use Rattle.tta_ports.specs.Faults.{CountsFault};
 ghost use Rattle.tta_ports.specs.Sink.{PutsBytes};
-ghost use Rattle.tta_code.specs.Cycle.{State, next};
-ghost use Rattle.tta_sim.specs.Held.{Stands, IsRunOf, ending_told};
+ghost use Rattle.tta_code.specs.Cycle.{State, Waiting, next};
+ghost use Rattle.tta_sim.specs.Held.{Stands, IsRunOf};
 ghost use Rattle.tta_tool.specs.Output.{output};
-ghost use Rattle.tta_tool.specs.Run.{outcome_line, run_text, RunEnds};
+ghost use Rattle.tta_tool.specs.Run.{outcome_line, end_told, run_text, RunEnds};
 
 use crate::cycles::run_cycles;
 use crate::status::Status;
@@ -19,14 +19,34 @@ use tta_ports::{Failed, Sink};
 use tta_print::{Line, put_report};
 use tta_sim::{Ending, Sim};
 
-// The line that tells how a run ended.
-fn line_of(ending: &Ending) -> Line
-    ensures { result ≡ outcome_line (ending_told ending.now) }
+/// How a run ended.
+#[derive(Drop)]
+enum CodeEnd {
+    Waiting,
+    Other(Ending),
+}
+
+// How a run ended, where it waits or does not.
+fn end_of(sim: &Sim, waits: bool) -> CodeEnd
+    ensures waiting { waits ≡ true → end_told result ≡ Waiting }
+    ensures other { waits ≡ false → end_told result ≡ sim.now.outcome }
 {
-    match ending {
-        Ending::Running => Line::Running,
-        Ending::Halted => Line::Halted,
-        Ending::Fault { number, cycle } => Line::Fault {
+    if waits {
+        CodeEnd::Waiting
+    } else {
+        CodeEnd::Other(sim.ending())
+    }
+}
+
+// The line that tells how a run ended.
+fn line_of(end: &CodeEnd) -> Line
+    ensures { result ≡ outcome_line (end_told end.now) }
+{
+    match end {
+        CodeEnd::Waiting => Line::Waiting,
+        CodeEnd::Other(Ending::Running) => Line::Running,
+        CodeEnd::Other(Ending::Halted) => Line::Halted,
+        CodeEnd::Other(Ending::Fault { number, cycle }) => Line::Fault {
             code: *number,
             cycle: *cycle,
         },
@@ -44,25 +64,25 @@ fn run<S: Sink>(
     code: &Code,
     units: &UnitSet,
     sim: &mut Sim,
+    input: &[u32],
     bound: u64,
-) -> Result<Ending, Failed>
+) -> Result<CodeEnd, Failed>
     requires loaded { IsRunOf machine.now code.now sim.old }
     requires few { sim.old.cycle + bound < 2 ^ 62 }
     requires short { machine.now.data_words < 2 ^ 32 }
-    ensures ended { let U = stated unit_meaning units.now in IfOk result (λ ending.
-        (s : State) → Stands sim.old s
-        → ending_told ending ≡ (iterate bound (next U machine.now code.now) s).outcome) }
-    ensures puts { let U = stated unit_meaning units.now in
-        (s : State) → Stands sim.old s → s.output ≡ []
-        → PutsBytes (run_text (iterate bound (next U machine.now code.now) s))
-        (S.taken sink.old) (S.taken sink.new) result }
+    ensures ended { let step = next (stated unit_meaning units.now) machine.now code.now in
+        (s : State) → Stands sim.old s → s.rest ≡ input.now
+        → IfOk result (λ e. end_told e ≡ (iterate bound step s).outcome) }
+    ensures puts { let step = next (stated unit_meaning units.now) machine.now code.now in
+        (s : State) → Stands sim.old s → s.rest ≡ input.now → s.output ≡ []
+        → PutsBytes (run_text (iterate bound step s)) (S.taken sink.old) (S.taken sink.new) result }
     ensures cause { CountsFault (is_err result) (S.faults sink.old) (S.faults sink.new) }
 {
-    run_cycles(sink, machine, code, units, sim, bound)?;
-    let ending = sim.ending();
+    let waits = run_cycles(sink, machine, code, units, sim, input, bound)?;
+    let end = end_of(sim, waits);
     let count = Line::Cycles(sim.cycles());
-    put_report(sink, &line_of(&ending), sim.memory(), &count)?;
-    Ok(ending)
+    put_report(sink, &line_of(&end), sim.memory(), &count)?;
+    Ok(end)
 }
 
 /// Runs code for at most so many cycles and puts out its text, and tells how the command ends. It
@@ -73,21 +93,23 @@ pub fn code_to_status<S: Sink>(
     code: &Code,
     units: &UnitSet,
     sim: &mut Sim,
+    input: &[u32],
     bound: u64,
 ) -> Status
     requires loaded { IsRunOf machine.now code.now sim.old }
     requires few { sim.old.cycle + bound < 2 ^ 62 }
     requires short { machine.now.data_words < 2 ^ 32 }
-    ensures { let U = stated unit_meaning units.now in
-        (s : State) → Stands sim.old s → s.output ≡ []
-        → RunEnds (iterate bound (next U machine.now code.now) s)
+    ensures { let step = next (stated unit_meaning units.now) machine.now code.now in
+        (s : State) → Stands sim.old s → s.rest ≡ input.now → s.output ≡ []
+        → RunEnds (iterate bound step s)
         (output (S.taken sink.old) (S.faults sink.old))
         (output (S.taken sink.new) (S.faults sink.new)) result }
 {
-    match run(sink, machine, code, units, sim, bound) {
-        Ok(Ending::Halted) => Status::Ok,
-        Ok(Ending::Running) => Status::Running,
-        Ok(Ending::Fault { number, cycle }) => Status::MachineFault {
+    match run(sink, machine, code, units, sim, input, bound) {
+        Ok(CodeEnd::Waiting) => Status::Waiting,
+        Ok(CodeEnd::Other(Ending::Halted)) => Status::Ok,
+        Ok(CodeEnd::Other(Ending::Running)) => Status::Running,
+        Ok(CodeEnd::Other(Ending::Fault { number, cycle })) => Status::MachineFault {
             code: number,
             cycle,
         },

@@ -1,33 +1,31 @@
-//! The command `dis`: the code of an image, as its canonical assembly.
+//! The command `dis`: the code of an image with its data, as its canonical assembly.
 
 ghost use Rattle.tta_ops.specs.Set.{stated};
-ghost use Rattle.tta_code.specs.Legal.{IsLegalCode};
 ghost use Rattle.tta_tool.specs.World.{world};
-ghost use Rattle.tta_tool.specs.Dis.{Shows, CodeTextEnds, ShowForEnds, ShowEnds};
+ghost use Rattle.tta_tool.specs.Dis.{Shows, WholeTextEnds, ShowForEnds, ShowEnds};
 
-use crate::contents::{MachineFile, code_file, machine_file};
+use crate::contents::{MachineFile, machine_file, whole_file};
 use crate::status::Status;
 use crate::write::write_out;
 use sha2::{Digest, Sha256};
 use std::alloc::Global;
 use tta_asm::disassemble;
-use tta_code::Code;
+use tta_code::Whole;
 use tta_machine::Machine;
 use tta_ops::UnitSet;
 use tta_ports::Files;
 
-// The canonical text of code for a machine.
-fn text_of_code(
+// The canonical text of code with data for a machine.
+fn text_of_whole(
     alloc: Global,
     units: &UnitSet,
     machine: &Machine,
-    code: &Code,
+    whole: &Whole,
 ) -> Result<Vec<u8>, Status>
-    requires { IsLegalCode machine.now code.now }
     ensures { let U = stated unit_meaning units.now in
-        CodeTextEnds U machine.now code.now (λ v. v.items) result }
+        WholeTextEnds U machine.now whole.now (λ v. v.items) result }
 {
-    match disassemble(alloc, code, machine, units) {
+    match disassemble(alloc, whole, machine, units) {
         Ok(text) => Ok(text),
         Err(_) => Err(Status::NoMemory),
     }
@@ -48,11 +46,11 @@ fn show_for<F: Files>(
         (λ v. v.items) result }
 {
     let digest = Sha256::digest(file.text.as_slice());
-    match code_file(alloc, files, name, &file.machine, &digest) {
-        Ok(code) => {
-            let text = text_of_code(alloc, units, &file.machine, &code);
+    match whole_file(alloc, files, name, &file.machine, &digest) {
+        Ok(whole) => {
+            let text = text_of_whole(alloc, units, &file.machine, &whole);
             // Dropped here as a whole, so that no part of it is left to drop at the end.
-            drop(code);
+            drop(whole);
             text
         }
         Err(status) => Err(status),

@@ -1,7 +1,4 @@
-//! The commands of the toolset, over any operation units, files and output. It stands on the
-//! readers of the four kinds of files, the runs, the compiler, the image and the assembly, each in
-//! a crate of its own; on the files and the sink of `tta_ports` and the lines of `tta_print`; and
-//! on the kit's `sha2` and `thiserror`.
+//! The commands of the toolset, over any operation units, files and output.
 #![tactic(auto)]
 
 mod asm;

@@ -1,14 +1,14 @@
 //! A run with all that is printed of it.
 
-ghost use Rattle.std.specs.Prelude.{◌≡◌, ◌+◌, ◌<◌, ◌^◌, [], length, is_err, IfOk};
+ghost use Rattle.std.specs.Prelude.{◌≡◌, ◌+◌, ◌<◌, ◌^◌, [], length, true, false, is_err, IfOk};
 ghost use Rattle.tta_list.specs.Iterate.{iterate};
 ghost use Rattle.tta_ops.specs.Set.{stated};
 ghost use Rattle.tta_ports.specs.Faults.{CountsFault};
 ghost use Rattle.tta_ports.specs.Sink.{PutsBytes};
-ghost use Rattle.tta_tac.specs.Sequential.{State, next};
-ghost use Rattle.tta_tacrun.specs.Run.{Stands, IsRunOf, is_over};
+ghost use Rattle.tta_program.specs.Sequential.{State, Waiting, next};
+ghost use Rattle.tta_tacrun.specs.Run.{Stands, IsRunOf};
 ghost use Rattle.tta_tool.specs.Output.{output};
-ghost use Rattle.tta_tool.specs.Exec.{outcome_line, run_text, RunEnds};
+ghost use Rattle.tta_tool.specs.Exec.{ended_as, outcome_line, run_text, RunEnds};
 
 use crate::status::Status;
 use crate::steps::run_steps;
@@ -18,20 +18,42 @@ use tta_print::{Line, put_report};
 use tta_tac::Program;
 use tta_tacrun::Seq;
 
-// The line that tells whether a run has halted.
-fn outcome_of(seq: &Seq) -> Line
-    ensures { result ≡ outcome_line seq.now.outcome }
+/// How a run ended.
+#[derive(Clone, Copy)]
+enum Ended {
+    Halted,
+    Running,
+    Waiting,
+}
+
+// How a run ended, where it waits or does not.
+fn ended_of(seq: &Seq, waits: bool) -> Ended
+    ensures waiting { waits ≡ true → ended_as result ≡ Waiting }
+    ensures other { waits ≡ false → ended_as result ≡ seq.now.outcome }
 {
-    if seq.halted() {
-        Line::Halted
+    if waits {
+        Ended::Waiting
+    } else if seq.halted() {
+        Ended::Halted
     } else {
-        Line::Running
+        Ended::Running
+    }
+}
+
+// The line that tells how a run ended.
+fn line_of(ended: Ended) -> Line
+    ensures { result ≡ outcome_line (ended_as ended) }
+{
+    match ended {
+        Ended::Halted => Line::Halted,
+        Ended::Running => Line::Running,
+        Ended::Waiting => Line::Waiting,
     }
 }
 
 // Runs a program for at most so many steps and puts out its text: each word as it comes, and then
-// whether the run has halted, which it also answers, the data words and the number of steps. It
-// takes no memory.
+// how the run ended, which it also answers, the data words and the number of steps. It takes no
+// memory.
 //
 // It answers `Failed` at the first line at which the sink does.
 fn run<S: Sink>(
@@ -39,24 +61,25 @@ fn run<S: Sink>(
     program: &Program,
     units: &UnitSet,
     seq: &mut Seq,
+    input: &[u32],
     bound: u64,
-) -> Result<bool, Failed>
+) -> Result<Ended, Failed>
     requires loaded { IsRunOf program.now seq.old }
     requires few { seq.old.steps + bound < 2 ^ 62 }
     requires short { length seq.old.memory < 2 ^ 32 }
-    ensures halted { let U = stated unit_meaning units.now in IfOk result (λ halted.
-        (s : State) → Stands seq.old s
-        → halted ≡ is_over (iterate bound (next U program.now) s).outcome) }
-    ensures puts { let U = stated unit_meaning units.now in
-        (s : State) → Stands seq.old s → s.output ≡ []
-        → PutsBytes (run_text (iterate bound (next U program.now) s))
-        (S.taken sink.old) (S.taken sink.new) result }
+    ensures ended { let step = next (stated unit_meaning units.now) program.now in
+        (s : State) → Stands seq.old s → s.rest ≡ input.now
+        → IfOk result (λ e. ended_as e ≡ (iterate bound step s).outcome) }
+    ensures puts { let step = next (stated unit_meaning units.now) program.now in
+        (s : State) → Stands seq.old s → s.rest ≡ input.now → s.output ≡ []
+        → PutsBytes (run_text (iterate bound step s)) (S.taken sink.old) (S.taken sink.new) result }
     ensures cause { CountsFault (is_err result) (S.faults sink.old) (S.faults sink.new) }
 {
-    run_steps(sink, program, units, seq, bound)?;
+    let waits = run_steps(sink, program, units, seq, input, bound)?;
     let count = Line::Steps(seq.steps());
-    put_report(sink, &outcome_of(seq), seq.memory(), &count)?;
-    Ok(seq.halted())
+    let ended = ended_of(seq, waits);
+    put_report(sink, &line_of(ended), seq.memory(), &count)?;
+    Ok(ended)
 }
 
 /// Runs a program for at most so many steps and puts out its text, and tells how the command ends.
@@ -66,20 +89,22 @@ pub fn run_to_status<S: Sink>(
     program: &Program,
     units: &UnitSet,
     seq: &mut Seq,
+    input: &[u32],
     bound: u64,
 ) -> Status
     requires loaded { IsRunOf program.now seq.old }
     requires few { seq.old.steps + bound < 2 ^ 62 }
     requires short { length seq.old.memory < 2 ^ 32 }
-    ensures { let U = stated unit_meaning units.now in
-        (s : State) → Stands seq.old s → s.output ≡ []
-        → RunEnds (iterate bound (next U program.now) s)
+    ensures { let step = next (stated unit_meaning units.now) program.now in
+        (s : State) → Stands seq.old s → s.rest ≡ input.now → s.output ≡ []
+        → RunEnds (iterate bound step s)
         (output (S.taken sink.old) (S.faults sink.old))
         (output (S.taken sink.new) (S.faults sink.new)) result }
 {
-    match run(sink, program, units, seq, bound) {
-        Ok(true) => Status::Ok,
-        Ok(false) => Status::Running,
+    match run(sink, program, units, seq, input, bound) {
+        Ok(Ended::Halted) => Status::Ok,
+        Ok(Ended::Waiting) => Status::Waiting,
+        Ok(Ended::Running) => Status::Running,
         Err(Failed) => Status::WriteFault,
     }
 }

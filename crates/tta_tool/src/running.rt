@@ -1,55 +1,66 @@
 //! The command `run`: the code of an image is run cycle by cycle.
 
-ghost use Rattle.std.specs.Prelude.{◌≡◌, ◌<◌, ◌^◌, length, IfOk};
+ghost use Rattle.std.specs.Prelude.{◌≡◌, ◌<◌, ◌^◌, length, option_map, IfOk};
 ghost use Rattle.tta_ops.specs.Set.{stated};
 ghost use Rattle.tta_ops.specs.Units.{Units};
 ghost use Rattle.tta_code.specs.Legal.{IsLegalCode};
-ghost use Rattle.tta_code.specs.Cycle.{cyc};
+ghost use Rattle.tta_code.specs.Agrees.{code_at};
 ghost use Rattle.tta_tool.specs.World.{world};
 ghost use Rattle.tta_tool.specs.Output.{output};
 ghost use Rattle.tta_tool.specs.Run.{BeginWithEnds, RunEnds, RunFileEnds, Runs};
 
-use crate::contents::{MachineFile, code_file, data_words, input_file, machine_file};
+use crate::contents::{Given, MachineFile, data_words, given_files, machine_file, whole_file};
 use crate::cycle_report::code_to_status;
 use crate::status::Status;
 use sha2::{Digest, Sha256};
 use std::alloc::Global;
-use tta_code::Code;
+use tta_code::{Whole, lay};
 use tta_machine::Machine;
 use tta_ops::UnitSet;
 use tta_ports::{Files, Sink};
 use tta_sim::Sim;
 
-/// What a run begins with: code, and the data words.
+/// What a run begins with: code with data, the data words, and the words of the input.
 #[derive(Drop)]
 struct Beginning {
-    code: Code,
+    whole: Whole,
     memory: Vec<u32>,
+    words: Vec<u32>,
 }
 
-// The code that word 2 names, and the data words that word 3 names, for a machine that was read.
+// The code with data that word 2 names, the data words that word 3 names, and the words of the
+// input, for a machine that was read.
 fn begin_with<F: Files>(
     alloc: Global,
     files: &mut F,
     image: &str,
     input: &str,
+    stream: Option<&str>,
     file: &MachineFile,
 ) -> Result<Beginning, Status>
     ensures ends { (u : Units)
         → BeginWithEnds u file.now.machine file.now.text.items image.now input.now
+        (option_map (λ s. s.now) stream.entry)
         (world (F.contents files.old) (F.faults files.old) (F.latest files.old))
         (world (F.contents files.new) (F.faults files.new) (F.latest files.new))
-        (λ b. b.code) (λ b. b.memory.items) result }
+        (λ b. b.whole) (λ b. b.memory.items) (λ b. b.words.items) result }
     ensures size { IfOk result (λ b. length b.memory.items ≡ file.now.machine.data_words) }
     ensures short { IfOk result (λ b. length b.memory.items < 2 ^ 32) }
-    ensures legal { IfOk result (λ b. IsLegalCode file.now.machine b.code) }
+    ensures legal { IfOk result (λ b. IsLegalCode file.now.machine b.whole.code) }
 {
     let digest = Sha256::digest(file.text.as_slice());
-    match code_file(alloc, files, image, &file.machine, &digest) {
-        Ok(code) => match input_file(alloc, files, input, data_words(&file.machine)) {
-            Ok(memory) => Ok(Beginning { code, memory }),
+    match whole_file(alloc, files, image, &file.machine, &digest) {
+        Ok(whole) => match given_files(alloc, files, input, stream, data_words(&file.machine)) {
+            Ok(given) => {
+                let Given { memory, words } = given;
+                Ok(Beginning {
+                    whole,
+                    memory,
+                    words,
+                })
+            }
             Err(status) => {
-                drop(code);
+                drop(whole);
                 Err(status)
             }
         },
@@ -57,29 +68,33 @@ fn begin_with<F: Files>(
     }
 }
 
-// Runs code from data words and puts out its text.
+// Runs code from data words, with its data laid over them and with an input, and puts out its text.
 fn run_code<S: Sink>(
     alloc: Global,
     units: &UnitSet,
     sink: &mut S,
     machine: &Machine,
-    code: &Code,
+    whole: &Whole,
     memory: Vec<u32>,
+    words: &[u32],
     bound: u64,
 ) -> Status
     requires bound { bound < 2 ^ 48 }
     requires size { length memory.items ≡ machine.now.data_words }
     requires short { length memory.items < 2 ^ 32 }
-    requires legal { IsLegalCode machine.now code.now }
-    ensures { RunEnds
-        (cyc (stated unit_meaning units.now) machine.now code.now memory.items bound)
+    requires legal { IsLegalCode machine.now whole.now.code }
+    ensures { let U = stated unit_meaning units.now in
+        RunEnds (code_at U machine.now whole.now memory.items words.now bound)
         (output (S.taken sink.old) (S.faults sink.old))
         (output (S.taken sink.new) (S.faults sink.new))
         result }
 {
-    match Sim::load(alloc, machine, code, memory) {
+    let code = &whole.code;
+    let mut laid = memory;
+    lay(whole.init.as_slice(), &mut laid);
+    match Sim::load(alloc, machine, code, laid) {
         Ok(mut sim) => {
-            let status = code_to_status(sink, machine, code, units, &mut sim, bound);
+            let status = code_to_status(sink, machine, code, units, &mut sim, words, bound);
             // Dropped here as a whole, so that no part of it is left to drop at the end.
             drop(sim);
             status
@@ -100,16 +115,29 @@ fn carry_out<S: Sink>(
     requires bound { bound < 2 ^ 48 }
     requires size { length beginning.memory.items ≡ machine.now.data_words }
     requires short { length beginning.memory.items < 2 ^ 32 }
-    requires legal { IsLegalCode machine.now beginning.code }
-    ensures { RunEnds
-        (cyc (stated unit_meaning units.now) machine.now
-        beginning.code beginning.memory.items bound)
+    requires legal { IsLegalCode machine.now beginning.whole.code }
+    ensures { let U = stated unit_meaning units.now in
+        RunEnds (code_at U machine.now
+        beginning.whole beginning.memory.items beginning.words.items bound)
         (output (S.taken sink.old) (S.faults sink.old))
         (output (S.taken sink.new) (S.faults sink.new))
         result }
 {
-    let Beginning { code, memory } = beginning;
-    run_code(alloc, units, sink, machine, &code, memory, bound)
+    let Beginning {
+        whole,
+        memory,
+        words,
+    } = beginning;
+    run_code(
+        alloc,
+        units,
+        sink,
+        machine,
+        &whole,
+        memory,
+        words.as_slice(),
+        bound,
+    )
 }
 
 // Runs the code that word 2 names on a machine that was read.
@@ -121,25 +149,27 @@ fn run_file<F: Files, S: Sink>(
     file: &MachineFile,
     image: &str,
     input: &str,
+    stream: Option<&str>,
     bound: u64,
 ) -> Status
     requires { bound < 2 ^ 48 }
     ensures { RunFileEnds (stated unit_meaning units.now) file.now.machine file.now.text.items
-        image.now input.now bound
+        image.now input.now (option_map (λ s. s.now) stream.entry) bound
         (world (F.contents files.old) (F.faults files.old) (F.latest files.old))
         (world (F.contents files.new) (F.faults files.new) (F.latest files.new))
         (output (S.taken sink.old) (S.faults sink.old))
         (output (S.taken sink.new) (S.faults sink.new))
         result }
 {
-    match begin_with(alloc, files, image, input, file) {
+    match begin_with(alloc, files, image, input, stream, file) {
         Ok(beginning) => carry_out(alloc, units, sink, &file.machine, beginning, bound),
         Err(status) => status,
     }
 }
 
 /// Runs the image of the file `image` on the machine of the file `machine` for at most so many
-/// cycles, from the data words of the file `input`, and puts out its text.
+/// cycles, from the data words of the file `input` and with the words of the file `stream`, where
+/// it is named, as the input, and puts out its text.
 pub fn run_image<F: Files, S: Sink>(
     alloc: Global,
     units: &UnitSet,
@@ -148,10 +178,12 @@ pub fn run_image<F: Files, S: Sink>(
     machine: &str,
     image: &str,
     input: &str,
+    stream: Option<&str>,
     bound: u64,
 ) -> Status
     requires { bound < 2 ^ 48 }
-    ensures { Runs (stated unit_meaning units.now) machine.now image.now input.now bound
+    ensures { Runs (stated unit_meaning units.now) machine.now image.now input.now
+        (option_map (λ s. s.now) stream.entry) bound
         (world (F.contents files.old) (F.faults files.old) (F.latest files.old))
         (world (F.contents files.new) (F.faults files.new) (F.latest files.new))
         (output (S.taken sink.old) (S.faults sink.old))
@@ -160,7 +192,9 @@ pub fn run_image<F: Files, S: Sink>(
 {
     match machine_file(alloc, units, files, machine) {
         Ok(file) => {
-            let status = run_file(alloc, units, files, sink, &file, image, input, bound);
+            let status = run_file(
+                alloc, units, files, sink, &file, image, input, stream, bound,
+            );
             // Dropped here as a whole, so that no part of it is left to drop at the end.
             drop(file);
             status

@@ -21,14 +21,23 @@ pub enum Status {
     /// The program's text is refused at a line, for a reason with a number from 20 to 28.
     #[error("program: line {line}, code {code}")]
     BadProgram { line: u32, code: u8 },
-    /// The code needs more words than the machine has addresses.
+    /// The machine breaks a rule of coverage, from 1 to 5.
+    #[error("not covered: rule {rule}")]
+    NotCovered { rule: u8 },
+    /// The step of a line needs an operation that no usable unit of the machine offers.
+    #[error("no unit: line {line}")]
+    NoUnit { line: u32 },
+    /// The program needs more frame words than the machine has.
+    #[error("frame full: need {need}, have {have}")]
+    FrameFull { need: u32, have: u32 },
+    /// The code needs more instructions than the machine has addresses.
     #[error("code full: words {words}, have {have}")]
     CodeFull { words: u64, have: u32 },
-    /// The file of an image is refused, for a reason with a number from 40 to 47, at a word and a
+    /// The file of an image is refused, for a reason with a number from 40 to 48, at a word and a
     /// bus.
     #[error("image: code {code}, word {word}, bus {bus}")]
     BadImage { code: u8, word: u32, bus: u8 },
-    /// The assembly is refused at a line, for a reason with a number from 50 to 56.
+    /// The assembly is refused at a line, for a reason with a number from 50 to 57.
     #[error("assembly: line {line}, code {code}")]
     BadAsm { line: u32, code: u8 },
     /// The file of the data words is refused at a line: it is no word, or one more than the data
@@ -44,18 +53,25 @@ pub enum Status {
     /// The file that a word names could not be read.
     #[error("read fault: word {word}")]
     ReadFault { word: u8 },
-    /// The result could not be written, or a line not be put out.
+    /// The result could not be written, or a line could not be output.
     #[error("write fault")]
     WriteFault,
     /// The file that a word names has more than 16 MiB.
     #[error("too long: word {word}")]
     TooLong { word: u8 },
-    /// There was no memory.
+    /// Out of memory.
     #[error("no memory")]
     NoMemory,
-    /// What the file of a word holds is sound, but cannot be compiled yet.
-    #[error("not yet: word {word}")]
-    NotYet { word: u8 },
+    /// A word of the program's data, reported by its line, lies outside the data space of the machine,
+    /// which has so many words.
+    #[error("data: line {line}, have {have}")]
+    DataRange { line: u32, have: u32 },
+    /// The file of the input is refused at a line, which is no word.
+    #[error("stream: line {line}")]
+    BadStream { line: u32 },
+    /// The run waits for a word of the input, and none is left.
+    #[error("waiting")]
+    Waiting,
 }
 
 impl Status {
@@ -68,6 +84,9 @@ impl Status {
             Status::Usage => 1,
             Status::BadMachine { .. } => 2,
             Status::BadProgram { .. } => 3,
+            Status::NotCovered { .. } => 4,
+            Status::NoUnit { .. } => 5,
+            Status::FrameFull { .. } => 6,
             Status::CodeFull { .. } => 7,
             Status::BadImage { .. } => 8,
             Status::BadAsm { .. } => 9,
@@ -78,7 +97,9 @@ impl Status {
             Status::WriteFault => 14,
             Status::TooLong { .. } => 15,
             Status::NoMemory => 16,
-            Status::NotYet { .. } => 99,
+            Status::DataRange { .. } => 17,
+            Status::BadStream { .. } => 18,
+            Status::Waiting => 19,
         }
     }
 }

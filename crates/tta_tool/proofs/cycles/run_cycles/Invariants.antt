@@ -17,8 +17,9 @@ invariant-cycles g l =
       loaded : IsRunOf l.machine l.code l.sim;
       few : l.sim.cycle + l.left < 2 ^ 62;
       within : l.left ≤ l.bound;
-      stands : (s : State) → Stands l.initial.sim s → Stands l.sim (run s);
-      put : (s : State) → Stands l.initial.sim s → s.output ≡ []
+      stands : (s : State) → Stands l.initial.sim s → s.rest ≡ l.input → Stands l.sim (run s);
+      rest : (s : State) → Stands l.initial.sim s → s.rest ≡ l.input → (run s).rest ≡ l.rest;
+      put : (s : State) → Stands l.initial.sim s → s.rest ≡ l.input → s.output ≡ []
           → g.S.Sink.taken l.sink ≡ append_known (g.S.Sink.taken l.initial.sink) (lines_text (word_lines (run s).output));
       faults : g.S.Sink.faults l.sink ≡ g.S.Sink.faults l.initial.sink;
     }

@@ -6,42 +6,40 @@ use Rattle.tta_ports.specs.Sink.{PutsBytes}
 use Rattle.tta_print.specs.declared.line.Line.TheVariants as line
 use Rattle.tta_print.specs.Lines.{lines_text, word_lines, report_lines}
 use Rattle.tta_print.proofs.Puts.{puts_first, puts_both, puts_again, is_err_of, append_known-twice}
-use Rattle.tta_tac.specs.Sequential.{next}
-use Rattle.tta_tacrun.specs.Run.{is_over}
-use Rattle.tta_tool.specs.Exec.{outcome_line}
-use Rattle.tta_tool.proofs.ProgramSteps.{report_of}
+use Rattle.tta_program.specs.Sequential.{next}
+use Rattle.tta_tool.specs.Exec.{ended_as, outcome_line}
+use Rattle.tta_tool.proofs.ProgramSteps.{told_of, reported}
 use Rattle.tta_tool.proofs.report.run.Goals as goal
 
-pub returns-in_err-run_steps-clause-puts : goal.returns-in_err-run_steps-clause-puts
-returns-in_err-run_steps-clause-puts g c = λ s stands none.
+pub returns-in_err-waits-clause-puts : goal.returns-in_err-waits-clause-puts
+returns-in_err-waits-clause-puts g c = λ s stands given none.
     let U = stated (λ v. (goal.OpUnit-dyn g v).unit_meaning v.1) c.args.units.now in
     let t = iterate c.args.bound (next U c.args.program.now) s in
     puts_first (lines_text (word_lines t.output)) (lines_text (report_lines (outcome_line t.outcome) t.memory (line.Steps t.steps))) _ _
-    c.run_steps.result c.from_residual.result (is_err_of c.in_err-run_steps.was) c.from_residual.ensures.0
-    (c.run_steps.ensures.puts s stands none)
+    c.run_steps.result c.from_residual.result (is_err_of c.in_err-waits.was) c.from_residual.ensures.0
+    (c.run_steps.ensures.puts s stands given none)
 
 pub returns-in_err-put_report-clause-puts : goal.returns-in_err-put_report-clause-puts
-returns-in_err-put_report-clause-puts g c = λ s stands none.
+returns-in_err-put_report-clause-puts g c = λ s stands given none.
     let U = stated (λ v. (goal.OpUnit-dyn g v).unit_meaning v.1) c.args.units.now in
     let t = iterate c.args.bound (next U c.args.program.now) s in
     let mid = g.S.Sink.taken c.run_steps.new.sink in
     let new = g.S.Sink.taken c.put_report.new.sink in
     let second = lines_text (report_lines (outcome_line t.outcome) t.memory (line.Steps t.steps)) in
     let told = subst (λ w. PutsBytes w mid new c.put_report.result)
-    (report_of c.run_steps.new.seq t (c.in_ok-run_steps.ensures.run s stands) c.outcome_of.result c.memory.result.now c.steps.result
-    c.outcome_of.ensures c.memory.ensures c.steps.ensures) c.put_report.ensures.grows in
+    (reported c.in_ok-waits.waits c.run_steps.new.seq t (c.in_ok-waits.ensures.run s stands given) (ended_as c.ended_of-ended.result) c.line_of.result c.memory.result.now c.steps.result
+    c.ended_of-ended.ensures.waiting c.ended_of-ended.ensures.other c.line_of.ensures c.memory.ensures c.steps.ensures) c.put_report.ensures.grows in
     puts_both (lines_text (word_lines t.output)) second (g.S.Sink.taken c.args.sink.now) mid new c.from_residual-in_err-put_report.result
-    (c.in_ok-run_steps.ensures.puts s stands none)
+    (c.in_ok-waits.ensures.puts s stands given none)
     (puts_again second mid new c.put_report.result c.from_residual-in_err-put_report.result
     (is_err_of c.in_err-put_report.was) c.from_residual-in_err-put_report.ensures.0 told)
 
-pub returns-clause-halted : goal.returns-clause-halted
-returns-clause-halted g c = λ s stands.
-    let there = c.in_ok-run_steps.ensures.run s stands in
-    c.halted.ensures ∙ ap is_over there.outcome
+pub returns-clause-ended : goal.returns-clause-ended
+returns-clause-ended g c = λ s stands given.
+    (told_of c.in_ok-waits.waits c.run_steps.new.seq _ (ended_as c.ended_of-ended.result) (c.in_ok-waits.ensures.run s stands given) c.ended_of-ended.ensures.waiting c.ended_of-ended.ensures.other).0
 
 pub returns-clause-puts : goal.returns-clause-puts
-returns-clause-puts g c = λ s stands none.
+returns-clause-puts g c = λ s stands given none.
     let U = stated (λ v. (goal.OpUnit-dyn g v).unit_meaning v.1) c.args.units.now in
     let t = iterate c.args.bound (next U c.args.program.now) s in
     let old = g.S.Sink.taken c.args.sink.now in
@@ -49,7 +47,7 @@ returns-clause-puts g c = λ s stands none.
     let first = lines_text (word_lines t.output) in
     let second = lines_text (report_lines (outcome_line t.outcome) t.memory (line.Steps t.steps)) in
     c.in_ok-put_report.ensures.grows
-    ∙ ap (append_known mid) (report_of c.run_steps.new.seq t (c.in_ok-run_steps.ensures.run s stands) c.outcome_of.result c.memory.result.now c.steps.result
-    c.outcome_of.ensures c.memory.ensures c.steps.ensures)
-    ∙ ap (λ l. append_known l second) (c.in_ok-run_steps.ensures.puts s stands none)
+    ∙ ap (append_known mid) (reported c.in_ok-waits.waits c.run_steps.new.seq t (c.in_ok-waits.ensures.run s stands given) (ended_as c.ended_of-ended.result) c.line_of.result c.memory.result.now c.steps.result
+    c.ended_of-ended.ensures.waiting c.ended_of-ended.ensures.other c.line_of.ensures c.memory.ensures c.steps.ensures)
+    ∙ ap (λ l. append_known l second) (c.in_ok-waits.ensures.puts s stands given none)
     ∙ append_known-twice old first second

@@ -1,20 +1,26 @@
-use Rattle.std.proofs.Common.{sym, ◌∙◌}
-use Rattle.tta_tool.proofs.ProgramSteps.{is_halted, is_running}
+use Rattle.std.proofs.Common.{sym, ap, ◌∙◌}
+use Rattle.tta_tool.specs.Exec.{ended_as}
 use Rattle.tta_tool.proofs.report.run_to_status.Goals as goal
 
-pub returns-in-Ok-true : goal.returns-in-Ok-true
-returns-in-Ok-true g c = λ s stands none. (
-  is_halted _ (sym c.in-Ok-true.field-0-test ∙ c.in-Ok-true.ensures.halted s stands),
-  record { taken = c.in-Ok-true.ensures.puts s stands none; faults = c.in-Ok-true.ensures.cause },
+pub returns-in-Ok-Halted : goal.returns-in-Ok-Halted
+returns-in-Ok-Halted g c = λ s stands given none. (
+  sym (c.in-Ok-Halted.ensures.ended s stands given) ∙ ap ended_as c.in-Ok-Halted.field-0-is,
+  record { taken = c.in-Ok-Halted.ensures.puts s stands given none; faults = c.in-Ok-Halted.ensures.cause },
 )
 
-pub returns-in-Ok-false : goal.returns-in-Ok-false
-returns-in-Ok-false g c = λ s stands none. (
-  is_running _ (sym c.in-Ok-false.field-0-test ∙ c.in-Ok-false.ensures.halted s stands),
-  record { taken = c.in-Ok-false.ensures.puts s stands none; faults = c.in-Ok-false.ensures.cause },
+pub returns-in-Ok-Waiting : goal.returns-in-Ok-Waiting
+returns-in-Ok-Waiting g c = λ s stands given none. (
+  sym (c.in-Ok-Waiting.ensures.ended s stands given) ∙ ap ended_as c.in-Ok-Waiting.field-0-is,
+  record { taken = c.in-Ok-Waiting.ensures.puts s stands given none; faults = c.in-Ok-Waiting.ensures.cause },
+)
+
+pub returns-in-Ok-Running : goal.returns-in-Ok-Running
+returns-in-Ok-Running g c = λ s stands given none. (
+  sym (c.in-Ok-Running.ensures.ended s stands given) ∙ ap ended_as c.in-Ok-Running.field-0-is,
+  record { taken = c.in-Ok-Running.ensures.puts s stands given none; faults = c.in-Ok-Running.ensures.cause },
 )
 
 pub returns-in-Err : goal.returns-in-Err
-returns-in-Err g c = λ s stands none.
-    let part = c.in-Err.ensures.puts s stands none in
+returns-in-Err g c = λ s stands given none.
+    let part = c.in-Err.ensures.puts s stands given none in
     record { count = part.0; taken = part.1; rose = c.in-Err.ensures.cause }

@@ -1,3 +1,4 @@
+use Rattle.std.proofs.Common.{option_map}
 use Rattle.tta_ops.specs.Set.{stated}
 use Rattle.tta_tool.specs.World.{world}
 use Rattle.tta_tool.specs.Output.{output}
@@ -14,10 +15,11 @@ returns-in-Ok g c =
     let old = output (sink.taken c.args.sink.now) (sink.faults c.args.sink.now) in
     let new = output (sink.taken c.carry_out.new.sink) (sink.faults c.carry_out.new.sink) in
     let file = c.args.file.now in
-    run_ends U file.machine file.text.items c.args.image.now c.args.input.now c.in-Ok.beginning.code c.in-Ok.beginning.memory.items
+    run_ends U file.machine file.text.items c.args.image.now c.args.input.now (option_map (λ s. s.now) c.args.stream)
+    c.in-Ok.beginning.whole c.in-Ok.beginning.memory.items c.in-Ok.beginning.words.items
     c.args.bound before after old new c.carry_out.result (c.in-Ok.ensures.ends U) c.carry_out.ensures
 
 pub returns-in-Err : goal.returns-in-Err
 returns-in-Err g c =
     let U = stated (λ v. (goal.OpUnit-dyn g v).unit_meaning v.1) c.args.units.now in
-    λ M has same_machine same_text. not_begun _ _ _ _ _ _ _ _ _ (c.in-Err.ensures.ends U M has same_machine same_text)
+    λ M has same_machine same_text. not_begun _ _ _ _ _ _ _ _ _ _ (c.in-Err.ensures.ends U M has same_machine same_text)

@@ -1,3 +1,4 @@
+use Rattle.std.proofs.Common.{option_map}
 use Rattle.tta_ops.specs.Set.{stated}
 use Rattle.tta_tool.specs.World.{world}
 use Rattle.tta_tool.specs.Output.{output}
@@ -15,8 +16,8 @@ returns-in-Ok g c =
     let old = output (sink.taken c.args.sink.now) (sink.faults c.args.sink.now) in
     let new = output (sink.taken c.run_file-status.new.sink) (sink.faults c.run_file-status.new.sink) in
     let file = c.in-Ok.file in
-    runs_ends U c.args.machine.now c.args.image.now c.args.input.now file.text.items file.machine c.args.bound before between after old new
+    runs_ends U c.args.machine.now c.args.image.now c.args.input.now (option_map (λ s. s.now) c.args.stream) file.text.items file.machine c.args.bound before between after old new
     c.run_file-status.result c.in-Ok.ensures c.run_file-status.ensures
 
 pub returns-in-Err : goal.returns-in-Err
-returns-in-Err g c = not_begun _ _ _ _ _ _ _ _ _ (machine_fails _ _ _ _ _ _ _ c.in-Err.ensures)
+returns-in-Err g c = not_begun _ _ _ _ _ _ _ _ _ _ (machine_fails _ _ _ _ _ _ _ _ c.in-Err.ensures)

@@ -1,0 +1,32 @@
+-- Data that are laid over a memory keep its length, and what is loaded has made no step.
+use Rattle.std.proofs.Common.{◌≡◌, ◌<◌, ◌^◌, ℕ, ◌+◌, List, [], ◌∷◌, length, slice_set, refl, sym, ◌∙◌, subst, length-set, arith}
+use Rattle.tta_arch.specs.Machine.{Machine}
+use Rattle.tta_program.specs.Program.{Program, Laid, over}
+use Rattle.tta_program.specs.Sequential.{start as program_start}
+use Rattle.tta_tacrun.specs.Run as program
+use Rattle.tta_tacrun.specs.Run.{Run}
+use Rattle.tta_code.specs.Cycle.{start as code_start}
+use Rattle.tta_sim.specs.Held as code
+use Rattle.tta_sim.specs.Held.{Held}
+
+-- a memory over which words are laid has as many words as before
+pub over-length : (laid : Laid) (memory : List ℕ) → length (over laid memory) ≡ length memory
+over-length [] memory = refl
+over-length (d ∷ ds) memory = over-length ds (slice_set memory d.0 d.1) ∙ length-set memory d.0 d.1
+
+-- ---- what has been loaded
+
+-- a program that was loaded has made no step, so a bound leaves room
+pub few_steps : (r : Run) (p : Program) (memory : List ℕ) (bound : ℕ) → program.Stands r (program_start p memory []) → bound < 2 ^ 48
+    → r.steps + bound < 2 ^ 62
+few_steps r p memory bound at few = let none : r.steps ≡ 0 = at.steps in omega arith
+
+-- and holds the memory that it was given
+pub short_memory : (r : Run) (p : Program) (memory : List ℕ) → program.Stands r (program_start p memory []) → length memory < 2 ^ 32
+    → length r.memory < 2 ^ 32
+short_memory r p memory at short = subst (λ l. length l < 2 ^ 32) (sym at.memory) short
+
+-- code that was loaded has made no cycle
+pub few_cycles : (h : Held) (m : Machine) (memory : List ℕ) (bound : ℕ) → code.Stands h (code_start m memory []) → bound < 2 ^ 48
+    → h.cycle + bound < 2 ^ 62
+few_cycles h m memory bound at few = let none : h.cycle ≡ 0 = at.cycle in omega arith
