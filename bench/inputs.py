@@ -47,8 +47,15 @@ def procedures(lines):
 
 
 def constants(lines):
-    """A program of so many lines that puts a word out in each line but three."""
+    """A program of so many lines that outputs a word in each line but three."""
     return "proc main\n" + "".join(f"out {k % 256}\n" for k in range(lines - 3)) + "halt\nend\n"
+
+
+def arithmetic(lines):
+    """A program of so many lines: one block of operations over twenty variables, thirteen of which can have a home register."""
+    steps = [f"v{k} = {k}" for k in range(20)]
+    steps += [f"v{(k * 7 + 3) % 20} = {['add', 'sub', 'xor', 'and', 'or', 'mul'][k % 6]} v{k % 20} v{(k * 3 + 1) % 20}" for k in range(lines - 23)]
+    return "\n".join(["proc main", *steps, "out v3", "end"]) + "\n"
 
 
 STEPS = """proc main

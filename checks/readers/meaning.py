@@ -1,7 +1,7 @@
 """What programs and code do, step by step and cycle by cycle, written apart from the program as plainly as can be: `run_program` and
 `run_code` give the text that `exec` and `run` print, and the number of a fault with its cycle, or None."""
-from readers.assembly import Tokens, instruction_of
-from readers.program import PROGRAM_FORMS, fits
+from readers.assembly import Tokens, data_of, instruction_of
+from readers.program import DATA, PROGRAM_FORMS, fits
 from readers.tokens import ARITY, lines_of, tokens_of
 
 WORDS = 2**32
@@ -35,6 +35,14 @@ def store(memory, address, word):
         memory[address] = word
 
 
+def laid(data, memory):
+    """A memory with the words of the data in it, each at its address."""
+    memory = list(memory)
+    for address, word in data:
+        memory[address] = word
+    return memory
+
+
 def report(output, ending, memory, unit, count):
     lines = [str(word) for word in output] + [ending]
     lines += [f"mem {address} {word}" for address, word in enumerate(memory) if word]
@@ -49,23 +57,26 @@ def holds(relation, a, b):
 
 
 def steps_of(text):
-    """The procedures by name: parameters, steps as form and words, and labels as numbers of steps."""
-    procs = {}
+    """The procedures by name: parameters, steps as form and words, and labels as numbers of steps; and the words of the data by
+    their addresses."""
+    procs, data = {}, {}
     for tokens in map(tokens_of, lines_of(text)):
         if not tokens:
             continue
         form, words = next(form for form in PROGRAM_FORMS if fits(form, tokens)), [value for _, value in tokens]
-        if form == "proc n d*":
+        if form == DATA:
+            data[words[1]] = words[2]
+        elif form == "proc n d*":
             parameters, steps, labels = procs.setdefault(words[1], (words[2:], [], {}))
         elif form == "n :":
             labels[words[0]] = len(steps)
         else:
             steps.append((form, words))
-    return procs
+    return procs, data
 
 
 class Frame:
-    """A call that is carried out: a step behind it, and where its value goes."""
+    """A call that is carried out: the step that comes next, and where its value goes."""
 
     def __init__(self, proc, arguments, into):
         parameters, self.steps, self.labels = proc
@@ -75,7 +86,12 @@ class Frame:
         return operand if isinstance(operand, int) else self.values.get(operand, 0)
 
 
-def step(procs, stack, memory, output):
+def waits(stack, rest):
+    """Whether the next step takes a word of the input and none is left."""
+    return stack[-1].steps[stack[-1].at][0] == "d = in" and not rest
+
+
+def step(procs, stack, memory, rest, output):
     """Carries a step out; an empty stack has halted."""
     top = stack[-1]
     form, words = top.steps[top.at]
@@ -87,6 +103,8 @@ def step(procs, stack, memory, output):
         top.values[words[0]] = apply(words[2], value(words[3]), value(words[-1]))
     elif form == "d = load v":
         top.values[words[0]] = load(memory, value(words[3]))
+    elif form == "d = in":
+        top.values[words[0]] = rest.pop(0)
     elif form == "store v v":
         store(memory, value(words[1]), value(words[2]))
     elif form == "out v":
@@ -108,13 +126,17 @@ def step(procs, stack, memory, output):
         stack.clear()
 
 
-def run_program(text, memory, bound):
-    procs, output, count = steps_of(text), [], 0
-    stack = [Frame(procs["main"], [], None)]
-    while stack and count < bound:
-        step(procs, stack, memory, output)
-        count += 1
-    return report(output, "running" if stack else "halted", memory, "steps", count), None
+def run_program(text, memory, stream, bound):
+    (procs, data), rest, output, count = steps_of(text), list(stream), [], 0
+    memory = laid(data.items(), memory)
+    stack, ending = [Frame(procs["main"], [], None)], None
+    while stack and count < bound and not ending:
+        if waits(stack, rest):
+            ending = "waiting"
+        else:
+            step(procs, stack, memory, rest, output)
+            count += 1
+    return report(output, ending or ("running" if stack else "halted"), memory, "steps", count), None
 
 
 # ---- code
@@ -123,11 +145,16 @@ class Fault(Exception):
     """The number of a fault."""
 
 
-class State:
-    """What a machine holds: words of registers, of operand ports, all results that were ever started, and both memories."""
+class Waits(Exception):
+    """A word of the input is to be taken, and none is left."""
 
-    def __init__(self, m, memory):
-        self.m, self.memory, self.frame = m, memory, [0] * m.spaces.get("frame", 0)
+
+class State:
+    """What a machine holds: words of registers, of operand ports, all results that were ever started, both memories, and the rest of
+    the input."""
+
+    def __init__(self, m, memory, rest):
+        self.m, self.memory, self.frame, self.rest = m, memory, [0] * m.spaces.get("frame", 0), rest
         self.words, self.operands, self.results = {}, {}, {unit: {} for unit in m.units}
         self.pc, self.cycle, self.control, self.is_halted, self.output = 0, 0, None, False, []
 
@@ -166,7 +193,7 @@ def first_fault(checks):
 
 
 def cycle(state, code):
-    """Carries a cycle out, or raises its fault and leaves the state as it was."""
+    """Carries a cycle out, or raises its fault, or that it waits, and leaves the state as it was."""
     if state.pc >= len(code):
         raise Fault(65)
     slots, long, _ = code[state.pc]
@@ -176,6 +203,8 @@ def cycle(state, code):
     operands = {**state.operands, **{dest[1][0]: word for dest, word in moved if dest[0] == "operand"}}
     started = [(*dest[1], word) for dest, word in moved if dest[0] == "trigger"]
     first_fault([lambda s=one: check_start(state, operands, *s) for one in started])
+    if any(op == "in" for _, op, _ in started) and not state.rest:
+        raise Waits
     for (kind, place), word in moved:
         if kind == "register":
             state.words[place] = word % 2 if place[0] in state.m.files and state.m.files[place[0]][0] == 1 else word
@@ -212,7 +241,10 @@ def start(state, unit, op, a, b):
     elif op in ("stw", "stf"):
         store(state.memory if op == "stw" else state.frame, a, b)
     else:
-        value = load(state.memory if op == "ldw" else state.frame, b) if op in ("ldw", "ldf") else apply(op, a, b)
+        if op == "in":
+            value = state.rest.pop(0)
+        else:
+            value = load(state.memory if op == "ldw" else state.frame, b) if op in ("ldw", "ldf") else apply(op, a, b)
         state.results[unit][state.cycle + state.m.units[unit]["ops"][op]] = value
 
 
@@ -225,15 +257,19 @@ def go_on(state):
         state.pc = state.pc if target is None else target
 
 
-def run_code(canonical, m, memory, bound):
+def run_code(canonical, m, memory, stream, bound):
     t, code = Tokens(canonical.encode()), []
+    data = data_of(t, len(memory))
     while t.at < len(t.all):
         code.append(instruction_of(t))
-    state, fault = State(m, memory), None
-    while not state.is_halted and fault is None and state.cycle < bound:
+    state, fault, ending = State(m, laid(data, memory), list(stream)), None, None
+    while not state.is_halted and not ending and state.cycle < bound:
         try:
             cycle(state, code)
         except Fault as found:
             fault = (found.args[0], state.cycle)
-    ending = f"fault {fault[0]} {fault[1]}" if fault else "halted" if state.is_halted else "running"
-    return report(state.output, ending, memory, "cycles", state.cycle), fault
+            ending = f"fault {fault[0]} {fault[1]}"
+        except Waits:
+            ending = "waiting"
+    ending = ending or ("halted" if state.is_halted else "running")
+    return report(state.output, ending, state.memory, "cycles", state.cycle), fault
