@@ -5,9 +5,11 @@
 mod line;
 mod memory;
 mod put;
+mod reply;
 mod report;
 mod text;
 
 pub use line::Line;
 pub use put::put_line;
+pub use reply::{Reply, put_due, put_reply};
 pub use report::put_report;

@@ -12,7 +12,7 @@ use itoa::Buffer;
 pub const ROOM: usize = 64;
 
 // Puts a number behind a text. A number of 64 bits has at most 20 digits.
-fn push_number(text: &mut ArrayString<ROOM>, n: u64)
+pub fn push_number(text: &mut ArrayString<ROOM>, n: u64)
     requires { array_string_len text.old + 20 ≤ 64 }
     ensures bytes { text.new.bytes ≡ text.old.bytes ++ decimal n }
     ensures room { array_string_len text.new ≤ array_string_len text.old + 20 }

@@ -1,0 +1,11 @@
+pub mod Inputs
+pub mod Cycling
+pub mod Running
+pub mod Saying
+pub mod Seeing
+pub mod Flying
+pub mod Rows
+pub mod Scripting
+pub mod ScriptLines
+pub mod Folding
+pub mod Stretches

@@ -1,0 +1,23 @@
+use Rattle.std.proofs.Common.{◌≡◌, ◌+◌, ◌*◌, ◌<◌, ◌≤◌, ◌^◌, length}
+use Rattle.tta_ops.specs.Set.{stated}
+use Rattle.tta_sim.specs.Held.{IsRunOf}
+use Rattle.tta_debug.specs.Debugged.{Debugged}
+use Rattle.tta_debug.specs.Sessions.{Follows, output}
+use Rattle.tta_debug.specs.Scripts.{lines_of}
+use Rattle.tta_debug.proofs.Folding.{Taken}
+use Rattle.tta_debug.proofs.script.run_script.Given as goal
+
+abbrev pub decreases-lines : goal.decreases-lines
+decreases-lines g l = length l.rest
+
+abbrev pub invariant-lines : goal.invariant-lines
+invariant-lines g l =
+    let U = stated (λ v. (goal.OpUnit-dyn g v).unit_meaning v.1) l.units in
+    record {
+      loaded : IsRunOf l.m l.code l.session.held;
+      few : l.session.held.cycle + length l.rest * 2 ^ 32 < 2 ^ 61;
+      short : length l.rest ≤ 2 ^ 24;
+      taken : (d : Debugged) → Follows l.input l.initial.session d
+          → Taken U l.m l.code l.input (lines_of l.script) (lines_of l.rest) d l.session
+          (output (g.S.Sink.taken l.initial.sink) (g.S.Sink.faults l.initial.sink)) (output (g.S.Sink.taken l.sink) (g.S.Sink.faults l.sink));
+    }

@@ -1,0 +1,189 @@
+//! The commands of a session.
+
+ghost use Rattle.std.specs.Prelude.{◌≡◌, ◌+◌, ◌<◌, ◌≤◌, ◌^◌, ℕ, List, Ok, length};
+ghost use Rattle.tta_ops.specs.Set.{stated};
+ghost use Rattle.tta_sim.specs.Held.{IsRunOf};
+ghost use Rattle.tta_debug.specs.Commands.{plain_asked, plain_query};
+ghost use Rattle.tta_debug.specs.Debugged.{Debugged, answer, command, told, stops_set};
+ghost use Rattle.tta_debug.specs.Debugged.{with_stop, without_stop, seen as seen_of, in_flight};
+ghost use Rattle.tta_debug.specs.Sessions.{Follows, Does, Keeps, output};
+
+use crate::asked::{Asked, Query, read_asked};
+use crate::flight::put_flight;
+use crate::query::seen;
+use crate::run::run;
+use crate::say::say;
+use crate::session::Session;
+use crate::told::{CommandError, Told};
+use tta_arch::Machine;
+use tta_code::Code;
+use tta_ops::UnitSet;
+use tta_ports::{Failed, Sink};
+use tta_print::Reply;
+
+#[tactic(auto, using(crate::proofs::Saying::keeps_said))]
+// Sets a breakpoint.
+fn break_at<S: Sink>(
+    session: &mut Session,
+    code: &Code,
+    sink: &mut S,
+    address: u32,
+) -> Result<Told, CommandError>
+    ensures held { session.new.held ≡ session.old.held }
+    ensures does { (input : List ℕ) (d : Debugged) → Follows input session.old d
+        → Does input (stops_set d (with_stop (length code.now.words) d.stops address)) session.new
+        (output (S.taken sink.old) (S.faults sink.old))
+        (output (S.taken sink.new) (S.faults sink.new)) result }
+    ensures keeps { Keeps session.old session.new
+        (output (S.taken sink.old) (S.faults sink.old))
+        (output (S.taken sink.new) (S.faults sink.new)) result }
+{
+    match session.set_stop(code, address) {
+        Ok(()) => say(sink, &Reply::Done, Told::More),
+        Err(number) => Err(CommandError::Refused(number)),
+    }
+}
+
+#[tactic(auto, using(crate::proofs::Saying::keeps_said))]
+// Takes a breakpoint away.
+fn delete_at<S: Sink>(
+    session: &mut Session,
+    sink: &mut S,
+    address: u32,
+) -> Result<Told, CommandError>
+    ensures held { session.new.held ≡ session.old.held }
+    ensures does { (input : List ℕ) (d : Debugged) → Follows input session.old d
+        → Does input (stops_set d (without_stop d.stops address)) session.new
+        (output (S.taken sink.old) (S.faults sink.old))
+        (output (S.taken sink.new) (S.faults sink.new)) result }
+    ensures keeps { Keeps session.old session.new
+        (output (S.taken sink.old) (S.faults sink.old))
+        (output (S.taken sink.new) (S.faults sink.new)) result }
+{
+    match session.delete_stop(address) {
+        Ok(()) => say(sink, &Reply::Done, Told::More),
+        Err(number) => Err(CommandError::Refused(number)),
+    }
+}
+
+#[tactic(auto, using(crate::proofs::Saying::keeps_said))]
+// Tells what one asks to see.
+fn ask<S: Sink>(
+    session: &Session,
+    m: &Machine,
+    code: &Code,
+    sink: &mut S,
+    query: &Query,
+) -> Result<Told, CommandError>
+    requires { IsRunOf m.now code.now session.now.held }
+    ensures does { (input : List ℕ) (d : Debugged) → Follows input session.now d
+        → Does input (told d (seen_of m.now d.state (plain_query query.now))) session.now
+        (output (S.taken sink.old) (S.faults sink.old))
+        (output (S.taken sink.new) (S.faults sink.new)) result }
+    ensures keeps { Keeps session.now session.now
+        (output (S.taken sink.old) (S.faults sink.old))
+        (output (S.taken sink.new) (S.faults sink.new)) result }
+{
+    match seen(session.sim(), m, query) {
+        Some(reply) => say(sink, &reply, Told::More),
+        None => Err(CommandError::Refused(71)),
+    }
+}
+
+#[tactic(auto, using(crate::proofs::Saying::keeps_said))]
+// Tells the results in flight.
+fn flight<S: Sink>(
+    session: &Session,
+    m: &Machine,
+    code: &Code,
+    sink: &mut S,
+) -> Result<Told, CommandError>
+    requires loaded { IsRunOf m.now code.now session.now.held }
+    requires few { session.now.held.cycle < 2 ^ 61 }
+    ensures does { (input : List ℕ) (d : Debugged) → Follows input session.now d
+        → Does input (Ok (in_flight m.now d)) session.now
+        (output (S.taken sink.old) (S.faults sink.old))
+        (output (S.taken sink.new) (S.faults sink.new)) result }
+    ensures keeps { Keeps session.now session.now
+        (output (S.taken sink.old) (S.faults sink.old))
+        (output (S.taken sink.new) (S.faults sink.new)) result }
+{
+    match put_flight(sink, session.sim(), m) {
+        Ok(()) => say(sink, &Reply::Done, Told::More),
+        Err(Failed) => Err(CommandError::SinkFailed),
+    }
+}
+
+#[tactic(auto, using(crate::proofs::Saying::keeps_said))]
+// Carries out a command.
+fn carry_out<S: Sink>(
+    session: &mut Session,
+    asked: &Asked,
+    m: &Machine,
+    code: &Code,
+    units: &UnitSet,
+    input: &[u32],
+    sink: &mut S,
+) -> Result<Told, CommandError>
+    requires loaded { IsRunOf m.now code.now session.old.held }
+    requires few { session.old.held.cycle < 2 ^ 61 }
+    ensures loaded { IsRunOf m.now code.now session.new.held }
+    ensures counted { session.new.held.cycle < session.old.held.cycle + 2 ^ 32 }
+    ensures does { let U = stated unit_meaning units.now in
+        (d : Debugged) → Follows input.now session.old d
+        → Does input.now (answer U m.now code.now d (plain_asked asked.now)) session.new
+        (output (S.taken sink.old) (S.faults sink.old))
+        (output (S.taken sink.new) (S.faults sink.new)) result }
+    ensures keeps { Keeps session.old session.new
+        (output (S.taken sink.old) (S.faults sink.old))
+        (output (S.taken sink.new) (S.faults sink.new)) result }
+{
+    match asked {
+        Asked::Nothing => Ok(Told::More),
+        Asked::Break { address } => break_at(session, code, sink, *address),
+        Asked::Delete { address } => delete_at(session, sink, *address),
+        Asked::Step { count } => run(session, m, code, units, input, sink, *count, false),
+        Asked::Go { count } => run(session, m, code, units, input, sink, *count, true),
+        Asked::Flight => flight(session, m, code, sink),
+        Asked::Ask(query) => ask(session, m, code, sink, query),
+        Asked::Quit => say(sink, &Reply::Bye, Told::Bye),
+    }
+}
+
+impl Session {
+    /// Carries out the command that the words of a line are, and puts its reply, line by line. The
+    /// input is that of all calls of the session. It takes no memory.
+    ///
+    /// It answers `Bye` where the command is `quit`. A refused command leaves the session as it
+    /// was, with nothing put. Where the sink fails, which its count of faults shows, it has taken
+    /// the lines before and a prefix of the line at which it failed; the session is as after the
+    /// cycle that put this word, and else the whole command was carried out.
+    pub fn command<S: Sink>(
+        &mut self,
+        line: &[u8],
+        m: &Machine,
+        code: &Code,
+        units: &UnitSet,
+        input: &[u32],
+        sink: &mut S,
+    ) -> Result<Told, CommandError>
+        requires loaded { IsRunOf m.now code.now self.old.held }
+        requires few { self.old.held.cycle < 2 ^ 61 }
+        requires short { length line.now ≤ 2 ^ 24 }
+        ensures loaded { IsRunOf m.now code.now self.new.held }
+        ensures counted { self.new.held.cycle < self.old.held.cycle + 2 ^ 32 }
+        ensures does { let U = stated unit_meaning units.now in
+            (d : Debugged) → Follows input.now self.old d
+            → Does input.now (command U m.now code.now line.now d) self.new
+            (output (S.taken sink.old) (S.faults sink.old))
+            (output (S.taken sink.new) (S.faults sink.new)) result }
+        ensures keeps { Keeps self.old self.new
+            (output (S.taken sink.old) (S.faults sink.old))
+            (output (S.taken sink.new) (S.faults sink.new)) result }
+    {
+        let Some(asked) = read_asked(line) else {
+            return Err(CommandError::Refused(70));
+        };
+        carry_out(self, &asked, m, code, units, input, sink)
+    }
+}

@@ -1,0 +1,21 @@
+//! The debugger of a machine's code: a session that carries out commands, each a line of words, and
+//! puts their replies. Nothing here takes memory.
+#![tactic(auto)]
+
+mod asked;
+mod command;
+mod flight;
+mod law;
+mod query;
+mod run;
+mod say;
+mod script;
+mod session;
+mod stops;
+mod told;
+mod words;
+
+pub use law::cycles_are_of_the_run;
+pub use script::run_script;
+pub use session::Session;
+pub use told::{CommandError, Told};
