@@ -91,7 +91,7 @@ data-laid u = refl
 
 -- ---- refusals
 
--- data 2 8 behind data 2 9
+-- data 2 8 after data 2 9
 data-twice : (u : Units) → take_form u one_datum 2 (DataForm 2 8) ≡ Err Twice
 data-twice u = refl
 
@@ -104,11 +104,11 @@ proc-inside u = refl
 step-outside : (u : Units) → take_form u nothing 1 HaltForm ≡ Err Syntax
 step-outside u = refl
 
--- proc main a a a a a a a a a: the wrong number of parameters is told before the name that stands twice
+-- proc main a a a a a a a a a: the wrong number of parameters is reported before the name that stands twice
 main-params : (u : Units) → take_form u nothing 1 (ProcForm (codes "main") (replicate 9 a)) ≡ Err Arity
 main-params u = refl
 
--- proc f a a a a a a a a a: the name that stands twice is told before the ninth parameter
+-- proc f a a a a a a a a a: the name that stands twice is reported before the ninth parameter
 twice-params : (u : Units) → take_form u nothing 1 (ProcForm (codes "f") (replicate 9 a)) ≡ Err Twice
 twice-params u = refl
 

@@ -1,4 +1,4 @@
--- What the second pass makes of a draft, and what it tells.
+-- What the second pass makes of a draft, and what it reports.
 use Rattle.std.proofs.Common.{◌≡◌, ℕ, suc, zero, ◌<◌, List, [], ◌∷◌, length, get_or, Some, None, Ok, Err, refl, sym, ◌∙◌, ap, arith}
 use Rattle.std.specs.Prelude.{slice_get, codes}
 use Rattle.std.specs.Option.{option_map_or}
@@ -16,7 +16,7 @@ use Rattle.tta_tac.specs.Draft.{Draft, ProcDraft, procs_seen}
 use Rattle.tta_tac.specs.SecondPass.{Refused, link_proc, link_procs}
 use Rattle.tta_tac.specs.Text.{linked_text, IsFirstRecursive, InPasses, ByRecursion, WithoutMain}
 use Rattle.tta_tac.specs.Cycles.{IsAcyclic}
-use Rattle.tta_tac.specs.Told.{Tells, IsDraftOf, MakesProgram, TellsCause, LeadsBack}
+use Rattle.tta_tac.specs.Reported.{Reports, IsDraftOf, MakesProgram, ReportsCause, LeadsBack}
 use Rattle.tta_tac.proofs.Calls.{reaches_within}
 
 -- ---- the passes, one after the other
@@ -50,15 +50,15 @@ passes_err d e u text read link =
     ap (λ r. r >>= λ d. link_procs d d.procs >>= λ procs. Ok (record { draft = d; procs = procs })) read
     ∙ ap (λ r. r >>= λ procs. Ok (record { draft = d; procs = procs })) link
 
--- ---- what is told
+-- ---- what is reported
 
 -- a refusal of a step, a call that leads back, no main, and else the program
-pub told_in_passes : (d : Draft) (e : TacError) → Tells {A = List Proc} (Err e) (link_procs d d.procs) → TellsCause d e
-told_in_passes d tac_error.NoMemory told u text read = tt
-told_in_passes d (tac_error.Refused line code) told u text read =
-    (told.0, told.1, InPasses line told.0 (passes_err d (line, told.0) u text read told.2))
+pub reported_in_passes : (d : Draft) (e : TacError) → Reports {A = List Proc} (Err e) (link_procs d d.procs) → ReportsCause d e
+reported_in_passes d tac_error.NoMemory reported u text read = tt
+reported_in_passes d (tac_error.Refused line code) reported u text read =
+    (reported.0, reported.1, InPasses line reported.0 (passes_err d (line, reported.0) u text read reported.2))
 
-pub told_by_recursion : (d : Draft) (procs : List Proc) (e : TacError) → link_procs d d.procs ≡ Ok procs → LeadsBack d procs e → TellsCause d e
+pub told_by_recursion : (d : Draft) (procs : List Proc) (e : TacError) → link_procs d d.procs ≡ Ok procs → LeadsBack d procs e → ReportsCause d e
 told_by_recursion d procs tac_error.NoMemory link back u text read = tt
 told_by_recursion d procs (tac_error.Refused line code) link back u text read = (
   Recursive,
@@ -73,7 +73,7 @@ told_by_recursion d procs (tac_error.Refused line code) link back u text read = 
 )
 
 pub told_without_main : (d : Draft) (procs : List Proc) (code : ℕ) → link_procs d d.procs ≡ Ok procs → IsAcyclic procs
-    → named_in d.names (codes "main") ≡ None → code ≡ code_of NoMain → TellsCause d (tac_error.Refused 0 code)
+    → named_in d.names (codes "main") ≡ None → code ≡ code_of NoMain → ReportsCause d (tac_error.Refused 0 code)
 told_without_main d procs code link acyclic none is u text read = (
   NoMain,
   is,

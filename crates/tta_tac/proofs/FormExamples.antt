@@ -69,7 +69,7 @@ heads :
 unfolding said lines_of tokens_of tokens_from piece_at number_piece negative_piece mark_piece number_of negative_of digits_of value_below is_reserved proc_form data_form store_form put_form if_form goto_form when_form call_form return_form assign_form named_form form_of
 heads = (refl, refl, refl, refl, refl)
 
--- a name of an operation that stands alone behind the equals sign is a variable
+-- a name of an operation that stands alone after the equals sign is a variable
 assignments :
     (said (codes "a = b") ≡ Some (CopyForm (codes "a") (Named (codes "b"))))
     × (said (codes "a = add") ≡ Some (CopyForm (codes "a") (Named (codes "add"))))

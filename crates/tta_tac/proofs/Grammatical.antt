@@ -1,31 +1,28 @@
 -- The draft that lines make one after another is what all of them declare.
-use Rattle.std.proofs.Common.{◌≡◌, ℕ, ◌+◌, Bool, true, false, List, [], ◌∷◌, ◌++◌, length, map, Option, Some, None, Ok, Err, refl, sym, ◌∙◌, ap, subst, arith, append-nil, append_assoc, length-append}
-use Rattle.std.specs.Prelude.{is_some, option_to_list, IfOk, Result, codes}
+use Rattle.std.proofs.Common.{◌≡◌, ℕ, ◌+◌, Bool, true, false, List, [], ◌∷◌, ◌++◌, length, map, Option, Some, None, Ok, refl, sym, ◌∙◌, ap, subst, arith, append-nil, append_assoc, length-append}
+use Rattle.std.specs.Prelude.{is_some, option_to_list}
 use Rattle.std.specs.List.{list_all}
 use Rattle.std.proofs.lemmas.Bool.{and_from}
 use Rattle.tta_list.proofs.Tests.{none_from_is_some}
-use Rattle.tta_reading.specs.Lines.{Line, lines_of}
-use Rattle.tta_reading.specs.Names.{Declared, named_in}
+use Rattle.tta_reading.specs.Lines.{Line}
+use Rattle.tta_reading.specs.Names.{Declared}
 use Rattle.tta_reading.specs.Steps.{at_line}
 use Rattle.tta_reading.proofs.Steps.{then-ok, some-ok, at_line-ok}
 use Rattle.tta_ops.specs.Units.{Units}
 use Rattle.tta_program.specs.declared.program.DataLine.{DataLine}
-use Rattle.tta_program.specs.Program.{Program}
 use Rattle.tta_tac.specs.declared.reading.refusal.Refusal.TheVariants.{Syntax}
-use Rattle.tta_tac.specs.declared.reading.refusal.TacError.{TacError}
 use Rattle.tta_tac.specs.Forms.{Form, ProcForm, DataForm, LabelForm, form_of}
 use Rattle.tta_tac.specs.Draft.{Unlinked, ProcDraft, Draft, nothing}
 use Rattle.tta_tac.specs.FirstPass.{vars_after, step_of, is_end, close_if, with_step, numbered, with_fresh, with_datum, take_line}
-use Rattle.tta_tac.specs.SecondPass.{link_procs}
-use Rattle.tta_tac.specs.Text.{Linked, take_lines, linked_text, ProgramText}
-use Rattle.tta_tac.specs.Grammar.{Said, said_from, is_line, proc_in, datum_in, label_in, are_nested, Block, up_to_end, blocks, data_said, vars_said, labels_said, steps_said, step_lines, proc_said, draft_said, IsProgramText}
+use Rattle.tta_tac.specs.Text.{take_lines}
+use Rattle.tta_tac.specs.Grammar.{Said, said_from, is_line, proc_in, datum_in, label_in, are_nested, Block, up_to_end, blocks, data_said, vars_said, labels_said, steps_said, step_lines, proc_said, draft_said}
 use Rattle.tta_tac.proofs.Taken.{with_label, Taken, ProcBegins, DatumIsLaid, LabelIsPut, StepIsMade, form_taken}
 use Rattle.tta_tac.proofs.TextsKept.{closed}
 
 module _ (u : Units) where
   -- ---- a procedure that has begun
 
-  -- a procedure with the lines behind those that were read
+  -- a procedure with the lines after those that were read
   abbrev pub with_lines : ProcDraft → List Said → ProcDraft
   with_lines q xs = record q {
     vars = vars_said q.vars xs;
@@ -53,13 +50,13 @@ module _ (u : Units) where
       (append_assoc q.labels ((name, length q.steps) ∷ []) (labels_said (length q.steps) xs)) refl refl
 
   -- what a step is not
-  record IsStep (f : Form) : Type 0 where
+  pub record IsStep (f : Form) : Type 0 where
     pub proc : proc_in f ≡ None
     pub datum : (line : ℕ) → datum_in line f ≡ None
     pub label : label_in f ≡ None
 
   -- a line of which a step was made is one
-  is_step : (vars : Declared ℕ) (f : Form) (s : Unlinked) → step_of u vars f ≡ Some s → IsStep f
+  pub is_step : (vars : Declared ℕ) (f : Form) (s : Unlinked) → step_of u vars f ≡ Some s → IsStep f
   is_step vars (ProcForm name params) s e = cc
   is_step vars (DataForm address value) s e = cc
   is_step vars (LabelForm name) s e = cc
@@ -215,7 +212,7 @@ module _ (u : Units) where
   -- ---- texts
 
   -- all lines
-  lines_continue : (lines : List Line) (line : ℕ) (d e : Draft) → take_lines u line d lines ≡ Ok e → Continues d e (said_from line lines)
+  pub lines_continue : (lines : List Line) (line : ℕ) (d e : Draft) → take_lines u line d lines ≡ Ok e → Continues d e (said_from line lines)
   unfolding take_line
   lines_continue [] line d e taken =
       let c = closed u line d.names d.procs d.begun d.init d.lines e taken in subst (λ x. Continues d x []) c.0 (none_left d c.1)
@@ -226,7 +223,7 @@ module _ (u : Units) where
       rw f.1 (taken_continues d c.0 e line f.0 (said_from (line + 1) lines) (form_taken u d c.0 line f.0 f.2) (lines_continue lines (line + 1) c.0 e c.2))
 
   -- each of them has a form
-  lines_have_forms : (lines : List Line) (line : ℕ) (d e : Draft) → take_lines u line d lines ≡ Ok e → list_all is_line lines ≡ true
+  pub lines_have_forms : (lines : List Line) (line : ℕ) (d e : Draft) → take_lines u line d lines ≡ Ok e → list_all is_line lines ≡ true
   unfolding take_line
   lines_have_forms [] line d e taken = refl
   lines_have_forms ([] ∷ lines) line d e taken = lines_have_forms lines (line + 1) d e taken
@@ -236,35 +233,10 @@ module _ (u : Units) where
       and_from (is_some (form_of key words)) (list_all is_line lines) (ap is_some f.1) (lines_have_forms lines (line + 1) c.0 e c.2)
 
   -- what lines make of no draft is what they declare
-  declared : (d : Draft) (xs : List Said) → Continues nothing d xs → d ≡ draft_said u xs
+  pub declared : (d : Draft) (xs : List Said) → Continues nothing d xs → d ≡ draft_said u xs
   declared d xs k = parts d.names d.procs d.begun d.init d.lines k.names k.procs k.begun k.init k.lines where
     parts : (names : Declared ℕ) (procs : List ProcDraft) (begun : Option ProcDraft) (init : List DataLine) (lines : ℕ)
         → names ≡ numbered 0 (map (λ b. b.name) (blocks xs)) → procs ≡ map (proc_said u) (blocks xs) → begun ≡ None → init ≡ data_said xs
         → lines ≡ 0 + length xs
         → record { names = names; procs = procs; begun = begun; init = init; lines = lines } ≡ draft_said u xs
     parts names procs begun init lines e f g h i = let count : lines ≡ length xs = omega (arith, i) in rw (e, f, g, h, count) refl
-
-  -- a text that is a program describes it
-  pub program_said : (text : List ℕ) (p : Program) → ProgramText u text p → IsProgramText u (lines_of text) p
-  unfolding linked_text
-  program_said text p t =
-      let read = then-ok (take_lines u 1 nothing (lines_of text)) _ t.linked t.passes in
-      let link = then-ok (link_procs read.0 read.0.procs) _ t.linked read.2 in
-      let linked : Linked = record { draft = read.0; procs = link.0 } in
-      let same : linked ≡ t.linked = cc link.2 in
-      let continues = lines_continue (lines_of text) 1 nothing read.0 read.1 in
-      let draft : read.0 ≡ draft_said u (said_from 1 (lines_of text)) = declared read.0 (said_from 1 (lines_of text)) continues in
-      let procs : p.procs ≡ link.0 = t.procs ∙ ap (λ (l : Linked). l.procs) (sym same) in
-      let main : named_in read.0.names (codes "main") ≡ Some p.main = ap (λ (l : Linked). named_in l.draft.names (codes "main")) same ∙ t.main in
-      record {
-        all = lines_have_forms (lines_of text) 1 nothing read.0 read.1;
-        nested = continues.nested;
-        procs = subst (λ (d : Draft). link_procs d d.procs ≡ Ok p.procs) draft (link.1 ∙ ap (λ qs. Ok qs) (sym procs));
-        main = subst (λ (d : Draft). named_in d.names (codes "main") ≡ Some p.main) draft main;
-        init = t.init ∙ ap (λ (l : Linked). l.draft.init) (sym same) ∙ continues.init;
-      }
-
-  -- the same of what was read
-  pub read_said : (text : List ℕ) (r : Result Program TacError) → IfOk r (ProgramText u text) → IfOk r (IsProgramText u (lines_of text))
-  read_said text (Ok p) t = program_said text p t
-  read_said text (Err e) t = tt

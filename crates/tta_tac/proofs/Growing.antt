@@ -17,7 +17,7 @@ pub sum_last : (qs : List ProcDraft) (q : ProcDraft)
     → sum_by (λ q. length q.steps) (qs ++ q ∷ []) ≡ sum_by (λ q. length q.steps) qs + length q.steps
 sum_last qs q = let e = sum_by-append (λ q. length q.steps) qs (q ∷ []) in let f = sum_by-cons (λ q. length q.steps) q [] in omega arith
 
--- the procedure at a place, with one more behind the others
+-- the procedure at a place, with one more after the others
 pub get_last : (qs : List ProcDraft) (q : ProcDraft) (k : ℕ) (r : ProcDraft) → slice_get (qs ++ q ∷ []) k ≡ Some r
     → (slice_get qs k ≡ Some r) ⊎ ((k ≡ length qs) × (q ≡ r))
 get_last [] q zero r e = let same : q ≡ r = cc in inr (refl, same)

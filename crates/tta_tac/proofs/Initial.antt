@@ -43,7 +43,7 @@ next_taken [] k x e = cc
 next_taken (y ∷ ys) zero x e = let same : y ≡ x = cc in rw same refl
 next_taken (y ∷ ys) (suc k) x e = ap (λ l. y ∷ l) (next_taken ys k x e)
 
--- the next data line goes behind those that were copied
+-- the next data line goes after those that were copied
 pub line_copied : (items ds : List DataLine) (es : List (ℕ × Datum)) (k : ℕ) (e : ℕ × Datum) → map data_line es ≡ ds
     → slice_get es k ≡ Some e → items ≡ take k ds → items ++ data_line e ∷ [] ≡ take (k + 1) ds
 line_copied items ds es k e same at copied =

@@ -45,7 +45,7 @@ plain_kept p q (step.Return s) h = h
 plain_kept p q step.Halt h = h
 plain_kept p q step.End h = h
 
--- whether nothing is in a list, as behind the `end` of a procedure
+-- whether nothing is in a list, as after the `end` of a procedure
 abbrev pub is_nil : {A : Type 0} → List A → Bool
 is_nil [] = true
 is_nil (x ∷ xs) = false

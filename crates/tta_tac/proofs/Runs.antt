@@ -10,7 +10,7 @@ use Rattle.tta_ops.specs.Reserved.{is_reserved}
 use Rattle.tta_tac.specs.Forms.{operand_of, free_name, operands_alone, names_alone}
 use Rattle.tta_tac.specs.Seen.{operands_in}
 
--- one more word in front: there is a value where there is one for it and for the words behind it
+-- one more word before: there is a value where there is one for it and for the words after it
 one_more : {X : Type 0} (first : Option X) (rest : Option (List X)) (all : Bool) (xs : List X)
     → rest ≡ (if all then Some xs else None)
     → (first >>? λ x. rest >>? λ ys. Some (x ∷ ys)) ≡ (if is_some first && all then Some (cons_option first xs) else None)
@@ -37,7 +37,7 @@ free_name_text w = by (is_name_kind w.kind) where
   by true = kept (not (is_reserved w.text))
   by false = inl refl
 
--- one more name in front, where its word has no other text
+-- one more name before, where its word has no other text
 one_more_name : (first : Option (List ℕ)) (text : List ℕ) (rest : Option (List (List ℕ))) (all : Bool) (names : List (List ℕ))
     → (first ≡ None) ⊎ (first ≡ Some text)
     → rest ≡ (if all then Some names else None)

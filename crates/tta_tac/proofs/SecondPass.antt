@@ -16,7 +16,7 @@ use Rattle.tta_tac.specs.Draft.{Draft, ProcDraft, step_seen, steps_seen, proc_se
 use Rattle.tta_tac.specs.Kept.{IsEnded}
 use Rattle.tta_tac.specs.declared.reading.refusal.TacError.{TacError}
 use Rattle.tta_tac.specs.declared.reading.refusal.TacError.TheVariants as tac_error
-use Rattle.tta_tac.specs.Told.{Tells}
+use Rattle.tta_tac.specs.Reported.{Reports}
 use Rattle.tta_tac.specs.SecondPass.{Refused, params_of, link_step, link_steps, link_proc, link_procs}
 
 -- a procedure's parameters, by the code's procedures
@@ -33,13 +33,13 @@ params_there procs k q below is =
 pub params_missing : (procs : List DraftProc) (k : ℕ) → length procs ≤ k → 0 ≡ params_of (procs_seen procs) k
 params_missing procs k past = sym (params_seen procs k ∙ ap (λ o. option_map_or (λ q. q.params) o 0) (slice_get_past procs k past))
 
--- what comes behind what was made
-abbrev pub behind : {A : Type 0} → List A → Result (List A) Refused → Result (List A) Refused
-behind done (Ok rest) = Ok (done ++ rest)
-behind done (Err e) = Err e
+-- what comes after what was made
+abbrev pub put_after : {A : Type 0} → List A → Result (List A) Refused → Result (List A) Refused
+put_after done (Ok rest) = Ok (done ++ rest)
+put_after done (Err e) = Err e
 
 behind_one : {A : Type 0} (done : List A) (x : A) (r : Result (List A) Refused)
-    → behind done (r >>= λ rest. Ok (x ∷ rest)) ≡ behind (done ++ x ∷ []) r
+    → put_after done (r >>= λ rest. Ok (x ∷ rest)) ≡ put_after (done ++ x ∷ []) r
 behind_one done x (Ok rest) = ap Ok (sym (append_assoc done (x ∷ []) rest))
 behind_one done x (Err e) = refl
 
@@ -57,15 +57,15 @@ module _ (d : Draft) (labels : Declared ℕ) (steps : List NamedStep) (lines : L
   -- the next step is made or refused
   step_next : (k : ℕ) (s : NamedStep) (done : List Step) (r : Result Step Refusal) → k < length steps → length lines ≡ length steps → s ≡ get_or steps k s
       → r ≡ link_step d labels (step_seen s)
-      → behind done (steps_from k) ≡ behind done (at_line (get_or lines k 0) r >>= λ first. steps_from (k + 1) >>= λ rest. Ok (first ∷ rest))
+      → put_after done (steps_from k) ≡ put_after done (at_line (get_or lines k 0) r >>= λ first. steps_from (k + 1) >>= λ rest. Ok (first ∷ rest))
   step_next k s done r below same is made =
-      ap (λ r. behind done r) (step_from k s below same
+      ap (λ r. put_after done r) (step_from k s below same
       ∙ ap (λ r. at_line (get_or lines k 0) r >>= λ first. steps_from (k + 1) >>= λ rest. Ok (first ∷ rest))
       (ap (λ y. link_step d labels (step_seen y)) (sym is) ∙ sym made))
 
   pub steps_more : (k : ℕ) (s : NamedStep) (done : List Step) (x : Step) → k < length steps → length lines ≡ length steps → s ≡ get_or steps k s
       → Ok x ≡ link_step d labels (step_seen s)
-      → behind done (steps_from k) ≡ behind (done ++ x ∷ []) (steps_from (k + 1))
+      → put_after done (steps_from k) ≡ put_after (done ++ x ∷ []) (steps_from (k + 1))
   steps_more k s done x below same is made = step_next k s done (Ok x) below same is made ∙ behind_one done x (steps_from (k + 1))
 
 module _ (d : Draft) (procs : List DraftProc) where
@@ -76,20 +76,20 @@ module _ (d : Draft) (procs : List DraftProc) where
   -- the next procedure is made or refused
   proc_next : (k : ℕ) (q : DraftProc) (done : List Proc) (r : Result Proc Refused) → k < length procs → q ≡ get_or procs k q
       → link_proc d (proc_seen q) ≡ r
-      → behind done (procs_from k) ≡ behind done (r >>= λ first. procs_from (k + 1) >>= λ rest. Ok (first ∷ rest))
+      → put_after done (procs_from k) ≡ put_after done (r >>= λ first. procs_from (k + 1) >>= λ rest. Ok (first ∷ rest))
   proc_next k q done r below is made =
-      ap (λ r. behind done r) (at_drop_more (λ qs. link_procs d (procs_seen qs)) procs k q below
+      ap (λ r. put_after done r) (at_drop_more (λ qs. link_procs d (procs_seen qs)) procs k q below
       ∙ ap (λ r. r >>= λ first. procs_from (k + 1) >>= λ rest. Ok (first ∷ rest))
       (ap (λ y. link_proc d (proc_seen y)) (sym is) ∙ made))
 
   pub procs_more : (k : ℕ) (q : DraftProc) (done : List Proc) (x : Proc) → k < length procs → q ≡ get_or procs k q
       → link_proc d (proc_seen q) ≡ Ok x
-      → behind done (procs_from k) ≡ behind (done ++ x ∷ []) (procs_from (k + 1))
+      → put_after done (procs_from k) ≡ put_after (done ++ x ∷ []) (procs_from (k + 1))
   procs_more k q done x below is made = proc_next k q done (Ok x) below is made ∙ behind_one done x (procs_from (k + 1))
 
   pub procs_refused : (k : ℕ) (q : DraftProc) (done : List Proc) (e : Refused) → k < length procs → q ≡ get_or procs k q
       → link_proc d (proc_seen q) ≡ Err e
-      → behind done (procs_from k) ≡ Err e
+      → put_after done (procs_from k) ≡ Err e
   procs_refused k q done e below is made = proc_next k q done (Err e) below is made
 
 -- each of the code's procedures keeps what all of them keep
@@ -99,19 +99,19 @@ ended_at [] k q all below is = absurd (omega arith)
 ended_at (p ∷ procs) zero q all below is = subst (λ x. IsEnded (proc_seen x)) (sym is) all.0
 ended_at (p ∷ procs) (suc k) q all below is = ended_at procs k q all.1 (omega arith) is
 
--- what is told of a procedure is told of all
-pub procs_told : (d : Draft) (procs : List DraftProc) (k : ℕ) (q : DraftProc) (done : List Proc) (e : TacError) → k < length procs
-    → q ≡ get_or procs k q → Tells {A = Proc} (Err e) (link_proc d (proc_seen q))
-    → link_procs d (procs_seen procs) ≡ behind done (procs_from d procs k) → Tells {A = List Proc} (Err e) (link_procs d (procs_seen procs))
-procs_told d procs k q done tac_error.NoMemory below is told inv = tt
-procs_told d procs k q done (tac_error.Refused line code) below is told inv =
-    (told.0, told.1, inv ∙ procs_refused d procs k q done (line, told.0) below is told.2)
+-- what is reported of a procedure is reported of all
+pub procs_reported : (d : Draft) (procs : List DraftProc) (k : ℕ) (q : DraftProc) (done : List Proc) (e : TacError) → k < length procs
+    → q ≡ get_or procs k q → Reports {A = Proc} (Err e) (link_proc d (proc_seen q))
+    → link_procs d (procs_seen procs) ≡ put_after done (procs_from d procs k) → Reports {A = List Proc} (Err e) (link_procs d (procs_seen procs))
+procs_reported d procs k q done tac_error.NoMemory below is reported inv = tt
+procs_reported d procs k q done (tac_error.Refused line code) below is reported inv =
+    (reported.0, reported.1, inv ∙ procs_refused d procs k q done (line, reported.0) below is reported.2)
 
 -- a procedure is refused as its steps are, and else has them
-pub proc_told : (d : Draft) (q : ProcDraft) (e : TacError) → Tells {A = List Step} (Err e) (link_steps d q.labels q.steps q.lines)
-    → Tells {A = Proc} (Err e) (link_proc d q)
-proc_told d q tac_error.NoMemory told = tt
-proc_told d q (tac_error.Refused line code) told = (told.0, told.1, rw told.2 refl)
+pub proc_reported : (d : Draft) (q : ProcDraft) (e : TacError) → Reports {A = List Step} (Err e) (link_steps d q.labels q.steps q.lines)
+    → Reports {A = Proc} (Err e) (link_proc d q)
+proc_reported d q tac_error.NoMemory reported = tt
+proc_reported d q (tac_error.Refused line code) reported = (reported.0, reported.1, rw reported.2 refl)
 
 pub proc_linked : (d : Draft) (q : ProcDraft) (steps : List Step) → link_steps d q.labels q.steps q.lines ≡ Ok steps
     → link_proc d q ≡ Ok (record { params = q.params; vars = length q.vars; steps = steps; lines = q.lines })

@@ -58,7 +58,7 @@ grows_form vars (LabelForm name) = grows_not vars
 grows_form vars HaltForm = grows_not vars
 grows_form vars EndForm = grows_not vars
 
--- a variable and an operand behind it
+-- a variable and an operand after it
 one_kept : (vars : Declared ℕ) (d : List ℕ) (o : Operand) → IsNumbered vars → fits o ≡ true
     → let all = with_operand (with_var vars d) o in
     (nat_lt (var_number all d) (length all) && is_src (length all) (src_of all o)) ≡ true
@@ -79,7 +79,7 @@ two_kept vars a b h f =
     (λ t. src_kept (with_operand (with_operand vars a) b) b all (has_operand (with_operand vars a) b t))
     f
 
--- a destination and operands behind it
+-- a destination and operands after it
 some_kept : (vars : Declared ℕ) (d : List ℕ) (os : List Operand) → IsNumbered vars → list_all fits os ≡ true
     → let all = with_operands (with_var vars d) os in
     (nat_lt (var_number all d) (length all) ≡ true) × (list_all (is_src (length all)) (srcs_of all os) ≡ true)
@@ -188,7 +188,7 @@ module _ (m n : ℕ) (more : m ≤ n) where
   all_more [] h = refl
   all_more (s ∷ ss) h = and_map (unlinked_more s) (all_more ss) h
 
--- an End behind steps that are none
+-- an End after steps that are none
 pub closes_last : (ss : List Unlinked) (s : Unlinked) → list_any is_end_step ss ≡ false → is_end_step s ≡ true → closes_once (ss ++ s ∷ []) ≡ true
 closes_last [] s none last = closes_cons s [] ∙ ap (λ t. if t then true else false) last
 closes_last (x ∷ xs) s none last =

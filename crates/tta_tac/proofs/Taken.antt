@@ -17,6 +17,8 @@ use Rattle.tta_tac.specs.FirstPass.{vars_after, lacks_op, has_wrong_arity, has_m
 pub record ProcTaken (d e : Draft) (line : ℕ) (name : List ℕ) (params : List (List ℕ)) : Type 0 where
   pub closed : is_some d.begun ≡ false
   pub bare_main : (bytes_eq name (codes "main") && nat_lt 0 (length params)) ≡ false
+  pub free : is_some (named_in d.names name) ≡ false
+  pub once : has_twice params ≡ false
   pub room : d.lines < 65536
   pub few : length params ≤ 8
   pub made : with_fresh d line name params ≡ e
@@ -27,10 +29,13 @@ proc_taken d e line name params taken =
     let p2 = refuse_if-ok (bytes_eq name (codes "main") && nat_lt 0 (length params)) Arity _ e p1.1 in
     let p3 = refuse_if-ok (is_some (named_in d.names name) || has_twice params) Twice _ e p2.1 in
     let p4 = refuse_if-ok (is_full d || nat_lt 8 (length params)) TooMany _ e p3.1 in
+    let apart = or_parts (is_some (named_in d.names name)) (has_twice params) p3.0 in
     let tests = or_parts (is_full d) (nat_lt 8 (length params)) p4.0 in
     record {
       closed = p1.0;
       bare_main = p2.0;
+      free = apart.0;
+      once = apart.1;
       room = leb-false 65536 d.lines tests.0;
       few = ltb-false 8 (length params) tests.1;
       made = same_ok (with_fresh d line name params) e p4.1;
@@ -63,8 +68,9 @@ datum_taken d e line address value taken =
 abbrev pub with_label : ProcDraft → (name : List ℕ) → ProcDraft
 with_label q name = record q { labels = q.labels ++ (name, length q.steps) ∷ [] }
 
--- the tests found room for it
+-- no label of the procedure has its name, and there is room for it
 pub record LabelTaken (d e : Draft) (q : ProcDraft) (name : List ℕ) : Type 0 where
+  pub free : is_some (named_in q.labels name) ≡ false
   pub room : d.lines < 65536
   pub made : record d { begun = Some (with_label q name); lines = d.lines + 1 } ≡ e
 
@@ -72,7 +78,11 @@ label_taken : (d e : Draft) (q : ProcDraft) (name : List ℕ) → take_label d q
 label_taken d e q name taken =
     let p1 = refuse_if-ok (is_some (named_in q.labels name)) Twice _ e taken in
     let p2 = refuse_if-ok (is_full d) TooMany _ e p1.1 in
-    record { room = leb-false 65536 d.lines p2.0; made = same_ok (record d { begun = Some (with_label q name); lines = d.lines + 1 }) e p2.1 }
+    record {
+      free = p1.0;
+      room = leb-false 65536 d.lines p2.0;
+      made = same_ok (record d { begun = Some (with_label q name); lines = d.lines + 1 }) e p2.1;
+    }
 
 -- ---- steps
 
@@ -82,6 +92,7 @@ pub record StepTaken (u : Units) (d e : Draft) (q : ProcDraft) (line : ℕ) (f :
   pub is : step_of u (vars_after q.vars f) f ≡ Some step
   pub offered : lacks_op u f ≡ false
   pub fits : has_wrong_arity u f ≡ false
+  pub args : has_many_args f ≡ false
   pub room : d.lines < 65536
   pub few : length (vars_after q.vars f) ≤ 4096
   pub made : close_if (is_end f) (record d { lines = d.lines + 1 }) (with_step q (vars_after q.vars f) step line) ≡ e
@@ -93,12 +104,14 @@ step_taken u d e q line f taken =
     let p3 = refuse_if-ok (is_full d || has_many_args f || nat_lt 4096 (length (vars_after q.vars f))) TooMany _ e p2.1 in
     let s = some-ok Syntax (step_of u (vars_after q.vars f) f) _ e p3.1 in
     let tests = or_parts (is_full d || has_many_args f) (nat_lt 4096 (length (vars_after q.vars f))) p3.0 in
+    let sizes = or_parts (is_full d) (has_many_args f) tests.0 in
     record {
       step = s.0;
       is = s.1;
       offered = p1.0;
       fits = p2.0;
-      room = leb-false 65536 d.lines (or_parts (is_full d) (has_many_args f) tests.0).0;
+      args = sizes.1;
+      room = leb-false 65536 d.lines sizes.0;
       few = ltb-false 4096 (length (vars_after q.vars f)) tests.1;
       made = same_ok (close_if (is_end f) (record d { lines = d.lines + 1 }) (with_step q (vars_after q.vars f) s.0 line)) e s.2;
     }

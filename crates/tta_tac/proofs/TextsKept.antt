@@ -13,7 +13,7 @@ use Rattle.tta_tac.specs.Draft.{ProcDraft, Draft, nothing}
 use Rattle.tta_tac.specs.FirstPass.{take_line}
 use Rattle.tta_tac.specs.Text.{take_lines}
 use Rattle.tta_tac.specs.Kept.{IsKept}
-use Rattle.tta_tac.specs.Told.{IsDraftOf}
+use Rattle.tta_tac.specs.Reported.{IsDraftOf}
 use Rattle.tta_tac.proofs.StepsKept.{fits_form}
 use Rattle.tta_tac.proofs.FormsFit.{form_fit}
 use Rattle.tta_tac.proofs.Growing.{nothing_kept}

@@ -36,12 +36,12 @@ abbrev pub unset : List Bool → ℕ
 unset [] = 0
 unset (mark ∷ marks) = (if mark then 0 else 1) + unset marks
 
--- the mark of a place tells whether it was found, and none was found twice
+-- the mark of a place says whether it was found, and none was found twice
 pub record IsMarked (marks : List Bool) (found : List ℕ) : Type 0 where
   pub same : (k : ℕ) → slice_index_or marks k false ≡ is_found found k
   pub once : unset marks + length found ≡ length marks
 
--- besides the places that were found, those that pass a test are, behind the others
+-- besides the places that were found, those that pass a test are, after the others
 pub record Finds (places : ℕ) (test : ℕ → Bool) (old new : List ℕ) : Type 0 where
   pub all : (k : ℕ) → is_found new k ≡ (is_found old k || (nat_lt k places && test k))
   pub more : List ℕ

@@ -98,7 +98,7 @@ op_id u name = record { 0 = option_map_or (λ op. op) (named u name) 0 }
 
 -- ---- steps
 
--- an operation of one word has it behind the word 0
+-- an operation of one word has it after the word 0
 abbrev pub apply_step : Units → Declared ℕ → (d : ℕ) (op : List ℕ) → List Operand → Unlinked
 apply_step u vars d op (only ∷ []) = Plain (step.Apply d (op_id u op) (Word 0) (src_of vars only))
 apply_step u vars d op (left ∷ right ∷ []) = Plain (step.Apply d (op_id u op) (src_of vars left) (src_of vars right))

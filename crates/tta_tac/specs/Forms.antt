@@ -130,7 +130,7 @@ abbrev pub alone_form : Form → Line → Option Form
 alone_form form [] = Some form
 alone_form form line = None
 
--- d = s, d = in, d = load a, d = call NAME s .., d = OPERATION s and d = OPERATION a b, behind the equals sign
+-- d = s, d = in, d = load a, d = call NAME s .., d = OPERATION s and d = OPERATION a b, after the equals sign
 unfoldable pub assign_form : (d : List ℕ) → Line → Option Form
 assign_form d (s ∷ []) =
     if is_keyword (codes "in") s then Some (TakeForm d) else operand_of s >>? λ value. Some (CopyForm d value)
@@ -156,7 +156,7 @@ named_form n (mark ∷ rest) =
     else only_if (is_mark (codes ":") mark) (alone_form (LabelForm name) rest)
 named_form n line = None
 
--- a line that is not blank, told by its first word
+-- a line that is not blank, by its first word
 unfoldable pub form_of : Lexeme → Line → Option Form
 form_of key words =
     if is_keyword (codes "proc") key then proc_form words

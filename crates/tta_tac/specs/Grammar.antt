@@ -1,17 +1,20 @@
--- What a program text says, told from all its lines at once: from each `proc` line to its `end` line a procedure, in which
+-- What a program text says, from all its lines at once: from each `proc` line to its `end` line a procedure, in which
 -- each line is a label or a step, and outside of procedures lines of data.
-use Rattle.std.specs.Prelude.{◌≡◌, ℕ, ◌+◌, Bool, true, false, not, ◌&&◌, if◌then◌else◌, List, [], ◌∷◌, ◌++◌, length, map, Option, Some, None, is_some, option_map, option_to_list, Ok, codes}
+use Rattle.std.specs.Prelude.{◌≡◌, ℕ, ◌+◌, ◌≤◌, Bool, true, false, not, ◌&&◌, nat_lt, if◌then◌else◌, List, [], ◌∷◌, ◌++◌, length, map, Option, Some, None, is_some, option_map, option_to_list, Ok, codes}
+use Rattle.std.specs.Str.{bytes_eq}
 use Rattle.std.specs.Option.{option_map_or}
-use Rattle.std.specs.List.{list_all}
+use Rattle.std.specs.List.{list_all, AllByRecursion}
 use Rattle.tta_reading.specs.Lines.{Line}
 use Rattle.tta_reading.specs.Names.{Declared, named_in}
 use Rattle.tta_ops.specs.Units.{Units}
 use Rattle.tta_program.specs.declared.program.DataLine.{DataLine}
 use Rattle.tta_program.specs.Program.{Program}
+use Rattle.tta_program.specs.Rules.{Reaches, are_apart}
 use Rattle.tta_tac.specs.Forms.{Form, ProcForm, DataForm, LabelForm, form_of}
 use Rattle.tta_tac.specs.Draft.{Unlinked, ProcDraft, Draft}
-use Rattle.tta_tac.specs.FirstPass.{vars_after, step_of, is_end, numbered}
+use Rattle.tta_tac.specs.FirstPass.{vars_after, lacks_op, has_wrong_arity, has_many_args, has_twice, step_of, is_end, numbered}
 use Rattle.tta_tac.specs.SecondPass.{link_procs}
+use Rattle.tta_tac.specs.Text.{with_main}
 
 -- ---- lines
 
@@ -55,7 +58,7 @@ are_nested inside (x ∷ xs) =
 
 -- ---- procedures
 
--- a procedure as its lines say it: the line of its `proc`, its name and its parameters, and the lines behind it up to `end`
+-- a procedure as its lines say it: the line of its `proc`, its name and its parameters, and the lines after it up to `end`
 pub record Block : Type 0 where
   pub line : ℕ
   pub name : List ℕ
@@ -110,6 +113,35 @@ proc_said u b = record {
   lines = step_lines b.body;
 }
 
+-- ---- rules
+
+-- the operation that a line names is offered and takes as many words as stand there, and a call has at most eight arguments
+abbrev pub is_fit : Units → Said → Bool
+is_fit u x = not (lacks_op u x.1) && not (has_wrong_arity u x.1) && not (has_many_args x.1)
+
+-- the names of the labels among lines
+abbrev pub label_names : List Said → List (List ℕ)
+label_names [] = []
+label_names (x ∷ xs) = option_map_or (λ name. name ∷ label_names xs) (label_in x.1) (label_names xs)
+
+-- a procedure has at most eight parameters, and main none; no two parameters have one name, and no two labels; and there
+-- are at most 4,096 variables
+pub record IsBlock (b : Block) : Type 0 where
+  pub few : length b.params ≤ 8
+  pub bare_main : (bytes_eq b.name (codes "main") && nat_lt 0 (length b.params)) ≡ false
+  pub params : has_twice b.params ≡ false
+  pub labels : has_twice (label_names b.body) ≡ false
+  pub vars : length (vars_said (numbered 0 b.params) b.body) ≤ 4096
+
+-- at most 65,536 lines are not blank, each fits the units, no two procedures have one name, each is a procedure, and no
+-- address has two data
+pub record KeepsRules (u : Units) (xs : List Said) : Type 0 where
+  pub most : length xs ≤ 65536
+  pub fit : list_all (is_fit u) xs ≡ true
+  pub names : has_twice (map (λ b. b.name) (blocks xs)) ≡ false
+  pub procs : AllByRecursion IsBlock (blocks xs)
+  pub apart : are_apart (data_said xs) ≡ true
+
 -- ---- a text and its program
 
 -- all that the lines of a text declare: its procedures by their places, and its data
@@ -122,11 +154,14 @@ draft_said u xs = record {
   lines = length xs;
 }
 
--- A text of these lines is this program: its lines have their forms and stand as they may, each procedure is made of its
--- own lines with labels and callees replaced by their numbers, one of them is called main, and the data are those of the text.
+-- A text of these lines is this program: its lines have their forms, stand as they may and keep the rules; each procedure
+-- is made of its own lines, with labels and callees replaced by their numbers; none leads back to itself by calls; one of
+-- them is called main; and the data are those of the text.
 pub record IsProgramText (u : Units) (lines : List Line) (p : Program) : Type 0 where
   pub all : list_all is_line lines ≡ true
   pub nested : are_nested false (said_from 1 lines) ≡ true
+  pub rules : KeepsRules u (said_from 1 lines)
   pub procs : link_procs (draft_said u (said_from 1 lines)) (draft_said u (said_from 1 lines)).procs ≡ Ok p.procs
+  pub acyclic : (k : ℕ) → Reaches (with_main p.procs 0) k k → ⊥
   pub main : named_in (draft_said u (said_from 1 lines)).names (codes "main") ≡ Some p.main
   pub init : p.init ≡ data_said (said_from 1 lines)

@@ -46,7 +46,7 @@ pub record IsProcDraft (q : ProcDraft) : Type 0 where
   pub steps : list_all (is_unlinked (length q.vars)) q.steps ≡ true
   pub lines : length q.lines ≡ length q.steps
 
--- one that has not: a label may stand behind the last step so far
+-- one that has not: a label may stand after the last step so far
 pub record IsOpen (q : ProcDraft) : Type 0 where
   pub draft : IsProcDraft q
   pub labels : (name : List ℕ) (k : ℕ) → named_in q.labels name ≡ Some k → k ≤ length q.steps

@@ -9,5 +9,5 @@ pub mod Grammar
 pub mod Seen
 pub mod Cycles
 pub mod Kept
-pub mod Told
+pub mod Reported
 pub mod Whole

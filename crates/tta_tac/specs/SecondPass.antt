@@ -32,7 +32,7 @@ link_step d labels (CallTo dst callee args) =
 abbrev pub Refused : Type 0
 Refused = ℕ × Refusal
 
--- the steps of a procedure with their lines; the first refusal is told
+-- the steps of a procedure with their lines; the first refusal is reported
 abbrev pub link_steps : Draft → Declared ℕ → List Unlinked → (lines : List ℕ) → Result (List Step) Refused
 link_steps d labels (s ∷ ss) (line ∷ lines) =
     at_line line (link_step d labels s) >>= λ first. link_steps d labels ss lines >>= λ rest. Ok (first ∷ rest)

@@ -17,7 +17,7 @@ use Rattle.tta_tac.specs.Draft.{Draft, ProcDraft, nothing}
 use Rattle.tta_tac.specs.FirstPass.{take_line}
 use Rattle.tta_tac.specs.SecondPass.{Refused, link_procs}
 
--- the lines from this one on; the first that is refused is told
+-- the lines from this one on; the first that is refused is reported
 abbrev pub take_lines : Units → (line : ℕ) → Draft → List Line → Result Draft Refused
 take_lines u line d [] = if_closed d.begun where
   if_closed : Option ProcDraft → Result Draft Refused
@@ -53,7 +53,7 @@ pub record ProgramText (u : Units) (text : List ℕ) (p : Program) : Type 0 wher
   pub init : p.init ≡ linked.draft.init
   pub acyclic : (k : ℕ) → Reaches (with_main linked.procs 0) k k → ⊥
 
--- the text is refused because of a procedure that leads back to itself: told at the line of its `proc`
+-- the text is refused because of a procedure that leads back to itself: reported at the line of its `proc`
 pub record IsRecursive (u : Units) (text : List ℕ) (line : ℕ) : Type 0 where
   pub linked : Linked
   pub passes : linked_text u text ≡ Ok linked
@@ -74,7 +74,7 @@ pub data IsRefusedAt (u : Units) (text : List ℕ) : (line : ℕ) → Refusal �
   ByRecursion : (line : ℕ) → IsRecursive u text line → IsRefusedAt u text line Recursive
   WithoutMain : LacksMain u text → IsRefusedAt u text 0 NoMain
 
--- what is told of a text that is no program; want of memory needs no cause
+-- what is reported of a text that is no program; out of memory needs no cause
 abbrev pub HasCause : Units → List ℕ → TacError → Type 0
 HasCause u text (tac_error.Refused line code) = (refusal : Refusal) × (code ≡ code_of refusal) × IsRefusedAt u text line refusal
 HasCause u text tac_error.NoMemory = Unit {0}

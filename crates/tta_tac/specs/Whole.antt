@@ -3,7 +3,7 @@ use Rattle.std.specs.Prelude.{◌≡◌, ℕ, List, None}
 use Rattle.tta_ops.specs.Units.{Units}
 use Rattle.tta_tac.specs.Draft.{Draft}
 use Rattle.tta_tac.specs.Kept.{IsKept}
-use Rattle.tta_tac.specs.Told.{IsDraftOf}
+use Rattle.tta_tac.specs.Reported.{IsDraftOf}
 
 -- all lines of a text were taken, its procedures have ended, and the rules of drafts hold
 pub record TakesAll (u : Units) (text : List ℕ) (d : Draft) : Type 0 where

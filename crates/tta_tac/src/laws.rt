@@ -9,13 +9,15 @@ ghost use Rattle.tta_program.specs.Over.{StandsOver};
 ghost use Rattle.tta_tac.specs.Grammar.{IsProgramText};
 ghost use Rattle.tta_tac.specs.Text.{ProgramText};
 
-/// What a text is as a program keeps every rule of programs, is what all lines of the text together
-/// describe, and stands over the set of units that the text is read with.
+/// What a text is as a program keeps every rule of programs, and stands over the set of units that
+/// the text is read with. A text is a program exactly where all its lines together describe it.
 pub fn texts_are_programs()
     ensures program { (u : Units) (text : List ℕ) (p : Program)
         → ProgramText u text p → IsProgram p }
     ensures grammar { (u : Units) (text : List ℕ) (p : Program)
         → ProgramText u text p → IsProgramText u (lines_of text) p }
+    ensures exact { (u : Units) (text : List ℕ) (p : Program)
+        → IsProgramText u (lines_of text) p → ProgramText u text p }
     ensures over { (u : Units) (text : List ℕ) (p : Program)
         → ProgramText u text p → StandsOver u p }
 {}

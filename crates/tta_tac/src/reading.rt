@@ -1,6 +1,7 @@
 //! Reading a program's text.
 
 mod assign;
+mod begun;
 mod calls;
 mod cycles;
 mod declarations;

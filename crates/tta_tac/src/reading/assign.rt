@@ -1,4 +1,4 @@
-//! The forms of assignments: what stands behind `d =`.
+//! The forms of assignments: what stands after `d =`.
 
 ghost use Rattle.std.specs.Prelude.{◌≡◌, [], ◌∷◌, true, false, map, option_map, codes};
 ghost use Rattle.tta_reading.specs.Lines.{plain};
@@ -11,7 +11,7 @@ use super::forms::{Form, Operands};
 use super::pieces::{free_name, operand_of};
 use tta_reading::Word;
 
-/// `d = s`, `d = in`, `d = load a`, `d = call NAME s ..`, `d = OPERATION b` and `d = OPERATION a b`, behind
+/// `d = s`, `d = in`, `d = load a`, `d = call NAME s ..`, `d = OPERATION b` and `d = OPERATION a b`, after
 /// the equals sign.
 #[tactic(auto, unfolding(crate::specs::Forms::assign_form))]
 pub fn assign_form<'w, 't>(d: &'t [u8], words: &'w [Word<'t>]) -> Option<Form<'w, 't>>

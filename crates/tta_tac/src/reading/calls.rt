@@ -9,7 +9,7 @@ use super::forms::Form;
 use super::pieces::{free_name, operands_alone};
 use tta_reading::Word;
 
-/// `call NAME s ..`, behind a destination or without one.
+/// `call NAME s ..`, after a destination or without one.
 #[tactic(auto, unfolding(crate::specs::Forms::call_form))]
 pub fn call_form<'w, 't>(d: Option<&'t [u8]>, words: &'w [Word<'t>]) -> Option<Form<'w, 't>>
     ensures { option_map form_seen result

@@ -3,7 +3,7 @@
 //! A walk along the calls gives numbers that never rise along them, by which all procedures are
 //! passed over that do not lead back to themselves: where a procedure calls only smaller numbers,
 //! no way leads back. So a search, which takes as long as there are calls, is made of the procedure
-//! that is told, and of no other.
+//! that is reported, and of no other.
 
 ghost use Rattle.std.specs.Prelude.{◌≡◌, ◌<◌, ◌==◌, true, false, length, IfOk, OnOk, MatchOption};
 ghost use Rattle.std.specs.Prelude.{[], replicate, slice_index_or};

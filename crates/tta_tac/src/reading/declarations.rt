@@ -11,7 +11,7 @@ use std::alloc::{AllocError, Global};
 use tta_reading::Names;
 
 /// Gives the variables of a line their numbers, in the order in which its words stand. An `Err` is
-/// want of memory.
+/// out of memory.
 pub fn declare_names(alloc: Global, vars: &mut Names<u32>, form: &Form) -> Result<(), AllocError>
     requires few { has_many_args (form_seen form.now) ≡ false }
     requires vars { length vars.old ≤ 4096 }

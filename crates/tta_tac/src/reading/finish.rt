@@ -4,7 +4,7 @@ ghost use Rattle.std.specs.Prelude.{◌≡◌, None, length, IfOk, IfErr, OnOk};
 ghost use Rattle.tta_tac.specs.Cycles.{IsAcyclic};
 ghost use Rattle.tta_tac.specs.Draft.{draft_seen};
 ghost use Rattle.tta_tac.specs.Kept.{IsKept};
-ghost use Rattle.tta_tac.specs.Told.{LeadsBack, MakesProgram, TellsCause};
+ghost use Rattle.tta_tac.specs.Reported.{LeadsBack, MakesProgram, ReportsCause};
 
 use super::cycles::first_recursive;
 use super::link::link_procs;
@@ -14,14 +14,14 @@ use crate::reading::refusal::Refusal;
 use std::alloc::Global;
 use tta_program::{Proc, Program};
 
-/// The program of a draft, whose procedures have all ended. `Refused` tells the first step that
+/// The program of a draft, whose procedures have all ended. `Refused` reports the first step that
 /// names what there is not, then the first procedure that leads back to itself, then, with line 0,
 /// that `main` is missing.
 pub fn finish(alloc: Global, draft: &Draft) -> Result<Program, TacError>
     requires kept { IsKept (draft_seen draft.now) }
     requires ended { (draft_seen draft.now).begun ≡ None }
     ensures made { IfOk result (MakesProgram (draft_seen draft.now)) }
-    ensures refused { IfErr result (TellsCause (draft_seen draft.now)) }
+    ensures refused { IfErr result (ReportsCause (draft_seen draft.now)) }
 {
     let procs = match link_procs(alloc, draft) {
         Ok(procs) => procs,

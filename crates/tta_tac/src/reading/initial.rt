@@ -54,7 +54,7 @@ impl InitialData {
         self.by_address.contains_key(&address)
     }
 
-    /// Adds a word for an address that has none, behind the others. An `Err` is out of memory.
+    /// Adds a word for an address that has none, after the others. An `Err` is out of memory.
     pub fn add(&mut self, address: u32, value: u32, line: u32) -> Result<(), AllocError>
         requires { has_address self.old address ≡ false }
         ensures { let datum : Line = record { address = address; value = value; line = line } in

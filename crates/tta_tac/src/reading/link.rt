@@ -8,7 +8,7 @@ ghost use Rattle.tta_tac.specs.Draft.{CallTo, draft_seen, proc_seen, procs_seen,
 ghost use Rattle.tta_tac.specs.Draft.{steps_seen};
 ghost use Rattle.tta_tac.specs.Kept.{IsEnded};
 ghost use Rattle.tta_tac.specs.SecondPass as spec;
-ghost use Rattle.tta_tac.specs.Told.{Tells};
+ghost use Rattle.tta_tac.specs.Reported.{Reports};
 
 use crate::reading::TacError;
 use crate::reading::draft::{Draft, DraftProc, NamedStep};
@@ -18,11 +18,11 @@ use tta_list::Items;
 use tta_program::{Args, Proc, Step};
 use tta_reading::Names;
 
-/// The procedures of a draft in the order of the text. `Refused` tells the first step that names
+/// The procedures of a draft in the order of the text. `Refused` reports the first step that names
 /// what there is not, or calls a procedure with another number of arguments than it has parameters.
 pub fn link_procs(alloc: Global, draft: &Draft) -> Result<Items<Proc>, TacError>
     requires { AllByRecursion IsEnded (procs_seen draft.now.procs) }
-    ensures { Tells result (spec.link_procs (draft_seen draft.now) (procs_seen draft.now.procs)) }
+    ensures { Reports result (spec.link_procs (draft_seen draft.now) (procs_seen draft.now.procs)) }
 {
     let mut linked = Items::new(alloc);
     for proc in draft.procs.as_slice() {
@@ -37,7 +37,7 @@ pub fn link_procs(alloc: Global, draft: &Draft) -> Result<Items<Proc>, TacError>
 /// A procedure with its steps.
 fn link_proc(alloc: Global, draft: &Draft, proc: &DraftProc) -> Result<Proc, TacError>
     requires { IsEnded (proc_seen proc.now) }
-    ensures { Tells result (spec.link_proc (draft_seen draft.now) (proc_seen proc.now)) }
+    ensures { Reports result (spec.link_proc (draft_seen draft.now) (proc_seen proc.now)) }
 {
     let lines = proc.lines.as_slice();
     let steps = match link_steps(alloc, draft, &proc.labels, proc.steps.as_slice(), lines) {
@@ -61,7 +61,7 @@ fn link_steps(
     lines: &[u32],
 ) -> Result<Items<Step>, TacError>
     requires { length lines.now ≡ length steps.now }
-    ensures { Tells result
+    ensures { Reports result
         (spec.link_steps (draft_seen draft.now) labels.now (steps_seen steps.now) lines.now) }
 {
     let mut linked = Items::new(alloc);

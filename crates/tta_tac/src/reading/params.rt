@@ -36,7 +36,7 @@ fn sees_twice(alloc: Global, words: &[Word], seen: &mut Names<()>) -> Result<boo
     Ok(false)
 }
 
-/// Names that differ as variables, numbered from 0. An `Err` is want of memory.
+/// Names that differ as variables, numbered from 0. An `Err` is out of memory.
 pub fn numbered(alloc: Global, words: &[Word]) -> Result<Names<u32>, AllocError>
     requires few { length words.now ≤ 8 }
     requires once { has_twice (texts words.now) ≡ false }
@@ -59,7 +59,7 @@ pub fn is_main_with_params(name: &[u8], params: &[Word]) -> bool
     name == b"main".as_slice() && params.len() > 0
 }
 
-/// A procedure of which only the first line was read. An `Err` is want of memory.
+/// A procedure of which only the first line was read. An `Err` is out of memory.
 #[tactic(auto, using(crate::proofs::Seen::texts_length))]
 pub fn new_proc<'t>(alloc: Global, line: u32, params: &[Word]) -> Result<DraftProc<'t>, AllocError>
     requires few { length params.now ≤ 8 }

@@ -18,7 +18,7 @@ use tta_program::Program;
 use tta_reading::Lines;
 
 // Takes all lines of a text into an empty draft. A text that ends inside a procedure is refused at
-// the line behind it.
+// the line after it.
 #[tactic(auto, using(crate::proofs::Whole::line_refused))]
 fn read_lines<'t>(
     alloc: Global,
@@ -77,7 +77,7 @@ fn program_of<'t>(
 
 /// The program of a text. It stands over these operation units. The text has at most 2^24 bytes.
 ///
-/// `Refused` tells the first refusal of the text with its line, counted from 1 (0 stands for the
+/// `Refused` reports the first refusal of the text with its line, counted from 1 (0 stands for the
 /// whole text).
 pub fn read_program(alloc: Global, text: &[u8], units: &UnitSet) -> Result<Program, TacError>
     requires { length text.now ≤ 2 ^ 24 }

@@ -30,7 +30,7 @@ pub enum Refusal {
 }
 
 impl Refusal {
-    /// The number under which a user is told.
+    /// The number under which a user is reported.
     pub fn code(self) -> u8
         ensures { result ≡ code_of self }
     {

@@ -1,6 +1,6 @@
 //! The forms of a program text's lines: which words a line is made of.
 //!
-//! Each function takes the words of a line behind those that chose the form, and gives what they
+//! Each function takes the words of a line after those that chose the form, and gives what they
 //! say, or `None` where the words are not of the form. Whether a name is known is not judged here.
 
 ghost use Rattle.std.specs.Prelude.{◌≡◌, map, option_map, Some};
@@ -15,7 +15,7 @@ use super::forms::Form;
 use super::pieces::{free_name, names_alone, operand_of, rel_of};
 use tta_reading::Word;
 
-/// What a line says, told by its first word and the words behind it; `None` where it is none of the
+/// What a line says, by its first word and the words after it; `None` where it is none of the
 /// forms.
 #[tactic(auto, unfolding(crate::specs::Forms::form_of))]
 pub fn form_of<'w, 't>(key: &Word<'t>, words: &'w [Word<'t>]) -> Option<Form<'w, 't>>
@@ -208,7 +208,7 @@ fn return_form<'w, 't>(words: &'w [Word<'t>]) -> Option<Form<'w, 't>>
     }
 }
 
-/// A form with nothing behind it.
+/// A form with nothing after it.
 fn alone_form<'w, 't>(form: Form<'w, 't>, words: &[Word]) -> Option<Form<'w, 't>>
     ensures { option_map form_seen result
         ≡ spec.alone_form (form_seen form.entry) (map plain words.now) }

@@ -11,7 +11,7 @@ use std::alloc::{AllocError, Global};
 use tta_program::{Args, Src};
 use tta_reading::{Names, Word};
 
-/// Gives a variable the next number, where it has none. An `Err` is want of memory.
+/// Gives a variable the next number, where it has none. An `Err` is out of memory.
 pub fn declare(alloc: Global, vars: &mut Names<u32>, name: &[u8]) -> Result<(), AllocError>
     requires { length vars.old < 2 ^ 32 }
     ensures ok { OnOk result (vars.new ≡ with_var vars.old name.now) }
@@ -25,7 +25,7 @@ pub fn declare(alloc: Global, vars: &mut Names<u32>, name: &[u8]) -> Result<(), 
     Ok(())
 }
 
-/// Gives the variable of an operand the next number, where it has none. An `Err` is want of memory.
+/// Gives the variable of an operand the next number, where it has none. An `Err` is out of memory.
 pub fn declare_operand(
     alloc: Global,
     vars: &mut Names<u32>,
@@ -45,7 +45,7 @@ pub fn declare_operand(
 }
 
 /// Gives the variables among words the next numbers, where they have none, from left to right. An
-/// `Err` is want of memory.
+/// `Err` is out of memory.
 pub fn declare_operands(
     alloc: Global,
     vars: &mut Names<u32>,

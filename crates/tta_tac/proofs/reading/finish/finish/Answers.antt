@@ -1,16 +1,16 @@
--- Each stage tells what it found, or hands on what holds.
+-- Each stage reports what it found, or hands on what holds.
 use Rattle.std.proofs.Common.{sym, ◌∙◌, ap, subst, length}
 use Rattle.tta_tac.specs.Cycles.{IsAcyclic}
 use Rattle.tta_program.specs.Rules.{IsProgram}
-use Rattle.tta_tac.specs.Told.{LeadsBack, MakesProgram}
+use Rattle.tta_tac.specs.Reported.{LeadsBack, MakesProgram}
 use Rattle.tta_tac.specs.Draft.{draft_seen, procs_seen}
-use Rattle.tta_tac.proofs.Finished.{linked_length, told_in_passes, told_by_recursion, told_without_main, made_program}
+use Rattle.tta_tac.proofs.Finished.{linked_length, reported_in_passes, told_by_recursion, told_without_main, made_program}
 use Rattle.tta_tac.proofs.Seen.{procs_seen_length}
 use Rattle.tta_tac.proofs.KeptRules.{keeps_rules}
 use Rattle.tta_tac.proofs.reading.finish.finish.Goals as goal
 
 pub returns-in-Err-clause-refused : goal.returns-in-Err-clause-refused
-returns-in-Err-clause-refused c = told_in_passes (draft_seen c.args.draft.now) c.in-Err.error c.in-Err.ensures
+returns-in-Err-clause-refused c = reported_in_passes (draft_seen c.args.draft.now) c.in-Err.error c.in-Err.ensures
 
 pub check_calls-requires : goal.check_calls-requires
 check_calls-requires c =

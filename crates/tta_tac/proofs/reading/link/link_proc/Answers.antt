@@ -1,6 +1,6 @@
 use Rattle.std.proofs.Common.{◌∙◌, sym, ap, length}
 use Rattle.tta_tac.specs.Draft.{draft_seen, proc_seen}
-use Rattle.tta_tac.proofs.SecondPass.{proc_told, proc_linked}
+use Rattle.tta_tac.proofs.SecondPass.{proc_reported, proc_linked}
 use Rattle.tta_tac.proofs.Seen.{steps_seen_length}
 use Rattle.tta_tac.proofs.reading.link.link_proc.Goals as goal
 
@@ -10,8 +10,8 @@ link_steps-requires c =
 
 pub returns-in-Err : goal.returns-in-Err
 returns-in-Err c =
-    let told = rw (c.as_slice.ensures, c.as_slice-lines.ensures) at c.in-Err.ensures in
-    proc_told (draft_seen c.args.draft.now) (proc_seen c.args.proc.now) c.in-Err.error told
+    let reported = rw (c.as_slice.ensures, c.as_slice-lines.ensures) at c.in-Err.ensures in
+    proc_reported (draft_seen c.args.draft.now) (proc_seen c.args.proc.now) c.in-Err.error reported
 
 pub returns : goal.returns
 returns c =

@@ -42,14 +42,14 @@ returns-in-Err-Refused-clause-refused g c =
     let before = draft_seen c.loop-words.draft in
     let words = map plain c.next_line.new.words.items in
     let rest = c.next_line.new.self in
-    let Told : LineError Refusal → List Word → Type 0 = λ e ws.
+    let Reported : LineError Refusal → List Word → Type 0 = λ e ws.
     Takes {A = Unit} (draft_seen c.take_line.new.self) (Err e) (take_line U line before (map plain ws)) in
-    let told : Told (line_error.Refused c.in-Err-Refused.refusal) c.next_line.new.words.items =
-    subst (Told (line_error.Refused c.in-Err-Refused.refusal)) c.as_slice.ensures.value
-    (subst (λ e. Told e c.as_slice.result.now) c.in-Err-Refused.field-0-is c.in-Err-Refused.ensures.says) in
+    let reported : Reported (line_error.Refused c.in-Err-Refused.refusal) c.next_line.new.words.items =
+    subst (Reported (line_error.Refused c.in-Err-Refused.refusal)) c.as_slice.ensures.value
+    (subst (λ e. Reported e c.as_slice.result.now) c.in-Err-Refused.field-0-is c.in-Err-Refused.ensures.says) in
     let split : c.loop-words.lines ≡ words ∷ rest = c.in_ok-next_line.ensures.more c.if-branch.true in
     let cause = line_refused U c.args.text.now line before words c.loop-words.lines rest c.in-Err-Refused.refusal
-    c.loop-words.invariant.rest split told in
+    c.loop-words.invariant.rest split reported in
     subst (λ code. HasCause U c.args.text.now (tac_error.Refused line code))
     (sym (c.code.ensures ∙ ap code_of c.in-Err-Refused.refusal-is)) cause
 

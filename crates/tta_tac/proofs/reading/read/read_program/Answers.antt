@@ -1,5 +1,5 @@
 use Rattle.tta_ops.specs.Set.{stated}
-use Rattle.tta_tac.proofs.Grammatical.{read_said}
+use Rattle.tta_tac.proofs.Described.{read_said}
 use Rattle.tta_tac.proofs.Over.{read_over}
 use Rattle.tta_tac.proofs.reading.read.read_program.Goals as goal
 

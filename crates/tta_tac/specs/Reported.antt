@@ -1,4 +1,4 @@
--- What the second pass makes, and tells.
+-- What the second pass makes, and reports.
 use Rattle.std.specs.Prelude.{◌≡◌, ℕ, List, Some, None, slice_get, Result, Ok, Err}
 use Rattle.std.specs.Option.{option_map_or}
 use Rattle.tta_reading.specs.Lines.{lines_of}
@@ -14,11 +14,11 @@ use Rattle.tta_tac.specs.Draft.{Draft, nothing}
 use Rattle.tta_tac.specs.SecondPass.{Refused}
 use Rattle.tta_tac.specs.Text.{take_lines, IsFirstRecursive, ProgramText, HasCause}
 
--- what was made is what the definition says; a refusal is told with its line and number; or there was no memory
-abbrev pub Tells : {A : Type 0} → Result A TacError → Result A Refused → Type 0
-Tells (Ok x) said = said ≡ Ok x
-Tells (Err (tac_error.Refused line code)) said = (refusal : Refusal) × (code ≡ code_of refusal) × (said ≡ Err (line, refusal))
-Tells (Err tac_error.NoMemory) said = Unit {0}
+-- what was made is what the definition says; a refusal is reported with its line and number; or there was no memory
+abbrev pub Reports : {A : Type 0} → Result A TacError → Result A Refused → Type 0
+Reports (Ok x) said = said ≡ Ok x
+Reports (Err (tac_error.Refused line code)) said = (refusal : Refusal) × (code ≡ code_of refusal) × (said ≡ Err (line, refusal))
+Reports (Err tac_error.NoMemory) said = Unit {0}
 
 -- all lines of a text were read, and made this draft
 abbrev pub IsDraftOf : Draft → Units → List ℕ → Type 0
@@ -28,11 +28,11 @@ IsDraftOf d u text = take_lines u 1 nothing (lines_of text) ≡ Ok d
 abbrev pub MakesProgram : Draft → Program → Type 0
 MakesProgram d p = (u : Units) (text : List ℕ) → IsDraftOf d u text → ProgramText u text p
 
--- or tells why each such text is refused
-abbrev pub TellsCause : Draft → TacError → Type 0
-TellsCause d e = (u : Units) (text : List ℕ) → IsDraftOf d u text → HasCause u text e
+-- or reports why each such text is refused
+abbrev pub ReportsCause : Draft → TacError → Type 0
+ReportsCause d e = (u : Units) (text : List ℕ) → IsDraftOf d u text → HasCause u text e
 
--- calls lead back: told with the line of the first procedure that they lead back to; or there was no memory
+-- calls lead back: reported with the line of the first procedure that they lead back to; or there was no memory
 abbrev pub LeadsBack : Draft → List Proc → TacError → Type 0
 LeadsBack d procs (tac_error.Refused line code) =
     (code ≡ code_of Recursive) × ((k : ℕ) × IsFirstRecursive procs k × (option_map_or (λ q. Some q.line) (slice_get d.procs k) None ≡ Some line))
