@@ -1,6 +1,7 @@
 -- What is noted of each place on the way down a list, by the number of the place.
-use Rattle.std.specs.Prelude.{ℕ, Bool, true, false, not, ◌&&◌, nat_le, nat_lt, if◌then◌else◌, List, [], ◌∷◌, Option, Some, None, option_map, option_and_then, slice_get, slice_set}
+use Rattle.std.specs.Prelude.{◌≡◌, ◌<◌, ◌==◌, ℕ, Bool, true, false, not, ◌&&◌, nat_le, nat_lt, if◌then◌else◌, List, [], ◌∷◌, length, Option, Some, None, option_map, option_and_then, slice_get, slice_set}
 use Rattle.std.specs.Option.{option_map_or}
+use Rattle.std.specs.List.{list_all}
 use Rattle.tta_arch.specs.declared.ends.GuardRef.{GuardRef}
 use Rattle.tta_arch.specs.declared.ends.Source.TheVariants as source
 use Rattle.tta_arch.specs.declared.ends.Dest.{Dest}
@@ -16,10 +17,22 @@ use Rattle.tta_moves.specs.Numbers.{place_number}
 use Rattle.tta_moves.specs.Forms.{sure_source, is_port_source, is_wide_file, same_source, register_of}
 use Rattle.tta_moves.specs.Slots.{joined}
 use Rattle.tta_optim.specs.declared.notes.Note.{Note}
+use Rattle.tta_optim.specs.declared.notes.Entry.{Entry}
 
 -- a place before the list
 abbrev pub blank : Note
 blank = record { at = 0; from = None }
+
+-- what an entry tells on the way down a list: nothing, where it is of another
+abbrev pub note_in : (list : ℕ) → Entry → Note
+note_in list e = if e.list == list then e.note else blank
+
+-- The stamps of a table that serves one list after another, one for each place: lists are counted from 1, and no stamp is
+-- of a list that is still to come.
+pub record AreStamps (list : ℕ) (stamps : List ℕ) : Type 0 where
+  pub some : 0 < list
+  pub size : length stamps ≡ 641
+  pub past : list_all (λ s. nat_le s list) stamps ≡ true
 
 -- which item last wrote a place
 abbrev pub since : List Note → Option ℕ → ℕ

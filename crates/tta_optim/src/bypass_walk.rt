@@ -96,6 +96,7 @@ fn bypassed(m: &Machine, net: &Net, notes: &Notes, x: Item) -> Item
 /// The items, each reading the result port that it could read, in one walk down.
 pub fn bypass_items(
     alloc: Global,
+    notes: &mut Notes,
     m: &Machine,
     net: &Net,
     items: &[Item],
@@ -105,10 +106,10 @@ pub fn bypass_items(
     ensures { IfOk result (λ v. v.items ≡ bypass_items m.now [] items.now) }
 {
     keeps_rules(m);
-    let mut notes = Notes::new(alloc)?;
+    notes.begin();
     let mut kept = Vec::new(alloc);
     for (at, x) in items.iter().enumerate() {
-        let y = bypassed(m, net, &notes, *x);
+        let y = bypassed(m, net, notes, *x);
         notes.pass(m, at + 1, y);
         kept.push(y)?;
     }

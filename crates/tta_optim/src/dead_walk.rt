@@ -14,6 +14,7 @@ use tta_moves::Item;
 /// The items but those whose write nothing of what stays reads, in one walk up.
 pub fn dead_items(
     alloc: Global,
+    wanted: &mut Wanted,
     m: &Machine,
     live: &[(u8, u8)],
     items: &[Item],
@@ -22,7 +23,7 @@ pub fn dead_items(
     ensures { IfOk result (λ v. v.items ≡ dead_items m.now live.now items.now) }
 {
     keeps_rules(m);
-    let mut wanted = Wanted::behind(alloc, live)?;
+    wanted.end(live);
     let mut kept = Vec::new(alloc);
     let mut first = items.len();
     while first > 0 {

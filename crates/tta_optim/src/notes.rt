@@ -1,9 +1,9 @@
 //! What is noted of each place on the way down a list.
 
-ghost use Rattle.std.specs.Prelude.{◌≡◌, slice_set};
+ghost use Rattle.std.specs.Prelude.{◌≡◌, slice_get, slice_set};
 ghost use Rattle.tta_moves.specs.Touches.{source_of_long, source_of};
 ghost use Rattle.tta_moves.specs.Forms.{sure_source};
-ghost use Rattle.tta_optim.specs.Notes.{since, copied_by, noted};
+ghost use Rattle.tta_optim.specs.Notes.{note_in, since, copied_by, noted};
 
 use crate::places::{PLACES, read_place, written_place};
 use std::alloc::{AllocError, Global};
@@ -20,17 +20,27 @@ pub struct Note {
     pub from: Option<ItemSource>,
 }
 
-/// Which item last wrote a place, 0 where none did.
-fn since(notes: &[Note], place: Option<usize>) -> usize
-    ensures { result ≡ since notes.now place }
+/// A note, and the list on the way down which it was made, by its number.
+#[derive(Clone, Copy)]
+pub struct Entry {
+    pub list: u64,
+    pub note: Note,
+}
+
+/// No item has written a place.
+const BLANK: Note = Note { at: 0, from: None };
+
+/// An entry that is of no list.
+const UNUSED: Entry = Entry {
+    list: 0,
+    note: BLANK,
+};
+
+/// What an entry tells on the way down a list: nothing, where it is of another.
+fn note_in(list: u64, e: Entry) -> Note
+    ensures { result ≡ note_in list e }
 {
-    let Some(n) = place else {
-        return 0;
-    };
-    match notes.get(n) {
-        None => 0,
-        Some(note) => note.at,
-    }
+    if e.list == list { e.note } else { BLANK }
 }
 
 fn source_of_long(value: LongValue) -> ItemSource
@@ -64,33 +74,71 @@ fn sure_source(x: Item) -> Option<ItemSource>
     }
 }
 
-/// What is noted of all places, which contracts see as a list by the numbers of places.
+/// What is noted of all places on the way down a list, which contracts see as a list by the numbers
+/// of places. The table serves one list after another and is not cleared between them: the entries
+/// of earlier lists count no more.
 #[derive(Drop)]
 pub struct Notes {
-    notes: Vec<Note>,
+    list: u64,
+    entries: Vec<Entry>,
 }
 
 impl Model for Notes {
-    ghost use Rattle.std.specs.Prelude.{List};
+    ghost use Rattle.std.specs.Prelude.{List, map};
     ghost use Rattle.tta_optim.specs.declared.notes.Note.{Note};
+    ghost use Rattle.tta_optim.specs.Notes.{note_in, AreStamps};
 
     ghost Value = { List Note };
 
-    ghost view = { λ n. n.notes.items };
+    ghost view = { λ n. map (note_in n.list) n.entries.items };
+
+    ghost invariant = { λ n. AreStamps n.list (map (λ e. e.list) n.entries.items) };
 }
 
 impl Notes {
-    ghost use Rattle.std.specs.Prelude.{replicate, IfOk, length};
+    ghost use Rattle.std.specs.Prelude.{replicate, IfOk};
     ghost use Rattle.tta_optim.specs.Notes.{blank};
 
-    /// No item has written any place.
-    pub fn new(alloc: Global) -> Result<Self, AllocError>
-        ensures { IfOk result (λ n. n ≡ replicate 641 blank) }
-    {
-        let blank = Note { at: 0, from: None };
+    /// A table for any number of lists. The only error is out of memory.
+    pub fn new(alloc: Global) -> Result<Self, AllocError> {
         Ok(Notes {
-            notes: vec![in alloc; blank; PLACES]?,
+            list: 1,
+            entries: vec![in alloc; UNUSED; PLACES]?,
         })
+    }
+
+    /// Goes to the begin of a list: no item has written any place.
+    pub fn begin(&mut self)
+        ensures { self.new ≡ replicate 641 blank }
+    {
+        if self.list == u64::MAX {
+            self.entries.fill(UNUSED);
+            self.list = 1;
+        } else {
+            self.list += 1;
+        }
+    }
+
+    fn note(&self, place: usize) -> Option<Note>
+        ensures { result ≡ slice_get self.now place }
+    {
+        match self.entries.get(place) {
+            None => None,
+            Some(e) => Some(note_in(self.list, *e)),
+        }
+    }
+
+    /// Which item last wrote a place, 0 where none did.
+    fn since(&self, place: Option<usize>) -> usize
+        ensures { result ≡ since self.now place }
+    {
+        let Some(n) = place else {
+            return 0;
+        };
+        match self.note(n) {
+            None => 0,
+            Some(note) => note.at,
+        }
     }
 
     /// The source whose word a place still has: that of the last item that wrote it, where it had
@@ -98,14 +146,13 @@ impl Notes {
     pub fn copied(&self, place: usize) -> Option<ItemSource>
         ensures { result ≡ copied_by self.now place }
     {
-        let notes = self.notes.as_slice();
-        let Some(note) = notes.get(place) else {
+        let Some(note) = self.note(place) else {
             return None;
         };
         let Some(from) = note.from else {
             return None;
         };
-        if since(notes, read_place(from)) <= note.at {
+        if self.since(read_place(from)) <= note.at {
             Some(from)
         } else {
             None
@@ -115,8 +162,11 @@ impl Notes {
     fn put(&mut self, place: usize, note: Note)
         ensures { self.new ≡ slice_set self.old place note }
     {
-        if place < self.notes.len() {
-            self.notes[place] = note;
+        if place < self.entries.len() {
+            self.entries[place] = Entry {
+                list: self.list,
+                note,
+            };
         }
     }
 

@@ -1,14 +1,17 @@
-//! The passes over a block's list.
+//! Each pass over a block's list.
 
-ghost use Rattle.std.specs.Prelude.{◌≡◌, true, IfOk};
+ghost use Rattle.std.specs.Prelude.{◌≡◌, true, [], IfOk};
 ghost use Rattle.tta_connect.specs.Net.{IsNetOf};
 ghost use Rattle.tta_moves.specs.Slots.{is_list};
 ghost use Rattle.tta_moves.specs.Forms.{is_bypassed, is_shared, is_lively};
 ghost use Rattle.tta_optim.specs.Kept.{KeepsMeaning, DoesNoMore};
+ghost use Rattle.tta_optim.specs.Passes.{bypass_items, share_items, dead_items};
 
 use crate::bypass_walk::bypass_items;
 use crate::dead_walk::dead_items;
+use crate::notes::Notes;
 use crate::share_walk::share_items;
+use crate::wanted::Wanted;
 use std::alloc::{AllocError, Global};
 use tta_arch::Machine;
 use tta_connect::Net;
@@ -16,7 +19,7 @@ use tta_list::Items;
 use tta_moves::{BlockList, Item};
 
 /// A list with these items, and the registers of another that are read after it.
-fn with_items(alloc: Global, b: &BlockList, items: Vec<Item>) -> Result<BlockList, AllocError>
+pub fn with_items(alloc: Global, b: &BlockList, items: Vec<Item>) -> Result<BlockList, AllocError>
     ensures items { IfOk result (λ r. r.items ≡ items.items) }
     ensures live { IfOk result (λ r. r.live_out ≡ b.now.live_out) }
 {
@@ -32,12 +35,14 @@ fn with_items(alloc: Global, b: &BlockList, items: Vec<Item>) -> Result<BlockLis
 pub fn bypass(alloc: Global, b: &BlockList, m: &Machine, net: &Net) -> Result<BlockList, AllocError>
     requires net { IsNetOf net.now m.now }
     requires list { is_list m.now b.now.items ≡ true }
+    ensures are { IfOk result (λ r. r.items ≡ bypass_items m.now [] b.now.items) }
     ensures meaning { IfOk result (λ r. KeepsMeaning m.now b.now.live_out b.now.items r.items) }
     ensures bypassed { IfOk result (λ r. is_bypassed m.now r.items ≡ true) }
     ensures no_more { IfOk result (λ r. DoesNoMore m.now b.now.items r.items) }
     ensures live { IfOk result (λ r. r.live_out ≡ b.now.live_out) }
 {
-    let items = bypass_items(alloc, m, net, b.items.as_slice())?;
+    let mut notes = Notes::new(alloc)?;
+    let items = bypass_items(alloc, &mut notes, m, net, b.items.as_slice())?;
     let r = with_items(alloc, b, items)?;
     Ok(r)
 }
@@ -47,6 +52,7 @@ pub fn bypass(alloc: Global, b: &BlockList, m: &Machine, net: &Net) -> Result<Bl
 pub fn share(alloc: Global, b: &BlockList, m: &Machine, net: &Net) -> Result<BlockList, AllocError>
     requires net { IsNetOf net.now m.now }
     requires list { is_list m.now b.now.items ≡ true }
+    ensures are { IfOk result (λ r. r.items ≡ share_items m.now [] b.now.items) }
     ensures meaning { IfOk result (λ r. KeepsMeaning m.now b.now.live_out b.now.items r.items) }
     ensures shared { IfOk result (λ r. is_shared m.now r.items ≡ true) }
     ensures bypassed { IfOk result (λ r. is_bypassed m.now b.now.items ≡ true
@@ -54,7 +60,8 @@ pub fn share(alloc: Global, b: &BlockList, m: &Machine, net: &Net) -> Result<Blo
     ensures no_more { IfOk result (λ r. DoesNoMore m.now b.now.items r.items) }
     ensures live { IfOk result (λ r. r.live_out ≡ b.now.live_out) }
 {
-    let items = share_items(alloc, m, b.items.as_slice())?;
+    let mut notes = Notes::new(alloc)?;
+    let items = share_items(alloc, &mut notes, m, b.items.as_slice())?;
     let r = with_items(alloc, b, items)?;
     Ok(r)
 }
@@ -64,6 +71,7 @@ pub fn share(alloc: Global, b: &BlockList, m: &Machine, net: &Net) -> Result<Blo
 pub fn dead(alloc: Global, b: &BlockList, m: &Machine, net: &Net) -> Result<BlockList, AllocError>
     requires net { IsNetOf net.now m.now }
     requires list { is_list m.now b.now.items ≡ true }
+    ensures are { IfOk result (λ r. r.items ≡ dead_items m.now b.now.live_out b.now.items) }
     ensures meaning { IfOk result (λ r. KeepsMeaning m.now b.now.live_out b.now.items r.items) }
     ensures lively { IfOk result (λ r. is_lively m.now b.now.live_out r.items ≡ true) }
     ensures bypassed { IfOk result (λ r. is_bypassed m.now b.now.items ≡ true
@@ -73,30 +81,9 @@ pub fn dead(alloc: Global, b: &BlockList, m: &Machine, net: &Net) -> Result<Bloc
     ensures no_more { IfOk result (λ r. DoesNoMore m.now b.now.items r.items) }
     ensures live { IfOk result (λ r. r.live_out ≡ b.now.live_out) }
 {
-    let items = dead_items(alloc, m, b.live_out.as_slice(), b.items.as_slice())?;
+    let mut wanted = Wanted::new(alloc)?;
+    let live = b.live_out.as_slice();
+    let items = dead_items(alloc, &mut wanted, m, live, b.items.as_slice())?;
     let r = with_items(alloc, b, items)?;
-    Ok(r)
-}
-
-/// Bypasses, shares and leaves dead writes out, in this order. It fails only where there is no
-/// memory.
-pub fn optimise(
-    alloc: Global,
-    b: &BlockList,
-    m: &Machine,
-    net: &Net,
-) -> Result<BlockList, AllocError>
-    requires net { IsNetOf net.now m.now }
-    requires list { is_list m.now b.now.items ≡ true }
-    ensures meaning { IfOk result (λ r. KeepsMeaning m.now b.now.live_out b.now.items r.items) }
-    ensures bypassed { IfOk result (λ r. is_bypassed m.now r.items ≡ true) }
-    ensures shared { IfOk result (λ r. is_shared m.now r.items ≡ true) }
-    ensures lively { IfOk result (λ r. is_lively m.now b.now.live_out r.items ≡ true) }
-    ensures no_more { IfOk result (λ r. DoesNoMore m.now b.now.items r.items) }
-    ensures live { IfOk result (λ r. r.live_out ≡ b.now.live_out) }
-{
-    let one = bypass(alloc, b, m, net)?;
-    let two = share(alloc, &one, m, net)?;
-    let r = dead(alloc, &two, m, net)?;
     Ok(r)
 }

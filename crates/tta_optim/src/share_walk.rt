@@ -69,15 +69,20 @@ fn is_redundant(notes: &Notes, x: Item) -> bool
 }
 
 /// The items but those that bring an operand port what it has, in one walk down.
-pub fn share_items(alloc: Global, m: &Machine, items: &[Item]) -> Result<Vec<Item>, AllocError>
+pub fn share_items(
+    alloc: Global,
+    notes: &mut Notes,
+    m: &Machine,
+    items: &[Item],
+) -> Result<Vec<Item>, AllocError>
     requires { list_all (has_slot m.now) items.now ≡ true }
     ensures { IfOk result (λ v. v.items ≡ share_items m.now [] items.now) }
 {
     keeps_rules(m);
-    let mut notes = Notes::new(alloc)?;
+    notes.begin();
     let mut kept = Vec::new(alloc);
     for x in items {
-        if is_redundant(&notes, *x) {
+        if is_redundant(notes, *x) {
             continue;
         }
         notes.pass(m, kept.len() + 1, *x);

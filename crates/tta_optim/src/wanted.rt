@@ -15,19 +15,24 @@ use std::marker::Model;
 use tta_arch::{Dest, Machine};
 use tta_moves::Item;
 
-/// Whether the word of each place is read later, which contracts see as a list by the numbers of
-/// places.
+/// Whether the word of each place is read later, on the way up a list, which contracts see as a list
+/// by the numbers of places. The table serves one list after another and is not cleared between
+/// them: a place is wanted where its mark is the number of the list.
 #[derive(Drop)]
 pub struct Wanted {
-    wanted: Vec<bool>,
+    list: u64,
+    marks: Vec<u64>,
 }
 
 impl Model for Wanted {
-    ghost use Rattle.std.specs.Prelude.{List, Bool};
+    ghost use Rattle.std.specs.Prelude.{List, Bool, map, ◌==◌};
+    ghost use Rattle.tta_optim.specs.Notes.{AreStamps};
 
     ghost Value = { List Bool };
 
-    ghost view = { λ w. w.wanted.items };
+    ghost view = { λ w. map (λ mark. mark == w.list) w.marks.items };
+
+    ghost invariant = { λ w. AreStamps w.list w.marks.items };
 }
 
 /// The number of the register or immediate register that an item writes.
@@ -77,25 +82,50 @@ fn live_register(on: (u8, u8)) -> Option<usize>
     }
 }
 
+/// The mark of a place on the way up a list.
+fn mark_of(list: u64, is: bool) -> u64
+    ensures { result ≡ (if is then list else 0) }
+{
+    if is { list } else { 0 }
+}
+
 impl Wanted {
-    ghost use Rattle.std.specs.Prelude.{replicate, reverse, false, true, IfOk};
+    ghost use Rattle.std.specs.Prelude.{replicate, false};
     ghost use Rattle.tta_moves.specs.Touches.{place_of_source, place_written};
     ghost use Rattle.tta_optim.specs.Notes.{set_wanted, dead_by, wanted_before, wanted_behind};
 
-    /// Behind a list the registers are wanted that are read after it, and the return address.
-    pub fn behind(alloc: Global, live: &[(u8, u8)]) -> Result<Self, AllocError>
-        ensures { IfOk result (λ w. w ≡ wanted_behind live.now (replicate 641 false)) }
+    /// A table for any number of lists. The only error is out of memory.
+    pub fn new(alloc: Global) -> Result<Self, AllocError> {
+        Ok(Wanted {
+            list: 1,
+            marks: vec![in alloc; 0; PLACES]?,
+        })
+    }
+
+    /// Goes to another list: nothing is wanted.
+    fn begin(&mut self)
+        ensures { self.new ≡ replicate 641 false }
     {
-        let mut behind = Wanted {
-            wanted: vec![in alloc; false; PLACES]?,
-        };
-        behind.set(Some(640), true);
+        if self.list == u64::MAX {
+            self.marks.fill(0);
+            self.list = 1;
+        } else {
+            self.list += 1;
+        }
+    }
+
+    /// Goes to the end of a list, after which the registers are wanted that are read there, and the
+    /// return address.
+    pub fn end(&mut self, live: &[(u8, u8)])
+        ensures { self.new ≡ wanted_behind live.now (replicate 641 false) }
+    {
+        self.begin();
+        self.set(Some(640), true);
         let mut first = live.len();
         while first > 0 {
             first -= 1;
-            behind.set(live_register(live[first]), true);
+            self.set(live_register(live[first]), true);
         }
-        Ok(behind)
     }
 
     fn set(&mut self, place: Option<usize>, is: bool)
@@ -104,17 +134,17 @@ impl Wanted {
         let Some(n) = place else {
             return;
         };
-        if n < self.wanted.len() {
-            self.wanted[n] = is;
+        if n < self.marks.len() {
+            self.marks[n] = mark_of(self.list, is);
         }
     }
 
     fn is_wanted(&self, place: usize) -> bool
         ensures { result ≡ wanted_at self.now place }
     {
-        match self.wanted.get(place) {
+        match self.marks.get(place) {
             None => false,
-            Some(is) => *is,
+            Some(mark) => *mark == self.list,
         }
     }
 

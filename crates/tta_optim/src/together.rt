@@ -1,0 +1,84 @@
+//! All three passes, one after another.
+
+ghost use Rattle.std.specs.Prelude.{◌≡◌, true, IfOk};
+ghost use Rattle.tta_connect.specs.Net.{IsNetOf};
+ghost use Rattle.tta_moves.specs.Slots.{is_list};
+ghost use Rattle.tta_moves.specs.Forms.{is_bypassed, is_shared, is_lively};
+ghost use Rattle.tta_optim.specs.Kept.{KeepsMeaning, DoesNoMore};
+ghost use Rattle.tta_optim.specs.Passes.{optimise_items};
+
+use crate::bypass_walk::bypass_items;
+use crate::dead_walk::dead_items;
+use crate::notes::Notes;
+use crate::passes::with_items;
+use crate::share_walk::share_items;
+use crate::wanted::Wanted;
+use std::alloc::{AllocError, Global};
+use tta_arch::Machine;
+use tta_connect::Net;
+use tta_moves::BlockList;
+
+/// The three passes with the tables that they keep, which serve one list after another.
+#[derive(Drop)]
+pub struct Passes {
+    notes: Notes,
+    wanted: Wanted,
+}
+
+impl Passes {
+    /// The passes for any number of lists. It fails only where there is no memory.
+    pub fn new(alloc: Global) -> Result<Self, AllocError> {
+        let notes = Notes::new(alloc)?;
+        let wanted = Wanted::new(alloc)?;
+        Ok(Passes { notes, wanted })
+    }
+
+    /// Bypasses, shares and leaves dead writes out, in this order. It fails only where there is no
+    /// memory.
+    pub fn optimise(
+        &mut self,
+        alloc: Global,
+        b: &BlockList,
+        m: &Machine,
+        net: &Net,
+    ) -> Result<BlockList, AllocError>
+        requires net { IsNetOf net.now m.now }
+        requires list { is_list m.now b.now.items ≡ true }
+        ensures are { IfOk result (λ r. r.items ≡ optimise_items m.now b.now.live_out b.now.items) }
+        ensures meaning { IfOk result (λ r. KeepsMeaning m.now b.now.live_out b.now.items r.items) }
+        ensures bypassed { IfOk result (λ r. is_bypassed m.now r.items ≡ true) }
+        ensures shared { IfOk result (λ r. is_shared m.now r.items ≡ true) }
+        ensures lively { IfOk result (λ r. is_lively m.now b.now.live_out r.items ≡ true) }
+        ensures no_more { IfOk result (λ r. DoesNoMore m.now b.now.items r.items) }
+        ensures live { IfOk result (λ r. r.live_out ≡ b.now.live_out) }
+    {
+        let live = b.live_out.as_slice();
+        let one = bypass_items(alloc, &mut self.notes, m, net, b.items.as_slice())?;
+        let two = share_items(alloc, &mut self.notes, m, one.as_slice())?;
+        let three = dead_items(alloc, &mut self.wanted, m, live, two.as_slice())?;
+        let r = with_items(alloc, b, three)?;
+        Ok(r)
+    }
+}
+
+/// Bypasses, shares and leaves dead writes out, in this order. It fails only where there is no
+/// memory. Whoever has many lists keeps `Passes` instead.
+pub fn optimise(
+    alloc: Global,
+    b: &BlockList,
+    m: &Machine,
+    net: &Net,
+) -> Result<BlockList, AllocError>
+    requires net { IsNetOf net.now m.now }
+    requires list { is_list m.now b.now.items ≡ true }
+    ensures are { IfOk result (λ r. r.items ≡ optimise_items m.now b.now.live_out b.now.items) }
+    ensures meaning { IfOk result (λ r. KeepsMeaning m.now b.now.live_out b.now.items r.items) }
+    ensures bypassed { IfOk result (λ r. is_bypassed m.now r.items ≡ true) }
+    ensures shared { IfOk result (λ r. is_shared m.now r.items ≡ true) }
+    ensures lively { IfOk result (λ r. is_lively m.now b.now.live_out r.items ≡ true) }
+    ensures no_more { IfOk result (λ r. DoesNoMore m.now b.now.items r.items) }
+    ensures live { IfOk result (λ r. r.live_out ≡ b.now.live_out) }
+{
+    let mut passes = Passes::new(alloc)?;
+    passes.optimise(alloc, b, m, net)
+}
