@@ -1,5 +1,6 @@
 //! What the parts of the compiler prove together, as laws, and the steps between the parts: which
-//! needs of a program no unit offers, direct pairs, code from lists, and a program's data in order.
+//! needs of a program no unit offers, direct pairs, lists through the passes, code from lists, and a
+//! program's data in order.
 #![tactic(auto)]
 
 mod data;
@@ -7,6 +8,7 @@ mod direct;
 mod end;
 mod laws;
 mod needs;
+mod passes;
 
 pub use data::data_in_order;
 pub use direct::is_direct;
@@ -16,3 +18,4 @@ pub use laws::{
     direct_means, lists_agree, lists_fit, lists_link, lists_mean, lists_planned, selected_stand,
 };
 pub use needs::unoffered;
+pub use passes::optimise_all;
