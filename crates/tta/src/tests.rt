@@ -12,6 +12,7 @@ mod moves;
 mod operations;
 mod programs;
 mod run;
+mod short;
 mod streams;
 mod texts;
 

@@ -1,5 +1,5 @@
 -- The code of a pair that is no direct one.
-use Rattle.std.proofs.Common.{◌≡◌, ℕ, zero, suc, ◌<◌, ◌≤◌, Bool, true, false, List, [], ◌∷◌, Option, Some, None, Result, Ok, Err, length, refl, sym, ◌∙◌, ap, subst, arith}
+use Rattle.std.proofs.Common.{◌≡◌, ℕ, zero, suc, ◌<◌, ◌≤◌, Bool, true, false, List, [], ◌∷◌, Option, Some, None, Result, Ok, Err, length, map, refl, sym, ◌∙◌, ap, subst, arith}
 use Rattle.std.specs.Prelude.{◌&&◌, slice_get, nat_lt, IfOk, IfErr}
 use Rattle.std.specs.List.{list_all}
 use Rattle.std.proofs.lemmas.Bool.{and_from}
@@ -26,12 +26,12 @@ use Rattle.tta_select.specs.Select.{selected}
 use Rattle.tta_select.specs.Needs.{fits_block}
 use Rattle.tta_link.specs.Blocks.{AreBlocks}
 use Rattle.tta_code.specs.declared.code.Code.{Code}
-use Rattle.tta_compose.specs.Compiler.{IsPair, AreStandIns, raw}
+use Rattle.tta_compose.specs.Compiler.{IsPair, AreStandIns, optimised, raw}
 use Rattle.tta_compose.specs.Needs.{are_offered}
 use Rattle.tta_compose.specs.Direct.{is_direct}
 use Rattle.tta_compose.specs.Linking.{AreRespected}
 use Rattle.tta_compose.specs.Ends.{IsCodeOf, IsTooLong}
-use Rattle.tta_compose.proofs.Composed.{fit, selected_stand}
+use Rattle.tta_compose.proofs.Composed.{fit, selected_stand, compiled_stand}
 use Rattle.tta_compose.proofs.Planning.{lists_planned}
 use Rattle.tta_compose.proofs.Linking.{lists_link, lists_agree}
 use Rattle.tta_compose.proofs.Room.{lists_fit}
@@ -74,10 +74,27 @@ module _ (u : Units) (m : Machine) (c : Choice) (p : Program) (machine : IsMachi
       subst (λ (x : Rir). list_all (fits_block u m c (length x.blocks)) x.blocks ≡ true) (sym (code_is r is))
       (fit u m c p (spans is.blocks) (home_by p is.kept) (first_by p is.live) (after_by p is.live) (pair is.code.room) (known r is)).blocks
 
-  -- its lists are those of the program
-  pub lists_are : (r : Rir) (lists : List BlockList) → IsLowered p (length c.homes) m.frame_words r
-      → lists ≡ selected m c u r → AreListsOf u m c p lists
-  lists_are r lists is same = record {
+  -- the lists that are selected for it
+  abbrev selected_for : (r : Rir) → IsLowered p (length c.homes) m.frame_words r → List BlockList
+  selected_for r is = raw u m c p (spans is.blocks) (home_by p is.kept) (first_by p is.live) (after_by p is.live)
+
+  selected_are : (r : Rir) (is : IsLowered p (length c.homes) m.frame_words r) (lists : List BlockList) → lists ≡ selected m c u r → lists ≡ selected_for r is
+  selected_are r is lists same = same ∙ ap (selected m c u) (code_is r is)
+
+  -- are lists of the machine
+  pub selected_lists : (r : Rir) (lists : List BlockList) → IsLowered p (length c.homes) m.frame_words r
+      → lists ≡ selected m c u r → list_all (λ (b : BlockList). is_list m b.items) lists ≡ true
+  selected_lists r lists is same =
+      let planned = lists_planned u m c p (spans is.blocks) (home_by p is.kept) (first_by p is.live) (after_by p is.live) (selected_for r is)
+      (pair is.code.room) (known r is) (selected_stand m (selected_for r is)) in
+      subst (λ (l : List BlockList). list_all (λ (b : BlockList). is_list m b.items) l ≡ true) (sym (selected_are r is lists same))
+      (all_by (λ (b : BlockList). is_list m b.items) (parts p (spans is.blocks) (first_by p is.live)) (selected_for r is) planned.count
+      (λ k x b e f. (planned.each k x b e f).list))
+
+  -- and those that the passes make of them are the program's
+  pub lists_are : (r : Rir) (lists others : List BlockList) → IsLowered p (length c.homes) m.frame_words r
+      → lists ≡ selected m c u r → others ≡ map (optimised m) lists → AreListsOf u m c p others
+  lists_are r lists others is same made = record {
     blocks = is.blocks;
     live = is.live;
     kept = is.kept;
@@ -85,7 +102,7 @@ module _ (u : Units) (m : Machine) (c : Choice) (p : Program) (machine : IsMachi
     lives = is.lives;
     scan = is.scan;
     room = is.code.room;
-    are = same ∙ ap (selected m c u) (code_is r is);
+    are = made ∙ ap (map (optimised m)) (selected_are r is lists same);
   }
 
 -- ---- the lists of a pair
@@ -98,12 +115,12 @@ module _ (u : Units) (m : Machine) (c : Choice) (p : Program) (lists : List Bloc
   known_of : IsKnown p (length c.homes) (spans of.blocks) (home_by p of.kept) (first_by p of.live) (after_by p of.live)
   known_of = answers_know p (length c.homes) of.blocks of.live of.kept program of.flow of.lives of.scan
 
-  abbrev selected_for : List BlockList
-  selected_for = raw u m c p (spans of.blocks) (home_by p of.kept) (first_by p of.live) (after_by p of.live)
+  abbrev raw_for : List BlockList
+  raw_for = raw u m c p (spans of.blocks) (home_by p of.kept) (first_by p of.live) (after_by p of.live)
 
-  -- the lists may be placed as they are
-  stand_in : AreStandIns m selected_for lists
-  stand_in = subst (AreStandIns m selected_for) (sym of.are) (selected_stand m selected_for)
+  -- the lists may be placed for the selected ones
+  stand_in : AreStandIns m raw_for lists
+  stand_in = subst (AreStandIns m raw_for) (sym of.are) (compiled_stand u m c p (spans of.blocks) (home_by p of.kept) (first_by p of.live) (after_by p of.live))
 
   pub are_lists : list_all (λ (b : BlockList). is_list m b.items) lists ≡ true
   are_lists =

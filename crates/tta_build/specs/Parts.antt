@@ -20,7 +20,7 @@ use Rattle.tta_code.specs.declared.whole.Datum.{Datum}
 use Rattle.tta_code.specs.Whole.{laid_by}
 use Rattle.tta_code.specs.Legal.{IsLegalCode}
 use Rattle.tta_code.specs.Agrees.{Agrees}
-use Rattle.tta_compose.specs.Compiler.{raw}
+use Rattle.tta_compose.specs.Compiler.{compiled}
 use Rattle.tta_compose.specs.Direct.{list_of_direct}
 use Rattle.tta_compose.specs.Ends.{IsTooLong}
 use Rattle.tta_build.specs.declared.error.BuildError.{BuildError}
@@ -37,7 +37,7 @@ pub record IsLowered (p : Program) (homes frame_words : ℕ) (r : Rir) : Type 0 
   pub scan : IsScan p homes kept
   pub code : IsCodeOf p blocks live kept frame_words r
 
--- The lists that are selected for a program, by blocks, liveness and homes that are the program's; the frames have room.
+-- The lists that are placed for a program: those that the passes make of the selected ones, by blocks, liveness and homes that are the program's; the frames have room.
 pub record AreListsOf (u : Units) (m : Machine) (c : Choice) (p : Program) (lists : List BlockList) : Type 0 where
   pub blocks : List Block
   pub live : Live
@@ -46,7 +46,7 @@ pub record AreListsOf (u : Units) (m : Machine) (c : Choice) (p : Program) (list
   pub lives : IsLive p live
   pub scan : IsScan p (length c.homes) kept
   pub room : frame_need p ≤ m.frame_words
-  pub are : lists ≡ raw u m c p (spans blocks) (home_by p kept) (first_by p live) (after_by p live)
+  pub are : lists ≡ compiled u m c p (spans blocks) (home_by p kept) (first_by p live) (after_by p live)
 
 -- The one list of a direct pair, where blocks, liveness and homes of the program are known.
 pub record AreDirect (m : Machine) (p : Program) (lists : List BlockList) : Type 0 where

@@ -19,7 +19,7 @@ use crate::register::register_code;
 use std::alloc::Global;
 use tta_arch::Machine;
 use tta_code::Code;
-use tta_compose::unoffered;
+use tta_compose::{optimise_all, unoffered};
 use tta_connect::{Choice, CoverError, Net, cover};
 use tta_lower::LowerError;
 use tta_moves::BlockList;
@@ -48,7 +48,8 @@ fn lists_of(
 {
     let homes = c.homes.len() as u32;
     let code = register_code(alloc, p, homes, m.frame_words)?;
-    let lists = select(alloc, &code, m, net, c, units)?;
+    let selected = select(alloc, &code, m, net, c, units)?;
+    let lists = optimise_all(alloc, selected.as_slice(), m, net)?;
     Ok(lists)
 }
 

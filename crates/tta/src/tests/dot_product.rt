@@ -14,7 +14,7 @@ const MACHINE: &str = "bus B short 8 unsigned\n\
      space data 256\n";
 
 /// The vectors stand from 0 and from 64 on, and the product comes to 128.
-const PROGRAM: &str = "proc main\n\
+pub const PROGRAM: &str = "proc main\n\
      i = 0\n\
      s = 0\n\
      loop:\n\
