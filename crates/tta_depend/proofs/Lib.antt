@@ -1,0 +1,4 @@
+pub mod Asked
+pub mod Spots
+pub mod Change
+pub mod Keeping
