@@ -33,6 +33,10 @@ pub record Kept : Type 0 where
   pub control : Option ℕ
   pub delay : ℕ
 
+-- what is kept, by its parts
+abbrev pub kept : (rows : List Row) (round end : ℕ) → Option ℕ → (delay : ℕ) → Kept
+kept rows round end control delay = record { rows = rows; round = round; end = end; control = control; delay = delay }
+
 -- there is a row for each spot, and the control item is early enough to count on
 pub record IsKept (b : Kept) : Type 0 where
   pub rows : AreRows b.round b.rows

@@ -27,13 +27,13 @@ pub struct Bounds {
 }
 
 impl Model for Bounds {
-    ghost use Rattle.tta_depend.specs.Stands.{Kept, IsKept};
+    ghost use Rattle.tta_depend.specs.Stands.{Kept, kept, IsKept};
 
     ghost Value = { Kept };
 
-    ghost view = { λ b. record { rows = b.rows.items; round = b.round; end = b.end; control = b.control; delay = b.delay } };
+    ghost view = { λ b. kept b.rows.items b.round b.end b.control b.delay };
 
-    ghost invariant = { λ b. IsKept (record { rows = b.rows.items; round = b.round; end = b.end; control = b.control; delay = b.delay }) };
+    ghost invariant = { λ b. IsKept (kept b.rows.items b.round b.end b.control b.delay) };
 }
 
 /// The cycle of an item, if it is a control item.
@@ -53,7 +53,7 @@ impl Bounds {
     ghost use Rattle.tta_moves.specs.declared.items.PlacedItem.{PlacedItem};
     ghost use Rattle.tta_moves.specs.declared.items.Slot.{Slot};
     ghost use Rattle.tta_moves.specs.Bounds.{least, length_of};
-    ghost use Rattle.tta_depend.specs.Stands.{is_within, Stands};
+    ghost use Rattle.tta_depend.specs.Stands.{is_within, end_of, Stands};
 
     /// The bounds of a machine, with no item placed. It fails only where there is no memory, and
     /// the later calls take none.
@@ -101,7 +101,8 @@ impl Bounds {
         requires last { self.old.control ≡ None }
         requires soon { cycle < 1073741824 }
         ensures { (placed : List PlacedItem) (slot : Slot) → Stands self.old m.now placed
-            → Stands self.new m.now (placed ++ (record { item = item.now; cycle = cycle; slot = slot }) ∷ []) }
+            → Stands self.new m.now
+                (placed ++ (record { item = item.now; cycle = cycle; slot = slot }) ∷ []) }
     {
         let writes = writes_by(m, *item);
         let reads = reads_by(*item);
@@ -125,15 +126,23 @@ impl Bounds {
         }
     }
 
-    /// Takes all items away, for the next block of the same machine. It takes no memory, and its
-    /// time does not grow with the table.
-    pub fn clear(&mut self)
-        ensures { (m : Target) (placed : List PlacedItem) → Stands self.old m placed
-            → Stands self.new m [] }
+    /// The cycle after the last that a placed item takes, 0 where none is placed.
+    pub fn end(&self) -> u32
+        ensures { (m : Target) (placed : List PlacedItem) → Stands self.now m placed
+            → result ≡ end_of m placed }
+    {
+        self.end
+    }
+
+    /// Takes all items away, for the next block. It takes no memory, and its time does not grow with
+    /// the table.
+    pub fn clear(&mut self, m: &Machine)
+        ensures { Stands self.new m.now [] }
     {
         let round = next_round(&mut self.rows, self.round);
         self.round = round;
         self.end = 0;
         self.control = None;
+        self.delay = u32::from(m.control.delay);
     }
 }
