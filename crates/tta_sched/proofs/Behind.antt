@@ -19,7 +19,7 @@ use Rattle.tta_moves.specs.declared.items.Item.{Item}
 use Rattle.tta_moves.specs.declared.items.PlacedItem.{PlacedItem}
 use Rattle.tta_moves.specs.Touches.{guard_of, source_of, target_of_item, is_control, place_of_source, guard_place}
 use Rattle.tta_moves.specs.Bounds.{Spot, At, Started, same_spot, Touch, due_after, operand_read, reads_by, written_at, writes_by, from_moment, behind, lasts, over_before, bound, least}
-use Rattle.tta_sched.specs.Serial.{horizon}
+use Rattle.tta_depend.specs.Stands.{end_of}
 
 -- ---- touches
 
@@ -166,7 +166,7 @@ bound_over m rules v x =
       over true = omega arith
       over false = omega arith
 
--- no item is held back past the horizon
-pub least_over : (m : Machine) → IsMachine m → (placed : List PlacedItem) (v : Item) → least m placed v ≤ horizon m placed
+-- no item is held back past the end of those before it
+pub least_over : (m : Machine) → IsMachine m → (placed : List PlacedItem) (v : Item) → least m placed v ≤ end_of m placed
 least_over m rules [] v = omega arith
 least_over m rules (x ∷ placed) v = let a = bound_over m rules v x in let b = least_over m rules placed v in omega arith

@@ -25,11 +25,13 @@ use Rattle.tta_moves.specs.Touches.{is_control, target_of_item}
 use Rattle.tta_moves.specs.Slots.{carried, carries, fills, has_slot, fits_cycle, control_is_last, is_list}
 use Rattle.tta_moves.specs.Bounds.{lasts, in_cycle, last_end, control_cycle, length_of, due_after}
 use Rattle.tta_moves.specs.FirstFit.{fits_beside, FitsFirst, IsFirstFit}
-use Rattle.tta_sched.specs.Serial.{horizon, IsSerial}
+use Rattle.tta_depend.specs.Stands.{end_of}
+use Rattle.tta_depend.proofs.Asked.{end_push, last_end_is}
+use Rattle.tta_sched.specs.Serial.{IsSerial}
 use Rattle.tta_sched.specs.Room.{longest_of, longest_in, longest, HasRoom}
 use Rattle.tta_sched.proofs.Behind.{least_over, lasts_some}
 use Rattle.tta_sched.proofs.Lone.{alone_fits}
-use Rattle.tta_sched.proofs.Ones.{Each, horizon_push, horizon_over, last_end_is}
+use Rattle.tta_sched.proofs.Ones.{Each, over_by_end}
 
 -- ---- prefixes
 
@@ -89,12 +91,12 @@ false_true : (b : Bool) → b ≡ true → b ≡ false → ⊥
 false_true b e f = cc
 
 -- an item of a first fit stands no later than where all items before it are over
-early : (m : Machine) → IsMachine m → (placed : List PlacedItem) (x : PlacedItem) → has_slot m x.item ≡ true → FitsFirst m placed x → x.cycle ≤ horizon m placed
-early m rules placed x has f = elim (cases_lt (horizon m placed) x.cycle) [
+early : (m : Machine) → IsMachine m → (placed : List PlacedItem) (x : PlacedItem) → has_slot m x.item ≡ true → FitsFirst m placed x → x.cycle ≤ end_of m placed
+early m rules placed x has f = elim (cases_lt (end_of m placed) x.cycle) [
   | inr le ↦ le
   | inl late ↦
-      let q = fits_after m rules placed x.item (horizon m placed) has (λ k y e. let over = horizon_over m placed k y e in let some = lasts_some m y.item in omega arith) in
-      absurd (false_true (fits_beside m placed x.item (horizon m placed) q.0) q.1 (f.cycle (horizon m placed) q.0 (least_over m rules placed x.item) late))
+      let q = fits_after m rules placed x.item (end_of m placed) has (λ k y e. let over = over_by_end m placed k y e in let some = lasts_some m y.item in omega arith) in
+      absurd (false_true (fits_beside m placed x.item (end_of m placed) q.0) q.1 (f.cycle (end_of m placed) q.0 (least_over m rules placed x.item) late))
 ]
 
 op_longest : (os : List UnitOp) (k : ℕ) (o : UnitOp) → slice_get os k ≡ Some o → o.latency ≤ longest_of os
@@ -134,14 +136,14 @@ lasts_most m x = on (target_of_item x) where
   on (Trigger unit k) = op unit k (op_at m unit k) refl
   on (Control k) = let h = one in omega arith
 
--- where each item stands no later than where all before it are over, the horizon grows by the greatest latency an item
-horizon_front : (m : Machine) (ps : List PlacedItem) → Each (λ placed x. x.cycle ≤ horizon m placed) ps → (n : ℕ) → horizon m (take n ps) ≤ n * longest m
-horizon_front m ps each zero = omega arith
-horizon_front m ps each (suc n) = elim (here_or_past ps n) [
-  | inr past ↦ let ih = horizon_front m ps each n in let e = ap (horizon m) past in let l = suc_times n (longest m) in omega arith
+-- where each item stands no later than where all before it are over, the end grows by the greatest latency an item
+end_front : (m : Machine) (ps : List PlacedItem) → Each (λ placed x. x.cycle ≤ end_of m placed) ps → (n : ℕ) → end_of m (take n ps) ≤ n * longest m
+end_front m ps each zero = omega arith
+end_front m ps each (suc n) = elim (here_or_past ps n) [
+  | inr past ↦ let ih = end_front m ps each n in let e = ap (end_of m) past in let l = suc_times n (longest m) in omega arith
   | inl here ↦
-      let ih = horizon_front m ps each n in
-      let e = ap (horizon m) (take_one_more ps n here.0 here.1) ∙ horizon_push m (take n ps) here.0 in
+      let ih = end_front m ps each n in
+      let e = ap (end_of m) (take_one_more ps n here.0 here.1) ∙ end_push m (take n ps) here.0 in
       let le = each n here.0 here.1 in
       let most = lasts_most m here.0.item in
       let l = suc_times n (longest m) in
@@ -150,28 +152,28 @@ horizon_front m ps each (suc n) = elim (here_or_past ps n) [
   suc_times : (n l : ℕ) → suc n * l ≡ n * l + l
   suc_times n l = grind arith
 
--- the control item is over at the horizon
-control_early : (m : Machine) (ps : List PlacedItem) (c : ℕ) → control_cycle ps ≡ Some c → c < horizon m ps
+-- the control item is over by the end
+control_early : (m : Machine) (ps : List PlacedItem) (c : ℕ) → control_cycle ps ≡ Some c → c < end_of m ps
 control_early m [] c e = absurd cc
 control_early m (p ∷ ps) c e = on (is_control p.item) e (control_early m ps c) where
-  on : (b : Bool) → or_else (if b then Some p.cycle else None) (control_cycle ps) ≡ Some c → (control_cycle ps ≡ Some c → c < horizon m ps) → c < max (p.cycle + lasts m p.item) (horizon m ps)
+  on : (b : Bool) → or_else (if b then Some p.cycle else None) (control_cycle ps) ≡ Some c → (control_cycle ps ≡ Some c → c < end_of m ps) → c < max (p.cycle + lasts m p.item) (end_of m ps)
   on true e ih = let same : p.cycle ≡ c = cc in let some = lasts_some m p.item in omega arith
   on false e ih = let h = ih e in omega arith
 
 pub room_of : (m : Machine) (items : List Item) (p : Placed) → map (λ x. x.item) p.items ≡ items → p.length ≡ length_of m p.items
-    → Each (λ placed x. x.cycle ≤ horizon m placed) p.items → HasRoom m items p
+    → Each (λ placed x. x.cycle ≤ end_of m placed) p.items → HasRoom m items p
 room_of m items p order long each =
     let all : take (length p.items) p.items ≡ p.items = take_all (length p.items) p.items (omega arith) in
-    let far : horizon m p.items ≤ length p.items * longest m = subst (λ l. horizon m l ≤ length p.items * longest m) all (horizon_front m p.items each (length p.items)) in
+    let far : end_of m p.items ≤ length p.items * longest m = subst (λ l. end_of m l ≤ length p.items * longest m) all (end_front m p.items each (length p.items)) in
     let count : length p.items ≡ length items = sym (length-map p.items (λ (x : PlacedItem). x.item)) ∙ ap length order in
-    let far' : horizon m p.items ≤ length items * longest m = subst (λ n. horizon m p.items ≤ n * longest m) count far in
+    let far' : end_of m p.items ≤ length items * longest m = subst (λ n. end_of m p.items ≤ n * longest m) count far in
     let times : length items * (longest m + 1) ≡ length items * longest m + length items = times_more (length items) (longest m) in
-    let end : length_of m p.items ≤ horizon m p.items + 1 + m.control.delay = on (control_cycle p.items) refl in
+    let end : length_of m p.items ≤ end_of m p.items + 1 + m.control.delay = on (control_cycle p.items) refl in
     omega arith where
       times_more : (n l : ℕ) → n * (l + 1) ≡ n * l + n
       times_more n l = grind arith
 
-      on : (o : Option ℕ) → control_cycle p.items ≡ o → option_map_or (λ cycle. cycle + 1 + m.control.delay) o (last_end m p.items) ≤ horizon m p.items + 1 + m.control.delay
+      on : (o : Option ℕ) → control_cycle p.items ≡ o → option_map_or (λ cycle. cycle + 1 + m.control.delay) o (last_end m p.items) ≤ end_of m p.items + 1 + m.control.delay
       on None e = let l = last_end_is m p.items in omega arith
       on (Some c) e = let l = control_early m p.items c e in omega arith
 

@@ -16,7 +16,9 @@ use Rattle.tta_moves.specs.declared.items.Placed.{Placed}
 use Rattle.tta_moves.specs.Touches.{is_control, controls, target_of_item}
 use Rattle.tta_moves.specs.Slots.{fits_cycle, control_is_last}
 use Rattle.tta_moves.specs.Bounds.{lasts, last_end, control_cycle, length_of, in_cycle, Respects, due_after}
-use Rattle.tta_sched.specs.Serial.{horizon, StandsAlone, IsSerial, serial_length}
+use Rattle.tta_depend.specs.Stands.{end_of}
+use Rattle.tta_depend.proofs.Asked.{end_push, last_end_is}
+use Rattle.tta_sched.specs.Serial.{StandsAlone, IsSerial, serial_length}
 use Rattle.tta_sched.proofs.Behind.{least_over, lasts_some}
 use Rattle.tta_sched.proofs.Lone.{none_fits, alone_fits}
 
@@ -42,30 +44,22 @@ pub order_push : (ps : List PlacedItem) (x : PlacedItem) (items : List Item) (i 
 order_push ps x items i d order is lt =
     map_push (λ (y : PlacedItem). y.item) ps x ∙ ap (λ l. l ++ x.item ∷ []) order ∙ ap (λ z. take i items ++ z ∷ []) is ∙ sym (take_more items i d lt)
 
-pub horizon_push : (m : Machine) (ps : List PlacedItem) (x : PlacedItem) → horizon m (ps ++ x ∷ []) ≡ max (horizon m ps) (x.cycle + lasts m x.item)
-horizon_push m [] x = omega arith
-horizon_push m (p ∷ ps) x = let ih = horizon_push m ps x in omega arith
-
 -- the same of lists that are named otherwise
 pub order_step : (ps ps' : List PlacedItem) (x : PlacedItem) (items items' : List Item) (i : ℕ) (d : Item) → ps' ≡ ps ++ x ∷ [] → items' ≡ items → x.item ≡ get_or items' i d → i < length items'
     → map (λ y. y.item) ps ≡ take i items → map (λ y. y.item) ps' ≡ take (i + 1) items
 order_step ps ps' x items items' i d new same is lt order =
     ap (map (λ (y : PlacedItem). y.item)) new ∙ order_push ps x items i d order (is ∙ ap (λ l. get_or l i d) same) (subst (λ l. i < length l) same lt)
 
-pub end_push : (m : Machine) (ps : List PlacedItem) (x : PlacedItem) (n : ℕ) → x.cycle ≡ horizon m ps → n ≡ lasts m x.item → x.cycle + n ≡ horizon m (ps ++ x ∷ [])
-end_push m ps x n is lasts = let e = horizon_push m ps x in omega arith
+pub end_step : (m : Machine) (ps : List PlacedItem) (x : PlacedItem) (n : ℕ) → x.cycle ≡ end_of m ps → n ≡ lasts m x.item → x.cycle + n ≡ end_of m (ps ++ x ∷ [])
+end_step m ps x n is lasts = let e = end_push m ps x in omega arith
 
--- an item is over at the horizon
-pub horizon_over : (m : Machine) (ps : List PlacedItem) (k : ℕ) (x : PlacedItem) → slice_get ps k ≡ Some x → x.cycle + lasts m x.item ≤ horizon m ps
-horizon_over m [] k x e = absurd cc
-horizon_over m (p ∷ ps) zero x e = let same : p ≡ x = cc in subst (λ (y : PlacedItem). y.cycle + lasts m y.item ≤ horizon m (p ∷ ps)) same (omega arith)
-horizon_over m (p ∷ ps) (suc k) x e = let ih = horizon_over m ps k x e in omega arith
+-- an item is over by the end
+pub over_by_end : (m : Machine) (ps : List PlacedItem) (k : ℕ) (x : PlacedItem) → slice_get ps k ≡ Some x → x.cycle + lasts m x.item ≤ end_of m ps
+over_by_end m [] k x e = absurd cc
+over_by_end m (p ∷ ps) zero x e = let same : p ≡ x = cc in subst (λ (y : PlacedItem). y.cycle + lasts m y.item ≤ end_of m (p ∷ ps)) same (omega arith)
+over_by_end m (p ∷ ps) (suc k) x e = let ih = over_by_end m ps k x e in omega arith
 
 -- ---- the length
-
-pub last_end_is : (m : Machine) (ps : List PlacedItem) → last_end m ps ≡ max (horizon m ps) 1
-last_end_is m [] = omega arith
-last_end_is m (p ∷ ps) = let ih = last_end_is m ps in omega arith
 
 abbrev pub cycle_of_control : PlacedItem → Option ℕ
 cycle_of_control x = if is_control x.item then Some x.cycle else None
@@ -108,7 +102,7 @@ control_lasts m x h = on (target_of_item x) h where
   on (Control k) h = refl
 
 serial_last : (m : Machine) (items : List Item) (front : List PlacedItem) (x : PlacedItem) → map (λ y. y.item) (front ++ x ∷ []) ≡ items → control_is_last items ≡ true
-    → Each (StandsAlone m) (front ++ x ∷ []) → serial_length m items (horizon m (front ++ x ∷ [])) ≡ length_of m (front ++ x ∷ [])
+    → Each (StandsAlone m) (front ++ x ∷ []) → serial_length m items (end_of m (front ++ x ∷ [])) ≡ length_of m (front ++ x ∷ [])
 serial_last m items front x order last each =
     let control = control_front front x (subst (λ l. control_is_last l ≡ true) (sym order) last) in
     let parts : map (λ y. y.item) front ++ x.item ∷ [] ≡ items = sym (map_push (λ (y : PlacedItem). y.item) front x) ∙ order in
@@ -117,25 +111,25 @@ serial_last m items front x order last each =
     = ap (λ n. slice_get items n) size ∙ ap (λ l. slice_get l (length (map (λ y. y.item) front) + 0)) (sym parts) ∙ slice_get-back (map (λ y. y.item) front) (x.item ∷ []) 0 in
     let mine = each (length front + 0) x (slice_get-back front (x ∷ []) 0) in
     let before : take (length front + 0) (front ++ x ∷ []) ≡ front = take_at front (x ∷ []) (length front + 0) (omega arith) in
-    let stands : x.cycle ≡ horizon m front = mine.cycle ∙ ap (horizon m) before in
-    let end = horizon_push m front x in
-    ap (λ o. option_map_or (λ y. if is_control y then horizon m (front ++ x ∷ []) + m.control.delay else max (horizon m (front ++ x ∷ [])) 1) o (max (horizon m (front ++ x ∷ [])) 1)) item
+    let stands : x.cycle ≡ end_of m front = mine.cycle ∙ ap (end_of m) before in
+    let end = end_push m front x in
+    ap (λ o. option_map_or (λ y. if is_control y then end_of m (front ++ x ∷ []) + m.control.delay else max (end_of m (front ++ x ∷ [])) 1) o (max (end_of m (front ++ x ∷ [])) 1)) item
     ∙ on (is_control x.item) refl stands end
     ∙ ap (λ o. option_map_or (λ cycle. cycle + 1 + m.control.delay) o (last_end m (front ++ x ∷ []))) (sym control) where
-      on : (b : Bool) → is_control x.item ≡ b → x.cycle ≡ horizon m front → horizon m (front ++ x ∷ []) ≡ max (horizon m front) (x.cycle + lasts m x.item)
-          → (if b then horizon m (front ++ x ∷ []) + m.control.delay else max (horizon m (front ++ x ∷ [])) 1)
+      on : (b : Bool) → is_control x.item ≡ b → x.cycle ≡ end_of m front → end_of m (front ++ x ∷ []) ≡ max (end_of m front) (x.cycle + lasts m x.item)
+          → (if b then end_of m (front ++ x ∷ []) + m.control.delay else max (end_of m (front ++ x ∷ [])) 1)
           ≡ option_map_or (λ cycle. cycle + 1 + m.control.delay) (if b then Some x.cycle else None) (last_end m (front ++ x ∷ []))
       on true e s h = let one = control_lasts m x.item e in omega arith
       on false e s h = sym (last_end_is m (front ++ x ∷ []))
 
 pub serial_long : (m : Machine) (items : List Item) (ps : List PlacedItem) → map (λ y. y.item) ps ≡ items → control_is_last items ≡ true → Each (StandsAlone m) ps
-    → serial_length m items (horizon m ps) ≡ length_of m ps
+    → serial_length m items (end_of m ps) ≡ length_of m ps
 serial_long m items ps order last each = elim (split_last ps) [
   | inl none ↦
       let empty : items ≡ [] = sym order ∙ ap (map (λ y. y.item)) none in
       rw (empty, none) refl
   | inr some ↦
-      subst (λ l. serial_length m items (horizon m l) ≡ length_of m l) (sym some.2)
+      subst (λ l. serial_length m items (end_of m l) ≡ length_of m l) (sym some.2)
       (serial_last m items some.0 some.1 (subst (λ l. map (λ y. y.item) l ≡ items) some.2 order) last (subst (Each (StandsAlone m)) some.2 each))
 ]
 
@@ -168,10 +162,10 @@ serial_respects m rules items p s = record {
 } where
   rises : (j k : ℕ) (x y : PlacedItem) → slice_get p.items j ≡ Some x → slice_get p.items k ≡ Some y → j < k → x.cycle < y.cycle
   rises j k x y a b lt =
-      let later : y.cycle ≡ horizon m (take k p.items) = (s.alone k y b).cycle in
+      let later : y.cycle ≡ end_of m (take k p.items) = (s.alone k y b).cycle in
       let within = slice_get_within p.items k y b in
       let there : slice_get (take k p.items) j ≡ Some x = slice_get-take k p.items j lt ∙ a in
-      let over = horizon_over m (take k p.items) j x there in
+      let over = over_by_end m (take k p.items) j x there in
       let some = lasts_some m x.item in
       omega arith
 

@@ -1,22 +1,18 @@
 -- The placement of one item a cycle.
 use Rattle.std.specs.Option.{option_map_or}
 use Rattle.tta_moves.specs.Touches.{is_control}
-use Rattle.std.specs.Prelude.{◌≡◌, ℕ, ◌+◌, ◌-◌, true, if◌then◌else◌, length, max, List, [], ◌∷◌, map, take, Some, slice_get}
+use Rattle.std.specs.Prelude.{◌≡◌, ℕ, ◌+◌, ◌-◌, true, if◌then◌else◌, length, max, List, map, take, Some, slice_get}
 use Rattle.tta_arch.specs.Machine.{Machine}
 use Rattle.tta_moves.specs.declared.items.Item.{Item}
 use Rattle.tta_moves.specs.declared.items.PlacedItem.{PlacedItem}
 use Rattle.tta_moves.specs.declared.items.Placed.{Placed}
 use Rattle.tta_moves.specs.Slots.{carries}
-use Rattle.tta_moves.specs.Bounds.{lasts, length_of}
-
--- the cycle after the last that an item takes, 0 where there is none
-abbrev pub horizon : Machine → List PlacedItem → ℕ
-horizon m [] = 0
-horizon m (x ∷ placed) = max (x.cycle + lasts m x.item) (horizon m placed)
+use Rattle.tta_moves.specs.Bounds.{length_of}
+use Rattle.tta_depend.specs.Stands.{end_of}
 
 -- an item stands in the first cycle in which all items before it are over, on a slot that carries it
 pub record StandsAlone (m : Machine) (placed : List PlacedItem) (x : PlacedItem) : Type 0 where
-  pub cycle : x.cycle ≡ horizon m placed
+  pub cycle : x.cycle ≡ end_of m placed
   pub carried : carries m x.slot x.item ≡ true
 
 -- A serial placement has the items in their order; each stands in the first cycle in which all items before it are over; and

@@ -8,10 +8,11 @@ ghost use Rattle.tta_moves.specs.Bounds.{Respects};
 ghost use Rattle.tta_sched.specs.Serial.{serial_length, IsSerial};
 ghost use Rattle.tta_sched.specs.Room.{HasRoom};
 
-use crate::alone::{is_control, lasts, slot_alone};
+use crate::alone::slot_alone;
 use std::alloc::{AllocError, Global};
 use tta_arch::Machine;
 use tta_connect::Net;
+use tta_depend::{is_control, lasts};
 use tta_list::Items;
 use tta_moves::{BlockList, Item, Placed, PlacedItem};
 

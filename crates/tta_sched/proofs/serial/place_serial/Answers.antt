@@ -5,7 +5,7 @@ use Rattle.std.proofs.lemmas.List.{take_all}
 use Rattle.std.proofs.lemmas.Bool.{and_parts}
 use Rattle.tta_moves.specs.Slots.{has_slot, control_is_last}
 use Rattle.tta_sched.specs.Serial.{StandsAlone, serial_length}
-use Rattle.tta_sched.proofs.Ones.{each_push, order_step, end_push, serial_long, serial_respects}
+use Rattle.tta_sched.proofs.Ones.{each_push, order_step, end_step, serial_long, serial_respects}
 use Rattle.tta_sched.proofs.Firsts.{serial_has_room}
 use Rattle.tta_sched.proofs.serial.place_serial.Goals as goal
 
@@ -13,7 +13,7 @@ pub loop-x-preserved : goal.loop-x-preserved
 loop-x-preserved c = record {
   order = order_step c.loop-x.placed c.push.new.self _ c.args.b.now.items c.as_slice-x-items.result.now c.loop-x.x-index _ c.in_ok-push.ensures.ok c.as_slice-x-items.ensures refl (omega arith) c.loop-x.invariant.order;
   alone = rw c.in_ok-push.ensures.ok (each_push (StandsAlone c.args.m.now) c.loop-x.placed _ c.loop-x.invariant.alone (record { cycle = c.loop-x.invariant.end; carried = c.slot_alone-slot.ensures }));
-  end = rw c.in_ok-push.ensures.ok (end_push c.args.m.now c.loop-x.placed _ c.lasts-cycle.result c.loop-x.invariant.end c.lasts-cycle.ensures.value);
+  end = rw c.in_ok-push.ensures.ok (end_step c.args.m.now c.loop-x.placed _ c.lasts-cycle.result c.loop-x.invariant.end c.lasts-cycle.ensures.value);
   few = omega arith;
 }
 

@@ -1,0 +1,14 @@
+pub mod Lists
+pub mod Places
+pub mod Slots
+pub mod Pushed
+pub mod MoveFits
+pub mod MoveOnly
+pub mod LongFits
+pub mod Tells
+pub mod Counts
+pub mod OneRow
+pub mod OneBooked
+pub mod Kept
+pub mod Apart
+pub mod LeastSlot

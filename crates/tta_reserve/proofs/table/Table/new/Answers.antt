@@ -1,0 +1,5 @@
+use Rattle.tta_reserve.proofs.Kept.{nothing_booked}
+use Rattle.tta_reserve.proofs.table.Table.new.Goals as goal
+
+pub returns-clause-none : goal.returns-clause-none
+returns-clause-none c = λ m. nothing_booked m _ c.new.ensures.items

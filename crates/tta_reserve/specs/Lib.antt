@@ -1,0 +1,5 @@
+pub mod Taken
+pub mod Booked
+pub mod Adding
+pub mod Leaving
+pub mod Laws

@@ -1,0 +1,11 @@
+use Rattle.std.proofs.Common.{◌≤◌, List}
+use Rattle.tta_moves.specs.declared.items.PlacedItem.{PlacedItem}
+use Rattle.tta_sched.specs.First.{Asks}
+use Rattle.tta_sched.proofs.Fitting.{Tried}
+use Rattle.tta_sched.proofs.first.first_from.Given as goal
+
+abbrev pub invariant-loop-cycle : goal.invariant-loop-cycle
+invariant-loop-cycle l = record {
+  from : l.from ≤ l.cycle;
+  tried : (placed : List PlacedItem) → Asks l.m l.table placed l.item l.from → Tried l.m placed l.item l.from l.cycle;
+}
