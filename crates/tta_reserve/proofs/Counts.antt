@@ -1,6 +1,7 @@
 -- The counts and sets of a row with one more.
 use Rattle.std.proofs.Common.{◌≡◌, inl, inr, ℕ, ◌+◌, ◌<◌, ◌^◌, Bool, true, false, List, refl, sym, ap, subst, ◌∙◌, arith, length, set, cond}
 use Rattle.std.specs.Prelude.{slice_index, not, ◌&&◌, ◌||◌, ◌==◌, nat_lt, if◌then◌else◌}
+use Rattle.std.proofs.Math.Bool.{or-false, or-true}
 use Rattle.std.proofs.lemmas.Bool.{cases_eq, eq-eqb, ne_eqb, lt-ltb}
 use Rattle.std.proofs.lemmas.Bool.Decides.{nat_tests}
 use Rattle.std.proofs.lemmas.List.{length-set, get_or-set_same, get_or-set_other}
@@ -17,7 +18,6 @@ use Rattle.tta_moves.specs.declared.items.ItemSource.TheVariants.{Port, Address}
 use Rattle.tta_moves.specs.Slots.{carried}
 use Rattle.tta_reserve.specs.declared.row.Row.{Row}
 use Rattle.tta_reserve.specs.Adding.{one_more, with_bit, with_source, with_item_source, with_dest, with_move}
-use Rattle.tta_reserve.proofs.Lists.{or_no, or_yes}
 
 -- ---- one count, one bit
 
@@ -27,9 +27,9 @@ plus_none n = omega arith
 one_more_at : (l : List ℕ) (at k : ℕ) → length l ≡ 8 → at < 8 → slice_index l at < 255 → slice_index (one_more l at) k ≡ slice_index l k + cond (at == k) 1 0
 one_more_at l at k long lt less = rw (lt-ltb at 8 lt, lt-ltb (slice_index l at) 255 less) (elim (cases_eq at k) [
   | inl same ↦
-    let here : slice_index (set l at (slice_index l at + 1)) k ≡ slice_index l k + 1
-    = subst (λ j. slice_index (set l at (slice_index l at + 1)) j ≡ slice_index l j + 1) same (get_or-set_same l at (slice_index l at + 1) 0 (omega arith)) in
-    here ∙ ap (λ t. slice_index l k + cond t 1 0) (sym (eq-eqb at k same))
+      let here : slice_index (set l at (slice_index l at + 1)) k ≡ slice_index l k + 1
+      = subst (λ j. slice_index (set l at (slice_index l at + 1)) j ≡ slice_index l j + 1) same (get_or-set_same l at (slice_index l at + 1) 0 (omega arith)) in
+      here ∙ ap (λ t. slice_index l k + cond t 1 0) (sym (eq-eqb at k same))
   | inr other ↦ get_or-set_other l at k (slice_index l at + 1) 0 (λ e. other (sym e)) ∙ plus_none (slice_index l k) ∙ ap (λ t. slice_index l k + cond t 1 0) (sym (ne_eqb at k other))
 ])
 
@@ -110,13 +110,12 @@ writes_long dest.Jump l long = long
 writes_long dest.Call l long = long
 writes_long dest.Halt l long = long
 
-
 not_none : (n : ℕ) → not (n + 1 == 0) ≡ true
 not_none n = let e : (n + 1 == 0) ≡ false = grind (arith, nat_tests) in rw e refl
 
 plus_bit : (n : ℕ) (t b : Bool) → b ≡ not (n == 0) → (b || t) ≡ not (n + cond t 1 0 == 0)
-plus_bit n true b e = or_yes b ∙ sym (not_none n)
-plus_bit n false b e = or_no b ∙ e ∙ ap (λ j. not (j == 0)) (plus_none n)
+plus_bit n true b e = or-true b ∙ sym (not_none n)
+plus_bit n false b e = or-false b ∙ e ∙ ap (λ j. not (j == 0)) (plus_none n)
 
 pub imms_at : (s : Source) (w : ℕ) (n : ℕ → ℕ) → ((k : ℕ) → has_bit w k ≡ not (n k == 0)) → ((u i : ℕ) → s ≡ source.Imm u i → u < 8) → (k : ℕ) → has_bit (imms_with s w) k ≡ not (n k + cond (reads_imm k s) 1 0 == 0)
 imms_at (source.Imm u i) w n is room k = with_bit_at 8 w u k (room u i refl) ∙ plus_bit (n k) (u == k) (has_bit w k) (is k)

@@ -1,6 +1,7 @@
 -- The least bus or template on which a row takes an item is the least slot on which the item fits.
-use Rattle.std.proofs.Common.{◌≡◌, ℕ, ◌<◌, Bool, true, false, List, Option, Some, None, refl, ◌∙◌}
+use Rattle.std.proofs.Common.{◌≡◌, ℕ, ◌<◌, true, false, List, Option, Some, None, sym, ap, ◌∙◌}
 use Rattle.std.specs.Prelude.{slice_get}
+use Rattle.std.proofs.lemmas.Bool.{false_from_ne_true}
 use Rattle.tta_arch.specs.declared.ends.GuardRef.{GuardRef}
 use Rattle.tta_arch.specs.declared.ends.Dest.{Dest}
 use Rattle.tta_arch.specs.Machine.{Machine}
@@ -27,6 +28,12 @@ pub record Known (m : Machine) (table : List Row) (placed : List PlacedItem) (r 
   pub stands : StandsFor table m placed
   pub row : slice_get table c ≡ Some r
 
+-- the same of a row that was read from the rows that a table shows
+pub known_row : (m : Machine) → IsMachine m → (table rows read : List Row) (placed : List PlacedItem) (r : Row) (c : ℕ) → rows ≡ table → read ≡ rows → slice_get read c ≡ Some r
+    → StandsFor table m placed → Known m table placed r c
+known_row m rules table rows read placed r c shown is at stands =
+    record { rules = rules; stands = stands; row = ap (λ l. slice_get l c) (sym (is ∙ shown)) ∙ at }
+
 -- ---- a move
 
 on_bus : (m : Machine) (table : List Row) (placed : List PlacedItem) (r : Row) (c : ℕ) → Known m table placed r c → (g : Option GuardRef) (s : ItemSource) (d : Dest)
@@ -34,10 +41,8 @@ on_bus : (m : Machine) (table : List Row) (placed : List PlacedItem) (r : Row) (
 on_bus m table placed r c k g s d apart b = row_tells_of_moves m k.rules (in_cycle c placed) b c g s d r (k.stands.rows c r k.row) (k.stands.fits c) apart
 
 no_template : (m : Machine) (placed : List PlacedItem) (c t : ℕ) (g : Option GuardRef) (s : ItemSource) (d : Dest) → fits_beside m placed (item.Move g s d) c (Template t) ≡ false
-no_template m placed c t g s d = on (fits_beside m placed (item.Move g s d) c (Template t)) refl where
-  on : (b : Bool) → fits_beside m placed (item.Move g s d) c (Template t) ≡ b → b ≡ false
-  on false e = refl
-  on true e = let h = carried_there m (in_cycle c placed) (record { item = item.Move g s d; cycle = c; slot = Template t }) e in absurd cc
+no_template m placed c t g s d = false_from_ne_true (fits_beside m placed (item.Move g s d) c (Template t))
+    (λ e. let h = carried_there m (in_cycle c placed) (record { item = item.Move g s d; cycle = c; slot = Template t }) e in cc)
 
 pub move_some : (m : Machine) (table : List Row) (placed : List PlacedItem) (r : Row) (c : ℕ) → Known m table placed r c → (g : Option GuardRef) (s : ItemSource) (d : Dest)
     → is_apart (item.Move g s d) (in_cycle c placed) ≡ true
@@ -63,10 +68,8 @@ on_template m table placed r c k unit index value t =
     row_tells_of_longs m k.rules (in_cycle c placed) t c unit index value r (k.stands.rows c r k.row) (k.stands.fits c)
 
 no_bus : (m : Machine) (placed : List PlacedItem) (c b unit index : ℕ) (value : LongValue) → fits_beside m placed (item.Long unit index value) c (Bus b) ≡ false
-no_bus m placed c b unit index value = on (fits_beside m placed (item.Long unit index value) c (Bus b)) refl where
-  on : (t : Bool) → fits_beside m placed (item.Long unit index value) c (Bus b) ≡ t → t ≡ false
-  on false e = refl
-  on true e = let h = carried_there m (in_cycle c placed) (record { item = item.Long unit index value; cycle = c; slot = Bus b }) e in absurd cc
+no_bus m placed c b unit index value = false_from_ne_true (fits_beside m placed (item.Long unit index value) c (Bus b))
+    (λ e. let h = carried_there m (in_cycle c placed) (record { item = item.Long unit index value; cycle = c; slot = Bus b }) e in cc)
 
 pub long_some : (m : Machine) (table : List Row) (placed : List PlacedItem) (r : Row) (c : ℕ) → Known m table placed r c → (unit index : ℕ) (value : LongValue)
     → (t : ℕ) → row_fills m.templates r t unit index ≡ true → ((k : ℕ) → k < t → row_fills m.templates r k unit index ≡ false) → IsLeastSlot m placed (item.Long unit index value) c (Some (Template t))

@@ -66,11 +66,11 @@ booked m rules table new placed x r lt is made s fits = subst (λ t. StandsFor t
   rows : (c : ℕ) (q : Row) → slice_get (set table x.cycle (with_item m.templates x.item x.slot r)) c ≡ Some q → IsRow m (in_cycle c (placed ++ x ∷ [])) q
   rows c q e = elim (cases_eq x.cycle c) [
     | inl same ↦
-      let got : Some (with_item m.templates x.item x.slot r) ≡ Some q
-      = sym (get_same table x.cycle (with_item m.templates x.item x.slot r) lt) ∙ ap (slice_get (set table x.cycle (with_item m.templates x.item x.slot r))) same ∙ e in
-      let eq : with_item m.templates x.item x.slot r ≡ q = cc in
-      let more : IsRow m (in_cycle x.cycle placed ++ x ∷ []) (with_item m.templates x.item x.slot r) = row_item m rules (in_cycle x.cycle placed) x r (s.rows x.cycle r is) fits in
-      subst (IsRow m (in_cycle c (placed ++ x ∷ []))) eq (subst (λ l. IsRow m l (with_item m.templates x.item x.slot r)) (sym (in_same c placed x same))
-      (subst (λ k. IsRow m (in_cycle k placed ++ x ∷ []) (with_item m.templates x.item x.slot r)) same more))
+        let got : Some (with_item m.templates x.item x.slot r) ≡ Some q
+        = sym (get_same table x.cycle (with_item m.templates x.item x.slot r) lt) ∙ ap (slice_get (set table x.cycle (with_item m.templates x.item x.slot r))) same ∙ e in
+        let eq : with_item m.templates x.item x.slot r ≡ q = cc in
+        let more : IsRow m (in_cycle x.cycle placed ++ x ∷ []) (with_item m.templates x.item x.slot r) = row_item m rules (in_cycle x.cycle placed) x r (s.rows x.cycle r is) fits in
+        subst (IsRow m (in_cycle c (placed ++ x ∷ []))) eq (subst (λ l. IsRow m l (with_item m.templates x.item x.slot r)) (sym (in_same c placed x same))
+        (subst (λ k. IsRow m (in_cycle k placed ++ x ∷ []) (with_item m.templates x.item x.slot r)) same more))
     | inr other ↦ subst (λ l. IsRow m l q) (sym (in_other c placed x other)) (s.rows c q (sym (get_other table x.cycle c (with_item m.templates x.item x.slot r) other) ∙ e))
   ]

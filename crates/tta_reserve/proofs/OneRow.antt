@@ -1,6 +1,7 @@
 -- A row with one item more keeps what the items take with that item.
 use Rattle.std.proofs.Common.{◌≡◌, inl, inr, ℕ, ◌+◌, ◌<◌, true, List, [], ◌∷◌, ◌++◌, Option, None, refl, sym, ap, subst, ◌∙◌, arith, length, cond}
 use Rattle.std.specs.Prelude.{slice_index, count_by, not, ◌||◌, ◌==◌, is_none, is_some}
+use Rattle.std.proofs.Math.Bool.{or-false, or-true}
 use Rattle.std.proofs.lemmas.Bool.{and_parts, cases_eq, eq-eqb, ne_eqb}
 use Rattle.tta_arch.specs.declared.ends.Source.{Source}
 use Rattle.tta_arch.specs.declared.ends.Source.TheVariants as source
@@ -25,7 +26,7 @@ use Rattle.tta_reserve.specs.declared.row.Row.{Row}
 use Rattle.tta_reserve.specs.Taken.{is_template, buses_of, imm_reads}
 use Rattle.tta_reserve.specs.Booked.{IsRow}
 use Rattle.tta_reserve.specs.Adding.{with_move, with_template, with_item}
-use Rattle.tta_reserve.proofs.Lists.{or_no, or_yes, any_here, any_not_here}
+use Rattle.tta_reserve.proofs.Lists.{any_here, any_not_here}
 use Rattle.tta_reserve.proofs.Slots.{count_most}
 use Rattle.tta_reserve.proofs.Pushed.{fits_parts, carried_there, move_on, others_stay, moves_here, taken_push, counts_push, long_on, same_moves, same_slots, takes_buses}
 use Rattle.tta_reserve.proofs.MoveFits.{is_nothing}
@@ -73,10 +74,10 @@ row_move m rules xs bus c g s d r row fits =
       at_bus : (k : ℕ) → first_some (ends_on m bus) xs ≡ None
           → (is_some (first_some (ends_on m k) xs) || bus == k) ≡ is_some (first_some (ends_on m k) (xs ++ move_on bus c g s d ∷ []))
       at_bus k none = elim (cases_eq bus k) [
-        | inl same ↦ ap (λ t. is_some (first_some (ends_on m k) xs) || t) (eq-eqb bus k same) ∙ or_yes (is_some (first_some (ends_on m k) xs))
-          ∙ sym (subst (λ j. is_some (first_some (ends_on m j) (xs ++ move_on bus c g s d ∷ [])) ≡ true) same (ap is_some (moves_here m xs bus c g s d none)))
-        | inr other ↦ ap (λ t. is_some (first_some (ends_on m k) xs) || t) (ne_eqb bus k other) ∙ or_no (is_some (first_some (ends_on m k) xs))
-          ∙ ap is_some (sym (others_stay m xs bus c k g s d (λ e. other (sym e))))
+        | inl same ↦ ap (λ t. is_some (first_some (ends_on m k) xs) || t) (eq-eqb bus k same) ∙ or-true (is_some (first_some (ends_on m k) xs))
+            ∙ sym (subst (λ j. is_some (first_some (ends_on m j) (xs ++ move_on bus c g s d ∷ [])) ≡ true) same (ap is_some (moves_here m xs bus c g s d none)))
+        | inr other ↦ ap (λ t. is_some (first_some (ends_on m k) xs) || t) (ne_eqb bus k other) ∙ or-false (is_some (first_some (ends_on m k) xs))
+            ∙ ap is_some (sym (others_stay m xs bus c k g s d (λ e. other (sym e))))
       ]
 
       unit_small : (q : Source) → is_source_on m bus q ≡ true → (u i : ℕ) → q ≡ source.Imm u i → u < 8

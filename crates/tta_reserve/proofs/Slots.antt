@@ -1,9 +1,9 @@
 -- The buses of a cycle, of which one gets a move.
-use Rattle.std.proofs.Common.{◌≡◌, inl, inr, ℕ, zero, suc, ◌+◌, ◌<◌, ◌≤◌, Bool, true, false, List, [], ◌∷◌, Option, Some, None, refl, subst, ◌∙◌, arith, map, set, cond}
-use Rattle.std.specs.Prelude.{slice_get, count_by, not, ◌&&◌, ◌||◌}
+use Rattle.std.proofs.Common.{◌≡◌, inl, inr, ℕ, zero, suc, ◌+◌, ◌<◌, ◌≤◌, Bool, true, false, List, [], ◌∷◌, Option, Some, None, refl, subst, ◌∙◌, arith, length, map, set, cond}
+use Rattle.std.specs.Prelude.{slice_get, count_by, not, ◌&&◌}
 use Rattle.std.specs.List.{list_all, list_any, range_with_len}
-use Rattle.std.proofs.lemmas.List.Sums.{sum_by-cons}
-use Rattle.std.proofs.lemmas.Bool.{and_parts, and_from, or_from, not-true, cases_lt}
+use Rattle.std.proofs.lemmas.List.Sums.{sum_by-cons, count_by-le-length}
+use Rattle.std.proofs.lemmas.Bool.{and_parts, and_from, or_parts, or_from, not-true, cases_lt}
 use Rattle.tta_arch.specs.declared.ends.Dest.{Dest}
 use Rattle.tta_arch.specs.Legal.{Ends, Slots, ends_of, same_place, are_apart, all_slots, all_below}
 
@@ -63,16 +63,16 @@ count_set p (Some w ∷ slots) (suc b) v e =
     let y = sum_by-cons (λ (u : Ends). cond (p u) 1 0) w (ends_of slots) in
     omega arith
 
--- no bus counts twice
-pub count_most : (p : Ends → Bool) (f : ℕ → Option Ends) (a n : ℕ) → count_by p (ends_of (map f (range_with_len a n))) ≤ n
-count_most p f a zero = omega arith
-count_most p f a (suc n) = on (f a) (count_most p f (a + 1) n) where
-  on : (o : Option Ends) → count_by p (ends_of (map f (range_with_len (a + 1) n))) ≤ n → count_by p (ends_of (o ∷ map f (range_with_len (a + 1) n))) ≤ suc n
+-- a bus has one move at most
+few_ends : (f : ℕ → Option Ends) (a n : ℕ) → length (ends_of (map f (range_with_len a n))) ≤ n
+few_ends f a zero = omega arith
+few_ends f a (suc n) = on (f a) (few_ends f (a + 1) n) where
+  on : (o : Option Ends) → length (ends_of (map f (range_with_len (a + 1) n))) ≤ n → length (ends_of (o ∷ map f (range_with_len (a + 1) n))) ≤ suc n
   on None ih = omega arith
-  on (Some w) ih = let e = sum_by-cons (λ (u : Ends). cond (p u) 1 0) w (ends_of (map f (range_with_len (a + 1) n))) in by (p w) e where
-    by : (t : Bool) → count_by p (w ∷ ends_of (map f (range_with_len (a + 1) n))) ≡ cond t 1 0 + count_by p (ends_of (map f (range_with_len (a + 1) n))) → count_by p (w ∷ ends_of (map f (range_with_len (a + 1) n))) ≤ suc n
-    by true e = omega arith
-    by false e = omega arith
+  on (Some w) ih = omega arith
+
+pub count_most : (p : Ends → Bool) (f : ℕ → Option Ends) (a n : ℕ) → count_by p (ends_of (map f (range_with_len a n))) ≤ n
+count_most p f a n = omega (arith, count_by-le-length p (ends_of (map f (range_with_len a n))), few_ends f a n)
 
 -- ---- places
 
@@ -92,12 +92,9 @@ any_set : (w : Ends) (slots : Slots) (b : ℕ) (v : Ends) → slice_get slots b 
 any_set w [] b v e n h = absurd cc
 any_set w (o ∷ slots) zero v e n h = let none : o ≡ None = cc in let rest : list_any (λ (u : Ends). same_place w.dst u.dst) (ends_of slots) ≡ false = rw none at h in rw (n, rest) refl
 any_set w (None ∷ slots) (suc b) v e n h = any_set w slots b v e n h
-any_set w (Some u ∷ slots) (suc b) v e n h = on (same_place w.dst u.dst) h (any_set w slots b v e n) where
-  on : (t : Bool) → (t || list_any (λ (u : Ends). same_place w.dst u.dst) (ends_of slots)) ≡ false
-      → (list_any (λ (u : Ends). same_place w.dst u.dst) (ends_of slots) ≡ false → list_any (λ (u : Ends). same_place w.dst u.dst) (ends_of (set slots b (Some v))) ≡ false)
-      → (t || list_any (λ (u : Ends). same_place w.dst u.dst) (ends_of (set slots b (Some v)))) ≡ false
-  on true h ih = absurd cc
-  on false h ih = ih h
+any_set w (Some u ∷ slots) (suc b) v e n h =
+    let two = or_parts (same_place w.dst u.dst) (list_any (λ (x : Ends). same_place w.dst x.dst) (ends_of slots)) h in
+    or_from (same_place w.dst u.dst) (list_any (λ (x : Ends). same_place w.dst x.dst) (ends_of (set slots b (Some v)))) two.0 (any_set w slots b v e n two.1)
 
 -- the moves stay apart with one more that goes elsewhere
 pub apart_set : (slots : Slots) (b : ℕ) (v : Ends) → slice_get slots b ≡ Some None → are_apart (ends_of slots) ≡ true → list_all (is_elsewhere v.dst) (ends_of slots) ≡ true → are_apart (ends_of (set slots b (Some v))) ≡ true

@@ -3,7 +3,8 @@ use Rattle.std.proofs.Common.{◌≡◌, inl, inr, ℕ, ◌^◌, ◌<◌, ◌≤
 use Rattle.std.specs.Prelude.{slice_get, not, ◌&&◌, ◌||◌, ◌==◌, nat_lt, is_none, is_some, bit_and, ◌%◌}
 use Rattle.std.specs.Int.{w16, trailing_zeros}
 use Rattle.std.specs.Option.{option_map_or}
-use Rattle.std.proofs.lemmas.Bool.{and_parts, and_from, cases_lt, eq-eqb, eqb-true, not-true, not_from_false}
+use Rattle.std.proofs.Math.Bool.{not-not}
+use Rattle.std.proofs.lemmas.Bool.{and_parts, and_from, and_right, false_from_ne_true, cases_lt, eq-eqb, eqb-true, not-true, not_from_false}
 use Rattle.std.proofs.lemmas.Nat.{and_le_r}
 use Rattle.tta_list.proofs.Lists.{all_one}
 use Rattle.tta_arch.specs.declared.parts.Template.{Template as Field}
@@ -40,10 +41,6 @@ both true b f g = sym (f refl)
 both false true f g = g refl
 both false false f g = refl
 
-twice : (b : Bool) → not (not b) ≡ b
-twice true = refl
-twice false = refl
-
 none_some : (o : Option Ends) → is_none o ≡ not (is_some o)
 none_some None = refl
 none_some (Some v) = refl
@@ -52,7 +49,7 @@ none_some (Some v) = refl
 
 reads_is : (m : Machine) (xs : List PlacedItem) (r : Row) → IsRow m xs r → (s : Source) → may_read m xs s ≡ row_reads m r s
 reads_is m xs r row (source.Reg f i) = ap (λ n. nat_lt n (option_map_or (λ q. q.read) (slice_get m.files f) 0)) (sym (row.reads f))
-reads_is m xs r row (source.Imm u i) = sym (twice (imm_reads m xs u == 0)) ∙ ap not (sym (row.imms u))
+reads_is m xs r row (source.Imm u i) = sym (not-not (imm_reads m xs u == 0)) ∙ ap not (sym (row.imms u))
 reads_is m xs r row (source.Shown u) = refl
 reads_is m xs r row source.Ra = refl
 reads_is m xs r row (source.Value w) = refl
@@ -91,10 +88,7 @@ takes_from m r bus s d g t =
 
 -- a row does not take a move that lacks a part
 pub not_taken : (m : Machine) (r : Row) (bus : ℕ) (s : Source) (d : Dest) (g : Option GuardRef) → (Takes m r bus s d g → ⊥) → row_takes m r bus s d g ≡ false
-not_taken m r bus s d g lacks = on (row_takes m r bus s d g) refl where
-  on : (t : Bool) → row_takes m r bus s d g ≡ t → t ≡ false
-  on true e = absurd (lacks (takes_parts m r bus s d g e))
-  on false e = refl
+not_taken m r bus s d g lacks = false_from_ne_true (row_takes m r bus s d g) (λ e. lacks (takes_parts m r bus s d g e))
 
 -- a row takes no move on a bus that the machine does not have
 pub none_past : (m : Machine) → IsMachine m → (r : Row) (s : Source) (d : Dest) (g : Option GuardRef) (n : ℕ) → length m.buses ≤ n
@@ -154,16 +148,12 @@ keeps_is m rules xs r row t q at = both (keeps_taken q.buses (slots_of m xs)) (b
   one : (k : ℕ) → keeps_taken q.buses (slots_of m xs) ≡ true → has_bit (bit_and r.moves q.buses) k ≡ false
   one k h = elim (cases_lt k (length m.buses)) [
     | inl below ↦
-      let test = slot_test (λ bus o. is_none o || not (has_bit q.buses bus)) (slots_of m xs) 0 k k (first_some (ends_on m k) xs) (omega arith) h (slot_at m xs k below) in
-      has_bit-and r.moves q.buses k ∙ ap (λ b. b && has_bit q.buses k) (row.moves k) ∙ by (first_some (ends_on m k) xs) (has_bit q.buses k) test
+        let test = slot_test (λ bus o. is_none o || not (has_bit q.buses bus)) (slots_of m xs) 0 k k (first_some (ends_on m k) xs) (omega arith) h (slot_at m xs k below) in
+        has_bit-and r.moves q.buses k ∙ ap (λ b. b && has_bit q.buses k) (row.moves k) ∙ by (first_some (ends_on m k) xs) (has_bit q.buses k) test
     | inr past ↦
-      let none : has_bit q.buses k ≡ false = ap (λ n. n % 2 == 1) (no_high q.buses (length m.buses) k buses.1 past) in
-      has_bit-and r.moves q.buses k ∙ ap (λ b. has_bit r.moves k && b) none ∙ no (has_bit r.moves k)
+        let none : has_bit q.buses k ≡ false = ap (λ n. n % 2 == 1) (no_high q.buses (length m.buses) k buses.1 past) in
+        has_bit-and r.moves q.buses k ∙ and_right (has_bit r.moves k) (has_bit q.buses k) none
   ] where
-    no : (b : Bool) → (b && false) ≡ false
-    no true = refl
-    no false = refl
-
     by : (o : Option Ends) (b : Bool) → (is_none o || not b) ≡ true → (is_some o && b) ≡ false
     by None b h = refl
     by (Some v) b h = not-true b h

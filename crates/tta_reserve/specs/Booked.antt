@@ -45,5 +45,6 @@ pub record StandsFor (table : List Row) (m : Machine) (placed : List PlacedItem)
 -- the least slot on which an item fits beside those of its cycle, none exactly where it fits on no slot
 abbrev pub IsLeastSlot : Machine → List PlacedItem → Item → (cycle : ℕ) → Option Slot → Type 0
 IsLeastSlot m placed v cycle (Some slot) =
-    (fits_beside m placed v cycle slot ≡ true) × ((s : Slot) → number_of s < number_of slot → fits_beside m placed v cycle s ≡ false)
+    (fits_beside m placed v cycle slot ≡ true)
+    × ((s : Slot) → number_of s < number_of slot → fits_beside m placed v cycle s ≡ false)
 IsLeastSlot m placed v cycle None = (s : Slot) → fits_beside m placed v cycle s ≡ false

@@ -2,10 +2,9 @@
 
 ghost use Rattle.std.specs.Prelude.{◌≡◌, ◌<◌, ◌^◌};
 ghost use Rattle.tta_reserve.specs.Taken.{buses_of};
-ghost use Rattle.tta_reserve.specs.Adding.{
-    one_more, with_bit, with_dest, with_item, with_item_source, with_move, with_source,
-    with_template,
-};
+ghost use Rattle.tta_reserve.specs.Adding.{one_more, with_bit, with_dest, with_item};
+ghost use Rattle.tta_reserve.specs.Adding.{with_item_source, with_move, with_source};
+ghost use Rattle.tta_reserve.specs.Adding.{with_template};
 
 use crate::row::Row;
 use tta_arch::{Dest, Source, Template};
@@ -66,17 +65,15 @@ fn with_source(r: Row, src: Source) -> Row
     ensures { result ≡ with_source src r }
 {
     match src {
-        Source::Reg { file, index: _ } => Row {
+        Source::Reg { file, .. } => Row {
             reads: one_more(r.reads, file),
             ..r
         },
-        Source::Imm { unit, index: _ } => Row {
+        Source::Imm { unit, .. } => Row {
             imms: with_unit(r.imms, unit),
             ..r
         },
-        Source::Shown { unit: _ } => r,
-        Source::Ra => r,
-        Source::Value(_) => r,
+        Source::Shown { .. } | Source::Ra | Source::Value(_) => r,
     }
 }
 
@@ -95,15 +92,12 @@ fn with_dest(r: Row, dst: Dest) -> Row
     ensures { result ≡ with_dest dst r }
 {
     match dst {
-        Dest::Reg { file, index: _ } => Row {
+        Dest::Reg { file, .. } => Row {
             writes: one_more(r.writes, file),
             ..r
         },
-        Dest::Operand { unit: _ } => r,
-        Dest::Trigger { unit: _, op: _ } => r,
-        Dest::Jump => r,
-        Dest::Call => r,
-        Dest::Halt => r,
+        Dest::Operand { .. } | Dest::Trigger { .. } => r,
+        Dest::Jump | Dest::Call | Dest::Halt => r,
     }
 }
 
@@ -144,11 +138,11 @@ pub fn with_item(r: Row, templates: &[Template], item: Item, slot: Slot) -> Row
     ensures { result ≡ with_item templates.now item slot r }
 {
     match item {
-        Item::Move { guard: _, src, dst } => match slot {
+        Item::Move { src, dst, .. } => match slot {
             Slot::Bus(bus) => with_move(r, bus, src, dst),
             Slot::Template(_) => r,
         },
-        Item::Long { imm: _, reg: _, value: _ } => match slot {
+        Item::Long { .. } => match slot {
             Slot::Bus(_) => r,
             Slot::Template(t) => with_template(r, buses_of(templates, t)),
         },

@@ -5,9 +5,8 @@ ghost use Rattle.std.specs.Prelude.{IfSome, IfNone};
 ghost use Rattle.tta_arch.specs.Rules.{IsMachine};
 ghost use Rattle.tta_moves.specs.Slots.{carried};
 ghost use Rattle.tta_connect.specs.Net.{IsNetOf};
-ghost use Rattle.tta_reserve.specs.Leaving.{
-    fills_beside, is_open, row_fills, row_reads, row_takes, row_writes,
-};
+ghost use Rattle.tta_reserve.specs.Leaving.{row_reads, row_writes, is_open, row_takes};
+ghost use Rattle.tta_reserve.specs.Leaving.{fills_beside, row_fills};
 
 use crate::row::Row;
 use tta_arch::{Dest, GuardRef, Machine, Source, Template, has_bus};
@@ -42,14 +41,12 @@ fn row_reads(r: &Row, m: &Machine, src: Source) -> bool
     ensures { result ≡ row_reads m.now r.now src }
 {
     match src {
-        Source::Reg { file, index: _ } => match entry_at(m.files.as_slice(), file) {
+        Source::Reg { file, .. } => match entry_at(m.files.as_slice(), file) {
             None => false,
             Some(q) => count_at(&r.reads, file) < q.read,
         },
-        Source::Imm { unit, index: _ } => !has_bus(u16::from(r.imms), usize::from(unit)),
-        Source::Shown { unit: _ } => true,
-        Source::Ra => true,
-        Source::Value(_) => true,
+        Source::Imm { unit, .. } => !has_bus(u16::from(r.imms), usize::from(unit)),
+        Source::Shown { .. } | Source::Ra | Source::Value(_) => true,
     }
 }
 
@@ -58,15 +55,12 @@ fn row_writes(r: &Row, m: &Machine, dst: Dest) -> bool
     ensures { result ≡ row_writes m.now r.now dst }
 {
     match dst {
-        Dest::Reg { file, index: _ } => match entry_at(m.files.as_slice(), file) {
+        Dest::Reg { file, .. } => match entry_at(m.files.as_slice(), file) {
             None => false,
             Some(q) => count_at(&r.writes, file) < q.write,
         },
-        Dest::Operand { unit: _ } => true,
-        Dest::Trigger { unit: _, op: _ } => true,
-        Dest::Jump => true,
-        Dest::Call => true,
-        Dest::Halt => true,
+        Dest::Operand { .. } | Dest::Trigger { .. } => true,
+        Dest::Jump | Dest::Call | Dest::Halt => true,
     }
 }
 
@@ -96,6 +90,9 @@ pub fn least_bus(
         return None;
     }
     let first = net.bus_for(m, &src, &dst, &guard)?;
+    if is_open(r, first) {
+        return Some(first);
+    }
     for bus in first..m.buses.len() as u8 {
         if is_open(r, bus) && net.joins(m, bus, &src, &dst, &guard) {
             return Some(bus);
@@ -111,7 +108,8 @@ fn fills_beside(r: &Row, imm: u8, reg: u8, t: &Template) -> bool
     t.imm == imm && t.reg == reg && r.moves & t.buses == 0
 }
 
-/// The least template on which a row takes a long immediate. It is None exactly where there is none.
+/// The least template on which a row takes a long immediate. It is None exactly where there is
+/// none.
 pub fn least_template(r: &Row, templates: &[Template], imm: u8, reg: u8) -> Option<u8>
     requires { length templates.now ≤ 8 }
     ensures there { IfSome result (λ t. row_fills templates.now r.now t imm reg ≡ true) }

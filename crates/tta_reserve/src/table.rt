@@ -63,8 +63,8 @@ impl Table {
         }
     }
 
-    /// Takes all cycles out, so that the table stands for no items. It keeps the memory for the next
-    /// block, and takes no longer than the cycles that it takes out.
+    /// Takes all cycles out, so that the table stands for no items. It keeps its memory for the
+    /// next block, and its time depends on the cycles that it takes out alone.
     pub fn clear(&mut self)
         ensures value { self.new ≡ [] }
         ensures none { (m : Machine) → StandsFor self.new m [] }
@@ -72,8 +72,8 @@ impl Table {
         self.rows.clear();
     }
 
-    /// Makes room for so many cycles. It fails only where there is no memory, and then the table is
-    /// as before.
+    /// Makes room for so many cycles, and keeps the room and the bookings that are there. It fails
+    /// only where there is no memory, and then the table is as before.
     pub fn reserve(&mut self, cycles: u32) -> Result<(), AllocError>
         ensures room { OnOk result (cycles ≤ length self.new) }
         ensures kept { (m : Machine) (placed : List PlacedItem) → StandsFor self.old m placed
@@ -88,8 +88,8 @@ impl Table {
         Ok(())
     }
 
-    /// The least slot on which an item fits in a cycle beside the items that are booked there, where
-    /// it goes into another place than they do. It is None exactly where it fits on no slot.
+    /// The least slot on which an item fits in a cycle beside the items that are booked there, if
+    /// it goes into another place than they do. It is None exactly where the item fits on no slot.
     pub fn fits(&self, m: &Target, net: &Net, item: &Item, cycle: u32) -> Option<Slot>
         requires net { IsNetOf net.now m.now }
         requires there { cycle < length self.now }
@@ -100,15 +100,13 @@ impl Table {
         let r = row_at(self.rows.as_slice(), cycle as usize);
         match *item {
             Item::Move { guard, src, dst } => {
-                match least_bus(&r, m, net, carried(m, src), dst, guard) {
-                    None => None,
-                    Some(bus) => Some(Slot::Bus(bus)),
-                }
+                let bus = least_bus(&r, m, net, carried(m, src), dst, guard)?;
+                Some(Slot::Bus(bus))
             }
-            Item::Long { imm, reg, value: _ } => match least_template(&r, m.templates.as_slice(), imm, reg) {
-                None => None,
-                Some(t) => Some(Slot::Template(t)),
-            },
+            Item::Long { imm, reg, .. } => {
+                let t = least_template(&r, m.templates.as_slice(), imm, reg)?;
+                Some(Slot::Template(t))
+            }
         }
     }
 
@@ -118,15 +116,11 @@ impl Table {
         ensures { (placed : List PlacedItem) → StandsFor self.old m.now placed
             → fits_beside m.now placed item cycle slot ≡ true
             → StandsFor self.new m.now
-                (placed ++ (record { item = item; cycle = cycle; slot = slot }) ∷ []) }
+            (placed ++ (record { item = item; cycle = cycle; slot = slot }) ∷ []) }
     {
         let at = cycle as usize;
-        let more = with_item(
-            row_at(self.rows.as_slice(), at),
-            m.templates.as_slice(),
-            item,
-            slot,
-        );
+        let row = row_at(self.rows.as_slice(), at);
+        let more = with_item(row, m.templates.as_slice(), item, slot);
         put_row(&mut self.rows, at, more);
     }
 }
