@@ -102,7 +102,7 @@ impl Bounds {
         requires soon { cycle < 1073741824 }
         ensures { (placed : List PlacedItem) (slot : Slot) → Stands self.old m.now placed
             → Stands self.new m.now
-                (placed ++ (record { item = item.now; cycle = cycle; slot = slot }) ∷ []) }
+            (placed ++ (record { item = item.now; cycle = cycle; slot = slot }) ∷ []) }
     {
         let writes = writes_by(m, *item);
         let reads = reads_by(*item);
