@@ -1,16 +1,15 @@
 -- The homes of the procedures, one by one.
-use Rattle.std.proofs.Common.{◌≡◌, ℕ, zero, suc, ◌+◌, ◌-◌, ◌<◌, ◌≤◌, ◌^◌, Bool, true, false, List, [], ◌∷◌, ◌++◌, length, get_or, Option, Some, None, Vec, Global, refl, sym, ◌∙◌, ap, subst, arith, ◌⊎◌, inl, inr, length-append, if◌then◌else◌}
+use Rattle.std.proofs.Common.{◌≡◌, ℕ, zero, suc, ◌+◌, ◌<◌, ◌≤◌, Bool, true, false, List, [], ◌∷◌, ◌++◌, length, get_or, Option, Some, None, Vec, Global, refl, sym, ◌∙◌, ap, subst, arith, ◌⊎◌, inl, inr, length-append, if◌then◌else◌}
 use Rattle.std.specs.Prelude.{slice_get, slice_set, nat_lt, is_some}
 use Rattle.std.specs.Option.{option_map_or}
 use Rattle.std.specs.List.{sum_by}
-use Rattle.std.proofs.lemmas.Option.{slice_get_read, slice_get_within}
+use Rattle.std.proofs.lemmas.Option.{slice_get_within}
 use Rattle.std.proofs.lemmas.List.{length-set}
 use Rattle.std.proofs.lemmas.List.Sums.{sum_by-cons}
 use Rattle.tta_list.proofs.Lists.{slice_get-longer, slice_get-back, some_within}
-use Rattle.tta_program.specs.declared.step.Step.{Step}
 use Rattle.tta_program.specs.declared.program.Proc.{Proc}
-use Rattle.tta_program.specs.Program.{Program, step_count}
-use Rattle.tta_program.specs.Rules.{IsProgram, IsProc}
+use Rattle.tta_program.specs.Program.{Program}
+use Rattle.tta_program.specs.Rules.{IsProgram}
 use Rattle.tta_flow.specs.declared.flow.Block.{Block}
 use Rattle.tta_flow.specs.declared.live.Live.{Live}
 use Rattle.tta_flow.specs.declared.table.Table.{Table}
@@ -20,7 +19,7 @@ use Rattle.tta_flow.specs.Live.{IsLive}
 use Rattle.tta_flow.specs.Search.{is_found}
 use Rattle.tta_flow.specs.Table.{is_listed}
 use Rattle.tta_flow.proofs.BlockLemmas.{closed_of}
-use Rattle.tta_flow.proofs.Programs.{procs_are, proc_is, proc_keeps}
+use Rattle.tta_flow.proofs.Programs.{proc_is, proc_keeps}
 use Rattle.tta_alloc.specs.declared.home.Home.{Home}
 use Rattle.tta_alloc.specs.declared.home.Home.TheVariants.{Reg, Slot}
 use Rattle.tta_alloc.specs.declared.homes.Homes.{Homes}
@@ -58,7 +57,6 @@ known inside p procs owner q blocks live t reached view rules read below is flow
   sound = λ i e. held i (sound owner i below (sym (list i) ∙ e));
   whole = λ i r. list i ∙ whole owner i below (flow.covers owner i q there r);
   before = λ step x small. lives.before owner step x q there small;
-  after = λ step x small. lives.after owner step x q there small;
 } where
   there : slice_get p.procs owner ≡ Some q
   there = proc_is inside p procs view read owner q below is

@@ -1,102 +1,103 @@
--- Which variables are kept, and which positions count, by the steps that were reached.
-use Rattle.std.proofs.Common.{◌≡◌, ℕ, zero, suc, ◌+◌, ◌-◌, ◌<◌, ◌≤◌, ◌^◌, Bool, true, false, List, length, get_or, take, Option, Some, None, refl, sym, ◌∙◌, ap, subst, arith, ◌⊎◌, inl, inr}
-use Rattle.std.specs.Prelude.{◌==◌, ◌&&◌, ◌||◌, nat_lt}
-use Rattle.std.specs.Option.{MatchOption}
-use Rattle.std.proofs.lemmas.Bool.{eqb-true, eq-eqb, or_cases, ltb-true, lt-ltb}
-use Rattle.std.proofs.lemmas.List.{take_all}
-use Rattle.std.proofs.lemmas.List.Folds.{list_any_more, list_any_at}
-use Rattle.std.proofs.Math.Bool.{or-true}
+-- Which variables are kept over calls, by the steps that were looked at.
+use Rattle.std.proofs.Common.{◌≡◌, ℕ, ◌+◌, ◌<◌, ◌≤◌, ◌/◌, true, false, length, Option, Some, None, refl, sym, ◌∙◌, ap, subst, arith, ◌⊎◌, inl, inr}
+use Rattle.std.specs.Prelude.{◌==◌, ◌||◌, slice_get}
+use Rattle.std.specs.Option.{option_map_or}
+use Rattle.std.proofs.lemmas.Bool.{eqb-true, eq-eqb, or_cases}
+use Rattle.std.proofs.Math.Bool.{or-true, or-false}
 use Rattle.tta_list.proofs.Tests.{and_left, and_right}
 use Rattle.tta_program.specs.declared.step.Step.{Step}
-use Rattle.tta_program.specs.declared.program.Proc.{Proc}
-use Rattle.tta_flow.specs.declared.live.Live.{Live}
-use Rattle.tta_flow.specs.Steps.{assigns_at, reads_at}
-use Rattle.tta_flow.specs.Paths.{Reached, Begin, Onward, IsClosed, LiveBefore, ReadHere, ReadLater, LiveAfter}
-use Rattle.tta_flow.specs.Live.{live_before, live_after}
-use Rattle.tta_flow.specs.Search.{is_found}
-use Rattle.tta_alloc.specs.declared.interval.Interval.{Interval}
-use Rattle.tta_alloc.specs.declared.interval.Span.{Span}
-use Rattle.tta_alloc.specs.Intervals.{Counts, IsParam, IsLiveAtEntry, IsRead, IsAssigned, IsLiveBefore, IsLiveAfter, IsInterval, keeps_at, IsKept, TakesPart}
-use Rattle.tta_alloc.specs.Known.{Known}
-use Rattle.tta_alloc.proofs.SpanLemmas.{IsLeast, Least, Met, AtEntry, AtStep}
+use Rattle.tta_program.specs.declared.step.Step.TheVariants.{Copy, Apply, Load, Take, Store, Put, If, Goto, When, Invoke, Return, Halt, End}
+use Rattle.tta_flow.specs.declared.bits.BitRow.{BitRow}
+use Rattle.tta_flow.specs.Bits.{has}
+use Rattle.tta_flow.specs.Growth.{Sets}
+use Rattle.tta_flow.specs.Live.{live_before}
+use Rattle.tta_flow.specs.Paths.{LiveBefore}
+use Rattle.tta_flow.specs.Steps.{follows}
+use Rattle.tta_alloc.specs.declared.body.Body.{Body}
+use Rattle.tta_alloc.specs.Bodies.{IsKnown, is_held, is_held_over}
+use Rattle.tta_alloc.specs.Intervals.{keeps, keeps_at, IsKept}
+use Rattle.tta_alloc.specs.Together.{AreKept}
+use Rattle.tta_alloc.proofs.WalkLemmas.{both, reached_small}
 
-reached_small : (steps : List Step) → IsClosed steps → (k : ℕ) → Reached steps k → k < length steps
-reached_small steps closed _ Begin = closed.some
-reached_small steps closed _ (Onward i j r e) = closed.within i j e
+-- only the step in the next place follows a call
+after_call : (o : Option Step) (at next x : ℕ) → option_map_or (λ s. keeps s x) o false ≡ true
+    → option_map_or (λ s. follows s at next) o false ≡ (at + 1 == next)
+after_call None at next x e = absurd cc
+after_call (Some (Invoke d callee args)) at next x e = or-false (at + 1 == next)
+after_call (Some (Copy d s)) at next x e = absurd cc
+after_call (Some (Apply d op a b)) at next x e = absurd cc
+after_call (Some (Load d a)) at next x e = absurd cc
+after_call (Some (Take d)) at next x e = absurd cc
+after_call (Some (Store a v)) at next x e = absurd cc
+after_call (Some (Put v)) at next x e = absurd cc
+after_call (Some (If rel a b to)) at next x e = absurd cc
+after_call (Some (Goto to)) at next x e = absurd cc
+after_call (Some (When rel a b d s)) at next x e = absurd cc
+after_call (Some (Return s)) at next x e = absurd cc
+after_call (Some Halt) at next x e = absurd cc
+after_call (Some End) at next x e = absurd cc
 
-module _ (q : Proc) (owner : ℕ) (reached : List ℕ) (live : Live) (h : Known q owner reached live) where
-  -- a step of the list, by its place there
-  pub listed_small : (i : ℕ) → i < length reached → get_or reached i 0 < length q.steps
-  listed_small i below =
-      reached_small q.steps h.closed (get_or reached i 0) (h.sound (get_or reached i 0)
-      (list_any_at (λ p. p == get_or reached i 0) reached i 0 below (eq-eqb (get_or reached i 0) (get_or reached i 0) refl)))
+module _ (b : Body) (h : IsKnown b) (x : ℕ) (small : x < b.q.now.vars) where
+  held_kept : (at : ℕ) → at < length b.q.now.steps → is_held b at x ≡ true → IsKept b.q.now x
+  held_kept at there e =
+      let over = and_right (has b.reached.now at) (is_held_over b at x) e in
+      let keeps = and_right (live_before b.live.now b.owner (at + 1) x) (keeps_at b.q.now.steps at x) over in
+      record {
+        at = at;
+        reached = h.sound at there (and_left (has b.reached.now at) (is_held_over b at x) e);
+        keeps = keeps;
+        live = record {
+          next = at + 1;
+          leads = after_call (slice_get b.q.now.steps at) at (at + 1) x keeps ∙ eq-eqb (at + 1) (at + 1) refl;
+          live = (h.before (at + 1) x small).0 (and_left (live_before b.live.now b.owner (at + 1) x) (keeps_at b.q.now.steps at x) over);
+        };
+      }
 
-  module _ (x : ℕ) (small : x < q.vars) where
-    -- ---- kept
+  kept_held : (k : IsKept b.q.now x) → is_held b k.at x ≡ true
+  kept_held k =
+      let next = eqb-true (k.at + 1) k.live.next (sym (after_call (slice_get b.q.now.steps k.at) k.at k.live.next x k.keeps) ∙ k.live.leads) in
+      both (h.whole k.at k.reached) (both ((h.before (k.at + 1) x small).1 (subst (LiveBefore b.q.now.steps x) (sym next) k.live.live)) k.keeps)
 
-    pub kept_here : (i : ℕ) → i < length reached → (keeps_at q.steps (get_or reached i 0) x && live_after live owner (get_or reached i 0) x) ≡ true
-        → IsKept q x
-    kept_here i below e = record {
-      at = get_or reached i 0;
-      reached = h.sound (get_or reached i 0)
-          (list_any_at (λ p. p == get_or reached i 0) reached i 0 below (eq-eqb (get_or reached i 0) (get_or reached i 0) refl));
-      keeps = and_left (keeps_at q.steps (get_or reached i 0) x) _ e;
-      live = (h.after (get_or reached i 0) x small).0 (and_right (keeps_at q.steps (get_or reached i 0) x) _ e);
-    }
+-- the row has only variables that are kept, and all that steps below a number keep
+pub record AreHeld (b : Body) (n : ℕ) (kept spare : BitRow) : Type 0 where
+  pub wide : length kept.words.items ≡ b.q.now.vars / 64 + 1
+  pub alike : length spare.words.items ≡ b.q.now.vars / 64 + 1
+  pub sound : (x : ℕ) → x < b.q.now.vars → has kept x ≡ true → IsKept b.q.now x
+  pub whole : (x i : ℕ) → x < b.q.now.vars → i < n → is_held b i x ≡ true → has kept x ≡ true
 
-    pub kept_more : (i : ℕ) → i < length reached → (keeps_at q.steps (get_or reached i 0) x && live_after live owner (get_or reached i 0) x) ≡ false
-        → ((k : ℕ) → is_found (take i reached) k ≡ true → (keeps_at q.steps k x && live_after live owner k x) ≡ false)
-        → (k : ℕ) → is_found (take (i + 1) reached) k ≡ true → (keeps_at q.steps k x && live_after live owner k x) ≡ false
-    kept_more i below here before k found = elim (or_cases (is_found (take i reached) k) (get_or reached i 0 == k) (sym (list_any_more (λ p. p == k) reached i 0 below) ∙ found)) [
-      | inl f ↦ before k f
-      | inr f ↦ ap (λ (n : ℕ). keeps_at q.steps n x && live_after live owner n x) (sym (eqb-true (get_or reached i 0) k f)) ∙ here
-    ]
+pub held_none : (b : Body) (kept room : BitRow) → length kept.words.items ≡ b.q.now.vars / 64 + 1 → length room.words.items ≡ b.q.now.vars / 64 + 1
+    → ((k : ℕ) → has kept k ≡ false) → AreHeld b 0 kept room
+held_none b kept room wide alike none = record {
+  wide = wide;
+  alike = alike;
+  sound = λ x small e. let f = none x in absurd cc;
+  whole = λ x i small low e. absurd (omega arith);
+}
 
-    pub kept_none : (i : ℕ) → length reached ≤ i
-        → ((k : ℕ) → is_found (take i reached) k ≡ true → (keeps_at q.steps k x && live_after live owner k x) ≡ false) → IsKept q x → ⊥
-    kept_none i past none k =
-        let e = none k.at (ap (λ l. is_found l k.at) (take_all i reached past) ∙ h.whole k.at k.reached) in
-        let f : (keeps_at q.steps k.at x && live_after live owner k.at x) ≡ true =
-        ap (λ b. b && live_after live owner k.at x) k.keeps ∙ (h.after k.at x small).1 k.live in
-        no _ f e
-      where
-        no : (b : Bool) → b ≡ true → b ≡ false → ⊥
-        no b t f = cc
+pub held_more : (b : Body) → IsKnown b → (at : ℕ) (kept room new spare : BitRow) → at < length b.q.now.steps → AreHeld b at kept room
+    → Sets (is_held b at) kept new → length spare.words.items ≡ length room.words.items → AreHeld b (at + 1) new spare
+held_more b known at kept room new spare there h sets alike = record {
+  wide = sets.room ∙ h.wide;
+  alike = alike ∙ h.alike;
+  sound = λ x small e. elim (or_cases (has kept x) (is_held b at x) (sym (is x small) ∙ e)) [
+    | inl f ↦ h.sound x small f
+    | inr f ↦ held_kept b known x small at there f
+  ];
+  whole = λ x i small low e. whole x i small e (last i low);
+} where
+  is : (x : ℕ) → x < b.q.now.vars → has new x ≡ (has kept x || is_held b at x)
+  is x small = sets.bits x (let w = h.wide in omega arith)
 
-    -- ---- positions
+  last : (i : ℕ) → i < at + 1 → (i < at) ⊎ (i ≡ at)
+  last i low = grind arith
 
-    entry : Bool
-    entry = nat_lt x q.params || live_before live owner 0 x
+  whole : (x i : ℕ) → x < b.q.now.vars → is_held b i x ≡ true → (i < at) ⊎ (i ≡ at) → has new x ≡ true
+  whole x i small e (inl low) = is x small ∙ ap (λ r. r || is_held b at x) (h.whole x i small low e)
+  whole x i small e (inr s) =
+      is x small ∙ ap (λ r. has kept x || r) (ap (λ (n : ℕ). is_held b n x) (sym s) ∙ e) ∙ or-true (has kept x)
 
-    met_counts : (at : ℕ) → Met (nat_lt x q.params || live_before live owner 0 x) (λ i. assigns_at q.steps i x || live_before live owner i x) reached at
-        → Counts q x at
-    met_counts _ (AtEntry e) = elim (or_cases (nat_lt x q.params) (live_before live owner 0 x) e) [
-      | inl p ↦ IsParam (ltb-true x q.params p)
-      | inr l ↦ IsLiveAtEntry ((h.before 0 x small).0 l)
-    ]
-    met_counts _ (AtStep i f t) = elim (or_cases (assigns_at q.steps i x) (live_before live owner i x) t) [
-      | inl a ↦ IsAssigned i (h.sound i f) a
-      | inr l ↦ IsLiveBefore i (h.sound i f) ((h.before i x small).0 l)
-    ]
-
-    -- a variable that is live after a step is assigned there or live before
-    live_through : (i : ℕ) (b : Bool) → assigns_at q.steps i x ≡ b → LiveAfter q.steps x i → (b || live_before live owner i x) ≡ true
-    live_through i true e a = refl
-    live_through i false e a = (h.before i x small).1 (ReadLater i a.next e a.leads a.live)
-
-    counts_met : (at : ℕ) → Counts q x at
-        → Met (nat_lt x q.params || live_before live owner 0 x) (λ i. assigns_at q.steps i x || live_before live owner i x) reached at
-    counts_met _ (IsParam p) = AtEntry (ap (λ b. b || live_before live owner 0 x) (lt-ltb x q.params p))
-    counts_met _ (IsLiveAtEntry l) = AtEntry (ap (λ b. nat_lt x q.params || b) ((h.before 0 x small).1 l) ∙ or-true (nat_lt x q.params))
-    counts_met _ (IsRead i r e) = AtStep i (h.whole i r)
-        (ap (λ b. assigns_at q.steps i x || b) ((h.before i x small).1 (ReadHere i e)) ∙ or-true (assigns_at q.steps i x))
-    counts_met _ (IsAssigned i r e) = AtStep i (h.whole i r) (ap (λ b. b || live_before live owner i x) e)
-    counts_met _ (IsLiveBefore i r l) = AtStep i (h.whole i r)
-        (ap (λ b. assigns_at q.steps i x || b) ((h.before i x small).1 l) ∙ or-true (assigns_at q.steps i x))
-    counts_met _ (IsLiveAfter i r a) = AtStep i (h.whole i r) (live_through i (assigns_at q.steps i x) refl a)
-
-    pub span_is : (o : Option Span)
-        → IsLeast (Met (nat_lt x q.params || live_before live owner 0 x) (λ i. assigns_at q.steps i x || live_before live owner i x) reached) o
-        → MatchOption o ((at : ℕ) → Counts q x at → ⊥) (λ s. IsInterval q x s.start s.end)
-    span_is None h = λ at c. h at (counts_met at c)
-    span_is (Some s) h = record { first = met_counts s.start h.first; last = met_counts s.end h.last; all = λ at c. h.all at (counts_met at c) }
+pub held_all : (b : Body) → IsKnown b → (at : ℕ) (kept room : BitRow) → length b.q.now.steps ≤ at → AreHeld b at kept room → AreKept b.q.now kept
+held_all b known at kept room past h x small = (
+  h.sound x small,
+  λ k. h.whole x k.at small (let s = reached_small b known k.at k.reached in omega arith) (kept_held b known x small k),
+)

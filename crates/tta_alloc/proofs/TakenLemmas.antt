@@ -1,6 +1,6 @@
 -- The intervals that take part, one by one and in order.
-use Rattle.std.proofs.Common.{◌≡◌, ◌≢◌, ℕ, zero, suc, ◌+◌, ◌<◌, ◌≤◌, Bool, true, false, cond, List, [], ◌∷◌, ◌++◌, length, get_or, Option, Some, None, refl, sym, ◌∙◌, ap, subst, arith, ◌⊎◌, inl, inr}
-use Rattle.std.specs.Prelude.{◌==◌, nat_lt, slice_get, option_to_list, count_by}
+use Rattle.std.proofs.Common.{◌≡◌, ℕ, zero, suc, ◌+◌, ◌<◌, ◌≤◌, Bool, true, false, cond, List, [], ◌∷◌, ◌++◌, length, get_or, Option, Some, None, refl, sym, ◌∙◌, ap, subst, arith, ◌⊎◌, inl, inr}
+use Rattle.std.specs.Prelude.{◌==◌, slice_get, option_to_list, count_by}
 use Rattle.std.specs.List.{Contains}
 use Rattle.std.specs.List.Sorted.{IsPermutation, IsSorted}
 use Rattle.std.specs.Option.{MatchOption}
@@ -18,7 +18,11 @@ use Rattle.std.proofs.lemmas.Option.{slice_get_read, slice_get_within, get_or_fr
 use Rattle.tta_program.specs.declared.program.Proc.{Proc}
 use Rattle.tta_alloc.specs.declared.interval.Interval.{Interval}
 use Rattle.tta_alloc.specs.Intervals.{Counts, IsInterval, IsKept, TakesPart, AreTaken, IsBefore, IsSettled}
-use Rattle.tta_alloc.specs.Together.{AreAmong}
+use Rattle.tta_alloc.specs.Together.{AreAmong, AreFirst, AreLast, AreKept, interval_of}
+use Rattle.tta_alloc.specs.Meetings.{met}
+use Rattle.tta_alloc.specs.declared.met.Met.{Met}
+use Rattle.tta_flow.specs.declared.bits.BitRow.{BitRow}
+use Rattle.tta_flow.specs.Bits.{has}
 
 -- ---- elements by their places
 
@@ -81,6 +85,33 @@ module _ (p : Interval → Bool) where
     where
       add_zero_to : (n : ℕ) → n + 0 ≡ n
       add_zero_to n = omega arith
+
+-- ---- one variable
+
+pub candidate_is : (q : Proc) (kept : BitRow) (starts ends : Met) (x : ℕ) (one : Option Interval) → x < q.vars → AreKept q kept → AreFirst q starts
+    → AreLast q ends → one ≡ interval_of (has kept x) (met starts x) (met ends x) x
+    → MatchOption one ((IsKept q x) ⊎ ((at : ℕ) → Counts q x at → ⊥)) (λ iv. (iv.var ≡ x) × TakesPart q iv)
+candidate_is q kept starts ends x one small held first last is =
+    subst (λ (o : Option Interval). MatchOption o ((IsKept q x) ⊎ ((at : ℕ) → Counts q x at → ⊥)) (λ iv. (iv.var ≡ x) × TakesPart q iv)) (sym is)
+    (by (has kept x) (met starts x) (met ends x) refl (first x small) (last x small))
+  where
+    by : (k : Bool) (a b : Option ℕ) → has kept x ≡ k
+        → MatchOption a ((at : ℕ) → Counts q x at → ⊥) (λ p. Counts q x p × ((at : ℕ) → Counts q x at → p ≤ at))
+        → MatchOption b ((at : ℕ) → Counts q x at → ⊥) (λ p. Counts q x p × ((at : ℕ) → Counts q x at → at ≤ p))
+        → MatchOption (interval_of k a b x) ((IsKept q x) ⊎ ((at : ℕ) → Counts q x at → ⊥)) (λ iv. (iv.var ≡ x) × TakesPart q iv)
+    by true a b e f l = inl ((held x small).0 e)
+    by false None b e f l = inr f
+    by false (Some a) None e f l = inr l
+    by false (Some a) (Some b) e f l = (
+      refl,
+      record {
+        var = small;
+        interval = record { first = f.0; last = l.0; all = λ at c. (f.1 at c, l.1 at c) };
+        free = λ k. no (sym e ∙ (held x small).1 k);
+      },
+    ) where
+      no : false ≡ true → ⊥
+      no f = cc
 
 -- ---- the variables in turn
 

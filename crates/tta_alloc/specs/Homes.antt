@@ -5,7 +5,7 @@ use Rattle.tta_program.specs.declared.program.Proc.{Proc}
 use Rattle.tta_program.specs.Program.{Program}
 use Rattle.tta_alloc.specs.declared.interval.Interval.{Interval}
 use Rattle.tta_alloc.specs.declared.home.Home.{Home}
-use Rattle.tta_alloc.specs.declared.home.Home.TheVariants.{Reg, Slot}
+use Rattle.tta_alloc.specs.declared.home.Home.TheVariants.{Slot}
 use Rattle.tta_alloc.specs.declared.homes.Homes.{Homes}
 use Rattle.tta_alloc.specs.Intervals.{AreTaken}
 use Rattle.tta_alloc.specs.Scan.{scan}

@@ -2,8 +2,8 @@
 use Rattle.std.specs.Prelude.{◌≡◌, ◌↔◌, ℕ, ◌<◌, ◌-◌, ◌^◌, true, List, length}
 use Rattle.tta_program.specs.declared.program.Proc.{Proc}
 use Rattle.tta_flow.specs.declared.live.Live.{Live}
-use Rattle.tta_flow.specs.Paths.{Reached, IsClosed, LiveBefore, LiveAfter}
-use Rattle.tta_flow.specs.Live.{live_before, live_after}
+use Rattle.tta_flow.specs.Paths.{Reached, IsClosed, LiveBefore}
+use Rattle.tta_flow.specs.Live.{live_before}
 use Rattle.tta_flow.specs.Search.{is_found}
 
 -- the steps that paths come to stand in a list, and the answers on what is live are those of the procedure
@@ -13,4 +13,3 @@ pub record Known (q : Proc) (owner : ℕ) (reached : List ℕ) (live : Live) : T
   pub sound : (i : ℕ) → is_found reached i ≡ true → Reached q.steps i
   pub whole : (i : ℕ) → Reached q.steps i → is_found reached i ≡ true
   pub before : (step x : ℕ) → x < q.vars → (live_before live owner step x ≡ true) ↔ LiveBefore q.steps x step
-  pub after : (step x : ℕ) → x < q.vars → (live_after live owner step x ≡ true) ↔ LiveAfter q.steps x step

@@ -1,5 +1,4 @@
-use Rattle.std.proofs.Common.{ℕ, refl, ◌∙◌, ap}
-use Rattle.tta_flow.specs.Search.{is_found}
+use Rattle.std.proofs.Common.{refl, ◌∙◌, ap}
 use Rattle.tta_flow.proofs.Programs.{procs_are, proc_is}
 use Rattle.tta_alloc.specs.Scan.{scan}
 use Rattle.tta_alloc.proofs.HomeLemmas.{held, back, known, scanned_none, scanned_more, scanned_all}
