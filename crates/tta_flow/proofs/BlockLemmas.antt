@@ -1,23 +1,21 @@
 -- The blocks of a procedure are the runs of the steps that were reached; the blocks of a program.
-use Rattle.std.proofs.Common.{◌≡◌, ℕ, zero, suc, ◌+◌, ◌<◌, ◌≤◌, Bool, true, false, List, [], ◌∷◌, ◌++◌, length, get_or, Option, Some, None, refl, sym, ◌∙◌, ap, subst, arith, ◌⊎◌, inl, inr, ◌≢◌, length-append}
-use Rattle.std.specs.Prelude.{◌&&◌, ◌||◌, ◌==◌, nat_lt, slice_get}
+use Rattle.std.proofs.Common.{◌≡◌, ℕ, zero, suc, ◌+◌, ◌<◌, ◌≤◌, Bool, true, false, List, [], ◌∷◌, ◌++◌, length, get_or, Option, Some, None, refl, sym, ◌∙◌, ap, subst, arith, ◌⊎◌, inl, inr}
+use Rattle.std.specs.Prelude.{◌&&◌, ◌==◌, slice_get}
 use Rattle.std.specs.Option.{option_map_or}
-use Rattle.std.specs.List.{list_all, sum_by, AllByRecursion}
 use Rattle.std.proofs.lemmas.Option.{slice_get_within, slice_get_read}
 use Rattle.std.proofs.lemmas.Bool.{eqb-true, or_cases, ltb-true}
 use Rattle.tta_list.proofs.Tests.{and_left, and_right}
-use Rattle.tta_list.proofs.Lists.{list_all_one, all_one, slice_get-longer, slice_get-back, slice_get-front}
+use Rattle.tta_list.proofs.Lists.{list_all_one, all_one, slice_get-longer, slice_get-back}
 use Rattle.tta_program.specs.declared.step.Step.{Step}
-use Rattle.tta_program.specs.declared.step.Step.TheVariants.{Copy, Apply, Load, Store, Put, If, Goto, When, Invoke, Return, Halt, End}
+use Rattle.tta_program.specs.declared.step.Step.TheVariants.{If, Goto, End}
 use Rattle.tta_program.specs.declared.program.Proc.{Proc}
-use Rattle.tta_program.specs.Program.{Program, step_count}
+use Rattle.tta_program.specs.Program.{Program}
 use Rattle.tta_program.specs.Rules.{is_step, is_src, ends_once, IsProc, IsProgram}
 use Rattle.tta_flow.specs.declared.flow.Block.{Block}
-use Rattle.tta_flow.specs.Steps.{falls, target, follows, leads, branches, cuts_at}
+use Rattle.tta_flow.specs.Steps.{falls, target, follows, leads, branches}
 use Rattle.tta_flow.specs.Paths.{Reached, Begin, Onward, IsClosed}
-use Rattle.tta_flow.specs.Blocks.{IsFirst, AtBegin, Named, After, IsBlock, AreBlocks, Holds, IsBlockOf, IsFlow, StandsBefore}
+use Rattle.tta_flow.specs.Blocks.{IsFirst, AtBegin, Named, IsBlock, AreBlocks, Holds, IsBlockOf, IsFlow, StandsBefore}
 use Rattle.tta_flow.specs.Runs.{AreEntered, IsRun, AreRuns}
-use Rattle.tta_flow.proofs.Reaching.{test_within}
 use Rattle.tta_flow.proofs.RunLemmas.{runs_apart, open_at, run_from}
 
 -- ---- the steps of a procedure

@@ -1,18 +1,18 @@
 -- The laws of the blocks of a program.
-use Rattle.std.proofs.Common.{◌≡◌, ◌≢◌, ℕ, zero, suc, ◌+◌, ◌<◌, ◌≤◌, Bool, true, false, List, [], ◌∷◌, length, Option, Some, None, refl, sym, ◌∙◌, ap, subst, arith, ◌⊎◌, inl, inr}
+use Rattle.std.proofs.Common.{◌≡◌, ℕ, ◌+◌, ◌<◌, ◌≤◌, Bool, true, false, List, Option, Some, None, refl, sym, ◌∙◌, ap, subst, arith, ◌⊎◌, inl, inr}
 use Rattle.std.specs.Prelude.{◌&&◌, ◌||◌, ◌==◌, slice_get, is_some}
 use Rattle.std.specs.Option.{option_map_or}
 use Rattle.std.proofs.lemmas.Bool.{eq-eqb}
 use Rattle.std.proofs.lemmas.Option.{slice_get_within}
 use Rattle.tta_list.proofs.Lists.{some_within}
 use Rattle.tta_program.specs.declared.step.Step.{Step}
-use Rattle.tta_program.specs.declared.step.Step.TheVariants.{Copy, Apply, Load, Store, Put, If, Goto, When, Invoke, Return, Halt, End}
+use Rattle.tta_program.specs.declared.step.Step.TheVariants.{If, Goto}
 use Rattle.tta_program.specs.declared.program.Proc.{Proc}
 use Rattle.tta_program.specs.Program.{Program}
 use Rattle.tta_flow.specs.declared.flow.Block.{Block}
 use Rattle.tta_flow.specs.Steps.{falls, target, cuts, cuts_at, follows, leads, branches}
 use Rattle.tta_flow.specs.Paths.{Reached, Begin, Onward}
-use Rattle.tta_flow.specs.Blocks.{IsFirst, Named, After, IsBlock, Holds, IsBlockOf, IsFlow, StandsBefore}
+use Rattle.tta_flow.specs.Blocks.{IsFirst, Named, After, IsBlock, Holds, IsFlow, StandsBefore}
 use Rattle.tta_flow.specs.Laws.{BeginsWith, FlowLaws}
 use Rattle.tta_flow.proofs.BlockLemmas.{leads_cases}
 use Rattle.tta_flow.proofs.RunLemmas.{two}

@@ -8,6 +8,8 @@ pub mod FirstLemmas
 pub mod BlockLemmas
 pub mod Programs
 pub mod RowLemmas
+pub mod VisitLemmas
+pub mod RoundLemmas
 pub mod LiveLemmas
 pub mod FlowLawLemmas
 pub mod Samples

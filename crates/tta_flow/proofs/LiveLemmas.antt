@@ -1,8 +1,8 @@
 -- What the rows and the steps that can follow tell of a program.
-use Rattle.std.proofs.Common.{◌≡◌, ℕ, zero, suc, ◌+◌, ◌<◌, ◌≤◌, Bool, true, false, List, [], ◌∷◌, ◌++◌, length, get_or, map, Option, Some, None, refl, sym, ◌∙◌, ap, subst, arith, ◌⊎◌, inl, inr, if◌then◌else◌, length-append}
+use Rattle.std.proofs.Common.{◌≡◌, ℕ, ◌+◌, ◌<◌, ◌≤◌, Bool, true, false, List, [], ◌∷◌, ◌++◌, length, get_or, Option, Some, None, refl, sym, ◌∙◌, ap, subst, arith, ◌⊎◌, inl, inr, if◌then◌else◌, length-append}
 use Rattle.std.specs.Prelude.{◌↔◌, ◌&&◌, ◌||◌, ◌==◌, slice_get, option_map}
 use Rattle.std.specs.Option.{option_map_or}
-use Rattle.std.proofs.lemmas.Bool.{eq-eqb, eqb-true, or_cases}
+use Rattle.std.proofs.lemmas.Bool.{eq-eqb, eqb-true}
 use Rattle.std.proofs.lemmas.Option.{slice_get-map, slice_get_read, slice_get_within}
 use Rattle.std.proofs.Math.Bool.{or-true}
 use Rattle.tta_list.proofs.Tests.{and_left, and_right}
@@ -12,8 +12,7 @@ use Rattle.tta_program.specs.declared.program.Proc.{Proc}
 use Rattle.tta_program.specs.Program.{Program}
 use Rattle.tta_flow.specs.declared.live.Live.{Live}
 use Rattle.tta_flow.specs.declared.live.LiveProc.{LiveProc}
-use Rattle.tta_flow.specs.declared.live.Next.{Next}
-use Rattle.tta_flow.specs.Steps.{falls, target, follows, leads, branches}
+use Rattle.tta_flow.specs.Steps.{falls, target, follows, branches}
 use Rattle.tta_flow.specs.Paths.{LiveBefore, LiveAfter}
 use Rattle.tta_flow.specs.Live.{before_in, after_next, after_in, live_before, live_after, next_of, IsLiveProc, IsLive}
 use Rattle.tta_flow.proofs.BlockLemmas.{leads_cases}

@@ -1,5 +1,5 @@
 -- Small procedures, and what the definitions make of them.
-use Rattle.std.specs.Prelude.{◌≡◌, ℕ, List, [], ◌∷◌, Some, refl, true, false}
+use Rattle.std.specs.Prelude.{◌≡◌, List, [], ◌∷◌, refl, false}
 use Rattle.tta_program.specs.declared.operand.Src.TheVariants.{Var, Word}
 use Rattle.tta_program.specs.declared.step.Step.{Step}
 use Rattle.tta_program.specs.declared.step.Step.TheVariants.{Copy, Put, Goto, End}

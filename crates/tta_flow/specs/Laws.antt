@@ -1,5 +1,5 @@
 -- What holds of the blocks of every program.
-use Rattle.std.specs.Prelude.{◌≡◌, ℕ, ◌+◌, ◌<◌, ◌≤◌, Bool, true, false, List, Some, slice_get}
+use Rattle.std.specs.Prelude.{◌≡◌, ℕ, ◌+◌, ◌<◌, ◌≤◌, true, false, List, Some, slice_get}
 use Rattle.std.specs.Option.{option_map_or}
 use Rattle.tta_program.specs.declared.program.Proc.{Proc}
 use Rattle.tta_program.specs.Program.{Program}

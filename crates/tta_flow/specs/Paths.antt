@@ -1,5 +1,5 @@
 -- Paths of steps: which steps a procedure comes to, and which variables are read later on.
-use Rattle.std.specs.Prelude.{◌≡◌, ℕ, ◌<◌, Bool, true, false, List, length}
+use Rattle.std.specs.Prelude.{◌≡◌, ℕ, ◌<◌, true, false, List, length}
 use Rattle.tta_program.specs.declared.step.Step.{Step}
 use Rattle.tta_flow.specs.Steps.{reads_at, assigns_at, leads}
 

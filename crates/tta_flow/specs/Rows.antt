@@ -1,5 +1,5 @@
 -- For each step the variables that are live before it, while they are found.
-use Rattle.std.specs.Prelude.{◌≡◌, ℕ, ◌+◌, ◌<◌, ◌≤◌, ◌/◌, Bool, true, false, not, ◌&&◌, ◌||◌, List, Some, length, slice_get, ◌⊎◌, ◌≢◌}
+use Rattle.std.specs.Prelude.{◌≡◌, ℕ, ◌+◌, ◌<◌, ◌/◌, Bool, true, false, not, ◌&&◌, ◌||◌, List, Some, length, slice_get, ◌⊎◌, ◌≢◌}
 use Rattle.std.specs.Option.{option_map_or}
 use Rattle.tta_program.specs.declared.step.Step.{Step}
 use Rattle.tta_flow.specs.declared.bits.BitRow.{BitRow}

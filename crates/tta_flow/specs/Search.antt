@@ -1,5 +1,5 @@
 -- A search along edges, and the places that it finds.
-use Rattle.std.specs.Prelude.{◌≡◌, ℕ, suc, zero, ◌+◌, ◌*◌, ◌<◌, ◌≤◌, ◌==◌, nat_lt, Bool, true, ◌&&◌, ◌||◌, if◌then◌else◌, List, ◌++◌, length, take}
+use Rattle.std.specs.Prelude.{◌≡◌, ℕ, suc, zero, ◌+◌, ◌*◌, ◌<◌, ◌≤◌, ◌==◌, nat_lt, Bool, true, ◌&&◌, ◌||◌, if◌then◌else◌, List, ◌++◌, length}
 use Rattle.std.specs.List.{list_any}
 use Rattle.tta_flow.specs.declared.search.Search.{Search}
 use Rattle.tta_flow.specs.Bits.{has}

@@ -1,6 +1,6 @@
 //! Rows of bits.
 
-ghost use Rattle.std.specs.Prelude.{◌≡◌, ◌+◌, ◌<◌, ◌/◌, ◌%◌, ◌==◌, ◌||◌, ◌&&◌, not, ◌^◌, ℕ, false};
+ghost use Rattle.std.specs.Prelude.{◌≡◌, ◌+◌, ◌<◌, ◌≤◌, ◌/◌, ◌%◌, ◌==◌, ◌||◌, ◌&&◌, not, ◌^◌, ℕ, false};
 ghost use Rattle.std.specs.Prelude.{true, length, slice_index, bit_or, IfOk};
 ghost use Rattle.tta_flow.specs.Bits.{has};
 ghost use Rattle.tta_flow.specs.Growth.{Grows, Sets};
@@ -117,6 +117,19 @@ impl BitRow {
     {
         let word = self.word(at);
         joined(word, other.word(at)) == word
+    }
+
+    /// The first place of the word before a bit, where that word has no bits, and else the bit
+    /// itself. So no bit is set from there up to it.
+    pub fn clear_from(&self, bit: usize) -> usize
+        ensures low { result ≤ bit }
+        ensures none { (k : ℕ) → result ≤ k → k < bit → has self.now k ≡ false }
+    {
+        if bit == 0 {
+            return bit;
+        }
+        let at = (bit - 1) / 64;
+        if self.word(at) == 0 { at * 64 } else { bit }
     }
 
     /// A word of the row; past its end it is 0.

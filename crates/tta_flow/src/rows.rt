@@ -69,6 +69,7 @@ impl Work {
             at -= 1;
             let more = self.visit(steps, vars, before, at);
             grown = either(grown, more);
+            at = self.due.clear_from(at);
         }
         grown
     }

@@ -1,4 +1,4 @@
-use Rattle.std.proofs.Common.{ℕ, take}
+use Rattle.std.proofs.Common.{take}
 use Rattle.std.specs.List.{list_any}
 use Rattle.tta_flow.specs.Growth.{Sets}
 use Rattle.tta_flow.specs.Steps.{is_var}

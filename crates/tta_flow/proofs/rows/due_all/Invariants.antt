@@ -1,4 +1,4 @@
-use Rattle.std.proofs.Common.{ℕ, take}
+use Rattle.std.proofs.Common.{take}
 use Rattle.tta_flow.specs.Growth.{Sets}
 use Rattle.tta_flow.specs.Search.{is_found}
 use Rattle.tta_flow.proofs.rows.due_all.Given as goal

@@ -1,4 +1,5 @@
-use Rattle.tta_flow.proofs.RowLemmas.{no, found_less, found_all}
+use Rattle.tta_flow.proofs.RoundLemmas.{found_less, found_all}
+use Rattle.tta_flow.proofs.RowLemmas.{no}
 use Rattle.tta_flow.proofs.rows.live_rows.Goals as goal
 
 pub loop-grown-init : goal.loop-grown-init

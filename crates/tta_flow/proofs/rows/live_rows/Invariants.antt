@@ -1,6 +1,6 @@
 use Rattle.std.proofs.Common.{◌+◌, if◌then◌else◌}
 use Rattle.tta_flow.specs.Growth.{spare}
-use Rattle.tta_flow.proofs.RowLemmas.{IsFound}
+use Rattle.tta_flow.proofs.RoundLemmas.{IsFound}
 use Rattle.tta_flow.proofs.rows.live_rows.Given as goal
 
 abbrev pub invariant-loop-grown : goal.invariant-loop-grown

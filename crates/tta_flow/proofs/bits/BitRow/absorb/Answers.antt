@@ -1,7 +1,6 @@
-use Rattle.std.proofs.Common.{ℕ, ◌≡◌, ◌≤◌, ◌<◌, ◌∙◌, sym, ap, length, get_or, rules}
-use Rattle.std.specs.Prelude.{◌||◌}
+use Rattle.std.proofs.Common.{◌<◌, ◌∙◌, length, rules}
 use Rattle.tta_flow.proofs.BitLemmas.{any_default}
-use Rattle.tta_flow.proofs.GrowthLemmas.{Absorbs, absorbs_none, absorbs_more, absorbs_all}
+use Rattle.tta_flow.proofs.GrowthLemmas.{absorbs_none, absorbs_more, absorbs_all}
 use Rattle.tta_flow.proofs.bits.BitRow.absorb.Goals as goal
 
 pub loop-at-init : goal.loop-at-init

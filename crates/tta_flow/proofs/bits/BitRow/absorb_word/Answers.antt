@@ -1,4 +1,4 @@
-use Rattle.std.proofs.Common.{ℕ, ◌≡◌, ◌<◌, length, get_or, set, ◌∙◌, sym, ap}
+use Rattle.std.proofs.Common.{ℕ, set, ◌∙◌, sym, ap}
 use Rattle.std.specs.Prelude.{bit_or}
 use Rattle.std.proofs.lemmas.List.{length-set}
 use Rattle.tta_flow.proofs.BitLemmas.{any_default}

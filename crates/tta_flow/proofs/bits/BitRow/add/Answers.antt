@@ -1,5 +1,5 @@
-use Rattle.std.proofs.Common.{◌≡◌, ◌≤◌, ◌<◌, length, arith, rules}
-use Rattle.tta_flow.proofs.GrowthLemmas.{Absorbs, absorbs_none, absorbs_more, absorbs_sets}
+use Rattle.std.proofs.Common.{◌≤◌, ◌<◌, length, arith, rules}
+use Rattle.tta_flow.proofs.GrowthLemmas.{absorbs_none, absorbs_more, absorbs_sets}
 use Rattle.tta_flow.proofs.bits.BitRow.add.Goals as goal
 
 pub loop-at-init : goal.loop-at-init

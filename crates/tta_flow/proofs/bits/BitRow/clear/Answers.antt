@@ -1,4 +1,4 @@
-use Rattle.std.proofs.Common.{ℕ, ◌<◌, ◌≤◌, ◌∙◌, refl, length, arith, rules}
+use Rattle.std.proofs.Common.{◌<◌, ◌≤◌, ◌∙◌, refl, length, arith, rules}
 use Rattle.std.proofs.lemmas.List.{length-set}
 use Rattle.tta_flow.proofs.GrowthLemmas.{zero_more, zero_all}
 use Rattle.tta_flow.proofs.bits.BitRow.clear.Goals as goal

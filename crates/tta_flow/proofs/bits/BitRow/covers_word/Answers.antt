@@ -1,4 +1,4 @@
-use Rattle.std.proofs.Common.{ℕ, ◌≡◌, get_or, ◌∙◌, sym, ap}
+use Rattle.std.proofs.Common.{ℕ, get_or, ◌∙◌, sym, ap}
 use Rattle.std.specs.Prelude.{bit_or}
 use Rattle.std.proofs.lemmas.Bool.{eqb-true}
 use Rattle.tta_flow.proofs.GrowthLemmas.{covered}

@@ -1,4 +1,4 @@
-use Rattle.std.proofs.Common.{◌∙◌, sym}
+use Rattle.std.proofs.Common.{◌∙◌}
 use Rattle.tta_flow.proofs.BitLemmas.{any_default}
 use Rattle.tta_flow.proofs.GrowthLemmas.{unset_bit}
 use Rattle.tta_flow.proofs.bits.BitRow.unset_there.Goals as goal

@@ -1,5 +1,5 @@
-use Rattle.std.proofs.Common.{◌≡◌, ◌≤◌, ◌<◌, length, arith, rules}
-use Rattle.tta_flow.proofs.RowLemmas.{new_none, new_more, new_work}
+use Rattle.std.proofs.Common.{◌≤◌, length, arith, rules}
+use Rattle.tta_flow.proofs.RoundLemmas.{new_none, new_more, new_work}
 use Rattle.tta_flow.proofs.rows.Work.new.Goals as goal
 
 pub loop-at-init : goal.loop-at-init

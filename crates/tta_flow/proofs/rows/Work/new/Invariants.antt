@@ -1,4 +1,4 @@
-use Rattle.tta_flow.proofs.RowLemmas.{IsNew}
+use Rattle.tta_flow.proofs.RoundLemmas.{IsNew}
 use Rattle.tta_flow.proofs.rows.Work.new.Given as goal
 
 abbrev pub invariant-loop-at : goal.invariant-loop-at

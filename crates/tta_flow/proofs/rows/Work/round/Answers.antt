@@ -1,5 +1,6 @@
-use Rattle.std.proofs.Common.{ℕ, ◌≡◌, ◌≤◌, ◌+◌, ◌-◌, length, subst, arith}
-use Rattle.tta_flow.proofs.RowLemmas.{RoundsTo, round_start, round_more, round_all}
+use Rattle.std.proofs.Common.{ℕ, ◌≡◌, ◌+◌, ◌-◌, subst, arith}
+use Rattle.std.specs.Prelude.{◌||◌}
+use Rattle.tta_flow.proofs.RoundLemmas.{RoundsTo, round_start, round_more, round_skip, round_all}
 use Rattle.tta_flow.proofs.rows.Work.round.Goals as goal
 
 pub loop-at-init : goal.loop-at-init
@@ -15,11 +16,12 @@ pub loop-at-preserved : goal.loop-at-preserved
 loop-at-preserved c =
     let same : c.loop-at.at ≡ (c.loop-at.at - 1) + 1 = (let t = c.loop-at-test.true in omega arith) in
     record {
-      within = let w = c.loop-at.invariant.within in omega arith;
-      rounds = rw c.either-grown.ensures (round_more c.args.steps.now c.args.vars (c.loop-at.at - 1) c.loop-at.grown c.visit-more.result
+      within = let w = c.loop-at.invariant.within in let l = c.clear_from-at.ensures.low in omega arith;
+      rounds = rw c.either-grown.ensures (round_skip c.args.steps.now c.args.vars (c.loop-at.at - 1) _ (c.loop-at.grown || c.visit-more.result)
+          c.args.self.now c.visit-more.new.self c.clear_from-at.ensures.none (round_more c.args.steps.now c.args.vars (c.loop-at.at - 1) c.loop-at.grown c.visit-more.result
           c.args.self.now c.loop-at.self c.visit-more.new.self
           (subst (λ (n : ℕ). RoundsTo c.args.steps.now c.args.vars n c.loop-at.grown c.args.self.now c.loop-at.self) same c.loop-at.invariant.rounds)
-          c.visit-more.ensures);
+          c.visit-more.ensures));
     }
 
 pub returns : goal.returns

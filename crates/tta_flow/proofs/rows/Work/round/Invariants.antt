@@ -1,5 +1,5 @@
 use Rattle.std.proofs.Common.{◌≤◌, length}
-use Rattle.tta_flow.proofs.RowLemmas.{RoundsTo}
+use Rattle.tta_flow.proofs.RoundLemmas.{RoundsTo}
 use Rattle.tta_flow.proofs.rows.Work.round.Given as goal
 
 abbrev pub invariant-loop-at : goal.invariant-loop-at

@@ -1,10 +1,11 @@
-use Rattle.std.proofs.Common.{ℕ, ◌≡◌, ◌<◌, ◌/◌, ◌+◌, length, true, false, refl, sym, ◌∙◌, ap, arith}
+use Rattle.std.proofs.Common.{length, refl, sym, ◌∙◌, ap, arith}
 use Rattle.std.specs.Prelude.{◌&&◌, ◌||◌, ◌==◌, not}
 use Rattle.std.proofs.lemmas.Option.{slice_get_read}
 use Rattle.tta_flow.specs.Bits.{has}
 use Rattle.tta_flow.specs.Rows.{wanted}
 use Rattle.tta_flow.specs.Search.{is_found}
-use Rattle.tta_flow.proofs.RowLemmas.{filled_visits, no}
+use Rattle.tta_flow.proofs.VisitLemmas.{filled_visits}
+use Rattle.tta_flow.proofs.RowLemmas.{no}
 use Rattle.tta_flow.proofs.rows.Work.visit.Goals as goal
 
 pub returns-then-grown : goal.returns-then-grown
