@@ -10,6 +10,7 @@ use Rattle.tta_link.specs.declared.row.LinkError.{LinkError}
 use Rattle.tta_link.specs.declared.row.LinkError.TheVariants.{CodeFull, NoMemory}
 use Rattle.tta_link.specs.Linked.{IsLinked}
 use Rattle.tta_link.specs.Blocks as link
+use Rattle.tta_compose.specs.Linking.{AreFirstFits}
 use Rattle.tta_compose.specs.Room.{AreRoomy}
 use Rattle.tta_compose.specs.Ends.{IsCodeOf, HasCause}
 
@@ -39,16 +40,16 @@ pub more_count : {A : Type 0} (xs ys : List A) (x : A) (n : ℕ) → ys ≡ xs +
 more_count xs ys x n e l = ap length e ∙ push_length xs x ∙ ap (λ (k : ℕ). k + 1) l
 
 -- what the linker answers is the code of the lists
-pub is_code : (m : Machine) (lists : List BlockList) (ps qs : List Placed) (r : Result Code LinkError) → AreRoomy m lists ps → qs ≡ ps
+pub is_code : (m : Machine) (lists : List BlockList) (ps qs : List Placed) (r : Result Code LinkError) → AreFirstFits m lists ps → AreRoomy m lists ps → qs ≡ ps
     → IfOk r (λ code. IsLinked m code qs) → IfOk r (λ code. IsLegalCode m code) → IfOk r (λ code. IsCodeOf m lists code)
-is_code m lists ps qs (Ok code) are same linked legal =
-    record { placements = ps; roomy = are; linked = subst (λ (l : List Placed). IsLinked m code l) same linked; legal = legal }
-is_code m lists ps qs (Err e) are same linked legal = tt
+is_code m lists ps qs (Ok code) fit are same linked legal =
+    record { placements = ps; first = fit; roomy = are; linked = subst (λ (l : List Placed). IsLinked m code l) same linked; legal = legal }
+is_code m lists ps qs (Err e) fit are same linked legal = tt
 
 -- and why it does not answer
-pub is_cause : (m : Machine) (lists : List BlockList) (ps qs : List Placed) (r : Result Code LinkError) → AreRoomy m lists ps → qs ≡ ps
+pub is_cause : (m : Machine) (lists : List BlockList) (ps qs : List Placed) (r : Result Code LinkError) → AreFirstFits m lists ps → AreRoomy m lists ps → qs ≡ ps
     → IfErr r (link.HasCause m qs) → IfErr r (HasCause m lists)
-is_cause m lists ps qs (Ok code) are same cause = tt
-is_cause m lists ps qs (Err (CodeFull words have)) are same cause =
-    record { placements = ps; roomy = are; length = cause.0 ∙ ap link.total_length same; addresses = cause.1; more = cause.2 }
-is_cause m lists ps qs (Err NoMemory) are same cause = tt
+is_cause m lists ps qs (Ok code) fit are same cause = tt
+is_cause m lists ps qs (Err (CodeFull words have)) fit are same cause =
+    record { placements = ps; first = fit; roomy = are; length = cause.0 ∙ ap link.total_length same; addresses = cause.1; more = cause.2 }
+is_cause m lists ps qs (Err NoMemory) fit are same cause = tt

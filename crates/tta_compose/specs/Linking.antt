@@ -10,6 +10,7 @@ use Rattle.tta_code.specs.Agrees.{Agrees}
 use Rattle.tta_moves.specs.declared.items.BlockList.{BlockList}
 use Rattle.tta_moves.specs.declared.items.Placed.{Placed}
 use Rattle.tta_moves.specs.Bounds.{Respects}
+use Rattle.tta_moves.specs.FirstFit.{IsFirstFit}
 use Rattle.tta_lower.specs.declared.part.Span.{Span}
 use Rattle.tta_lower.specs.Liveness.{Homes}
 use Rattle.tta_link.specs.Linked.{IsLinked}
@@ -22,7 +23,12 @@ pub record AreRespected (m : Machine) (lists : List BlockList) (ps : List Placed
   pub count : length ps ≡ length lists
   pub respects : (k : ℕ) (b : BlockList) (p : Placed) → slice_get lists k ≡ Some b → slice_get ps k ≡ Some p → Respects m b.items p
 
--- the linker takes such placements of lists that may be placed for the selected ones
+-- one placement for each list, which is a first fit of it
+pub record AreFirstFits (m : Machine) (lists : List BlockList) (ps : List Placed) : Type 0 where
+  pub count : length ps ≡ length lists
+  pub first : (k : ℕ) (b : BlockList) (p : Placed) → slice_get lists k ≡ Some b → slice_get ps k ≡ Some p → IsFirstFit m b.items p
+
+-- the linker takes placements that respect lists that may be placed for the selected ones
 abbrev pub ListsLink : Type 0
 ListsLink =
     (u : Units) (m : Machine) (c : Choice) (p : Program) (blocks : List Span) (home : Homes) (live_first : (owner x : ℕ) → Bool) (live_after : (owner at x : ℕ) → Bool)

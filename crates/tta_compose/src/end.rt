@@ -6,7 +6,7 @@ ghost use Rattle.tta_connect.specs.Net.{IsNetOf};
 ghost use Rattle.tta_moves.specs.Slots.{is_list};
 ghost use Rattle.tta_moves.specs.declared.items.Placed.{Placed};
 ghost use Rattle.tta_link.specs.Blocks.{AreBlocks};
-ghost use Rattle.tta_compose.specs.Linking.{AreRespected};
+ghost use Rattle.tta_compose.specs.Linking.{AreRespected, AreFirstFits};
 ghost use Rattle.tta_compose.specs.Room.{AreRoomy};
 ghost use Rattle.tta_compose.specs.Ends.{IsCodeOf, HasCause};
 
@@ -16,9 +16,30 @@ use tta_code::Code;
 use tta_connect::Net;
 use tta_link::{LinkError, link};
 use tta_moves::{BlockList, Placed};
-use tta_sched::place_serial;
+use tta_sched::Placer;
 
-/// A placement for each list, one item in a cycle.
+/// A first fit of each list, by a placer that is lent.
+fn place_each(
+    alloc: Global,
+    placer: &mut Placer,
+    lists: &[BlockList],
+    m: &Machine,
+    net: &Net,
+) -> Result<Vec<Placed>, AllocError>
+    requires net { IsNetOf net.now m.now }
+    requires lists { list_all (λ b. is_list m.now b.items) lists.now ≡ true }
+    ensures first { IfOk result (λ ps. AreFirstFits m.now lists.now ps.items) }
+    ensures roomy { IfOk result (λ ps. AreRoomy m.now lists.now ps.items) }
+{
+    let mut ps = Vec::new(alloc);
+    for b in lists {
+        let p = placer.place(alloc, b, m, net)?;
+        ps.push(p)?;
+    }
+    Ok(ps)
+}
+
+/// A first fit of each list.
 fn place_all(
     alloc: Global,
     lists: &[BlockList],
@@ -27,17 +48,17 @@ fn place_all(
 ) -> Result<Vec<Placed>, AllocError>
     requires net { IsNetOf net.now m.now }
     requires lists { list_all (λ b. is_list m.now b.items) lists.now ≡ true }
-    ensures { IfOk result (λ ps. AreRoomy m.now lists.now ps.items) }
+    ensures first { IfOk result (λ ps. AreFirstFits m.now lists.now ps.items) }
+    ensures roomy { IfOk result (λ ps. AreRoomy m.now lists.now ps.items) }
 {
-    let mut ps = Vec::new(alloc);
-    for b in lists {
-        let p = place_serial(alloc, b, m, net)?;
-        ps.push(p)?;
-    }
-    Ok(ps)
+    let mut placer = Placer::new(alloc, m)?;
+    let ps = place_each(alloc, &mut placer, lists, m, net);
+    // Dropped here as a whole, so that no part of it is left to drop at the end.
+    drop(placer);
+    ps
 }
 
-/// The code of lists, each of which is placed one item in a cycle. `CodeFull` comes exactly where
+/// The code of lists, each of which is placed by first fit. `CodeFull` comes exactly where
 /// the placed blocks take more words than the machine has addresses, with these two numbers; else
 /// only out of memory is an error.
 pub fn place_and_link(
