@@ -5,6 +5,7 @@ mod compiled;
 mod dot_product;
 mod exec;
 mod failing;
+mod first_fit;
 mod handed_in;
 mod host;
 mod laid;

@@ -1,9 +1,13 @@
 //! First fit: each item in the first cycle in which it fits.
 
-ghost use Rattle.std.specs.Prelude.{◌≡◌, ℕ, ◌<◌, ◌≤◌, List, length};
+ghost use Rattle.std.specs.Prelude.{◌≡◌, ◌≤◌, true, List, length, IfOk};
 ghost use Rattle.tta_arch.specs.Rules.{IsMachine};
 ghost use Rattle.tta_connect.specs.Net.{IsNetOf};
+ghost use Rattle.tta_moves.specs.Slots.{is_list};
+ghost use Rattle.tta_moves.specs.Bounds.{Respects};
+ghost use Rattle.tta_moves.specs.FirstFit.{IsFirstFit};
 ghost use Rattle.tta_moves.specs.declared.items.PlacedItem.{PlacedItem as Entry};
+ghost use Rattle.tta_sched.specs.Room.{HasRoom};
 ghost use Rattle.tta_sched.specs.First.{Asks, FindsFirst};
 
 use std::alloc::{AllocError, Global};
@@ -138,12 +142,6 @@ impl Placer {
         })
     }
 }
-
-ghost use Rattle.std.specs.Prelude.{true, IfOk};
-ghost use Rattle.tta_moves.specs.Slots.{is_list};
-ghost use Rattle.tta_moves.specs.Bounds.{Respects};
-ghost use Rattle.tta_moves.specs.FirstFit.{IsFirstFit};
-ghost use Rattle.tta_sched.specs.Room.{HasRoom};
 
 /// Places the items of a block by first fit, with tables of its own. The only error is out of
 /// memory.
