@@ -1,6 +1,7 @@
 -- The code of a pair that is no direct one.
 use Rattle.std.proofs.Common.{◌≡◌, ℕ, zero, suc, ◌<◌, ◌≤◌, Bool, true, false, List, [], ◌∷◌, Option, Some, None, Result, Ok, Err, length, map, refl, sym, ◌∙◌, ap, subst, arith}
 use Rattle.std.specs.Prelude.{◌&&◌, slice_get, nat_lt, IfOk, IfErr}
+use Rattle.std.specs.Option.{option_map_or}
 use Rattle.std.specs.List.{list_all}
 use Rattle.std.proofs.lemmas.Bool.{and_from}
 use Rattle.tta_ops.specs.Units.{Units}
@@ -8,7 +9,7 @@ use Rattle.tta_arch.specs.Machine.{Machine}
 use Rattle.tta_arch.specs.Rules.{IsMachine}
 use Rattle.tta_arch.specs.Over.{StandsOver}
 use Rattle.tta_connect.specs.declared.choice.Choice.{Choice}
-use Rattle.tta_connect.specs.Coverage.{IsChoice, failed_rule}
+use Rattle.tta_connect.specs.Coverage.{IsChoice, failed_rule, homes_of}
 use Rattle.tta_program.specs.Program.{Program}
 use Rattle.tta_program.specs.Rules.{IsProgram}
 use Rattle.tta_program.specs.Sizes.{frame_need}
@@ -31,8 +32,9 @@ use Rattle.tta_compose.specs.Needs.{are_offered}
 use Rattle.tta_compose.specs.Direct.{is_direct}
 use Rattle.tta_compose.specs.Linking.{AreRespected}
 use Rattle.tta_compose.specs.Ends.{IsCodeOf, IsTooLong}
-use Rattle.tta_compose.proofs.Composed.{fit, selected_stand, compiled_stand}
-use Rattle.tta_compose.proofs.Planning.{lists_planned}
+use Rattle.tta_compose.specs.Packed.{IsPlan}
+use Rattle.tta_compose.proofs.Composed.{fit, lists_mean, selected_stand, compiled_stand, stand_for}
+use Rattle.tta_compose.proofs.Planning.{lists_planned, compiled_forms}
 use Rattle.tta_compose.proofs.Linking.{lists_link, lists_agree}
 use Rattle.tta_compose.proofs.Room.{lists_fit}
 use Rattle.tta_build.specs.declared.error.BuildError.{BuildError}
@@ -128,6 +130,24 @@ module _ (u : Units) (m : Machine) (c : Choice) (p : Program) (lists : List Bloc
       all_by (λ (b : BlockList). is_list m b.items) (parts p (spans of.blocks) (first_by p of.live)) lists planned.count
       (λ k x b e f. (planned.each k x b e f).list)
 
+  -- they are planned
+  plan : IsPlan u m p lists
+  plan = record {
+    choice = c;
+    blocks = of.blocks;
+    live = of.live;
+    kept = of.kept;
+    homes = choice.homes ∙ sym (ap (λ (o : Option ℕ). option_map_or (homes_of m) o []) choice.hub);
+    flow = of.flow;
+    lives = of.lives;
+    scan = of.scan;
+    planned = lists_planned u m c p (spans of.blocks) (home_by p of.kept) (first_by p of.live) (after_by p of.live) lists pair_of known_of stand_in;
+    forms = λ k l e.
+        compiled_forms u m c p (spans of.blocks) (home_by p of.kept) (first_by p of.live) (after_by p of.live) k l
+        (subst (λ (ls : List BlockList). slice_get ls k ≡ Some l) of.are e);
+    means = lists_mean u m c p (spans of.blocks) (home_by p of.kept) (first_by p of.live) (after_by p of.live) lists pair_of known_of (stand_for m raw_for lists stand_in);
+  }
+
   pub can_link : (ps : List Placed) → AreRespected m lists ps → AreBlocks m ps
   can_link ps are =
       lists_link u m c p (spans of.blocks) (home_by p of.kept) (first_by p of.live) (after_by p of.live) lists ps pair_of known_of stand_in are
@@ -140,6 +160,7 @@ module _ (u : Units) (m : Machine) (c : Choice) (p : Program) (lists : List Bloc
   code_for other kept supplied code is = record {
     accepted = accepted other kept supplied;
     legal = is.legal;
+    packed = record { lists = lists; placements = is.placements; plan = plan; respected = is.roomy.respected; linked = is.linked };
     agrees = λ init laid.
         lists_agree u m c p (spans of.blocks) (home_by p of.kept) (first_by p of.live) (after_by p of.live) lists is.placements (record { code = code; init = init })
         pair_of known_of stand_in is.roomy.respected is.linked is.legal laid;
@@ -154,6 +175,7 @@ module _ (u : Units) (m : Machine) (c : Choice) (p : Program) (lists : List Bloc
         addresses = is.addresses;
         more = is.more;
         room = omega (arith, fits, same);
+        length = record { lists = lists; placements = is.placements; plan = plan; respected = is.roomy.respected; cycles = same };
       }
 
   -- so what their linking answers is what is answered for the pair

@@ -34,6 +34,7 @@ use Rattle.tta_compose.specs.Room.{AreRoomy, room_on}
 use Rattle.tta_compose.specs.Ends.{IsCodeOf, IsTooLong}
 use Rattle.tta_compose.proofs.Pairs.{IsAlone, is_alone}
 use Rattle.tta_compose.proofs.Directly.{direct_lowers, direct_is_list, direct_links, direct_agrees}
+use Rattle.tta_compose.proofs.DirectPlan.{direct_plan}
 use Rattle.tta_build.specs.declared.error.BuildError.{BuildError}
 use Rattle.tta_build.specs.declared.error.BuildError.TheVariants as cause
 use Rattle.tta_build.specs.Statement.{IsAccepted, Direct, LacksRoom, HasCause}
@@ -62,7 +63,7 @@ never_full m p program direct need have same there more =
 pub list_is : (m : Machine) (p : Program) (r : Rir) (lists : List BlockList) → IsProgram p → is_direct m p ≡ true → IsLowered p 0 4096 r
     → ((words : List ℕ) → r.blocks ≡ one_block words ∷ [] → lists ≡ direct_list (out_of m) words ∷ []) → AreDirect m p lists
 list_is m p r lists program direct is one =
-    let lower = direct_lowers m p program direct is.blocks is.live is.kept is.flow is.lives is.scan in
+    let lower = direct_lowers m p program direct 0 is.blocks is.live is.kept is.flow is.lives is.scan in
     let same : r ≡ record { blocks = one_block (constants_of p) ∷ [] } =
     is.code.is ∙ ap (lowered p (spans is.blocks) (first_by p is.live) (home_by p is.kept) (after_by p is.live)) is.scan.count ∙ lower in
     record {
@@ -92,6 +93,13 @@ pub code_for : (u : Units) (m : Machine) (p : Program) (lists : List BlockList) 
 code_for u m p lists code machine program direct of is = record {
   accepted = Direct direct;
   legal = is.legal;
+  packed = record {
+    lists = list_of_direct m p ∷ [];
+    placements = is.placements;
+    plan = direct_plan u m p machine program direct of.blocks of.live of.flow of.lives of.kept of.scan;
+    respected = subst (λ (x : List BlockList). AreRespected m x is.placements) of.are is.roomy.respected;
+    linked = is.linked;
+  };
   agrees = λ init laid.
       direct_agrees u m p machine program direct of.blocks of.live of.kept of.flow of.lives of.scan is.placements (record { code = code; init = init })
       (subst (λ (x : List BlockList). AreRespected m x is.placements) of.are is.roomy.respected) is.linked is.legal laid;
@@ -136,15 +144,22 @@ one_fits m p (q ∷ []) program direct are =
     omega (arith, room, a, b)
 
 -- where the code is too long, it has no more words than the pair's room
-pub room_for : (u : Units) (m : Machine) (p : Program) (lists : List BlockList) → IsProgram p → is_direct m p ≡ true → AreDirect m p lists
+pub room_for : (u : Units) (m : Machine) (p : Program) (lists : List BlockList) → IsMachine m → IsProgram p → is_direct m p ≡ true → AreDirect m p lists
     → (words have : ℕ) → IsTooLong m lists words have → LacksRoom u m p words have
-room_for u m p lists program direct of words have is =
+room_for u m p lists machine program direct of words have is =
     let fits = one_fits m p is.placements program direct (subst (λ (x : List BlockList). AreRoomy m x is.placements) of.are is.roomy) in
     let same = is.length in record {
       accepted = Direct direct;
       addresses = is.addresses;
       more = is.more;
       room = omega (arith, fits, same);
+      length = record {
+        lists = list_of_direct m p ∷ [];
+        placements = is.placements;
+        plan = direct_plan u m p machine program direct of.blocks of.live of.flow of.lives of.kept of.scan;
+        respected = subst (λ (x : List BlockList). AreRespected m x is.placements) of.are is.roomy.respected;
+        cycles = same;
+      };
     }
 
 -- so what the linking of the list answers is what is answered for the pair
@@ -154,13 +169,13 @@ ok_for m p lists xs machine program direct of same (Ok code) is =
     λ u. code_for u m p lists code machine program direct of (subst (λ (l : List BlockList). IsCodeOf m l code) same is)
 ok_for m p lists xs machine program direct of same (Err e) is = tt
 
-pub err_for : (m : Machine) (p : Program) (lists xs : List BlockList) → IsProgram p → is_direct m p ≡ true → AreDirect m p lists → xs ≡ lists
+pub err_for : (m : Machine) (p : Program) (lists xs : List BlockList) → IsMachine m → IsProgram p → is_direct m p ≡ true → AreDirect m p lists → xs ≡ lists
     → (r : Result Code BuildError) → IfErr r (λ e. IsListsCause m xs e) → IfErr r (λ e. (u : Units) → HasCause u m p e)
-err_for m p lists xs program direct of same (Ok code) is = tt
-err_for m p lists xs program direct of same (Err (cause.CodeFull words have)) is =
-    λ u. room_for u m p lists program direct of words have (subst (λ (l : List BlockList). IsTooLong m l words have) same is)
-err_for m p lists xs program direct of same (Err cause.NoMemory) is = λ u. tt
-err_for m p lists xs program direct of same (Err e) is = absurd is
+err_for m p lists xs machine program direct of same (Ok code) is = tt
+err_for m p lists xs machine program direct of same (Err (cause.CodeFull words have)) is =
+    λ u. room_for u m p lists machine program direct of words have (subst (λ (l : List BlockList). IsTooLong m l words have) same is)
+err_for m p lists xs machine program direct of same (Err cause.NoMemory) is = λ u. tt
+err_for m p lists xs machine program direct of same (Err e) is = absurd is
 
 -- the one list, whether the selection answers it
 pub lists_for : (m : Machine) (p : Program) (r : Rir) → IsProgram p → is_direct m p ≡ true → IsLowered p 0 4096 r → (q : Result (Vec BlockList Global) AllocError)

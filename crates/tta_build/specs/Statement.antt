@@ -16,6 +16,7 @@ use Rattle.tta_code.specs.Agrees.{Agrees}
 use Rattle.tta_compose.specs.Needs.{need_of, first_failing}
 use Rattle.tta_compose.specs.Direct.{is_direct}
 use Rattle.tta_compose.specs.Room.{room_on}
+use Rattle.tta_compose.specs.Packed.{IsPacked, IsLength}
 use Rattle.tta_build.specs.declared.error.BuildError.{BuildError}
 use Rattle.tta_build.specs.declared.error.BuildError.TheVariants.{NotCovered, NoUnit, FrameFull, CodeFull, NoMemory}
 
@@ -46,11 +47,12 @@ pub data IsAccepted (u : Units) (m : Machine) (p : Program) : Type 0 where
 -- ---- the answers
 
 -- code with data that does what the program does, from every memory, for every input and for every bound; the machine can
--- carry it out, and its data lie in the data space
+-- carry it out, its data lie in the data space, and it is packed
 pub record IsBuilt (u : Units) (m : Machine) (p : Program) (whole : Whole) : Type 0 where
   pub accepted : IsAccepted u m p
   pub agrees : Agrees u m p whole
   pub legal : IsLegalWhole m whole
+  pub packed : IsPacked u m p whole.code
 
 -- the machine breaks a rule of coverage, and keeps those before it; and the pair is not direct
 pub record BreaksRule (m : Machine) (p : Program) (rule : ℕ) : Type 0 where
@@ -72,12 +74,13 @@ pub record LacksFrames (u : Units) (m : Machine) (p : Program) (need have : ℕ)
   pub there : have ≡ m.frame_words
   pub more : have < need
 
--- the code of a pair that is accepted has more instructions than the machine has addresses, and no more than its room
+-- packed code of a pair that is accepted has more instructions than the machine has addresses, and no more than its room
 pub record LacksRoom (u : Units) (m : Machine) (p : Program) (words have : ℕ) : Type 0 where
   pub accepted : IsAccepted u m p
   pub addresses : have ≡ 2 ^ m.control.address
   pub more : have < words
   pub room : words ≤ room_on m p
+  pub length : IsLength u m p words
 
 -- why there is no code; being out of memory needs no cause
 abbrev pub HasCause : Units → Machine → Program → BuildError → Type 0

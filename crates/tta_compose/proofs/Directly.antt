@@ -44,17 +44,17 @@ use Rattle.tta_compose.proofs.Pairs.{IsAlone, is_alone, outputs, halt_joined}
 
 -- ---- the register code
 
-lowers_alone : (q : Proc) (init : List DataLine) → only_constants q.steps ≡ true → IsProgram (alone q init) → (blocks : List Block) (l : Live) (h : Homes) → IsFlow (alone q init) blocks → IsLive (alone q init) l → IsScan (alone q init) 0 h
-    → lowered (alone q init) (spans blocks) (first_by (alone q init) l) (home_by (alone q init) h) (after_by (alone q init) l) 0 ≡ record { blocks = one_block (puts q.steps) ∷ [] }
-lowers_alone q init only rules blocks l h flow live scan =
-    one-block q init only (home_by (alone q init) h) (first_by (alone q init) l) (after_by (alone q init) l) 0 (spans blocks) (are_blocks (alone q init) rules blocks flow)
-    (answers_know (alone q init) 0 blocks l h rules flow live scan).answers
+lowers_alone : (q : Proc) (init : List DataLine) → only_constants q.steps ≡ true → IsProgram (alone q init) → (homes : ℕ) (blocks : List Block) (l : Live) (h : Homes) → IsFlow (alone q init) blocks → IsLive (alone q init) l → IsScan (alone q init) homes h
+    → lowered (alone q init) (spans blocks) (first_by (alone q init) l) (home_by (alone q init) h) (after_by (alone q init) l) homes ≡ record { blocks = one_block (puts q.steps) ∷ [] }
+lowers_alone q init only rules homes blocks l h flow live scan =
+    one-block q init only (home_by (alone q init) h) (first_by (alone q init) l) (after_by (alone q init) l) homes (spans blocks) (are_blocks (alone q init) rules blocks flow)
+    (answers_know (alone q init) homes blocks l h rules flow live scan).answers
 
 pub direct_lowers : DirectLowers
-direct_lowers m p rules direct blocks l h flow live scan =
+direct_lowers m p rules direct homes blocks l h flow live scan =
     let a = is_alone m p rules direct in
-    subst (λ (r : Program). IsFlow r blocks → IsLive r l → IsScan r 0 h → lowered r (spans blocks) (first_by r l) (home_by r h) (after_by r l) 0 ≡ record { blocks = one_block (constants_of r) ∷ [] }) (sym a.is)
-    (λ flow live scan. lowers_alone a.proc p.init a.only (subst IsProgram a.is rules) blocks l h flow live scan) flow live scan
+    subst (λ (r : Program). IsFlow r blocks → IsLive r l → IsScan r homes h → lowered r (spans blocks) (first_by r l) (home_by r h) (after_by r l) homes ≡ record { blocks = one_block (constants_of r) ∷ [] }) (sym a.is)
+    (λ flow live scan. lowers_alone a.proc p.init a.only (subst IsProgram a.is rules) homes blocks l h flow live scan) flow live scan
 
 -- ---- the list
 
@@ -74,7 +74,7 @@ size f [] = refl
 size f (w ∷ words) = let e = size f words in omega (arith, e)
 
 -- no item moves an address
-no_address : (blocks : ℕ) (f : Call) (words : List ℕ) → list_all (λ (x : Item). is_closed blocks (source_of x)) (constants_out f words) ≡ true
+pub no_address : (blocks : ℕ) (f : Call) (words : List ℕ) → list_all (λ (x : Item). is_closed blocks (source_of x)) (constants_out f words) ≡ true
 no_address blocks f [] = refl
 no_address blocks f (w ∷ words) = no_address blocks f words
 
@@ -89,7 +89,7 @@ direct_is_list m p machine rules direct =
 
 -- ---- its meaning
 
-can : (m : Machine) → IsMachine m → (words : List ℕ) → list_all (brings m) words ≡ true → CanOutput m (out_of m) words
+pub can : (m : Machine) → IsMachine m → (words : List ℕ) → list_all (brings m) words ≡ true → CanOutput m (out_of m) words
 can m rules [] all = tt
 can m rules (w ∷ words) all = outputs m rules w (and_parts (brings m w) (list_all (brings m) words) all).0
 
@@ -104,12 +104,12 @@ direct_means u m p machine rules direct blocks l h flow live scan addr memory in
       known = answers_know p 0 blocks l h rules flow live scan
 
       keeps : lower.KeepsMeaning u p (record { blocks = one_block (constants_of p) ∷ [] })
-      keeps = subst (lower.KeepsMeaning u p) (direct_lowers m p rules direct blocks l h flow live scan)
+      keeps = subst (lower.KeepsMeaning u p) (direct_lowers m p rules direct 0 blocks l h flow live scan)
           (lowers_well u p (spans blocks) (home_by p h) (first_by p l) (after_by p l) 0 0 rules known.flow known.apart known.answers).keeps
 
 -- ---- its code
 
-only_one : {A : Type 0} (x : A) (k : ℕ) (y : A) → slice_get (x ∷ []) k ≡ Some y → (k ≡ 0) × (x ≡ y)
+pub only_one : {A : Type 0} (x : A) (k : ℕ) (y : A) → slice_get (x ∷ []) k ≡ Some y → (k ≡ 0) × (x ≡ y)
 only_one x zero y e = (refl, cc)
 only_one x (suc k) y e = absurd cc
 

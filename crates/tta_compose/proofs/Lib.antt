@@ -12,3 +12,6 @@ pub mod Sorted
 pub mod Served
 pub mod Only
 pub mod Ending
+pub mod NoVariables
+pub mod DirectPlan
+pub mod Once

@@ -34,7 +34,7 @@ use Rattle.tta_compose.specs.Compiler.{IsPair, IsStandIn, AreStandIns, optimised
 use Rattle.tta_compose.specs.Planned.{IsListOf, ArePlanned, HasForms, ListsPlanned, CompiledForms}
 use Rattle.tta_compose.proofs.Composed.{code, law, fit, pairs_length}
 
-in_get : {A : Type 0} (xs : List A) (k : ℕ) (x : A) → slice_get xs k ≡ Some x → In x xs
+pub in_get : {A : Type 0} (xs : List A) (k : ℕ) (x : A) → slice_get xs k ≡ Some x → In x xs
 in_get [] k x e = absurd cc
 in_get (y ∷ xs) zero x e = inl cc
 in_get (y ∷ xs) (suc k) x e = inr (in_get xs k x e)

@@ -81,8 +81,8 @@ list_of_direct m p = direct_list (out_of m) (constants_of p)
 -- the register code of such a program is one block that outputs the constants and halts
 abbrev pub DirectLowers : Type 0
 DirectLowers =
-    (m : Machine) (p : Program) → IsProgram p → is_direct m p ≡ true → (blocks : List Block) (l : Live) (h : Homes) → IsFlow p blocks → IsLive p l → IsScan p 0 h
-    → lowered p (spans blocks) (first_by p l) (home_by p h) (after_by p l) 0 ≡ record { blocks = one_block (constants_of p) ∷ [] }
+    (m : Machine) (p : Program) → IsProgram p → is_direct m p ≡ true → (homes : ℕ) (blocks : List Block) (l : Live) (h : Homes) → IsFlow p blocks → IsLive p l → IsScan p homes h
+    → lowered p (spans blocks) (first_by p l) (home_by p h) (after_by p l) homes ≡ record { blocks = one_block (constants_of p) ∷ [] }
 
 -- the machine can carry out the list
 abbrev pub DirectIsList : Type 0

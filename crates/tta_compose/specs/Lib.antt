@@ -7,3 +7,5 @@ pub mod Room
 pub mod Data
 pub mod Direct
 pub mod Ends
+pub mod Packed
+pub mod Once

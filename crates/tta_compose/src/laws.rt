@@ -7,6 +7,7 @@ ghost use Rattle.tta_compose.specs.Linking.{ListsLink, ListsAgree};
 ghost use Rattle.tta_compose.specs.Room.{ListsFit};
 ghost use Rattle.tta_compose.specs.Direct.{DirectLowers, DirectIsList, DirectMeans};
 ghost use Rattle.tta_compose.specs.Direct.{DirectLinks, DirectAgrees};
+ghost use Rattle.tta_compose.specs.Once.{OneFlow, OneLiveness, OneScan};
 
 /// Lists that stand for the selected ones mean the program.
 pub fn lists_mean()
@@ -72,4 +73,19 @@ pub fn direct_links()
 /// The code that it makes of it agrees with the program.
 pub fn direct_agrees()
     ensures { DirectAgrees }
+{}
+
+/// A program has one list of blocks.
+pub fn one_flow()
+    ensures { OneFlow }
+{}
+
+/// All answers on which of its variables are live are the same.
+pub fn one_liveness()
+    ensures { OneLiveness }
+{}
+
+/// Its variables have the same homes, for as many home registers.
+pub fn one_scan()
+    ensures { OneScan }
 {}

@@ -15,7 +15,8 @@ pub use direct::is_direct;
 pub use end::place_and_link;
 pub use laws::{
     compiled_forms, compiled_stand, direct_agrees, direct_is_list, direct_links, direct_lowers,
-    direct_means, lists_agree, lists_fit, lists_link, lists_mean, lists_planned, selected_stand,
+    direct_means, lists_agree, lists_fit, lists_link, lists_mean, lists_planned, one_flow,
+    one_liveness, one_scan, selected_stand,
 };
 pub use needs::unoffered;
 pub use passes::optimise_all;

@@ -27,5 +27,5 @@ returns-clause-code c =
 
 pub returns-clause-cause : goal.returns-clause-cause
 returns-clause-cause c =
-    err_for c.args.m.now c.args.p.now c.in_ok-lists.lists.items c.as_slice.result.now c.requires.program c.requires.direct c.in_ok-lists.ensures
+    err_for c.args.m.now c.args.p.now c.in_ok-lists.lists.items c.as_slice.result.now c.requires.machine c.requires.program c.requires.direct c.in_ok-lists.ensures
     c.as_slice.ensures.value c.code_of_lists-code.result c.code_of_lists-code.ensures.cause

@@ -7,6 +7,7 @@ returns-clause-built g c =
     let init = c.in_ok-init.ensures in record {
       accepted = code.accepted;
       agrees = code.agrees c.in_ok-init.init init.laid;
+      packed = code.packed;
       legal = record {
         code = code.legal;
         rises = init.rises;

@@ -1,0 +1,60 @@
+-- Code that is packed: placed lists that do no more than a program asks for, and in which nothing is left to do.
+use Rattle.std.specs.Prelude.{◌≡◌, ℕ, List, [], length, Some, slice_get}
+use Rattle.std.specs.Option.{option_map_or}
+use Rattle.tta_ops.specs.Units.{Units}
+use Rattle.tta_arch.specs.Machine.{Machine}
+use Rattle.tta_connect.specs.declared.choice.Choice.{Choice}
+use Rattle.tta_connect.specs.Coverage.{hub_of, homes_of}
+use Rattle.tta_program.specs.Program.{Program}
+use Rattle.tta_flow.specs.declared.flow.Block.{Block}
+use Rattle.tta_flow.specs.declared.live.Live.{Live}
+use Rattle.tta_flow.specs.Blocks.{IsFlow}
+use Rattle.tta_flow.specs.Live.{IsLive}
+use Rattle.tta_alloc.specs.declared.homes.Homes.{Homes}
+use Rattle.tta_alloc.specs.Homes.{IsScan}
+use Rattle.tta_lower.specs.Known.{spans, home_by, first_by, after_by}
+use Rattle.tta_code.specs.declared.code.Code.{Code}
+use Rattle.tta_moves.specs.declared.items.BlockList.{BlockList}
+use Rattle.tta_moves.specs.declared.items.Placed.{Placed}
+use Rattle.tta_link.specs.Linked.{IsLinked}
+use Rattle.tta_link.specs.Blocks.{total_length}
+use Rattle.tta_overlap.specs.Means.{Means}
+use Rattle.tta_compose.specs.Linking.{AreRespected}
+use Rattle.tta_compose.specs.Planned.{ArePlanned, HasForms}
+
+-- the home registers of a machine: those of its hub; none where it has no hub
+abbrev pub homes_on : Machine → List (ℕ × ℕ)
+homes_on m = option_map_or (homes_of m) (hub_of m) []
+
+-- Lists are planned for a program on a machine: there is one for each part of the program, in order, which does no more
+-- than the part asks for where the variables have the homes that the scan gives them; each is in all forms; and together
+-- they mean the program. Blocks, liveness and homes are the program's.
+pub record IsPlan (u : Units) (m : Machine) (p : Program) (lists : List BlockList) : Type 0 where
+  pub choice : Choice
+  pub blocks : List Block
+  pub live : Live
+  pub kept : Homes
+  pub homes : choice.homes ≡ homes_on m
+  pub flow : IsFlow p blocks
+  pub lives : IsLive p live
+  pub scan : IsScan p (length choice.homes) kept
+  pub planned : ArePlanned u m choice p (spans blocks) (home_by p kept) (first_by p live) (after_by p live) lists
+  pub forms : (k : ℕ) (l : BlockList) → slice_get lists k ≡ Some l → HasForms m l
+  pub means : Means u m p lists
+
+-- Code is packed for a program: planned lists have placements that respect them and that, one after another and with each
+-- address the begin of its block, are the code.
+pub record IsPacked (u : Units) (m : Machine) (p : Program) (code : Code) : Type 0 where
+  pub lists : List BlockList
+  pub placements : List Placed
+  pub plan : IsPlan u m p lists
+  pub respected : AreRespected m lists placements
+  pub linked : IsLinked m code placements
+
+-- so many words are the length of packed code: planned lists have placements that respect them, of these many cycles
+pub record IsLength (u : Units) (m : Machine) (p : Program) (words : ℕ) : Type 0 where
+  pub lists : List BlockList
+  pub placements : List Placed
+  pub plan : IsPlan u m p lists
+  pub respected : AreRespected m lists placements
+  pub cycles : words ≡ total_length placements
