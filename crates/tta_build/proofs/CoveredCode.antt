@@ -1,6 +1,6 @@
 -- The code of a pair that is no direct one.
-use Rattle.std.proofs.Common.{◌≡◌, ℕ, zero, suc, ◌<◌, ◌≤◌, Bool, true, false, List, [], ◌∷◌, Option, Some, None, Result, Ok, Err, length, map, refl, sym, ◌∙◌, ap, subst, arith}
-use Rattle.std.specs.Prelude.{◌&&◌, slice_get, nat_lt, IfOk, IfErr}
+use Rattle.std.proofs.Common.{◌≡◌, ℕ, suc, ◌≤◌, Bool, true, false, List, [], ◌∷◌, Option, Some, None, Result, Ok, Err, length, map, refl, sym, ◌∙◌, ap, subst, arith}
+use Rattle.std.specs.Prelude.{slice_get, IfOk, IfErr}
 use Rattle.std.specs.Option.{option_map_or}
 use Rattle.std.specs.List.{list_all}
 use Rattle.std.proofs.lemmas.Bool.{and_from}
@@ -14,8 +14,6 @@ use Rattle.tta_program.specs.Program.{Program}
 use Rattle.tta_program.specs.Rules.{IsProgram}
 use Rattle.tta_program.specs.Sizes.{frame_need}
 use Rattle.tta_rcode.specs.declared.code.Rir.{Rir}
-use Rattle.tta_alloc.specs.Homes.{IsScan}
-use Rattle.tta_lower.specs.declared.part.Part.{Part}
 use Rattle.tta_lower.specs.Law.{IsKnown}
 use Rattle.tta_lower.specs.Lower.{lowered, parts}
 use Rattle.tta_lower.specs.Known.{spans, home_by, first_by, after_by}
@@ -160,7 +158,7 @@ module _ (u : Units) (m : Machine) (c : Choice) (p : Program) (lists : List Bloc
   code_for other kept supplied code is = record {
     accepted = accepted other kept supplied;
     legal = is.legal;
-    packed = record { lists = lists; placements = is.placements; plan = plan; respected = is.roomy.respected; linked = is.linked };
+    packed = record { lists = lists; placements = is.placements; plan = plan; first = is.first; linked = is.linked };
     agrees = λ init laid.
         lists_agree u m c p (spans of.blocks) (home_by p of.kept) (first_by p of.live) (after_by p of.live) lists is.placements (record { code = code; init = init })
         pair_of known_of stand_in is.roomy.respected is.linked is.legal laid;
@@ -175,7 +173,7 @@ module _ (u : Units) (m : Machine) (c : Choice) (p : Program) (lists : List Bloc
         addresses = is.addresses;
         more = is.more;
         room = omega (arith, fits, same);
-        length = record { lists = lists; placements = is.placements; plan = plan; respected = is.roomy.respected; cycles = same };
+        length = record { lists = lists; placements = is.placements; plan = plan; first = is.first; cycles = same };
       }
 
   -- so what their linking answers is what is answered for the pair

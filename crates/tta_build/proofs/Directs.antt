@@ -1,6 +1,6 @@
 -- The code of a direct pair.
-use Rattle.std.proofs.Common.{◌≡◌, ℕ, zero, suc, ◌+◌, ◌*◌, ◌<◌, ◌≤◌, Bool, true, false, List, [], ◌∷◌, Option, Some, None, length, refl, sym, ◌∙◌, ap, subst, arith}
-use Rattle.std.specs.Prelude.{slice_get, Result, Ok, Err, IfOk, IfErr, Vec}
+use Rattle.std.proofs.Common.{◌≡◌, ℕ, ◌+◌, ◌*◌, ◌<◌, ◌≤◌, true, List, [], ◌∷◌, length, refl, sym, ◌∙◌, ap, subst, arith}
+use Rattle.std.specs.Prelude.{Result, Ok, Err, IfOk, IfErr, Vec}
 use Rattle.std.specs.Global.{Global}
 use Rattle.std.specs.declared.alloc.AllocError.{AllocError}
 use Rattle.std.specs.List.{list_all}
@@ -29,15 +29,15 @@ use Rattle.tta_link.specs.Blocks.{AreBlocks, total_length}
 use Rattle.tta_sched.specs.Room.{longest, HasRoom}
 use Rattle.tta_code.specs.declared.code.Code.{Code}
 use Rattle.tta_compose.specs.Direct.{is_direct, constants_of, list_of_direct}
-use Rattle.tta_compose.specs.Linking.{AreRespected}
+use Rattle.tta_compose.specs.Linking.{AreRespected, AreFirstFits}
 use Rattle.tta_compose.specs.Room.{AreRoomy, room_on}
 use Rattle.tta_compose.specs.Ends.{IsCodeOf, IsTooLong}
-use Rattle.tta_compose.proofs.Pairs.{IsAlone, is_alone}
+use Rattle.tta_compose.proofs.Pairs.{is_alone}
 use Rattle.tta_compose.proofs.Directly.{direct_lowers, direct_is_list, direct_links, direct_agrees}
 use Rattle.tta_compose.proofs.DirectPlan.{direct_plan}
 use Rattle.tta_build.specs.declared.error.BuildError.{BuildError}
 use Rattle.tta_build.specs.declared.error.BuildError.TheVariants as cause
-use Rattle.tta_build.specs.Statement.{IsAccepted, Direct, LacksRoom, HasCause}
+use Rattle.tta_build.specs.Statement.{Direct, LacksRoom, HasCause}
 use Rattle.tta_build.specs.Parts.{IsLowered, AreDirect, IsCodeFor, IsListsCause}
 
 -- ---- frames
@@ -97,7 +97,7 @@ code_for u m p lists code machine program direct of is = record {
     lists = list_of_direct m p ∷ [];
     placements = is.placements;
     plan = direct_plan u m p machine program direct of.blocks of.live of.flow of.lives of.kept of.scan;
-    respected = subst (λ (x : List BlockList). AreRespected m x is.placements) of.are is.roomy.respected;
+    first = subst (λ (x : List BlockList). AreFirstFits m x is.placements) of.are is.first;
     linked = is.linked;
   };
   agrees = λ init laid.
@@ -157,7 +157,7 @@ room_for u m p lists machine program direct of words have is =
         lists = list_of_direct m p ∷ [];
         placements = is.placements;
         plan = direct_plan u m p machine program direct of.blocks of.live of.flow of.lives of.kept of.scan;
-        respected = subst (λ (x : List BlockList). AreRespected m x is.placements) of.are is.roomy.respected;
+        first = subst (λ (x : List BlockList). AreFirstFits m x is.placements) of.are is.first;
         cycles = same;
       };
     }

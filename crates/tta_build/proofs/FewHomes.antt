@@ -1,6 +1,6 @@
 -- A machine has few home registers.
-use Rattle.std.proofs.Common.{◌≡◌, ◌<◌, ◌≤◌, ◌+◌, ◌*◌, ℕ, Bool, true, false, List, [], ◌∷◌, ◌++◌, Option, Some, None, length, refl, sym, ◌∙◌, ap, arith, length-append}
-use Rattle.std.specs.Prelude.{◌&&◌, ◌-◌, ◌^◌, if◌then◌else◌, slice_get}
+use Rattle.std.proofs.Common.{◌≡◌, ◌<◌, ◌≤◌, ◌+◌, ◌*◌, ℕ, Bool, true, false, List, [], ◌∷◌, Option, Some, None, length, refl, ap, arith, length-append}
+use Rattle.std.specs.Prelude.{◌-◌, ◌^◌, if◌then◌else◌, slice_get}
 use Rattle.std.specs.Option.{option_map_or}
 use Rattle.std.specs.List.{list_all}
 use Rattle.std.proofs.lemmas.List.FromFn.{length-map-range_with_len}
@@ -12,7 +12,7 @@ use Rattle.tta_arch.specs.Machine.{Machine}
 use Rattle.tta_arch.specs.Rules.{IsMachine, is_file}
 use Rattle.tta_arch.proofs.Sizes.{small_file}
 use Rattle.tta_connect.specs.declared.choice.Choice.{Choice}
-use Rattle.tta_connect.specs.Coverage.{IsChoice, registers_from, is_home_file, homes_from, homes_of}
+use Rattle.tta_connect.specs.Coverage.{IsChoice, registers_from, is_home_file, homes_from}
 
 -- so many registers are so many
 registers : (file index count : ℕ) → length (registers_from file index count) ≡ count

@@ -1,8 +1,7 @@
 -- Data that lie in the data space.
-use Rattle.std.proofs.Common.{◌≡◌, ℕ, Bool, true, false, List, [], ◌∷◌, Option, Some, None, refl}
-use Rattle.std.specs.Prelude.{nat_lt, ◌&&◌, if◌then◌else◌}
+use Rattle.std.proofs.Common.{◌≡◌, ℕ, Bool, true, false, List, [], ◌∷◌, None, refl}
+use Rattle.std.specs.Prelude.{nat_lt}
 use Rattle.std.specs.List.{list_all}
-use Rattle.std.proofs.lemmas.Bool.{and_from}
 use Rattle.tta_program.specs.declared.program.DataLine.{DataLine}
 use Rattle.tta_program.specs.Program.{first_outside}
 

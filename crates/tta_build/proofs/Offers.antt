@@ -6,7 +6,7 @@ use Rattle.tta_ops.specs.Units.{Units}
 use Rattle.tta_arch.specs.declared.parts.Op.{Op}
 use Rattle.tta_arch.specs.declared.parts.Unit.{Unit as OpUnit}
 use Rattle.tta_arch.specs.Machine.{Machine}
-use Rattle.tta_arch.specs.Effects.{first_some, or_else}
+use Rattle.tta_arch.specs.Effects.{first_some}
 use Rattle.tta_arch.specs.Joins.{has_bit}
 use Rattle.tta_connect.specs.declared.choice.Choice.{Choice}
 use Rattle.tta_connect.specs.Coverage.{IsChoice, first_by, call_if, call_in, offered, offered_by, is_usable_at}

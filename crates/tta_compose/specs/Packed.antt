@@ -19,7 +19,7 @@ use Rattle.tta_moves.specs.declared.items.Placed.{Placed}
 use Rattle.tta_link.specs.Linked.{IsLinked}
 use Rattle.tta_link.specs.Blocks.{total_length}
 use Rattle.tta_overlap.specs.Means.{Means}
-use Rattle.tta_compose.specs.Linking.{AreRespected}
+use Rattle.tta_compose.specs.Linking.{AreFirstFits}
 use Rattle.tta_compose.specs.Planned.{ArePlanned, HasForms}
 
 -- the home registers of a machine: those of its hub; none where it has no hub
@@ -42,19 +42,19 @@ pub record IsPlan (u : Units) (m : Machine) (p : Program) (lists : List BlockLis
   pub forms : (k : ℕ) (l : BlockList) → slice_get lists k ≡ Some l → HasForms m l
   pub means : Means u m p lists
 
--- Code is packed for a program: planned lists have placements that respect them and that, one after another and with each
--- address the begin of its block, are the code.
+-- Code is packed for a program: planned lists have first fits that, one after another and with each address the begin of its
+-- block, are the code.
 pub record IsPacked (u : Units) (m : Machine) (p : Program) (code : Code) : Type 0 where
   pub lists : List BlockList
   pub placements : List Placed
   pub plan : IsPlan u m p lists
-  pub respected : AreRespected m lists placements
+  pub first : AreFirstFits m lists placements
   pub linked : IsLinked m code placements
 
--- so many words are the length of packed code: planned lists have placements that respect them, of these many cycles
+-- so many words are the length of packed code: planned lists have first fits of these many cycles
 pub record IsLength (u : Units) (m : Machine) (p : Program) (words : ℕ) : Type 0 where
   pub lists : List BlockList
   pub placements : List Placed
   pub plan : IsPlan u m p lists
-  pub respected : AreRespected m lists placements
+  pub first : AreFirstFits m lists placements
   pub cycles : words ≡ total_length placements

@@ -1,6 +1,5 @@
 use Rattle.std.proofs.Common.{◌≡◌, ◌∙◌, ℕ, List, true, map, ap, sym, subst, arith}
 use Rattle.std.specs.List.{list_all}
-use Rattle.tta_rcode.specs.declared.code.Rir.{Rir}
 use Rattle.tta_ops.specs.Set.{stated}
 use Rattle.tta_arch.specs.Machine.{Machine}
 use Rattle.tta_moves.specs.declared.items.BlockList.{BlockList}
