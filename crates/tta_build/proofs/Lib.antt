@@ -3,3 +3,4 @@ pub mod FewHomes
 pub mod Inside
 pub mod CoveredCode
 pub mod Directs
+pub mod Completes

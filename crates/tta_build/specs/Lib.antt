@@ -1,3 +1,4 @@
 pub mod Statement
 pub mod Errors
 pub mod Parts
+pub mod Completes

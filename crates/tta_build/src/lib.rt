@@ -5,9 +5,11 @@
 mod covered;
 mod direct;
 mod error;
+mod laws;
 mod lists;
 mod program;
 mod register;
 
 pub use error::BuildError;
+pub use laws::build_completes;
 pub use program::{Built, build};

@@ -10,3 +10,5 @@ pub mod ProgramSteps
 pub mod CodeCycles
 pub mod Beginnings
 pub mod Runnings
+pub mod OneProgram
+pub mod Completing

@@ -14,3 +14,4 @@ pub mod Running
 pub mod Exec
 pub mod Run
 pub mod Command
+pub mod Completes

@@ -10,6 +10,7 @@ mod cycle_report;
 mod cycles;
 mod dis;
 mod exec;
+mod laws;
 mod report;
 mod running;
 mod status;
@@ -17,4 +18,5 @@ mod steps;
 mod write;
 
 pub use command::tool;
+pub use laws::build_completes;
 pub use status::Status;
