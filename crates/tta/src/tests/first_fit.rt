@@ -108,6 +108,7 @@ fn jump(alloc: Global) -> Result<BlockList, AllocError> {
 }
 
 /// The cycles and slots that items are to stand in, and the length of their block.
+#[derive(Clone, Copy)]
 struct Want {
     cycles: &'static [u32],
     slots: &'static [Slot],
