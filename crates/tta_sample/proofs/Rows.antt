@@ -1,5 +1,5 @@
 -- Worked samples.
-use Rattle.std.proofs.Common.{◌≡◌, List, ℕ, ◌++◌, [], codes, decimal, refl}
+use Rattle.std.proofs.Common.{◌≡◌, ◌++◌, [], codes, decimal, refl}
 use Rattle.tta_sample.specs.Sample.{next_number, body, var}
 
 -- the first numbers after 0

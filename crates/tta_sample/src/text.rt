@@ -1,17 +1,19 @@
 //! The text of a sample.
 
-ghost use Rattle.std.specs.Prelude.{◌≡◌, ◌<◌, ◌≤◌, IfOk};
+ghost use Rattle.std.specs.Prelude.{◌≡◌, ◌<◌, ◌≤◌, ◌^◌, length, IfOk};
 ghost use Rattle.tta_sample.specs.Sample.{sample_text};
 
 use crate::draw::next_number;
 use crate::lines::push_body_line;
 use std::alloc::{AllocError, Global};
 
-/// The text of the program of a seed, with a body of so many lines, made by so many draws.
+/// The text of the program of a seed, with a body of so many lines, made by so many draws. It has
+/// at most 2^24 bytes.
 pub fn sample(alloc: Global, seed: u32, lines: u32) -> Result<Vec<u8>, AllocError>
     requires some { 1 ≤ lines }
     requires few { lines ≤ 20000 }
-    ensures { IfOk result (λ text. text.items ≡ sample_text seed lines) }
+    ensures text { IfOk result (λ text. text.items ≡ sample_text seed lines) }
+    ensures short { IfOk result (λ text. length text.items ≤ 2 ^ 24) }
 {
     let mut out = Vec::new(alloc);
     out.extend_from_slice(
