@@ -2,6 +2,7 @@
 
 mod assembly;
 mod compiled;
+mod debug;
 mod dot_product;
 mod exec;
 mod failing;

@@ -30,3 +30,7 @@ short_memory r p memory at short = subst (λ l. length l < 2 ^ 32) (sym at.memor
 pub few_cycles : (h : Held) (m : Machine) (memory : List ℕ) (bound : ℕ) → code.Stands h (code_start m memory []) → bound < 2 ^ 48
     → h.cycle + bound < 2 ^ 62
 few_cycles h m memory bound at few = let none : h.cycle ≡ 0 = at.cycle in omega arith
+
+-- and leaves room for a script
+pub first_cycle : (h : Held) (m : Machine) (memory : List ℕ) → code.Stands h (code_start m memory []) → h.cycle < 2 ^ 60
+first_cycle h m memory at = let none : h.cycle ≡ 0 = at.cycle in omega arith

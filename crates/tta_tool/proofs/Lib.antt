@@ -10,5 +10,6 @@ pub mod ProgramSteps
 pub mod CodeCycles
 pub mod Beginnings
 pub mod Runnings
+pub mod Debuggings
 pub mod OneProgram
 pub mod Completing

@@ -64,7 +64,7 @@ pair_for m text has same_machine same_text file = record {
 }
 
 -- and data words that were read for it
-abbrev three_for : {u : Units} {files : Option Store} {M IMG IN : List ℕ} (m : Machine) (text : List ℕ) (has : HasMachine u files M) → has.machine ≡ m → has.text ≡ text
+abbrev pub three_for : {u : Units} {files : Option Store} {M IMG IN : List ℕ} (m : Machine) (text : List ℕ) (has : HasMachine u files M) → has.machine ≡ m → has.text ≡ text
     → HasWhole m (sha256 text) files IMG → HasInput m.data_words files IN → HasThree u files M IMG IN
 three_for m text has same_machine same_text file input = record {
   pair = pair_for m text has same_machine same_text file;

@@ -12,6 +12,7 @@ use Rattle.tta_tool.specs.Asm.{Assembles}
 use Rattle.tta_tool.specs.Dis.{Shows}
 use Rattle.tta_tool.specs.Exec.{Execs}
 use Rattle.tta_tool.specs.Run.{Runs}
+use Rattle.tta_tool.specs.Debug.{Debugs}
 
 -- what can be asked for
 pub data Request : Type 0 where
@@ -20,6 +21,7 @@ pub data Request : Type 0 where
   Dis : (machine image out : List ℕ) → Request
   Exec : (machine program input : List ℕ) (stream : Option (List ℕ)) (bound : ℕ) → Request
   Run : (machine image input : List ℕ) (stream : Option (List ℕ)) (bound : ℕ) → Request
+  Debug : (machine image input script : List ℕ) (stream : Option (List ℕ)) → Request
 
 -- the request of the name of a command whose last word is a file that it writes
 abbrev pub writing_request : (word machine second out : List ℕ) → Option Request
@@ -36,13 +38,17 @@ bounded_request word machine second input stream bound =
     else if bytes_eq word (codes "run") then Some (Run machine second input stream bound)
     else None
 
+-- the request of the name of a command whose fourth word is a script, or the bound of a run
+abbrev pub running_request : (word machine second input last : List ℕ) → (stream : Option (List ℕ)) → Option Request
+running_request word machine second input last stream =
+    if bytes_eq word (codes "debug") then Some (Debug machine second input last stream)
+    else option_and_then (bounded_request word machine second input stream) (bound_of last)
+
 -- the request of some words; none where they are no command
 abbrev pub request_of : List (List ℕ) → Option Request
 request_of (word ∷ machine ∷ second ∷ out ∷ []) = writing_request word machine second out
-request_of (word ∷ machine ∷ second ∷ input ∷ bound ∷ []) =
-    option_and_then (bounded_request word machine second input None) (bound_of bound)
-request_of (word ∷ machine ∷ second ∷ input ∷ bound ∷ stream ∷ []) =
-    option_and_then (bounded_request word machine second input (Some stream)) (bound_of bound)
+request_of (word ∷ machine ∷ second ∷ input ∷ last ∷ []) = running_request word machine second input last None
+request_of (word ∷ machine ∷ second ∷ input ∷ last ∷ stream ∷ []) = running_request word machine second input last (Some stream)
 request_of words = None
 
 -- words that are no command end as such, and nothing was done
@@ -59,3 +65,4 @@ Ends u (Some (Asm machine assembly out)) before after old new s = Assembles u ma
 Ends u (Some (Dis machine image out)) before after old new s = Shows u machine image out before after s × IsQuiet old new
 Ends u (Some (Exec machine program input stream bound)) before after old new s = Execs u machine program input stream bound before after old new s
 Ends u (Some (Run machine image input stream bound)) before after old new s = Runs u machine image input stream bound before after old new s
+Ends u (Some (Debug machine image input script stream)) before after old new s = Debugs u machine image input script stream before after old new s

@@ -13,5 +13,6 @@ pub mod Cycles
 pub mod Running
 pub mod Exec
 pub mod Run
+pub mod Debug
 pub mod Command
 pub mod Completes

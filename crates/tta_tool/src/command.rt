@@ -6,11 +6,13 @@ ghost use Rattle.tta_ops.specs.Set.{stated};
 ghost use Rattle.tta_tool.specs.World.{world};
 ghost use Rattle.tta_tool.specs.Output.{output};
 ghost use Rattle.tta_tool.specs.Bound as spec;
-ghost use Rattle.tta_tool.specs.Command.{Ends, bounded_request, writing_request, request_of};
+ghost use Rattle.tta_tool.specs.Command.{Ends, bounded_request, running_request};
+ghost use Rattle.tta_tool.specs.Command.{writing_request, request_of};
 
 use crate::asm::assemble_image;
 use crate::bound::bound_of;
 use crate::build::build_image;
+use crate::debugging::debug_image;
 use crate::dis::show_image;
 use crate::exec::exec_program;
 use crate::running::run_image;
@@ -118,6 +120,47 @@ fn run_to_bound<F: Files, S: Sink>(
     }
 }
 
+// Carries out the command of this name whose fourth word is a script, or the bound of a run.
+fn run_running<F: Files, S: Sink>(
+    alloc: Global,
+    units: &UnitSet,
+    files: &mut F,
+    sink: &mut S,
+    word: &str,
+    machine: &str,
+    second: &str,
+    input: &str,
+    last: &str,
+    stream: Option<&str>,
+) -> Status
+    ensures { Ends (stated unit_meaning units.now)
+        (running_request word.now machine.now second.now input.now last.now
+        (option_map (λ s. s.now) stream.entry))
+        (world (F.contents files.old) (F.faults files.old) (F.latest files.old))
+        (world (F.contents files.new) (F.faults files.new) (F.latest files.new))
+        (output (S.taken sink.old) (S.faults sink.old))
+        (output (S.taken sink.new) (S.faults sink.new))
+        result }
+{
+    if word == "debug" {
+        return debug_image(
+            alloc, units, files, sink, machine, second, input, last, stream,
+        );
+    }
+    run_to_bound(
+        alloc,
+        units,
+        files,
+        sink,
+        word,
+        machine,
+        second,
+        input,
+        stream,
+        last.as_bytes(),
+    )
+}
+
 /// Carries out the command that the words ask for, the first of them the command's name, over these
 /// operation units, files and output.
 ///
@@ -137,8 +180,11 @@ fn run_to_bound<F: Files, S: Sink>(
 /// `run M IMG IN N` runs the code of the image in the file IMG on the machine of the file M for at
 /// most N cycles, and is otherwise as `exec`, with the number of cycles in place of that of steps.
 ///
-/// Both may have one more word, the file of the input, which is read last. Where a run takes a word
-/// of the input and none is left, it waits.
+/// `debug M IMG IN SCRIPT` carries out the commands of the file SCRIPT over the run of such code, and
+/// puts their replies. It changes no file.
+///
+/// These three may have one more word, the file of the input, which is read last. Where a run takes
+/// a word of the input and none is left, it waits.
 pub fn tool<F: Files, S: Sink>(
     alloc: Global,
     words: &Vec<String>,
@@ -165,7 +211,7 @@ pub fn tool<F: Files, S: Sink>(
             second.as_str(),
             out.as_str(),
         ),
-        [word, machine, second, input, bound] => run_to_bound(
+        [word, machine, second, input, last] => run_running(
             alloc,
             units,
             files,
@@ -174,10 +220,10 @@ pub fn tool<F: Files, S: Sink>(
             machine.as_str(),
             second.as_str(),
             input.as_str(),
+            last.as_str(),
             None,
-            bound.as_bytes(),
         ),
-        [word, machine, second, input, bound, stream] => run_to_bound(
+        [word, machine, second, input, last, stream] => run_running(
             alloc,
             units,
             files,
@@ -186,8 +232,8 @@ pub fn tool<F: Files, S: Sink>(
             machine.as_str(),
             second.as_str(),
             input.as_str(),
+            last.as_str(),
             Some(stream.as_str()),
-            bound.as_bytes(),
         ),
         _ => Status::Usage,
     }

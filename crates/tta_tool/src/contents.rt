@@ -27,8 +27,8 @@ use tta_tac::{DataLine, Program, TacError, read_program};
 /// How many bytes of a file are read at the most: 16 MiB.
 const LIMIT: u64 = 16_777_216;
 
-// The bytes of the file that a word names.
-fn read_file<F: Files>(files: &mut F, name: &str, word: u8) -> Result<Vec<u8>, Status>
+/// The bytes of the file that a word names.
+pub fn read_file<F: Files>(files: &mut F, name: &str, word: u8) -> Result<Vec<u8>, Status>
     ensures { ReadEnds name.now word
         (world (F.contents files.old) (F.faults files.old) (F.latest files.old))
         (world (F.contents files.new) (F.faults files.new) (F.latest files.new))
@@ -298,8 +298,8 @@ fn named_stream<F: Files>(alloc: Global, files: &mut F, name: &str) -> Result<Ve
     }
 }
 
-// The words of the input: those of its file, or none where no file is named.
-fn stream_file<F: Files>(
+/// The words of the input: those of its file, or none where no file is named.
+pub fn stream_file<F: Files>(
     alloc: Global,
     files: &mut F,
     stream: Option<&str>,

@@ -8,6 +8,7 @@ mod command;
 mod contents;
 mod cycle_report;
 mod cycles;
+mod debugging;
 mod dis;
 mod exec;
 mod laws;

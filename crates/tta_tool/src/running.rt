@@ -1,10 +1,14 @@
 //! The command `run`: the code of an image is run cycle by cycle.
 
-ghost use Rattle.std.specs.Prelude.{◌≡◌, ◌<◌, ◌^◌, length, option_map, IfOk};
+ghost use Rattle.std.specs.Prelude.{◌≡◌, ℕ, ◌<◌, ◌^◌, List, length, option_map, IfOk};
 ghost use Rattle.tta_ops.specs.Set.{stated};
 ghost use Rattle.tta_ops.specs.Units.{Units};
+ghost use Rattle.tta_program.specs.Program.{over};
 ghost use Rattle.tta_code.specs.Legal.{IsLegalCode};
+ghost use Rattle.tta_code.specs.Whole.{data_in};
+ghost use Rattle.tta_code.specs.Cycle.{start};
 ghost use Rattle.tta_code.specs.Agrees.{code_at};
+ghost use Rattle.tta_sim.specs.Held.{Stands, IsRunOf};
 ghost use Rattle.tta_tool.specs.World.{world};
 ghost use Rattle.tta_tool.specs.Output.{output};
 ghost use Rattle.tta_tool.specs.Run.{BeginWithEnds, RunEnds, RunFileEnds, Runs};
@@ -13,7 +17,7 @@ use crate::contents::{Given, MachineFile, data_words, given_files, machine_file,
 use crate::cycle_report::code_to_status;
 use crate::status::Status;
 use sha2::{Digest, Sha256};
-use std::alloc::Global;
+use std::alloc::{AllocError, Global};
 use tta_code::{Whole, lay};
 use tta_machine::Machine;
 use tta_ops::UnitSet;
@@ -22,15 +26,15 @@ use tta_sim::Sim;
 
 /// What a run begins with: code with data, the data words, and the words of the input.
 #[derive(Drop)]
-struct Beginning {
-    whole: Whole,
-    memory: Vec<u32>,
-    words: Vec<u32>,
+pub struct Beginning {
+    pub whole: Whole,
+    pub memory: Vec<u32>,
+    pub words: Vec<u32>,
 }
 
-// The code with data that word 2 names, the data words that word 3 names, and the words of the
-// input, for a machine that was read.
-fn begin_with<F: Files>(
+/// The code with data that word 2 names, the data words that word 3 names, and the words of the
+/// input, for a machine that was read.
+pub fn begin_with<F: Files>(
     alloc: Global,
     files: &mut F,
     image: &str,
@@ -68,6 +72,24 @@ fn begin_with<F: Files>(
     }
 }
 
+/// Loads code for a run from data words, with its data laid over them.
+pub fn load_laid(
+    alloc: Global,
+    machine: &Machine,
+    whole: &Whole,
+    memory: Vec<u32>,
+) -> Result<Sim, AllocError>
+    requires size { length memory.items ≡ machine.now.data_words }
+    requires legal { IsLegalCode machine.now whole.now.code }
+    ensures start { IfOk result (λ r. (input : List ℕ)
+        → Stands r (start machine.now (over (data_in whole.now) memory.items) input)) }
+    ensures loaded { IfOk result (λ r. IsRunOf machine.now whole.now.code r) }
+{
+    let mut laid = memory;
+    lay(whole.init.as_slice(), &mut laid);
+    Sim::load(alloc, machine, &whole.code, laid)
+}
+
 // Runs code from data words, with its data laid over them and with an input, and puts out its text.
 fn run_code<S: Sink>(
     alloc: Global,
@@ -89,11 +111,9 @@ fn run_code<S: Sink>(
         (output (S.taken sink.new) (S.faults sink.new))
         result }
 {
-    let code = &whole.code;
-    let mut laid = memory;
-    lay(whole.init.as_slice(), &mut laid);
-    match Sim::load(alloc, machine, code, laid) {
+    match load_laid(alloc, machine, whole, memory) {
         Ok(mut sim) => {
+            let code = &whole.code;
             let status = code_to_status(sink, machine, code, units, &mut sim, words, bound);
             // Dropped here as a whole, so that no part of it is left to drop at the end.
             drop(sim);
