@@ -6,7 +6,6 @@ mod debug;
 mod dot_product;
 mod exec;
 mod failing;
-mod first_fit;
 mod handed_in;
 mod host;
 mod laid;

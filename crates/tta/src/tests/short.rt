@@ -20,6 +20,9 @@ const COPIES: [&str; 4] = ["ldf", "MUL.r -> R.", "MUL.r -> S.", "MUL.r -> G."];
 
 // Whether a part stands in a text.
 fn stands_in(text: &[u8], part: &[u8]) -> bool {
+    if part.is_empty() {
+        return true;
+    }
     text.windows(part.len()).any(|w| w == part)
 }
 
