@@ -77,6 +77,47 @@ round_skip steps vars at low grown a b none h = record { work = h.work; spares =
 pub round_all : (steps : List Step) (vars at : ℕ) (grown : Bool) (a b : Work) → at ≤ 0 → RoundsTo steps vars at grown a b → Rounds steps vars grown a b
 round_all steps vars at grown a b done h = record { work = h.work; spares = h.spares; calm = λ g i below. h.calm g i (omega arith) below }
 
+-- ---- the other way
+
+-- the steps before a place were looked at
+pub record LooksTo (steps : List Step) (vars at : ℕ) (grown : Bool) (old new : Work) : Type 0 where
+  pub work : IsWork steps vars new
+  pub spares : Spares grown old new
+  pub calm : grown ≡ false → (i : ℕ) → i < at → has new.due i ≡ false
+
+pub look_start : (steps : List Step) (vars : ℕ) (work : Work) → IsWork steps vars work → LooksTo steps vars 0 false work work
+look_start steps vars work h = record {
+  work = h;
+  spares = record { same = λ e. refl; less = λ e. no (sym e) };
+  calm = λ g i low. absurd (omega arith);
+}
+
+pub look_more : (steps : List Step) (vars at : ℕ) (s t : Bool) (a b c : Work) → LooksTo steps vars at s a b → Visits steps vars at t b c
+    → LooksTo steps vars (at + 1) (s || t) a c
+look_more steps vars at s t a b c one two = record {
+  work = two.work;
+  spares = spares_then s t a b c one.spares two.spares;
+  calm = calm s t one two;
+} where
+  calm : (s t : Bool) → LooksTo steps vars at s a b → Visits steps vars at t b c → (s || t) ≡ false → (i : ℕ) → i < at + 1 → has c.due i ≡ false
+  calm true t one two e i low = no e
+  calm false true one two e i low = no e
+  calm false false one two e i low = by (has c.due i) refl where
+    by : (o : Bool) → has c.due i ≡ o → has c.due i ≡ false
+    by false f = f
+    by true f =
+        let v = two.calm refl i f in
+        no (sym v.0 ∙ one.calm refl i (earlier v.1))
+      where
+        earlier : i ≢ at → i < at
+        earlier n = elim (cases_eq i at) [
+          | inl e ↦ absurd (n e)
+          | inr m ↦ grind arith
+        ]
+
+pub look_all : (steps : List Step) (vars at : ℕ) (grown : Bool) (a b : Work) → length steps ≤ at → LooksTo steps vars at grown a b → Rounds steps vars grown a b
+look_all steps vars at grown a b done h = record { work = h.work; spares = h.spares; calm = λ g i below. h.calm g i (omega (arith, done, below)) }
+
 -- ---- the rows in the end
 
 -- the rows that were found by now; where the last round has not made one grow, each step has what it wants

@@ -56,9 +56,38 @@ impl Work {
         Ok(Work { rows, due, room })
     }
 
-    /// Looks once at each step that has to be looked at, the last one first, and says whether any
-    /// row has grown.
+    /// Looks once at each step that has to be looked at, the last one first and then the first one
+    /// first, and says whether any row has grown. What is live goes against the order of the steps
+    /// along a text, and with it along jumps backward: so each way needs few rounds.
     fn round(&mut self, steps: &[Step], vars: u32, before: &Table) -> bool
+        requires work { IsWork steps.now vars self.old }
+        requires before { TellsBefore steps.now before.now }
+        ensures { Rounds steps.now vars result self.old self.new }
+    {
+        let upward = self.look_upward(steps, vars, before);
+        if !upward {
+            return false;
+        }
+        let downward = self.look_downward(steps, vars, before);
+        either(upward, downward)
+    }
+
+    /// Looks at each step, the first one first, and says whether any row has grown.
+    fn look_downward(&mut self, steps: &[Step], vars: u32, before: &Table) -> bool
+        requires work { IsWork steps.now vars self.old }
+        requires before { TellsBefore steps.now before.now }
+        ensures { Rounds steps.now vars result self.old self.new }
+    {
+        let mut grown = false;
+        for at in 0..steps.len() {
+            let more = self.visit(steps, vars, before, at);
+            grown = either(grown, more);
+        }
+        grown
+    }
+
+    /// Looks at each step, the last one first, and says whether any row has grown.
+    fn look_upward(&mut self, steps: &[Step], vars: u32, before: &Table) -> bool
         requires work { IsWork steps.now vars self.old }
         requires before { TellsBefore steps.now before.now }
         ensures { Rounds steps.now vars result self.old self.new }

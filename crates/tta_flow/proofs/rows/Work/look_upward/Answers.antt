@@ -1,7 +1,7 @@
 use Rattle.std.proofs.Common.{ℕ, ◌≡◌, ◌+◌, ◌-◌, subst, arith}
 use Rattle.std.specs.Prelude.{◌||◌}
 use Rattle.tta_flow.proofs.RoundLemmas.{RoundsTo, round_start, round_more, round_skip, round_all}
-use Rattle.tta_flow.proofs.rows.Work.round.Goals as goal
+use Rattle.tta_flow.proofs.rows.Work.look_upward.Goals as goal
 
 pub loop-at-init : goal.loop-at-init
 loop-at-init c = record { within = omega arith; rounds = round_start _ _ _ _ (omega arith) c.requires.work }

@@ -1,6 +1,6 @@
 use Rattle.std.proofs.Common.{◌≤◌, length}
 use Rattle.tta_flow.proofs.RoundLemmas.{RoundsTo}
-use Rattle.tta_flow.proofs.rows.Work.round.Given as goal
+use Rattle.tta_flow.proofs.rows.Work.look_upward.Given as goal
 
 abbrev pub invariant-loop-at : goal.invariant-loop-at
 invariant-loop-at l = record {
