@@ -1,7 +1,6 @@
 //! The home registers that keep their words after a block.
 
-ghost use Rattle.std.specs.Prelude.{◌≡◌, ◌<◌, ◌==◌, ◌||◌, ◌++◌, ◌∷◌, ◌^◌, [], ℕ, false, length, filter, replicate, IfOk, OnOk, if◌then◌else◌};
-ghost use Rattle.std.specs.Option.{option_map_or};
+ghost use Rattle.std.specs.Prelude.{◌≡◌, ◌<◌, ◌==◌, ◌||◌, ◌&&◌, ◌++◌, ◌∷◌, ◌^◌, [], ℕ, not, nat_lt, false, length, filter, replicate, IfOk, OnOk, if◌then◌else◌};
 ghost use Rattle.tta_alloc.specs.Homes.{count_of};
 ghost use Rattle.tta_lower.specs.Plan.{homes_in, live_in};
 ghost use Rattle.tta_lower.specs.Tables.{marked};
@@ -13,20 +12,15 @@ use crate::part::{Part, owner_of};
 use crate::plan::{Plan, home, is_live, vars_in};
 use std::alloc::{AllocError, Global};
 
-/// Marks a home register, where there is one.
-fn mark(marks: &mut Vec<bool>, home: Option<u32>)
-    ensures size { length marks.new.items ≡ length marks.old.items }
-    ensures marks { (k : ℕ) → k < length marks.old.items → marked marks.new.items k
-        ≡ (marked marks.old.items k || option_map_or (λ h. h == k) home false) }
+/// Whether a home register is there and not marked yet.
+fn is_open(marks: &[bool], home: u32) -> bool
+    ensures { result ≡ (nat_lt home (length marks.now) && not (marked marks.now home)) }
 {
-    if let Some(h) = home {
-        if (h as usize) < marks.len() {
-            marks[h as usize] = true;
-        }
-    }
+    (home as usize) < marks.len() && !marks[home as usize]
 }
 
-/// Marks the home register of a variable, where it is live and has one.
+/// Marks the home register of a variable, where it is live and has one. Liveness costs more than
+/// the home, so it is asked only where it can add a mark.
 fn mark_live(marks: &mut Vec<bool>, plan: &Plan<'_>, part: Part, x: u32)
     requires within { x < vars_of plan.now.p.now (owner_of part) }
     ensures size { length marks.new.items ≡ length marks.old.items }
@@ -34,8 +28,10 @@ fn mark_live(marks: &mut Vec<bool>, plan: &Plan<'_>, part: Part, x: u32)
         ≡ (marked marks.old.items k
         || is_kept_by (homes_in plan.now) (owner_of part) (live_in plan.now part) k x) }
 {
-    if is_live(plan, part, x) {
-        mark(marks, home(plan, owner_of(part), x));
+    if let Some(h) = home(plan, owner_of(part), x) {
+        if is_open(marks.as_slice(), h) && is_live(plan, part, x) {
+            marks[h as usize] = true;
+        }
     }
 }
 
