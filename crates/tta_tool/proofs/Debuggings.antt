@@ -8,17 +8,16 @@ use Rattle.tta_code.specs.Cycle.{Fault}
 use Rattle.tta_sim.specs.Held.{is_fault}
 use Rattle.tta_debug.specs.Debugged.{Debugged, session as replies_of}
 use Rattle.tta_debug.specs.Scripts.{lines_of}
-use Rattle.tta_debug.specs.Sessions as debugger
 use Rattle.tta_debug.specs.Sessions.{Session', Follows}
 use Rattle.tta_tool.specs.declared.status.Status.{Status}
 use Rattle.tta_tool.specs.declared.status.Status.TheVariants as status
 use Rattle.tta_tool.specs.World.{World}
 use Rattle.tta_tool.specs.Output.{Output}
 use Rattle.tta_tool.specs.Stages.{WasRead}
-use Rattle.tta_tool.specs.Contents.{HasMachine, StreamFails, MachineFails, ReadsMachine, ReadsStream}
-use Rattle.tta_tool.specs.Running.{IsPut, IsCut}
-use Rattle.tta_tool.specs.Run.{BeginsWith, BeginFails, HasThree}
-use Rattle.tta_tool.specs.Debug.{HasBytes, HasSession, ReadsAsked, AskedFails, BeginsSession, at_first, said, DebugFails, DebugFileEnds, Debugs, EndsAs, SessionEnds}
+use Rattle.tta_tool.specs.Contents.{HasMachine, StreamFails, ReadsMachine, ReadsStream}
+use Rattle.tta_tool.specs.Running.{IsPut}
+use Rattle.tta_tool.specs.Run.{BeginsWith, HasThree}
+use Rattle.tta_tool.specs.Debug.{HasBytes, HasSession, ReadsAsked, AskedFails, BeginsSession, at_first, DebugFails, DebugFileEnds, Debugs, EndsAs, SessionEnds}
 use Rattle.tta_tool.proofs.Worlds.{same_world}
 use Rattle.tta_tool.proofs.Runnings.{three_for}
 

@@ -16,9 +16,9 @@ use Rattle.tta_tool.specs.declared.status.Status.TheVariants as status
 use Rattle.tta_tool.specs.World.{World, IsUntouched, limit}
 use Rattle.tta_tool.specs.Output.{Output, IsQuiet}
 use Rattle.tta_tool.specs.Stages.{WasRead, ReadFails}
-use Rattle.tta_tool.specs.Contents.{HasMachine, HasWhole, HasInput, HasStream, IsStream, StreamFails}
+use Rattle.tta_tool.specs.Contents.{HasMachine, HasWhole, HasInput, IsStream, StreamFails}
 use Rattle.tta_tool.specs.Running.{IsPut, IsCut}
-use Rattle.tta_tool.specs.Run.{HasThree, HasRun, BeginFails, state_at}
+use Rattle.tta_tool.specs.Run.{HasThree, HasRun, BeginFails}
 
 -- ---- what was read
 
