@@ -1,24 +1,21 @@
 //! What the files of a command hold. The bytes of a file are dropped as soon as they are read,
 //! unless they are kept.
 
-ghost use Rattle.std.specs.Prelude.{◌≡◌, ◌≤◌, ◌^◌, length, option_map, Some, IfOk};
+ghost use Rattle.std.specs.Prelude.{◌≡◌, ◌≤◌, ◌^◌, length, IfOk};
 ghost use Rattle.tta_ops.specs.Set.{stated};
 ghost use Rattle.tta_code.specs.Legal.{IsLegalWhole};
 ghost use Rattle.tta_tool.specs.World.{world};
-ghost use Rattle.tta_tool.specs.Stages.{ReadEnds, MachineEnds, ProgramEnds, WholeEnds, InputEnds};
-ghost use Rattle.tta_tool.specs.Stages.{StreamEnds};
+ghost use Rattle.tta_tool.specs.Stages.{ReadEnds, MachineEnds, ProgramEnds, WholeEnds};
 ghost use Rattle.tta_program.specs.Program.{first_outside};
 ghost use Rattle.tta_tool.specs.Asm.{AssemblyEnds, AssemblyFileEnds};
 ghost use Rattle.tta_tool.specs.Contents.{DescribedEnds, MachineFileEnds};
 ghost use Rattle.tta_tool.specs.Contents.{ProgramFileEnds, WholeFileEnds};
-ghost use Rattle.tta_tool.specs.Contents.{InputFileEnds, StreamFileEnds, GivenEnds};
 
 use crate::status::Status;
 use std::alloc::Global;
 use tta_asm::{AsmError, assemble};
 use tta_code::Whole;
 use tta_image::{ImageError, read_image};
-use tta_input::{InputError, read_input, read_stream};
 use tta_machine::{Machine, MachineError, read_machine};
 use tta_ops::UnitSet;
 use tta_ports::{Files, ReadError};
@@ -97,31 +94,6 @@ fn whole_of(
         Ok(whole) => Ok(whole),
         Err(ImageError::Refused { code, word, bus }) => Err(Status::BadImage { code, word, bus }),
         Err(ImageError::NoMemory) => Err(Status::NoMemory),
-    }
-}
-
-// The data words that a file's bytes give, as many as the space has.
-fn words_of(alloc: Global, bytes: &[u8], space: u32) -> Result<Vec<u32>, Status>
-    requires { length bytes.now ≤ 2 ^ 24 }
-    ensures ends { InputEnds space bytes.now (λ v. v.items) result }
-    ensures whole { IfOk result (λ v. length v.items ≡ space) }
-{
-    match read_input(alloc, bytes, space) {
-        Ok(memory) => Ok(memory),
-        Err(InputError::Refused { line }) => Err(Status::BadInput { line }),
-        Err(InputError::NoMemory) => Err(Status::NoMemory),
-    }
-}
-
-// The words of an input that a file's bytes give.
-fn stream_of(alloc: Global, bytes: &[u8]) -> Result<Vec<u32>, Status>
-    requires { length bytes.now ≤ 2 ^ 24 }
-    ensures { StreamEnds bytes.now (λ v. v.items) result }
-{
-    match read_stream(alloc, bytes) {
-        Ok(words) => Ok(words),
-        Err(InputError::Refused { line }) => Err(Status::BadStream { line }),
-        Err(InputError::NoMemory) => Err(Status::NoMemory),
     }
 }
 
@@ -256,95 +228,4 @@ pub fn data_words(machine: &Machine) -> u32
     ensures { result ≡ machine.now.data_words }
 {
     machine.data_words
-}
-
-// The data words of the file that word 3 names, as many as the space has.
-fn input_file<F: Files>(
-    alloc: Global,
-    files: &mut F,
-    name: &str,
-    space: u32,
-) -> Result<Vec<u32>, Status>
-    ensures ends { InputFileEnds space name.now
-        (world (F.contents files.old) (F.faults files.old) (F.latest files.old))
-        (world (F.contents files.new) (F.faults files.new) (F.latest files.new))
-        (λ v. v.items) result }
-    ensures whole { IfOk result (λ v. length v.items ≡ space) }
-{
-    match read_file(files, name, 3) {
-        Ok(bytes) => {
-            let memory = words_of(alloc, bytes.as_slice(), space);
-            drop(bytes);
-            memory
-        }
-        Err(status) => Err(status),
-    }
-}
-
-// The words of the file of the input that word 5 names.
-fn named_stream<F: Files>(alloc: Global, files: &mut F, name: &str) -> Result<Vec<u32>, Status>
-    ensures { StreamFileEnds (Some name.now)
-        (world (F.contents files.old) (F.faults files.old) (F.latest files.old))
-        (world (F.contents files.new) (F.faults files.new) (F.latest files.new))
-        (λ v. v.items) result }
-{
-    match read_file(files, name, 5) {
-        Ok(bytes) => {
-            let words = stream_of(alloc, bytes.as_slice());
-            drop(bytes);
-            words
-        }
-        Err(status) => Err(status),
-    }
-}
-
-/// The words of the input: those of its file, or none where no file is named.
-pub fn stream_file<F: Files>(
-    alloc: Global,
-    files: &mut F,
-    stream: Option<&str>,
-) -> Result<Vec<u32>, Status>
-    ensures { StreamFileEnds (option_map (λ s. s.now) stream.entry)
-        (world (F.contents files.old) (F.faults files.old) (F.latest files.old))
-        (world (F.contents files.new) (F.faults files.new) (F.latest files.new))
-        (λ v. v.items) result }
-{
-    match stream {
-        Some(name) => named_stream(alloc, files, name),
-        None => Ok(Vec::new(alloc)),
-    }
-}
-
-/// What a run is given: the data words, and the words of the input.
-#[derive(Drop)]
-pub struct Given {
-    pub memory: Vec<u32>,
-    pub words: Vec<u32>,
-}
-
-/// The data words of the file that word 3 names, as many as the space has, and the words of the
-/// input.
-pub fn given_files<F: Files>(
-    alloc: Global,
-    files: &mut F,
-    input: &str,
-    stream: Option<&str>,
-    space: u32,
-) -> Result<Given, Status>
-    ensures ends { GivenEnds space input.now (option_map (λ s. s.now) stream.entry)
-        (world (F.contents files.old) (F.faults files.old) (F.latest files.old))
-        (world (F.contents files.new) (F.faults files.new) (F.latest files.new))
-        (λ g. g.memory.items) (λ g. g.words.items) result }
-    ensures whole { IfOk result (λ g. length g.memory.items ≡ space) }
-{
-    match input_file(alloc, files, input, space) {
-        Ok(memory) => match stream_file(alloc, files, stream) {
-            Ok(words) => Ok(Given { memory, words }),
-            Err(status) => {
-                drop(memory);
-                Err(status)
-            }
-        },
-        Err(status) => Err(status),
-    }
 }

@@ -13,7 +13,8 @@ ghost use Rattle.tta_tool.specs.Output.{output};
 ghost use Rattle.tta_tool.specs.Debug.{at_first, AskedEnds, BeginSessionEnds, EndsAs, SessionEnds};
 ghost use Rattle.tta_tool.specs.Debug.{DebugFileEnds, Debugs};
 
-use crate::contents::{MachineFile, machine_file, read_file, stream_file};
+use crate::contents::{MachineFile, machine_file, read_file};
+use crate::given::stream_file;
 use crate::running::{Beginning, begin_with, load_laid};
 use crate::status::Status;
 use std::alloc::Global;

@@ -7,7 +7,8 @@ ghost use Rattle.tta_tool.specs.World.{world};
 ghost use Rattle.tta_tool.specs.Output.{output};
 ghost use Rattle.tta_tool.specs.Exec.{BeginEnds, BeginWithEnds, RunEnds, Execs};
 
-use crate::contents::{Given, data_words, given_files, machine_file, program_file};
+use crate::contents::{data_words, machine_file, program_file};
+use crate::given::{Given, given_files};
 use crate::report::run_to_status;
 use crate::status::Status;
 use std::alloc::Global;

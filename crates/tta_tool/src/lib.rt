@@ -11,6 +11,7 @@ mod cycles;
 mod debugging;
 mod dis;
 mod exec;
+mod given;
 mod laws;
 mod report;
 mod running;

@@ -13,8 +13,9 @@ ghost use Rattle.tta_tool.specs.World.{world};
 ghost use Rattle.tta_tool.specs.Output.{output};
 ghost use Rattle.tta_tool.specs.Run.{BeginWithEnds, RunEnds, RunFileEnds, Runs};
 
-use crate::contents::{Given, MachineFile, data_words, given_files, machine_file, whole_file};
+use crate::contents::{MachineFile, data_words, machine_file, whole_file};
 use crate::cycle_report::code_to_status;
+use crate::given::{Given, given_files};
 use crate::status::Status;
 use sha2::{Digest, Sha256};
 use std::alloc::{AllocError, Global};

@@ -1,7 +1,7 @@
 use Rattle.std.proofs.Common.{ℕ, List, subst}
 use Rattle.tta_tool.specs.Stages.{InputEnds}
 use Rattle.tta_tool.proofs.Readings.{input_read, input_unread}
-use Rattle.tta_tool.proofs.contents.input_file.Goals as goal
+use Rattle.tta_tool.proofs.given.input_file.Goals as goal
 
 pub returns-in-Ok-clause-ends : goal.returns-in-Ok-clause-ends
 returns-in-Ok-clause-ends g c =

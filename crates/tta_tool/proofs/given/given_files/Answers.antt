@@ -1,7 +1,7 @@
 use Rattle.std.proofs.Common.{option_map, inl}
 use Rattle.tta_tool.specs.World.{world}
 use Rattle.tta_tool.proofs.Readings.{given_read, given_unread}
-use Rattle.tta_tool.proofs.contents.given_files.Goals as goal
+use Rattle.tta_tool.proofs.given.given_files.Goals as goal
 
 pub returns-in-Ok-stream_file-clause-ends : goal.returns-in-Ok-stream_file-clause-ends
 returns-in-Ok-stream_file-clause-ends g c =

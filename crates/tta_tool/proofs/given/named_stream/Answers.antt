@@ -1,7 +1,7 @@
 use Rattle.std.proofs.Common.{ℕ, List, subst}
 use Rattle.tta_tool.specs.Stages.{StreamEnds}
 use Rattle.tta_tool.proofs.Readings.{stream_read, stream_unread}
-use Rattle.tta_tool.proofs.contents.named_stream.Goals as goal
+use Rattle.tta_tool.proofs.given.named_stream.Goals as goal
 
 pub returns-in-Ok : goal.returns-in-Ok
 returns-in-Ok g c =
