@@ -69,7 +69,7 @@ carried u m s (Some i) =
     let ts = filter_map (start_of m written) bs in
     or_faulted s _ (fault_of s effects bs ts) (or_waited s _ (waits s ts) (acted u m s bs ts written))
 
--- a cycle puts words behind the output
+-- a cycle puts words after the output
 pub cycle_grows : (u : Units) (m : Machine) (code : Code) → Grows (λ s. s.output) (next u m code)
 unfolding next
 cycle_grows u m code = λ s. of s s.outcome where

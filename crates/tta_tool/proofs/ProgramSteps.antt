@@ -54,7 +54,7 @@ went_on u p s (f ∷ rest) = at (step_at p f.proc f.at) where
   at None = same s.output s.output refl
   at (Some step) = through step (waits s step)
 
--- a step puts words behind the output
+-- a step puts words after the output
 pub program_grows : (u : Units) (p : Program) → Grows (λ s. s.output) (next u p)
 unfolding next
 program_grows u p = λ s. of s s.outcome where

@@ -7,7 +7,7 @@ use Rattle.tta_print.specs.Lines.{line_text, lines_text, word_lines}
 use Rattle.tta_print.proofs.Reports.{lines_of_both}
 use Rattle.tta_tool.specs.Steps.{words_put}
 
--- each step puts words behind the output
+-- each step puts words after the output
 abbrev pub Grows : {S : Type 0} → (S → List ℕ) → (S → S) → Type 0
 Grows {S = S} out next = (s : S) → (more : List ℕ) × (out (next s) ≡ out s ++ more)
 

@@ -42,7 +42,7 @@ pub record HasBadAssembly (u : Units) (files : Option Store) (M A : List ℕ) (l
   pub machine : HasMachine u files M
   pub assembly : HasText files A (λ text. IsBadAssembly u machine.machine text line code)
 
--- How `asm M A OUT` ends. Each ending but want of memory has its cause, and the causes exclude each other: so each comes
+-- How `asm M A OUT` ends. Each ending but out of memory has its cause, and the causes exclude each other: so each comes
 -- exactly where its cause holds, as far as memory and files do not fail.
 abbrev pub Assembles : Units → (M A OUT : List ℕ) → (before after : World) → Status → Type 0
 Assembles u M A OUT before after status.Ok = IsWritten (IsAssembled u before.contents M A) OUT before after

@@ -31,7 +31,7 @@ writing_request word machine second out =
     else if bytes_eq word (codes "dis") then Some (Dis machine second out)
     else None
 
--- the request of the name of a command with a bound, behind which the file of an input may be named
+-- the request of the name of a command with a bound, after which the file of an input may be named
 abbrev pub bounded_request : (word machine second input : List ℕ) → (stream : Option (List ℕ)) → (bound : ℕ) → Option Request
 bounded_request word machine second input stream bound =
     if bytes_eq word (codes "exec") then Some (Exec machine second input stream bound)
@@ -57,7 +57,7 @@ pub record IsUsage (before after : World) (old new : Output) (s : Status) : Type
   pub untouched : IsUntouched before after
   pub quiet : IsQuiet old new
 
--- how a request ends; what writes a file puts nothing out
+-- how a request ends; what writes a file outputs nothing
 abbrev pub Ends : Units → Option Request → (before after : World) → (old new : Output) → Status → Type 0
 Ends u None before after old new s = IsUsage before after old new s
 Ends u (Some (Build machine program out)) before after old new s = Builds u machine program out before after s × IsQuiet old new

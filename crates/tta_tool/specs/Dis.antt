@@ -20,7 +20,7 @@ pub record IsShown (u : Units) (files : Option Store) (M IMG bytes : List ℕ) :
   pub image : HasWhole machine.machine (sha256 machine.text) files IMG
   pub text : bytes ≡ canonical u machine.machine image.whole
 
--- How `dis M IMG OUT` ends. Each ending but want of memory has its cause, and the causes exclude each other: so each
+-- How `dis M IMG OUT` ends. Each ending but out of memory has its cause, and the causes exclude each other: so each
 -- comes exactly where its cause holds, as far as memory and files do not fail.
 abbrev pub Shows : Units → (M IMG OUT : List ℕ) → (before after : World) → Status → Type 0
 Shows u M IMG OUT before after status.Ok = IsWritten (IsShown u before.contents M IMG) OUT before after

@@ -27,7 +27,7 @@ outcome_line Running = line.Running
 outcome_line Halted = line.Halted
 outcome_line Waiting = line.Waiting
 
--- the outcome that an answer tells
+-- the outcome that an answer reports
 abbrev pub ended_as : Ended → Outcome
 ended_as ended.Halted = Halted
 ended_as ended.Running = Running
@@ -68,7 +68,7 @@ pub record IsExecuted (u : Units) (M P IN : List ℕ) (STREAM : Option (List ℕ
   pub put : IsPut (run_text (state_at run bound)) old new
   pub untouched : IsUntouched before after
 
--- a put has failed: the front of the text was put
+-- a put has failed: a prefix of the text was put
 pub record IsCutShort (u : Units) (M P IN : List ℕ) (STREAM : Option (List ℕ)) (bound : ℕ) (before after : World) (old new : Output) : Type 0 where
   pub run : HasRun u before.contents M P IN STREAM
   pub cut : IsCut (run_text (state_at run bound)) old new
@@ -105,9 +105,9 @@ BeginFails u M P IN STREAM before after (status.TooLong word) =
 BeginFails u M P IN STREAM before after status.NoMemory = IsUntouched before after
 BeginFails u M P IN STREAM before after s = ⊥
 
--- How `exec M P IN N` and `exec M P IN N STREAM` end. Each ending but want of memory has its cause, and the causes exclude
+-- How `exec M P IN N` and `exec M P IN N STREAM` end. Each ending but out of memory has its cause, and the causes exclude
 -- each other: so each comes exactly where its cause holds, as far as memory, files and output do not fail. Nothing is put
--- but at the end of a run: all of its text, or the front of it where a put has failed.
+-- but at the end of a run: all of its text, or a prefix of it where a put has failed.
 abbrev pub Execs : Units → (M P IN : List ℕ) → (STREAM : Option (List ℕ)) → (bound : ℕ) → (before after : World) → (old new : Output) → Status → Type 0
 Execs u M P IN STREAM bound before after old new status.Ok = IsExecuted u M P IN STREAM bound before after old new Halted
 Execs u M P IN STREAM bound before after old new status.Running = IsExecuted u M P IN STREAM bound before after old new Running
@@ -146,7 +146,7 @@ BeginWithEnds u P IN STREAM space before after program memory words (Ok v) =
 BeginWithEnds u P IN STREAM space before after program memory words (Err s) =
     (M : List ℕ) (has : HasMachine u before.contents M) → has.machine.data_words ≡ space → BeginFails u M P IN STREAM before after s
 
--- a run has come to a state, and its text was put, or the front of it
+-- a run has come to a state, and its text was put, or a prefix of it
 abbrev pub RunEnds : State → (old new : Output) → Status → Type 0
 RunEnds s old new status.Ok = (s.outcome ≡ Halted) × IsPut (run_text s) old new
 RunEnds s old new status.Running = (s.outcome ≡ Running) × IsPut (run_text s) old new

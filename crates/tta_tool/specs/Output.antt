@@ -1,7 +1,7 @@
 -- The output before and after a command.
 use Rattle.std.specs.Prelude.{◌≡◌, ℕ, List, Option}
 
--- the bytes that the output has taken, where it tells them, and how often a put has failed
+-- the bytes that the output has taken, where it reports them, and how often a put has failed
 pub record Output : Type 0 where
   pub taken : Option (List ℕ)
   pub faults : ℕ
@@ -10,7 +10,7 @@ pub record Output : Type 0 where
 abbrev pub output : Option (List ℕ) → ℕ → Output
 output taken faults = record { taken = taken; faults = faults }
 
--- nothing was put out, and no put has failed
+-- nothing was output, and no put has failed
 pub record IsQuiet (before after : Output) : Type 0 where
   pub taken : after.taken ≡ before.taken
   pub faults : after.faults ≡ before.faults

@@ -33,13 +33,13 @@ outcome_line Halted = line.Halted
 outcome_line Waiting = line.Waiting
 outcome_line (Fault number cycle) = line.Fault number cycle
 
--- the outcome that an answer tells
+-- the outcome that an answer reports
 abbrev pub end_told : CodeEnd → Outcome
 end_told end.Waiting = Waiting
 end_told (end.Other ending) = ending_told ending
 
--- all that is printed of a run that has come to a state: the words put out, the outcome, the data words that are not 0, and
--- the number of cycles
+-- all that is printed of a run that has come to a state: the words that were output, the outcome, the data words that are
+-- not 0, and the number of cycles
 abbrev pub run_text : State → List ℕ
 run_text s = lines_text (word_lines s.output) ++ lines_text (report_lines (outcome_line s.outcome) s.memory (line.Cycles s.cycle))
 
@@ -75,7 +75,7 @@ pub record IsExecuted (u : Units) (M IMG IN : List ℕ) (STREAM : Option (List �
   pub put : IsPut (run_text (state_at run bound)) old new
   pub untouched : IsUntouched before after
 
--- a put has failed: the front of the text was put
+-- a put has failed: a prefix of the text was put
 pub record IsCutShort (u : Units) (M IMG IN : List ℕ) (STREAM : Option (List ℕ)) (bound : ℕ) (before after : World) (old new : Output) : Type 0 where
   pub run : HasRun u before.contents M IMG IN STREAM
   pub cut : IsCut (run_text (state_at run bound)) old new
@@ -110,9 +110,9 @@ BeginFails u M IMG IN STREAM before after (status.TooLong word) =
 BeginFails u M IMG IN STREAM before after status.NoMemory = IsUntouched before after
 BeginFails u M IMG IN STREAM before after s = ⊥
 
--- How `run M IMG IN N` and `run M IMG IN N STREAM` end. Each ending but want of memory has its cause, and the causes exclude
+-- How `run M IMG IN N` and `run M IMG IN N STREAM` end. Each ending but out of memory has its cause, and the causes exclude
 -- each other: so each comes exactly where its cause holds, as far as memory, files and output do not fail. Nothing is put
--- but at the end of a run: all of its text, or the front of it where a put has failed.
+-- but at the end of a run: all of its text, or a prefix of it where a put has failed.
 abbrev pub Runs : Units → (M IMG IN : List ℕ) → (STREAM : Option (List ℕ)) → (bound : ℕ) → (before after : World) → (old new : Output) → Status → Type 0
 Runs u M IMG IN STREAM bound before after old new status.Ok = IsExecuted u M IMG IN STREAM bound before after old new Halted
 Runs u M IMG IN STREAM bound before after old new status.Running = IsExecuted u M IMG IN STREAM bound before after old new Running
@@ -140,7 +140,7 @@ BeginWithEnds u m text IMG IN STREAM before after whole memory words (Ok v) =
 BeginWithEnds u m text IMG IN STREAM before after whole memory words (Err s) =
     (M : List ℕ) (has : HasMachine u before.contents M) → has.machine ≡ m → has.text ≡ text → BeginFails u M IMG IN STREAM before after s
 
--- a run has come to a state, and its text was put, or the front of it
+-- a run has come to a state, and its text was put, or a prefix of it
 abbrev pub RunEnds : State → (old new : Output) → Status → Type 0
 RunEnds s old new status.Ok = (s.outcome ≡ Halted) × IsPut (run_text s) old new
 RunEnds s old new status.Running = (s.outcome ≡ Running) × IsPut (run_text s) old new

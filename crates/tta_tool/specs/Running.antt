@@ -12,7 +12,7 @@ pub record IsPut (text : List ℕ) (old new : Output) : Type 0 where
   pub taken : new.taken ≡ append_known old.taken text
   pub faults : new.faults ≡ old.faults
 
--- a put has failed: the front of a text was put
+-- a put has failed: a prefix of a text was put
 pub record IsCut (text : List ℕ) (old new : Output) : Type 0 where
   pub count : ℕ
   pub taken : new.taken ≡ append_known old.taken (take count text)

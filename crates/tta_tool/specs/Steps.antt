@@ -1,4 +1,4 @@
--- What a step of a run puts out, and how it leaves a run that is fed with an input.
+-- What a step of a run outputs, and how it leaves a run that is fed with an input.
 use Rattle.std.specs.Prelude.{◌≡◌, ℕ, Bool, true, false, List, length, drop}
 use Rattle.tta_ops.specs.Units.{Units}
 use Rattle.tta_program.specs.Program.{Program}
@@ -8,7 +8,7 @@ use Rattle.tta_tacrun.specs.Run.{Run, Stands}
 use Rattle.tta_tool.specs.declared.steps.Went.{Went}
 use Rattle.tta_tool.specs.declared.steps.Went.TheVariants.{On, Over, Waits}
 
--- the words that the step from a state puts out: what the output gains
+-- the words that the step from a state outputs: what the output gains
 abbrev pub words_put : {S : Type 0} → (output : S → List ℕ) → (next : S → S) → S → List ℕ
 words_put output next s = drop (length (output s)) (output (next s))
 

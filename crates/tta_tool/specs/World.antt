@@ -6,7 +6,7 @@ use Rattle.tta_ports.specs.Store.{Store}
 use Rattle.tta_ports.specs.Faults.{Rose}
 use Rattle.tta_ports.specs.Files.{HoldsMore}
 
--- what files hold where they tell it, how often they failed, and the latest fault
+-- what files hold where they report it, how often they failed, and the latest fault
 pub record World : Type 0 where
   pub contents : Option Store
   pub faults : ℕ

@@ -18,7 +18,7 @@ pub record IsWritten (Result : List ℕ → Type 0) (OUT : List ℕ) (before aft
   pub faults : after.faults ≡ before.faults
   pub latest : after.latest ≡ before.latest
 
--- the write of OUT has failed: OUT holds the front of a result or is as it was, and so is every other file
+-- the write of OUT has failed: OUT holds a prefix of a result or is as it was, and so is every other file
 pub record WriteFailed (Result : List ℕ → Type 0) (OUT : List ℕ) (before after : World) : Type 0 where
   pub bytes : List ℕ
   pub result : Result bytes

@@ -53,7 +53,7 @@ fn run_writing<F: Files, S: Sink>(
     Status::Usage
 }
 
-// Carries out the command of this name with a bound, behind which the file of an input may be
+// Carries out the command of this name with a bound, after which the file of an input may be
 // named.
 fn run_bounded<F: Files, S: Sink>(
     alloc: Global,
@@ -166,16 +166,16 @@ fn run_running<F: Files, S: Sink>(
 ///
 /// `build M P OUT` compiles the program of the file P for the machine of the file M and makes OUT
 /// hold the image. Where it is refused, every file is as it was, but after a fault of the write OUT
-/// may hold the front of an image. It puts nothing out.
+/// may hold a prefix of an image. It outputs nothing.
 ///
 /// `asm M A OUT` reads the assembly of the file A for the machine of the file M and makes OUT hold
 /// the image of its code. `dis M IMG OUT` makes OUT hold the canonical assembly of the image in the
 /// file IMG. Both are otherwise as `build`.
 ///
 /// `exec M P IN N` runs the program of the file P for at most N steps, from the words of the file
-/// IN in the data space of the machine of the file M. It puts out each word as it comes, then how
+/// IN in the data space of the machine of the file M. It outputs each word as it comes, then how
 /// the run ended, the data words that are not 0 and the number of steps. Where it is refused, it
-/// puts nothing out. It changes no file.
+/// outputs nothing. It changes no file.
 ///
 /// `run M IMG IN N` runs the code of the image in the file IMG on the machine of the file M for at
 /// most N cycles, and is otherwise as `exec`, with the number of cycles in place of that of steps.

@@ -38,7 +38,7 @@ fn end_of(sim: &Sim, waits: bool) -> CodeEnd
     }
 }
 
-// The line that tells how a run ended.
+// The line that reports how a run ended.
 fn line_of(end: &CodeEnd) -> Line
     ensures { result ≡ outcome_line (end_told end.now) }
 {
@@ -53,7 +53,7 @@ fn line_of(end: &CodeEnd) -> Line
     }
 }
 
-// Runs code for at most so many cycles and puts out its text: each word as it comes, and then how
+// Runs code for at most so many cycles and outputs its text: each word as it comes, and then how
 // the run ended, which it also answers, the data words and the number of cycles. It takes no
 // memory.
 //
@@ -85,7 +85,7 @@ fn run<S: Sink>(
     Ok(end)
 }
 
-/// Runs code for at most so many cycles and puts out its text, and tells how the command ends. It
+/// Runs code for at most so many cycles and outputs its text, and answers how the command ends. It
 /// takes no memory.
 pub fn code_to_status<S: Sink>(
     sink: &mut S,

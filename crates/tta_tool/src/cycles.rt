@@ -1,4 +1,4 @@
-//! The cycles of a run, whose words are put out as they come.
+//! The cycles of a run, whose words are output as they come.
 
 ghost use Rattle.std.specs.Prelude.{◌≡◌, ◌+◌, ◌<◌, ◌≤◌, ◌^◌, [], is_err, IfOk};
 ghost use Rattle.tta_list.specs.Iterate.{iterate};

@@ -89,7 +89,7 @@ fn begin<F: Files>(
     }
 }
 
-// Runs a program from data words, with an input, and puts out its text.
+// Runs a program from data words, with an input, and outputs its text.
 fn run_program<S: Sink>(
     alloc: Global,
     units: &UnitSet,
@@ -120,7 +120,7 @@ fn run_program<S: Sink>(
     }
 }
 
-// Runs what a run begins with, and puts out its text.
+// Runs what a run begins with, and outputs its text.
 fn carry_out<S: Sink>(
     alloc: Global,
     units: &UnitSet,
@@ -155,7 +155,7 @@ fn carry_out<S: Sink>(
 
 /// Runs the program of the file `program` for at most so many steps, from the data words of the
 /// file `input` for the data space of the machine of the file `machine` and with the words of the
-/// file `stream`, where it is named, as the input, and puts out its text.
+/// file `stream`, where it is named, as the input, and outputs its text.
 pub fn exec_program<F: Files, S: Sink>(
     alloc: Global,
     units: &UnitSet,

@@ -40,7 +40,7 @@ fn ended_of(seq: &Seq, waits: bool) -> Ended
     }
 }
 
-// The line that tells how a run ended.
+// The line that reports how a run ended.
 fn line_of(ended: Ended) -> Line
     ensures { result ≡ outcome_line (ended_as ended) }
 {
@@ -51,7 +51,7 @@ fn line_of(ended: Ended) -> Line
     }
 }
 
-// Runs a program for at most so many steps and puts out its text: each word as it comes, and then
+// Runs a program for at most so many steps and outputs its text: each word as it comes, and then
 // how the run ended, which it also answers, the data words and the number of steps. It takes no
 // memory.
 //
@@ -82,7 +82,7 @@ fn run<S: Sink>(
     Ok(ended)
 }
 
-/// Runs a program for at most so many steps and puts out its text, and tells how the command ends.
+/// Runs a program for at most so many steps and outputs its text, and answers how the command ends.
 /// It takes no memory.
 pub fn run_to_status<S: Sink>(
     sink: &mut S,

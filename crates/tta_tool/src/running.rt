@@ -91,7 +91,7 @@ pub fn load_laid(
     Sim::load(alloc, machine, &whole.code, laid)
 }
 
-// Runs code from data words, with its data laid over them and with an input, and puts out its text.
+// Runs code from data words, with its data laid over them and with an input, and outputs its text.
 fn run_code<S: Sink>(
     alloc: Global,
     units: &UnitSet,
@@ -124,7 +124,7 @@ fn run_code<S: Sink>(
     }
 }
 
-// Runs what a run begins with, and puts out its text.
+// Runs what a run begins with, and outputs its text.
 fn carry_out<S: Sink>(
     alloc: Global,
     units: &UnitSet,
@@ -190,7 +190,7 @@ fn run_file<F: Files, S: Sink>(
 
 /// Runs the image of the file `image` on the machine of the file `machine` for at most so many
 /// cycles, from the data words of the file `input` and with the words of the file `stream`, where
-/// it is named, as the input, and puts out its text.
+/// it is named, as the input, and outputs its text.
 pub fn run_image<F: Files, S: Sink>(
     alloc: Global,
     units: &UnitSet,

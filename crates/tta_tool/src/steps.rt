@@ -1,4 +1,4 @@
-//! The steps of a run, whose words are put out as they come.
+//! The steps of a run, whose words are output as they come.
 
 ghost use Rattle.std.specs.Prelude.{◌≡◌, ◌+◌, ◌<◌, ◌≤◌, ◌^◌, [], length, is_err, slice_get, IfOk};
 ghost use Rattle.std.specs.Prelude.{option_to_list};
