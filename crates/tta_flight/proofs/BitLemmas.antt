@@ -1,0 +1,91 @@
+-- Sets of units, as words of bits.
+use Rattle.std.proofs.Common.{◌≡◌, ◌<◌, ◌≤◌, ◌/◌, ◌%◌, ◌*◌, ◌-◌, ◌^◌, ℕ, zero, suc, Bool, false, List, length, get_or, set, refl, sym, ap, ◌∙◌, inl, inr, arith, min, max, w64}
+use Rattle.std.specs.Prelude.{◌==◌, ◌||◌, ◌&&◌, not, bit_and, bit_or}
+use Rattle.std.specs.Int.{bit_at, trailing_zeros}
+use Rattle.std.proofs.lemmas.Bool.{cases_eq, eq-eqb, ne_eqb}
+use Rattle.std.proofs.lemmas.Nat.Bits.{bit_at_and, bit_at_or, bit_at_not, bit_at-lt, bit_at-pow_same, bit_at-pow_other, bit_at_mask_inside, ones_shl, bit_at-trailing_zeros}
+use Rattle.std.proofs.Common.{get_or-set_same, get_or-set_other}
+use Rattle.std.proofs.Math.Bool.{or-false, and-true}
+
+-- ---- one word
+
+min_one : (x : ℕ) → x < 2 → min x 1 ≡ x
+min_one zero small = refl
+min_one (suc zero) small = refl
+min_one (suc (suc x)) small = absurd (omega arith)
+
+-- the bits from one on stay
+pub bits_stay : (word bit i : ℕ) → bit < 64 → bit ≤ i → i < 64
+    → bit_at (bit_and word (18446744073709551615 * 2 ^ bit % 18446744073709551616)) i ≡ bit_at word i
+bits_stay word bit i small from below =
+    ap (λ (n : ℕ). bit_at (bit_and word n) i) (ones_shl 64 bit (omega (arith, small))) ∙ bit_at_and word (2 ^ 64 - 2 ^ bit) i
+    ∙ ap (min (bit_at word i)) (bit_at_mask_inside bit 64 i from below) ∙ min_one (bit_at word i) (bit_at-lt word i)
+
+-- no bit stands before the least
+pub least_first : (word i : ℕ) → 0 < word → word < 2 ^ 64 → i < trailing_zeros w64 word → bit_at word i ≡ 0
+least_first word i some small below = (bit_at-trailing_zeros w64 word some small).2 i below
+
+either_bit : (x y : ℕ) → x < 2 → y < 2 → (max x y == 1) ≡ (x == 1 || y == 1)
+either_bit zero zero hx hy = refl
+either_bit zero (suc zero) hx hy = refl
+either_bit (suc zero) zero hx hy = refl
+either_bit (suc zero) (suc zero) hx hy = refl
+either_bit (suc (suc x)) y hx hy = absurd (omega arith)
+either_bit x (suc (suc y)) hx hy = absurd (omega arith)
+
+both_bits : (x y : ℕ) → x < 2 → y < 2 → (min x (1 - y) == 1) ≡ (x == 1 && not (y == 1))
+both_bits zero zero hx hy = refl
+both_bits zero (suc zero) hx hy = refl
+both_bits (suc zero) zero hx hy = refl
+both_bits (suc zero) (suc zero) hx hy = refl
+both_bits (suc (suc x)) y hx hy = absurd (omega arith)
+both_bits x (suc (suc y)) hx hy = absurd (omega arith)
+
+-- ---- words in a row
+
+-- the bit of a word among others
+abbrev pub bit_in : List ℕ → ℕ → Bool
+bit_in words k = bit_at (get_or words (k / 64) 0) (k % 64) == 1
+
+-- whether a bit of a word is this one, where the word is that of this one
+same_bit : (bit k : ℕ) → k / 64 ≡ bit / 64 → (bit_at (2 ^ (bit % 64)) (k % 64) == 1) ≡ (bit == k)
+same_bit bit k e = elim (cases_eq (k % 64) (bit % 64)) [
+  | inl same ↦
+      let alike : bit ≡ k = omega (arith, e, same) in
+      ap (λ n. bit_at (2 ^ (bit % 64)) n == 1) same ∙ ap (λ n. n == 1) (bit_at-pow_same (bit % 64)) ∙ sym (eq-eqb bit k alike)
+  | inr differ ↦
+      ap (λ n. n == 1) (bit_at-pow_other (bit % 64) (k % 64) differ) ∙ sym (ne_eqb bit k (λ s. differ (ap (λ n. n % 64) (sym s))))
+]
+
+module _ (words : List ℕ) (bit k one : ℕ) (below : bit / 64 < length words) (single : one ≡ 2 ^ (bit % 64)) where
+  -- a bit is read from the word that is replaced, or is as before
+  replaced : (word : ℕ) (test : Bool) → (k / 64 ≡ bit / 64 → (bit_at word (k % 64) == 1) ≡ test) → ((bit == k) ≡ false → bit_in words k ≡ test)
+      → bit_in (set words (bit / 64) word) k ≡ test
+  replaced word test here there = elim (cases_eq (k / 64) (bit / 64)) [
+    | inl e ↦
+        ap (λ n. bit_at n (k % 64) == 1) (ap (λ i. get_or (set words (bit / 64) word) i 0) e ∙ get_or-set_same words (bit / 64) word 0 below) ∙ here e
+    | inr other ↦
+        ap (λ n. bit_at n (k % 64) == 1) (get_or-set_other words (bit / 64) (k / 64) word 0 other)
+        ∙ there (ne_eqb bit k (λ e. other (ap (λ n. n / 64) (sym e))))
+  ]
+
+  had : k / 64 ≡ bit / 64 → (bit_at (get_or words (bit / 64) 0) (k % 64) == 1) ≡ bit_in words k
+  had e = ap (λ i. bit_at (get_or words i 0) (k % 64) == 1) (sym e)
+
+  is_one : k / 64 ≡ bit / 64 → (bit_at one (k % 64) == 1) ≡ (bit == k)
+  is_one e = ap (λ n. bit_at n (k % 64) == 1) single ∙ same_bit bit k e
+
+  pub set_bit : bit_in (set words (bit / 64) (bit_or (get_or words (bit / 64) 0) one)) k ≡ (bit_in words k || bit == k)
+  set_bit = replaced (bit_or (get_or words (bit / 64) 0) one) (bit_in words k || bit == k)
+      (λ e. ap (λ n. n == 1) (bit_at_or (get_or words (bit / 64) 0) one (k % 64))
+      ∙ either_bit (bit_at (get_or words (bit / 64) 0) (k % 64)) (bit_at one (k % 64)) (bit_at-lt (get_or words (bit / 64) 0) (k % 64)) (bit_at-lt one (k % 64))
+      ∙ ap (λ b. b || bit_at one (k % 64) == 1) (had e) ∙ ap (λ b. bit_in words k || b) (is_one e))
+      (λ other. sym (ap (λ b. bit_in words k || b) other ∙ or-false (bit_in words k)))
+
+  pub unset_bit : one < 2 ^ 64 → bit_in (set words (bit / 64) (bit_and (get_or words (bit / 64) 0) (18446744073709551615 - one))) k ≡ (bit_in words k && not (bit == k))
+  unset_bit small = replaced (bit_and (get_or words (bit / 64) 0) (18446744073709551615 - one)) (bit_in words k && not (bit == k))
+      (λ e. ap (λ n. n == 1) (bit_at_and (get_or words (bit / 64) 0) (18446744073709551615 - one) (k % 64))
+      ∙ ap (λ n. min (bit_at (get_or words (bit / 64) 0) (k % 64)) n == 1) (bit_at_not w64 one (k % 64) small (omega arith))
+      ∙ both_bits (bit_at (get_or words (bit / 64) 0) (k % 64)) (bit_at one (k % 64)) (bit_at-lt (get_or words (bit / 64) 0) (k % 64)) (bit_at-lt one (k % 64))
+      ∙ ap (λ b. b && not (bit_at one (k % 64) == 1)) (had e) ∙ ap (λ b. bit_in words k && not b) (is_one e))
+      (λ other. sym (ap (λ b. bit_in words k && not b) other ∙ and-true (bit_in words k)))

@@ -1,0 +1,12 @@
+pub mod BitLemmas
+pub mod Carved
+pub mod Cells
+pub mod Among
+pub mod Coming
+pub mod Begun
+pub mod Turned
+pub mod Advanced
+pub mod First
+pub mod Standing
+pub mod Parts
+pub mod Rows

@@ -1,0 +1,3 @@
+pub mod Flight
+pub mod Rings
+pub mod Moving

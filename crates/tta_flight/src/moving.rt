@@ -1,0 +1,92 @@
+//! A set of units.
+
+ghost use Rattle.std.specs.Prelude.{◌≡◌, ◌≢◌, ◌<◌, ◌≤◌, ◌^◌, ◌==◌, ◌||◌, ◌&&◌, ℕ, not, false};
+ghost use Rattle.std.specs.Int.{bit_at};
+ghost use Rattle.tta_flight.specs.Moving.{has};
+
+/// A set of units below 256: bit k of word w stands for unit `64 * w + k`.
+#[derive(Clone, Copy)]
+pub struct Moving {
+    words: [u64; 4],
+}
+
+impl Moving {
+    /// The set of no units.
+    pub fn none() -> Moving
+        ensures { (unit : ℕ) → has result unit ≡ false }
+    {
+        Moving { words: [0; 4] }
+    }
+
+    /// Adds a unit.
+    pub fn add(&mut self, unit: usize)
+        requires { unit < 256 }
+        ensures { (k : ℕ) → has self.new k ≡ (has self.old k || unit == k) }
+    {
+        self.words[unit / 64] |= one_bit(unit % 64);
+    }
+
+    /// Takes a unit out.
+    fn remove(&mut self, unit: usize)
+        requires { unit < 256 }
+        ensures { (k : ℕ) → has self.new k ≡ (has self.old k && not (unit == k)) }
+    {
+        self.words[unit / 64] &= !one_bit(unit % 64);
+    }
+
+    /// Takes a unit out after a turn of its ring, if this needs no turn more.
+    pub fn turn(&mut self, unit: usize, turns: u16)
+        requires { unit < 256 }
+        ensures others { (k : ℕ) → k ≢ unit → has self.new k ≡ has self.old k }
+        ensures here { 0 < turns → has self.new unit ≡ has self.old unit }
+        ensures none { turns ≡ 0 → has self.new unit ≡ false }
+    {
+        if turns == 0 {
+            self.remove(unit);
+        }
+    }
+
+    /// The least unit of the set from one on and before an end, or else the end.
+    pub fn next(&self, from: usize, end: usize) -> usize
+        requires order { from ≤ end }
+        requires few { end ≤ 256 }
+        ensures after { from ≤ result }
+        ensures within { result ≤ end }
+        ensures none { (k : ℕ) → from ≤ k → k < result → has self.now k ≡ false }
+    {
+        let mut at = from;
+        'words: while at < end {
+            let word = bits_from(self.words[at / 64], at % 64);
+            if word != 0 {
+                return end.min(at.max(at / 64 * 64 + least_bit(word)));
+            }
+            at = (at / 64 + 1) * 64;
+        }
+        end
+    }
+}
+
+/// The word of one bit.
+fn one_bit(bit: usize) -> u64
+    requires { bit < 64 }
+    ensures { result ≡ 2 ^ bit }
+{
+    1 << bit
+}
+
+/// A word without the bits below one.
+fn bits_from(word: u64, bit: usize) -> u64
+    requires { bit < 64 }
+    ensures { (i : ℕ) → bit ≤ i → i < 64 → bit_at result i ≡ bit_at word i }
+{
+    word & (u64::MAX << bit)
+}
+
+/// The least bit of a word that has one.
+fn least_bit(word: u64) -> usize
+    requires { 0 < word }
+    ensures few { result < 64 }
+    ensures none { (i : ℕ) → i < result → bit_at word i ≡ 0 }
+{
+    word.trailing_zeros() as usize
+}

@@ -1,0 +1,211 @@
+//! A region of rings.
+
+ghost use Rattle.std.specs.Prelude.{◌≡◌, ◌<◌, ◌≤◌, ◌+◌, ◌^◌, ℕ, [], length, None, is_some, IfOk};
+ghost use Rattle.std.specs.Prelude.{slice_index_or};
+ghost use Rattle.tta_flight.specs.Flight.{Flight, started, advanced, port_of, due_of, StandsFor};
+ghost use Rattle.tta_flight.specs.Flight.{StartsAmong, AdvancesAll, StayBeside};
+ghost use Rattle.tta_flight.specs.Rings.{IsStarted, IsAdvanced, AreEmpty, ring_of};
+ghost use Rattle.tta_flight.specs.Rings.{longest_of, due_in, shown_in, place_of};
+
+use crate::moving::Moving;
+use crate::ring::{Ring, carve, empty, size};
+use std::alloc::{AllocError, Global};
+use std::marker::Model;
+
+/// The results of units: those that show, and those that are still to come.
+///
+/// Each unit has a ring of cells, one for each delay. No time is kept: a cycle turns the rings that
+/// have a result.
+#[derive(Drop)]
+pub struct Region {
+    rings: Vec<Ring>,
+    /// The cells of all rings.
+    cells: Vec<Option<u32>>,
+    /// The units whose rings have a result, and so have to turn.
+    moving: Moving,
+}
+
+impl Model for Region {
+    ghost use Rattle.tta_flight.specs.Rings.{Rings, IsRegion, rings_of};
+
+    ghost Value = { Rings };
+
+    ghost view = { λ r. rings_of r.rings.items r.cells.items r.moving };
+
+    ghost invariant = { λ r. IsRegion (rings_of r.rings.items r.cells.items r.moving) };
+}
+
+impl Region {
+    /// The region of so many units, where these are their longest delays: nothing was started.
+    ///
+    /// It takes all the memory that the later calls need.
+    pub fn new(alloc: Global, longest: &[u8]) -> Result<Self, AllocError>
+        requires { length longest.now ≤ 256 }
+        ensures units { IfOk result (λ r. length r.rings ≡ length longest.now) }
+        ensures longest { IfOk result (λ r. (unit : ℕ)
+            → longest_of r unit ≡ slice_index_or longest.now unit 0) }
+        ensures none { IfOk result (λ r. (moment : ℕ → ℕ)
+            → StandsFor (record { started = []; moment = moment }) r) }
+    {
+        let rings = carve(alloc, longest)?;
+        let Ok(cells) = empty(alloc, size(longest)) else {
+            drop(rings);
+            return Err(AllocError);
+        };
+        Ok(Region {
+            rings,
+            cells,
+            moving: Moving::none(),
+        })
+    }
+
+    /// How many units there are.
+    fn units(&self) -> usize
+        ensures { result ≡ length self.now.rings }
+    {
+        self.rings.len()
+    }
+
+    /// The ring of a unit.
+    fn ring(&self, unit: usize) -> Ring
+        requires { unit < length self.now.rings }
+        ensures ring { result ≡ ring_of self.now unit }
+        ensures at { result.at ≤ result.longest }
+        ensures within { result.first + result.longest < length self.now.cells }
+        ensures few { result.first + result.longest < 65536 }
+    {
+        self.rings[unit]
+    }
+
+    /// The cell of what is due of a unit in so many cycles.
+    fn place(&self, unit: u8, delay: u8) -> usize
+        requires unit { unit < length self.now.rings }
+        requires soon { delay ≤ longest_of self.now unit }
+        ensures place { result ≡ place_of (ring_of self.now unit) delay }
+        ensures there { result < length self.now.cells }
+    {
+        self.ring(usize::from(unit)).place(delay)
+    }
+
+    /// What is due of a unit in so many cycles. Nothing is due later than after its longest delay.
+    fn coming(&self, unit: u8, delay: u8) -> Option<u32>
+        requires { unit < length self.now.rings }
+        ensures { result ≡ due_in self.now unit delay }
+    {
+        let ring = self.ring(usize::from(unit));
+        if delay > ring.longest {
+            return None;
+        }
+        self.cells[ring.place(delay)]
+    }
+
+    /// Whether a result of the unit is due in so many cycles.
+    pub fn clash(&self, unit: u8, delay: u8) -> bool
+        requires { unit < length self.now.rings }
+        ensures held { result ≡ is_some (due_in self.now unit delay) }
+        ensures clash { (f : Flight) → StandsFor f self.now
+            → result ≡ is_some (due_of f unit delay) }
+    {
+        self.due(unit, delay).is_some()
+    }
+
+    /// Adds a result that is due in so many cycles. Every other unit and every other due stays.
+    pub fn start(&mut self, unit: u8, delay: u8, value: u32)
+        requires unit { unit < length self.old.rings }
+        requires later { 0 < delay }
+        requires soon { delay ≤ longest_of self.old unit }
+        requires free { due_in self.old unit delay ≡ None }
+        ensures held { IsStarted unit delay value self.old self.new }
+        ensures same { (f : Flight) → StandsFor f self.old
+            → StandsFor (started unit delay value f) self.new }
+        ensures part { StartsAmong unit delay value self.old self.new }
+    {
+        let cell = self.place(unit, delay);
+        let at = usize::from(unit);
+        let ring = self.ring(at);
+        self.cells[cell] = Some(value);
+        self.rings[at].follow(ring.expecting(delay));
+        self.moving.add(at);
+    }
+
+    /// Goes to a unit's next cycle.
+    fn step(&mut self, unit: usize)
+        requires { unit < length self.old.rings }
+        ensures { IsAdvanced unit 1 self.old self.new }
+    {
+        let ring = self.ring(unit);
+        let now = ring.place(0);
+        let turned = ring.turned();
+        let next = turned.place(0);
+        self.cells[now] = None;
+        let due = self.cells[next];
+        self.rings[unit].follow(turned.showing(due));
+        self.moving.turn(unit, turned.turns);
+    }
+
+    /// The first unit from one on and before an end whose ring has to turn, or else the end.
+    fn next_moving(&self, from: usize, end: usize) -> usize
+        requires order { from ≤ end }
+        requires there { end ≤ length self.now.rings }
+        ensures after { from ≤ result }
+        ensures within { result ≤ end }
+        ensures none { AreEmpty from result self.now }
+    {
+        self.moving.next(from, end)
+    }
+
+    /// Goes to the next cycle of so many units from one on. Where nothing is coming, it looks at no
+    /// ring.
+    fn steps(&mut self, base: usize, count: usize)
+        requires there { base + count ≤ length self.old.rings }
+        requires few { base + count < 2 ^ 64 }
+        ensures { IsAdvanced base count self.old self.new }
+    {
+        let end = base + count;
+        let mut at = self.next_moving(base, end);
+        'units: while at < end {
+            self.step(at);
+            at = self.next_moving(at + 1, end);
+        }
+    }
+
+    /// Goes to the next cycle.
+    pub fn advance(&mut self)
+        ensures held { IsAdvanced 0 (length self.old.rings) self.old self.new }
+        ensures same { (f : Flight) → StandsFor f self.old
+            → StandsFor (advanced 0 (length self.old.rings) f) self.new }
+    {
+        let count = self.units();
+        self.steps(0, count);
+    }
+
+    /// Goes to the next cycle of so many units from one on. Every other unit stays.
+    pub fn advance_units(&mut self, base: u8, count: u8)
+        requires { base + count ≤ length self.old.rings }
+        ensures held { IsAdvanced base count self.old self.new }
+        ensures same { (f : Flight) → StandsFor f self.old
+            → StandsFor (advanced base count f) self.new }
+        ensures part { AdvancesAll base count self.old self.new }
+        ensures beside { StayBeside base count self.old self.new }
+    {
+        self.steps(usize::from(base), usize::from(count));
+    }
+
+    /// The word on a unit's result port, `None` where no result was due yet.
+    pub fn port(&self, unit: u8) -> Option<u32>
+        requires { unit < length self.now.rings }
+        ensures held { result ≡ shown_in self.now unit }
+        ensures port { (f : Flight) → StandsFor f self.now → result ≡ port_of f unit }
+    {
+        self.rings[usize::from(unit)].shown
+    }
+
+    /// The result of a unit that is due in so many cycles, `None` where none is.
+    pub fn due(&self, unit: u8, delay: u8) -> Option<u32>
+        requires { unit < length self.now.rings }
+        ensures held { result ≡ due_in self.now unit delay }
+        ensures due { (f : Flight) → StandsFor f self.now → result ≡ due_of f unit delay }
+    {
+        self.coming(unit, delay)
+    }
+}

@@ -1,0 +1,147 @@
+//! The ring of one unit.
+
+ghost use Rattle.std.specs.Prelude.{◌≡◌, ◌<◌, ◌≤◌, ◌+◌, length, max, replicate};
+ghost use Rattle.std.specs.Prelude.{None, IfOk};
+ghost use Rattle.std.specs.Option.{option_or};
+ghost use Rattle.tta_flight.specs.Rings.{place_of, turned, rings_from, size_of};
+
+use std::alloc::{AllocError, Global};
+
+/// Where a unit's results are: a cell for each delay, from no cycle to its longest.
+#[derive(Clone, Copy)]
+pub struct Ring {
+    /// The first of its cells.
+    pub first: usize,
+    /// The longest delay.
+    pub longest: u8,
+    /// How far after the first cell that of this cycle is.
+    pub at: u8,
+    /// After so many turns each of its cells is empty, if nothing is started.
+    pub turns: u16,
+    /// What the unit's port shows.
+    pub shown: Option<u32>,
+}
+
+impl Ring {
+    /// The cell of what is due in so many cycles.
+    pub fn place(self, delay: u8) -> usize
+        requires soon { delay ≤ self.longest }
+        requires at { self.at ≤ self.longest }
+        requires few { self.first + self.longest < 65536 }
+        ensures { result ≡ place_of self delay }
+    {
+        let size = usize::from(self.longest) + 1;
+        let along = usize::from(self.at) + usize::from(delay);
+        if along < size {
+            self.first + along
+        } else {
+            self.first + (along - size)
+        }
+    }
+
+    /// The ring in the next cycle.
+    pub fn turned(self) -> Ring
+        requires { self.at ≤ self.longest }
+        ensures ring { result ≡ turned self }
+        ensures at { result.at ≤ result.longest }
+        ensures first { result.first ≡ self.first }
+        ensures longest { result.longest ≡ self.longest }
+    {
+        let at = if self.at == self.longest {
+            0
+        } else {
+            self.at + 1
+        };
+        Ring {
+            first: self.first,
+            longest: self.longest,
+            at,
+            turns: self.turns.saturating_sub(1),
+            shown: self.shown,
+        }
+    }
+
+    /// The ring where this is due now, if anything is.
+    pub fn showing(self, due: Option<u32>) -> Ring
+        ensures { result ≡ record self { shown = option_or due self.shown } }
+    {
+        let shown = match due {
+            Some(value) => Some(value),
+            None => self.shown,
+        };
+        Ring {
+            first: self.first,
+            longest: self.longest,
+            at: self.at,
+            turns: self.turns,
+            shown,
+        }
+    }
+
+    /// Takes over all that can change of a ring, of which the cells are the same. It is written field by
+    /// field, so that the fields can be read again at once.
+    pub fn follow(&mut self, next: Ring)
+        requires first { next.first ≡ self.old.first }
+        requires longest { next.longest ≡ self.old.longest }
+        ensures { self.new ≡ next }
+    {
+        self.at = next.at;
+        self.turns = next.turns;
+        self.shown = next.shown;
+    }
+
+    /// The ring where a result is due in so many cycles.
+    pub fn expecting(self, delay: u8) -> Ring
+        ensures { result ≡ record self { turns = max self.turns (delay + 1) } }
+    {
+        Ring {
+            first: self.first,
+            longest: self.longest,
+            at: self.at,
+            turns: self.turns.max(u16::from(delay) + 1),
+            shown: self.shown,
+        }
+    }
+}
+
+/// One ring for each unit, one after another.
+pub fn carve(alloc: Global, longest: &[u8]) -> Result<Vec<Ring>, AllocError>
+    requires { length longest.now ≤ 256 }
+    ensures { IfOk result (λ v. v.items ≡ rings_from 0 longest.now) }
+{
+    let mut rings = Vec::new(alloc);
+    let mut first = 0;
+    for l in longest {
+        let ring = Ring {
+            first,
+            longest: *l,
+            at: 0,
+            turns: 0,
+            shown: None,
+        };
+        rings.push(ring)?;
+        first += usize::from(*l) + 1;
+    }
+    Ok(rings)
+}
+
+/// How many cells the rings have.
+pub fn size(longest: &[u8]) -> usize
+    requires { length longest.now ≤ 256 }
+    ensures size { result ≡ size_of 0 longest.now }
+    ensures few { result ≤ 65536 }
+{
+    let mut cells = 0;
+    for l in longest {
+        cells += usize::from(*l) + 1;
+    }
+    cells
+}
+
+/// So many cells that have no result.
+pub fn empty(alloc: Global, count: usize) -> Result<Vec<Option<u32>>, AllocError>
+    ensures { IfOk result (λ v. v.items ≡ replicate count None) }
+{
+    let cells = vec![in alloc; None; count]?;
+    Ok(cells)
+}
