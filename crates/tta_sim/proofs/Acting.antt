@@ -1,6 +1,6 @@
 -- A cycle of what is held is a cycle of the state that it stands for.
 use Rattle.std.proofs.Common.{◌≡◌, ℕ, ◌<◌, ◌+◌, ◌==◌, true, false, IsTrue, List, ◌++◌, length, map, Option, Some, None, Bool, ◌&&◌, refl, sym, ap, ◌∙◌, subst, arith}
-use Rattle.std.specs.Prelude.{is_some, is_none, option_map, slice_get, slice_index, option_to_list, fold, if◌then◌else◌}
+use Rattle.std.specs.Prelude.{is_some, is_none, option_map, slice_get, option_to_list, fold, if◌then◌else◌}
 use Rattle.std.specs.Option.{unwrap_or}
 use Rattle.std.specs.List.{filter_map, find, list_any, AllByRecursion}
 use Rattle.tta_ops.specs.Units.{Units}
@@ -11,7 +11,6 @@ use Rattle.tta_code.specs.declared.code.Instruction.{Instruction}
 use Rattle.tta_code.specs.Legal.{is_legal}
 use Rattle.tta_code.specs.Cycle.{Result', Pending as Underway, State, Running, Waiting, Fault, read_source, effects_of, fault_of, result_of, pending_after, takes_effect, lands, acts, or_fault, or_wait, waits, carry_out}
 use Rattle.tta_sim.specs.declared.answer.CycleStep.TheVariants.{Ran, Waiting as Waits, Fault as Faults}
-use Rattle.tta_sim.specs.declared.arrivals.Arrival.{Arrival}
 use Rattle.tta_sim.specs.declared.control.Control.{Control}
 use Rattle.tta_sim.specs.declared.control.Pending.{Pending}
 use Rattle.tta_sim.specs.declared.control.Phase.{Phase}
@@ -19,17 +18,17 @@ use Rattle.tta_sim.specs.declared.control.Phase.TheVariants as phase
 use Rattle.tta_sim.specs.declared.decoded.Line.{Line}
 use Rattle.tta_sim.specs.declared.store.Store.{Store}
 use Rattle.tta_sim.specs.Places.{HasWritten, is_place}
-use Rattle.tta_sim.specs.Results.{AreResultsOf}
-use Rattle.tta_sim.specs.Moves.{is_possible_slot, reads_of, arrivals_of, brought_of}
-use Rattle.tta_sim.specs.Starts.{starts_of, is_fitting, operand_with, fault_in, begun, puts, told_in}
+use Rattle.tta_sim.specs.Results.{Results, AreResultsOf, shown_by}
+use Rattle.tta_sim.specs.Moves.{Arrival, is_possible_slot, reads_of, arrivals_of, brought_of}
+use Rattle.tta_sim.specs.Starts.{starts_of, operand_with, fault_in, begun, puts, told_in}
 use Rattle.tta_sim.specs.Writing.{long_writes}
 use Rattle.tta_sim.specs.Controls.{underway, outcome_of, controlled, pending_with}
 use Rattle.tta_list.specs.Input.{IsFed, left}
-use Rattle.tta_sim.specs.Held.{Stands, is_fault}
+use Rattle.tta_sim.specs.Held.{StandsWith, is_fault}
 use Rattle.tta_sim.specs.Kept.{held_of, IsCarried}
 use Rattle.tta_sim.proofs.Possible.{possible}
 use Rattle.tta_sim.proofs.Agreeing.{long_brought, brings_all}
-use Rattle.tta_sim.proofs.Starting.{reachable, outputs_apart, inputs_apart, put_once, all_fitting}
+use Rattle.tta_sim.proofs.Starting.{reachable, outputs_apart, inputs_apart, put_once, all_there}
 use Rattle.tta_sim.proofs.Taking.{take_once, next_word}
 use Rattle.tta_sim.proofs.Wrote.{writes_all, starts_all}
 use Rattle.tta_sim.proofs.Faulting.{fault_same, told_all}
@@ -68,11 +67,11 @@ lands_rest s (Some p) = elim (p.time == s.cycle) as (λ b. (if b then takes_effe
 
 -- ---- a cycle
 
-module _ (u : Units) (m : Machine) (rules : IsMachine m) (i : Instruction) (legal : is_legal m i ≡ true) (lines : List Line) (store : Store) (control : Control) (s : State)
-    (size : length store.results.shown ≡ length m.units) (same : Stands (held_of lines store control) s) where
+module _ (u : Units) (m : Machine) (rules : IsMachine m) (i : Instruction) (legal : is_legal m i ≡ true) (lines : List Line) (store : Store) (r : Results) (control : Control) (s : State)
+    (size : r.units ≡ length m.units) (same : StandsWith r (held_of lines store control) s) where
   -- the word of each source, by what the simulator holds
   abbrev reads : Reads
-  reads = reads_of store.places store.results.shown
+  reads = reads_of store.places (shown_by r)
 
   -- the words that the moves of the instruction bring to their destinations
   abbrev arrivals : List Arrival
@@ -98,7 +97,7 @@ module _ (u : Units) (m : Machine) (rules : IsMachine m) (i : Instruction) (lega
   slots = (possible m rules i legal).slots
 
   brought : bs ≡ map brought_of arrivals ++ long_brought m i.long
-  brought = brings_all store.places store.results s (length m.units) same.places same.results same.cycle size m i slots
+  brought = brings_all store.places r s (length m.units) same.places same.results size m i slots
 
   starting : ts ≡ starts_of m store.places arrivals
   starting =
@@ -110,19 +109,19 @@ module _ (u : Units) (m : Machine) (rules : IsMachine m) (i : Instruction) (lega
       place : (unit : ℕ) → unit < 32 → is_place (KeptOperand unit) ≡ true
       place unit less = grind (arith, less)
 
-  fault_is : fault_in m store.places store.results (is_some control.pending) i.moves ≡ fault_of s (effects_of m i) bs ts
+  fault_is : fault_in m store.places r (is_some control.pending) i.moves ≡ fault_of s (effects_of m i) bs ts
   fault_is =
-      fault_same store.places store.results s m i same.places same.results same.cycle size slots (is_some control.pending)
+      fault_same store.places r s m i same.places same.results size slots (is_some control.pending)
       (is_some_underway control.pending ∙ ap is_some same.pending) bs ts brought starting
-      (subst (λ list. AllByRecursion (λ t. IsTrue (is_fitting (length m.units) t)) list) (sym starting) (all_fitting m rules (operand_with store.places arrivals) arrivals))
+      (subst (λ list. AllByRecursion (λ t. t.unit < r.units) list) (sym starting) (all_there m r.units size (operand_with store.places arrivals) arrivals))
 
   -- a cycle that faults
-  pub carried_fault : (number : ℕ) → fault_in m store.places store.results (is_some control.pending) i.moves ≡ Some number
-      → IsCarried (held_of lines store (record control { phase = phase.Fault number })) s (carry_out u m s (Some i)) (Faults number)
+  pub carried_fault : (number : ℕ) → fault_in m store.places r (is_some control.pending) i.moves ≡ Some number
+      → IsCarried r (held_of lines store (record control { phase = phase.Fault number })) s (carry_out u m s (Some i)) (Faults number)
   carried_fault number faults =
       let next : carry_out u m s (Some i) ≡ record s { outcome = Fault number s.cycle } =
       ap (λ o. or_fault s o (or_wait s (waits s ts) (acts u m s bs ts written))) (sym fault_is ∙ faults) in
-      subst (λ after. IsCarried (held_of lines store (record control { phase = phase.Fault number })) s after (Faults number)) (sym next) (record {
+      subst (λ after. IsCarried r (held_of lines store (record control { phase = phase.Fault number })) s after (Faults number)) (sym next) (record {
         stands = record {
           places = same.places;
           results = same.results;
@@ -137,9 +136,9 @@ module _ (u : Units) (m : Machine) (rules : IsMachine m) (i : Instruction) (lega
       })
 
   -- a cycle that waits
-  pub carried_wait : (none : fault_in m store.places store.results (is_some control.pending) i.moves ≡ None)
+  pub carried_wait : (none : fault_in m store.places r (is_some control.pending) i.moves ≡ None)
       (next : Option ℕ) → IsFed s.rest next → (list_any takes (starts_of m store.places arrivals) && is_none next) ≡ true
-      → IsCarried (held_of lines store control) s (carry_out u m s (Some i)) Waits
+      → IsCarried r (held_of lines store control) s (carry_out u m s (Some i)) Waits
   carried_wait none next fed must =
       let waiting : waits s ts ≡ true = ap (λ xs. list_any takes xs && is_none (slice_get s.rest 0)) starting
       ∙ ap (λ o. list_any takes (starts_of m store.places arrivals) && is_none o) fed ∙ must in
@@ -149,8 +148,8 @@ module _ (u : Units) (m : Machine) (rules : IsMachine m) (i : Instruction) (lega
       record { stands = same; answers = after }
 
   -- a cycle without a fault, which does not wait
-  module _ (none : fault_in m store.places store.results (is_some control.pending) i.moves ≡ None) (running : control.phase ≡ phase.Running)
-      (after : Store) (control' : Control) (arrivals' : List Arrival) (starts' : List Start) (word : Option ℕ) (told : Option (Kind × ℕ))
+  module _ (none : fault_in m store.places r (is_some control.pending) i.moves ≡ None) (running : control.phase ≡ phase.Running)
+      (after : Store) (r' : Results) (control' : Control) (arrivals' : List Arrival) (starts' : List Start) (word : Option ℕ) (told : Option (Kind × ℕ))
       (next : Option ℕ) (took : Bool) (fed : IsFed s.rest next) (took_is : took ≡ list_any takes starts') (goes_on : (took && is_none next) ≡ false)
       (arrivals_are : arrivals' ≡ arrivals) (starts_are : starts' ≡ starts_of m store.places arrivals') where
     starts_ts : starts' ≡ ts
@@ -184,29 +183,29 @@ module _ (u : Units) (m : Machine) (rules : IsMachine m) (i : Instruction) (lega
 
     pub carried : ((ws : Written) → HasWritten store.places ws
         → HasWritten after.places (filter_map (write_of m (control.pc + 1 + m.control.delay)) (map brought_of arrivals') ++ (long_writes m i.long ++ ws)))
-        → ((started : List Result') → AreResultsOf started store.results
-        → AreResultsOf (filter_map (begun u store.results.cycle store.memory.items store.frame.items (unwrap_or next 0)) starts' ++ started) after.results)
-        → after.results.cycle ≡ store.results.cycle + 1
+        → ((started : List Result') → AreResultsOf started store.cycle r
+        → AreResultsOf (filter_map (begun u store.cycle store.memory.items store.frame.items (unwrap_or next 0)) starts' ++ started) (store.cycle + 1) r')
+        → after.cycle ≡ store.cycle + 1
         → after.memory.items ≡ fold store_data store.memory.items starts'
         → after.frame.items ≡ fold store_frame store.frame.items starts'
         → word ≡ option_map (λ t. t.word) (find puts starts')
         → told ≡ told_in arrivals'
-        → ((t : State) → t.cycle ≡ after.results.cycle
-        → let p = pending_with after.results.cycle m.control.delay (option_map underway control.pending) told in
-        controlled t control' ≡ lands (record t { pc = control.pc + 1; pending = p; outcome = outcome_of after.results.cycle control.phase }) p)
-        → IsCarried (held_of lines after control') s (carry_out u m s (Some i)) (Ran word took)
+        → ((t : State) → t.cycle ≡ after.cycle
+        → let p = pending_with after.cycle m.control.delay (option_map underway control.pending) told in
+        controlled t control' ≡ lands (record t { pc = control.pc + 1; pending = p; outcome = outcome_of after.cycle control.phase }) p)
+        → IsCarried r' (held_of lines after control') s (carry_out u m s (Some i)) (Ran word took)
     carried has_written have_results cycle memory frame puts_it tells advances =
-        let now : after.results.cycle ≡ s.cycle + 1 = cycle ∙ ap (λ n. n + 1) same.cycle in
-        let p = pending_with after.results.cycle m.control.delay (option_map underway control.pending) told in
+        let now : after.cycle ≡ s.cycle + 1 = cycle ∙ ap (λ n. n + 1) same.cycle in
+        let p = pending_with after.cycle m.control.delay (option_map underway control.pending) told in
         let tells_all : told ≡ first_some control_of bs =
         tells ∙ ap told_in arrivals_are ∙ sym (told_all m (map brought_of arrivals) i.long) ∙ ap (first_some control_of) (sym brought) in
-        let p_is : p ≡ pending = pending_same m s after.results.cycle (option_map underway control.pending) told (first_some control_of bs) now same.pending tells_all in
+        let p_is : p ≡ pending = pending_same m s after.cycle (option_map underway control.pending) told (first_some control_of bs) now same.pending tells_all in
         let pc : control.pc ≡ s.pc = same.pc in
-        let goes : State = record after_all { pc = control.pc + 1; pending = p; outcome = outcome_of after.results.cycle control.phase } in
+        let goes : State = record after_all { pc = control.pc + 1; pending = p; outcome = outcome_of after.cycle control.phase } in
         let goes_is : goes ≡ after_all =
-        ap {A = ℕ} (λ n. record after_all { pc = n + 1; pending = p; outcome = outcome_of after.results.cycle control.phase }) pc
-        ∙ ap {A = Option Underway} (λ o. record after_all { pending = o; outcome = outcome_of after.results.cycle control.phase }) p_is
-        ∙ ap {A = Phase} (λ f. record after_all { outcome = outcome_of after.results.cycle f }) running in
+        ap {A = ℕ} (λ n. record after_all { pc = n + 1; pending = p; outcome = outcome_of after.cycle control.phase }) pc
+        ∙ ap {A = Option Underway} (λ o. record after_all { pending = o; outcome = outcome_of after.cycle control.phase }) p_is
+        ∙ ap {A = Phase} (λ f. record after_all { outcome = outcome_of after.cycle f }) running in
         let lands_is : lands after_all pending ≡ controlled after_all control' =
         sym (ap (λ o. lands after_all o) p_is) ∙ sym (ap (λ t. lands t p) goes_is) ∙ sym (advances after_all (sym now)) in
         let total : carry_out u m s (Some i) ≡ controlled after_all control' = acted ∙ lands_is in
@@ -214,7 +213,7 @@ module _ (u : Units) (m : Machine) (rules : IsMachine m) (i : Instruction) (lega
         ap (λ n. filter_map (write_of m (n + 1 + m.control.delay)) (map brought_of arrivals') ++ (long_writes m i.long ++ s.written)) pc
         ∙ ap (λ list. filter_map (write_of m back) (map brought_of list) ++ (long_writes m i.long ++ s.written)) arrivals_are
         ∙ sym (writes_all m back (map brought_of arrivals) i.long s.written) ∙ ap (λ b. filter_map (write_of m back) b ++ s.written) (sym brought) in
-        let begins : filter_map (begun u store.results.cycle store.memory.items store.frame.items (unwrap_or next 0)) starts' ≡ filter_map (result_of u s) ts =
+        let begins : filter_map (begun u store.cycle store.memory.items store.frame.items (unwrap_or next 0)) starts' ≡ filter_map (result_of u s) ts =
         ap (λ n. filter_map (begun u n store.memory.items store.frame.items (unwrap_or next 0)) starts') same.cycle
         ∙ ap (λ w. filter_map (begun u s.cycle w store.frame.items (unwrap_or next 0)) starts') same.memory
         ∙ ap (λ w. filter_map (begun u s.cycle s.memory w (unwrap_or next 0)) starts') same.frame
@@ -232,10 +231,12 @@ module _ (u : Units) (m : Machine) (rules : IsMachine m) (i : Instruction) (lega
         ∙ ap (λ b. left b s.rest) (sym took_is) in
         let kept : (controlled after_all control').rest ≡ fold take_in s.rest ts = ap (λ t. t.rest) (sym lands_is) ∙ lands_rest after_all pending in
         let runs : is_fault (controlled after_all control').outcome ≡ false = ap (λ t. is_fault t.outcome) (sym lands_is) ∙ lands_runs after_all pending refl in
-        subst (λ t. IsCarried (held_of lines after control') s t (Ran word took)) (sym total) (record {
+        subst (λ t. IsCarried r' (held_of lines after control') s t (Ran word took)) (sym total) (record {
           stands = record {
             places = subst (HasWritten after.places) writes (has_written s.written same.places);
-            results = subst (λ list. AreResultsOf (list ++ s.started) after.results) begins (have_results s.started same.results);
+            results =
+                subst (λ n. AreResultsOf (filter_map (result_of u s) ts ++ s.started) (n + 1) r') same.cycle
+                (subst (λ list. AreResultsOf (list ++ s.started) (store.cycle + 1) r') begins (have_results s.started (subst (λ n. AreResultsOf s.started n r) (sym same.cycle) same.results)));
             memory = memory ∙ ap (λ w. fold store_data w starts') same.memory ∙ ap (fold store_data s.memory) starts_ts;
             frame = frame ∙ ap (λ w. fold store_frame w starts') same.frame ∙ ap (fold store_frame s.frame) starts_ts;
             pc = refl;
@@ -247,12 +248,12 @@ module _ (u : Units) (m : Machine) (rules : IsMachine m) (i : Instruction) (lega
         })
 
     -- the same, where the numbers come by other names
-    pub carried_at : (back' delay now : ℕ) → back' ≡ control.pc + 1 + delay → delay ≡ m.control.delay → now ≡ after.results.cycle
+    pub carried_at : (back' delay now : ℕ) → back' ≡ control.pc + 1 + delay → delay ≡ m.control.delay → now ≡ after.cycle
         → ((ws : Written) → HasWritten store.places ws
         → HasWritten after.places (filter_map (write_of m back') (map brought_of arrivals') ++ (long_writes m i.long ++ ws)))
-        → ((started : List Result') → AreResultsOf started store.results
-        → AreResultsOf (filter_map (begun u store.results.cycle store.memory.items store.frame.items (unwrap_or next 0)) starts' ++ started) after.results)
-        → after.results.cycle ≡ store.results.cycle + 1
+        → ((started : List Result') → AreResultsOf started store.cycle r
+        → AreResultsOf (filter_map (begun u store.cycle store.memory.items store.frame.items (unwrap_or next 0)) starts' ++ started) (store.cycle + 1) r')
+        → after.cycle ≡ store.cycle + 1
         → after.memory.items ≡ fold store_data store.memory.items starts'
         → after.frame.items ≡ fold store_frame store.frame.items starts'
         → word ≡ option_map (λ t. t.word) (find puts starts')
@@ -260,13 +261,13 @@ module _ (u : Units) (m : Machine) (rules : IsMachine m) (i : Instruction) (lega
         → ((t : State) → t.cycle ≡ now
         → let p = pending_with now delay (option_map underway control.pending) told in
         controlled t control' ≡ lands (record t { pc = control.pc + 1; pending = p; outcome = outcome_of now control.phase }) p)
-        → IsCarried (held_of lines after control') s (carry_out u m s (Some i)) (Ran word took)
+        → IsCarried r' (held_of lines after control') s (carry_out u m s (Some i)) (Ran word took)
     carried_at back' delay now back_is delay_is now_is has_written have_results cycle memory frame puts_it tells advances =
         let address : back' ≡ control.pc + 1 + m.control.delay = back_is ∙ ap (λ n. control.pc + 1 + n) delay_is in
         carried
         (subst (λ n. (ws : Written) → HasWritten store.places ws → HasWritten after.places (filter_map (write_of m n) (map brought_of arrivals') ++ (long_writes m i.long ++ ws))) address has_written)
         have_results cycle memory frame puts_it tells
-        (subst (λ d. (t : State) → t.cycle ≡ after.results.cycle → let p = pending_with after.results.cycle d (option_map underway control.pending) told in
-        controlled t control' ≡ lands (record t { pc = control.pc + 1; pending = p; outcome = outcome_of after.results.cycle control.phase }) p) delay_is
+        (subst (λ d. (t : State) → t.cycle ≡ after.cycle → let p = pending_with after.cycle d (option_map underway control.pending) told in
+        controlled t control' ≡ lands (record t { pc = control.pc + 1; pending = p; outcome = outcome_of after.cycle control.phase }) p) delay_is
         (subst (λ n. (t : State) → t.cycle ≡ n → let p = pending_with n delay (option_map underway control.pending) told in
         controlled t control' ≡ lands (record t { pc = control.pc + 1; pending = p; outcome = outcome_of n control.phase }) p) now_is advances))

@@ -1,5 +1,5 @@
 -- What the moves of an instruction read and bring is the same for what is held and for the state that it stands for.
-use Rattle.std.proofs.Common.{◌≡◌, ℕ, ◌<◌, Bool, true, false, ◌&&◌, ◌||◌, IsTrue, List, [], ◌∷◌, ◌++◌, length, map, get_or, Option, Some, None, refl, sym, ap, ◌∙◌, subst, arith}
+use Rattle.std.proofs.Common.{◌≡◌, ℕ, ◌<◌, Bool, true, false, ◌&&◌, ◌||◌, IsTrue, List, [], ◌∷◌, ◌++◌, map, Option, Some, None, refl, sym, ap, ◌∙◌, subst, arith}
 use Rattle.std.specs.Prelude.{is_none, slice_get, option_map, if◌then◌else◌}
 use Rattle.std.specs.Option.{option_map_or}
 use Rattle.std.specs.List.{list_any, filter_map, cons_option, AllByRecursion}
@@ -18,7 +18,7 @@ use Rattle.tta_code.specs.declared.code.Long.{Long}
 use Rattle.tta_code.specs.declared.code.Instruction.{Instruction}
 use Rattle.tta_code.specs.Cycle.{Result', State, read_source, effect_of, effects_of, long_effects, reads_unset_register, reads_unset_port}
 use Rattle.tta_sim.specs.Places.{HasWritten}
-use Rattle.tta_sim.specs.Results.{Results, AreResultsOf, latest}
+use Rattle.tta_sim.specs.Results.{Results, AreResultsOf, shown_by, latest}
 use Rattle.tta_sim.specs.Moves.{is_readable, is_askable, is_reachable, is_possible, is_possible_slot, reads_of, lacks_register, effects_in, arrivals_of, brought_of}
 
 -- ---- two ways to read
@@ -55,23 +55,22 @@ module _ (r q : Reads) (e : Effect) (same : Agree r q e) where
 
 -- ---- what is held and a state
 
-port_is : (o : Option Result') → option_map (λ r. r.value) o ≡ option_map_or (λ r. Some r.value) o None
+pub port_is : (o : Option Result') → option_map (λ r. r.value) o ≡ option_map_or (λ r. Some r.value) o None
 port_is None = refl
 port_is (Some r) = refl
 
-module _ (places : List (Option ℕ)) (r : Results) (s : State) (units : ℕ) (written : HasWritten places s.written) (results : AreResultsOf s.started r)
-    (cycle : r.cycle ≡ s.cycle) (size : length r.shown ≡ units) where
-  pub read_same : (src : Source) → is_readable units src ≡ true → reads_of places r.shown src ≡ read_source s src
+module _ (places : List (Option ℕ)) (r : Results) (s : State) (units : ℕ) (written : HasWritten places s.written) (results : AreResultsOf s.started s.cycle r)
+    (size : r.units ≡ units) where
+  pub read_same : (src : Source) → is_readable units src ≡ true → reads_of places (shown_by r) src ≡ read_source s src
   read_same (source.Reg file index) there = written (KeptReg file index) there
   read_same (source.Imm unit index) there = written (KeptImm unit index) there
   read_same (source.Shown unit) there =
-      let within : unit < length r.shown = omega (arith, ltb-true unit units there, size) in
-      let shows : get_or r.shown unit None ≡ latest unit s.cycle s.started = sym (results.shown unit within) ∙ ap (λ n. latest unit n s.started) cycle in
-      port_is (get_or r.shown unit None) ∙ ap (λ o. option_map_or (λ q. Some q.value) o None) shows
+      let within : unit < r.units = omega (arith, ltb-true unit units there, size) in
+      results.shown unit within ∙ port_is (latest unit s.cycle s.started)
   read_same source.Ra there = written KeptRa refl
   read_same (source.Value word) there = refl
 
-  agree : (v : Move) → is_possible units v ≡ true → Agree (reads_of places r.shown) (read_source s) (effect_of v)
+  agree : (v : Move) → is_possible units v ≡ true → Agree (reads_of places (shown_by r)) (read_source s) (effect_of v)
   agree v possible =
       let one = and_parts (is_askable v.guard) (is_readable units v.src && is_reachable units v.dst) possible in
       let two = and_parts (is_readable units v.src) (is_reachable units v.dst) one.1 in
@@ -84,31 +83,31 @@ module _ (places : List (Option ℕ)) (r : Results) (s : State) (units : ℕ) (w
   abbrev Possible : List (Option Move) → Type 0
   Possible slots = AllByRecursion (λ slot. IsTrue (is_possible_slot units slot)) slots
 
-  lacks_in : (slots : List (Option Move)) → Possible slots → list_any (lacks_register (reads_of places r.shown)) (effects_in slots) ≡ list_any (reads_unset_register s) (effects_in slots)
+  lacks_in : (slots : List (Option Move)) → Possible slots → list_any (lacks_register (reads_of places (shown_by r))) (effects_in slots) ≡ list_any (reads_unset_register s) (effects_in slots)
   lacks_in [] possible = refl
   lacks_in (None ∷ slots) possible = lacks_in slots possible.1
   lacks_in (Some v ∷ slots) possible =
       let same = agree v possible.0 in
-      rw (lacks_same (reads_of places r.shown) (read_source s) (effect_of v) same, lacks_in slots possible.1) refl
+      rw (lacks_same (reads_of places (shown_by r)) (read_source s) (effect_of v) same, lacks_in slots possible.1) refl
 
-  ports_in : (slots : List (Option Move)) → Possible slots → list_any (has_unset (reads_of places r.shown) is_port) (effects_in slots) ≡ list_any (reads_unset_port s) (effects_in slots)
+  ports_in : (slots : List (Option Move)) → Possible slots → list_any (has_unset (reads_of places (shown_by r)) is_port) (effects_in slots) ≡ list_any (reads_unset_port s) (effects_in slots)
   ports_in [] possible = refl
   ports_in (None ∷ slots) possible = ports_in slots possible.1
   ports_in (Some v ∷ slots) possible =
       let same = agree v possible.0 in
-      rw (unset_same (reads_of places r.shown) (read_source s) (effect_of v) same is_port, ports_in slots possible.1) refl
+      rw (unset_same (reads_of places (shown_by r)) (read_source s) (effect_of v) same is_port, ports_in slots possible.1) refl
 
-  brings_in : (slots : List (Option Move)) → Possible slots → map brought_of (arrivals_of (reads_of places r.shown) slots) ≡ filter_map (bring (read_source s)) (effects_in slots)
+  brings_in : (slots : List (Option Move)) → Possible slots → map brought_of (arrivals_of (reads_of places (shown_by r)) slots) ≡ filter_map (bring (read_source s)) (effects_in slots)
   brings_in [] possible = refl
   brings_in (None ∷ slots) possible = brings_in slots possible.1
   brings_in (Some v ∷ slots) possible =
-      let reads = reads_of places r.shown in
+      let reads = reads_of places (shown_by r) in
       let same = bring_same reads (read_source s) (effect_of v) (agree v possible.0) in
       let rest = brings_in slots possible.1 in
       one (moved reads (effect_of v)) ∙ ap (λ o. cons_option o (map brought_of (arrivals_of reads slots))) same ∙ ap (cons_option (bring (read_source s) (effect_of v))) rest
     where
-      one : (o : Option ℕ) → map brought_of (cons_option (option_map (λ word. record { dst = v.dst; word = word }) o) (arrivals_of (reads_of places r.shown) slots))
-          ≡ cons_option (option_map_or (λ word. Some ((effect_of v).target, word)) o None) (map brought_of (arrivals_of (reads_of places r.shown) slots))
+      one : (o : Option ℕ) → map brought_of (cons_option (option_map (λ word. record { dst = v.dst; word = word }) o) (arrivals_of (reads_of places (shown_by r)) slots))
+          ≡ cons_option (option_map_or (λ word. Some ((effect_of v).target, word)) o None) (map brought_of (arrivals_of (reads_of places (shown_by r)) slots))
       one None = refl
       one (Some word) = refl
 
@@ -142,23 +141,23 @@ module _ (m : Machine) (s : State) where
     by None = refl
     by (Some t) = refl
 
-module _ (places : List (Option ℕ)) (r : Results) (s : State) (units : ℕ) (written : HasWritten places s.written) (results : AreResultsOf s.started r)
-    (cycle : r.cycle ≡ s.cycle) (size : length r.shown ≡ units) (m : Machine) (i : Instruction)
+module _ (places : List (Option ℕ)) (r : Results) (s : State) (units : ℕ) (written : HasWritten places s.written) (results : AreResultsOf s.started s.cycle r)
+    (size : r.units ≡ units) (m : Machine) (i : Instruction)
     (possible : AllByRecursion (λ slot. IsTrue (is_possible_slot units slot)) i.moves) where
-  pub lacks_all : list_any (lacks_register (reads_of places r.shown)) (effects_in i.moves) ≡ list_any (reads_unset_register s) (effects_of m i)
+  pub lacks_all : list_any (lacks_register (reads_of places (shown_by r))) (effects_in i.moves) ≡ list_any (reads_unset_register s) (effects_of m i)
   lacks_all =
-      lacks_in places r s units written results cycle size i.moves possible ∙ sym (or-false (list_any (reads_unset_register s) (effects_in i.moves)))
+      lacks_in places r s units written results size i.moves possible ∙ sym (or-false (list_any (reads_unset_register s) (effects_in i.moves)))
       ∙ ap (λ b. list_any (reads_unset_register s) (effects_in i.moves) || b) (sym (long_lacks m s i.long))
       ∙ sym (list_any-append (reads_unset_register s) (effects_in i.moves) (long_effects m i.long))
 
-  pub ports_all : list_any (has_unset (reads_of places r.shown) is_port) (effects_in i.moves) ≡ list_any (reads_unset_port s) (effects_of m i)
+  pub ports_all : list_any (has_unset (reads_of places (shown_by r)) is_port) (effects_in i.moves) ≡ list_any (reads_unset_port s) (effects_of m i)
   ports_all =
-      ports_in places r s units written results cycle size i.moves possible ∙ sym (or-false (list_any (reads_unset_port s) (effects_in i.moves)))
+      ports_in places r s units written results size i.moves possible ∙ sym (or-false (list_any (reads_unset_port s) (effects_in i.moves)))
       ∙ ap (λ b. list_any (reads_unset_port s) (effects_in i.moves) || b) (sym (long_ports m s i.long))
       ∙ sym (list_any-append (reads_unset_port s) (effects_in i.moves) (long_effects m i.long))
 
-  pub brings_all : filter_map (bring (read_source s)) (effects_of m i) ≡ map brought_of (arrivals_of (reads_of places r.shown) i.moves) ++ long_brought m i.long
+  pub brings_all : filter_map (bring (read_source s)) (effects_of m i) ≡ map brought_of (arrivals_of (reads_of places (shown_by r)) i.moves) ++ long_brought m i.long
   brings_all =
       filter_map-append (bring (read_source s)) (effects_in i.moves) (long_effects m i.long)
-      ∙ ap (λ bs. bs ++ filter_map (bring (read_source s)) (long_effects m i.long)) (sym (brings_in places r s units written results cycle size i.moves possible))
-      ∙ ap (λ bs. map brought_of (arrivals_of (reads_of places r.shown) i.moves) ++ bs) (long_brings m s i.long)
+      ∙ ap (λ bs. bs ++ filter_map (bring (read_source s)) (long_effects m i.long)) (sym (brings_in places r s units written results size i.moves possible))
+      ∙ ap (λ bs. map brought_of (arrivals_of (reads_of places (shown_by r)) i.moves) ++ bs) (long_brings m s i.long)

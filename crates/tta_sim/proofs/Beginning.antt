@@ -1,57 +1,145 @@
 -- Results that begin one by one.
-use Rattle.std.proofs.Common.{◌≡◌, ◌<◌, ◌+◌, ◌==◌, ◌&&◌, ◌||◌, ℕ, zero, suc, Bool, true, false, List, [], ◌∷◌, ◌++◌, length, take, get_or, Option, None, Some, refl, ap, sym, ◌∙◌, subst, arith, IsTrue, append_assoc}
-use Rattle.std.specs.Prelude.{option_to_list, is_some, if◌then◌else◌}
+use Rattle.std.proofs.Common.{◌≡◌, ◌≢◌, ◌<◌, ◌≤◌, ◌+◌, ◌==◌, ◌&&◌, ◌||◌, not, ℕ, zero, suc, Bool, true, false, List, [], ◌∷◌, ◌++◌, length, take, get_or, Option, None, Some, refl, ap, sym, ◌∙◌, subst, arith, IsTrue, append-nil}
+use Rattle.std.specs.Prelude.{option_map, option_to_list, is_some, nat_lt, nat_le, if◌then◌else◌}
 use Rattle.std.specs.Option.{option_or}
 use Rattle.std.specs.List.{filter_map, cons_option, list_any, AllByRecursion}
-use Rattle.std.proofs.lemmas.List.Elements.{filter_map-append}
+use Rattle.std.proofs.lemmas.Bool.{and_parts, ltb-true}
 use Rattle.std.proofs.lemmas.List.Folds.{find-append}
 use Rattle.tta_ops.specs.Units.{Units}
 use Rattle.tta_arch.specs.Rules.{are_different}
-use Rattle.tta_arch.specs.Effects.{Start, has_result, result_word, lacks_operand}
+use Rattle.tta_arch.specs.Effects.{Start, has_result, result_word}
 use Rattle.tta_code.specs.Cycle.{Result'}
-use Rattle.tta_sim.specs.Results.{Results, AreResultsOf, due_at, is_due}
-use Rattle.tta_sim.specs.declared.decoded.DecodedStart.{DecodedStart}
-use Rattle.tta_sim.specs.Starts.{begun, due_of, clashes_with, is_stopped, is_fitting, CanStart}
-use Rattle.tta_sim.specs.Lines.{is_unread, start_brought, cannot_start}
+use Rattle.tta_flight.specs.Rings.{Rings, shown_in, due_in, is_among, IsStarted}
+use Rattle.tta_sim.specs.declared.results.Part.{Part}
+use Rattle.tta_sim.specs.Results.{Results, AreThere, AreKept, CanBegin, HasBegun, results_at, due_by, longest_by, due_at, is_due, word_due}
+use Rattle.tta_sim.specs.Starts.{begun, due_of, clashes_with, is_fitting, CanStart}
+use Rattle.tta_sim.specs.Ready.{Begin, KeepsOthers}
 use Rattle.tta_sim.proofs.Showing.{results_more}
 use Rattle.tta_sim.proofs.Lists.{filter_map-more}
 
--- ---- lists of what a function gives
+-- ---- lists of operations
 
-any_in : {A B : Type 0} (p : B → Bool) (f : A → Option B) (xs : List A) (k : ℕ) (d : A) (y : B) → list_any p (filter_map f xs) ≡ false → k < length xs
-    → f (get_or xs k d) ≡ Some y → p y ≡ false
-any_in p f [] k d y none within is = absurd (omega (arith, within))
-any_in p f (x ∷ xs) zero d y none within is =
-    let here : list_any p (y ∷ filter_map f xs) ≡ false = ap (λ o. list_any p (cons_option o (filter_map f xs))) (sym is) ∙ none in
-    grind (arith, here)
-any_in p f (x ∷ xs) (suc k) d y none within is = any_in p f xs k d y (elim (f x) as (λ o. list_any p (cons_option o (filter_map f xs)) ≡ false → list_any p (filter_map f xs) ≡ false) [
-  | None ↦ λ none. none
-  | Some z ↦ λ none. grind (arith, none)
-] none) (omega (arith, within)) is
+-- a test that none passes
+pub none_at : {A : Type 0} (p : A → Bool) (xs : List A) (k : ℕ) (d : A) → list_any p xs ≡ false → k < length xs → p (get_or xs k d) ≡ false
+none_at p [] k d none within = absurd (omega (arith, within))
+none_at p (x ∷ xs) zero d none within = grind (arith, none)
+none_at p (x ∷ xs) (suc k) d none within = none_at p xs k d (grind (arith, none)) (omega (arith, within))
 
--- what came of the elements before one differs from what comes of it
-pub apart_next : {A B : Type 0} (same : B → B → Bool) (f : A → Option B) (xs : List A) (k : ℕ) (d : A) (y : B) → are_different same (filter_map f xs) ≡ true → k < length xs
-    → f (get_or xs k d) ≡ Some y → AllByRecursion (λ a. same a y ≡ false) (filter_map f (take k xs))
-apart_next same f xs zero d y apart within is = tt
-apart_next same f [] (suc k) d y apart within is = tt
-apart_next same f (x ∷ xs) (suc k) d y apart within is =
-    elim (f x) as (λ o. are_different same (cons_option o (filter_map f xs)) ≡ true → AllByRecursion (λ a. same a y ≡ false) (cons_option o (filter_map f (take k xs)))) [
-      | None ↦ λ apart. apart_next same f xs k d y apart (omega (arith, within)) is
-      | Some z ↦ λ apart. (any_in (same z) f xs k d y (grind (arith, apart)) (omega (arith, within)) is, apart_next same f xs k d y (grind (arith, apart)) (omega (arith, within)) is)
-    ] apart
+-- operations before one differ from it
+pub apart_at : {A : Type 0} (same : A → A → Bool) (xs : List A) (k : ℕ) (d : A) → are_different same xs ≡ true → k < length xs
+    → AllByRecursion (λ a. same a (get_or xs k d) ≡ false) (take k xs)
+apart_at same xs zero d apart within = tt
+apart_at same [] (suc k) d apart within = tt
+apart_at same (x ∷ xs) (suc k) d apart within =
+    (none_at (same x) xs k d (grind (arith, apart)) (omega (arith, within)), apart_at same xs k d (grind (arith, apart)) (omega (arith, within)))
 
--- what comes of an element is as all that comes
-pub given_next : {A B : Type 0} (P : B → Type 0) (f : A → Option B) (xs : List A) (k : ℕ) (d : A) → AllByRecursion P (filter_map f xs) → k < length xs
-    → AllByRecursion P (option_to_list (f (get_or xs k d)))
-given_next P f [] k d all within = absurd (omega (arith, within))
-given_next P f (x ∷ xs) zero d all within = elim (f x) as (λ o. AllByRecursion P (cons_option o (filter_map f xs)) → AllByRecursion P (option_to_list o)) [
-  | None ↦ λ all. tt
-  | Some y ↦ λ all. (all.0, tt)
-] all
-given_next P f (x ∷ xs) (suc k) d all within = given_next P f xs k d (elim (f x) as (λ o. AllByRecursion P (cons_option o (filter_map f xs)) → AllByRecursion P (filter_map f xs)) [
-  | None ↦ λ all. all
-  | Some y ↦ λ all. all.1
-] all) (omega (arith, within))
+-- what all have
+pub all_at : {A : Type 0} (P : A → Type 0) (xs : List A) (k : ℕ) (d : A) → AllByRecursion P xs → k < length xs → P (get_or xs k d)
+all_at P [] k d all within = absurd (omega (arith, within))
+all_at P (x ∷ xs) zero d all within = all.0
+all_at P (x ∷ xs) (suc k) d all within = all_at P xs k d all.1 (omega (arith, within))
+
+-- ---- one after another
+
+-- What is known when these results have begun in some units of a region: no port shows another word, and nothing else is due.
+pub record AreBegun (now : ℕ) (r : Results) (new : List Result') (rings : Rings) : Type 0 where
+  pub kept : AreKept r.rings rings
+  pub shown : (unit : ℕ) → shown_in rings unit ≡ shown_in r.rings unit
+  pub due : (unit delay : ℕ) → unit < r.units
+      → due_in rings (r.base + unit) delay ≡ option_or (word_due (due_at unit (now + delay) new)) (due_in r.rings (r.base + unit) delay)
+  pub beside : (unit delay : ℕ) → unit < length r.rings.rings → is_among r.base r.units unit ≡ false → due_in rings unit delay ≡ due_in r.rings unit delay
+
+-- all elements are among so many
+pub take_past : {A : Type 0} (xs : List A) (k : ℕ) → length xs ≤ k → take k xs ≡ xs
+take_past [] zero past = refl
+take_past [] (suc k) past = refl
+take_past (x ∷ xs) zero past = absurd (omega (arith, past))
+take_past (x ∷ xs) (suc k) past = ap (λ ys. x ∷ ys) (take_past xs k (omega (arith, past)))
+
+or_none : {A : Type 0} (o : Option A) → option_or o None ≡ o
+or_none None = refl
+or_none (Some x) = refl
+
+differ : (a b n : ℕ) → (a == b) ≡ false → n + b ≢ n + a
+differ a b n other = λ same.
+    let is : a ≡ b = omega (arith, same) in
+    grind (arith, other, is)
+
+not_among : (base count u n : ℕ) → u < count → is_among base count n ≡ false → n ≢ base + u
+not_among base count u n less beside = λ same.
+    let least : nat_le base n ≡ true = grind (arith, same) in
+    let most : nat_lt n (base + count) ≡ true = grind (arith, same, less) in
+    grind (arith, least, most, beside)
+
+equal : (a b : ℕ) → (a == b) ≡ true → a ≡ b
+equal a b is = grind (arith, is)
+
+parts_of : (a b c d : ℕ) (n : ℕ) → (a == b && n + c == n + d) ≡ true → (a ≡ b) × (c ≡ d)
+parts_of a b c d n is = (grind (arith, is), grind (arith, is))
+
+other_delay : (a b c d : ℕ) (n : ℕ) → (a == b && n + c == n + d) ≡ false → (a == b) ≡ true → d ≢ c
+other_delay a b c d n not_both one = λ same. grind (arith, not_both, one, same)
+
+module _ (now : ℕ) (r : Results) (there : AreThere r) (done : List Result') (t : Start) (within : t.unit < r.units) (old new : Rings) (was : AreBegun now r done old) where
+  -- what is due of another unit, or at another time, stays
+  other_due : (value unit delay : ℕ) → IsStarted (r.base + t.unit) t.does.latency value old new → unit < r.units
+      → (t.unit == unit && now + t.does.latency == now + delay) ≡ false → due_in new (r.base + unit) delay ≡ due_in old (r.base + unit) delay
+  other_due value unit delay is less other = by (t.unit == unit) refl where
+    by : (b : Bool) → (t.unit == unit) ≡ b → due_in new (r.base + unit) delay ≡ due_in old (r.base + unit) delay
+    by true here =
+        let same : t.unit ≡ unit = equal t.unit unit here in
+        subst (λ n. due_in new (r.base + n) delay ≡ due_in old (r.base + n) delay) same (is.delay_apart delay (other_delay t.unit unit t.does.latency delay now other here))
+    by false here = is.unit_apart (r.base + unit) delay (omega (arith, less, there.there, was.kept.units)) (differ t.unit unit r.base here)
+
+  -- one more has begun, where none of its unit has
+  pub one_more : (value : Option ℕ) → HasBegun r.base t value old new → due_at t.unit (now + t.does.latency) done ≡ None
+      → AreBegun now r (done ++ option_to_list (option_map (due_of now t) value)) new
+  one_more None same none =
+      subst (λ rings. AreBegun now r (done ++ []) rings) (sym same) (subst (λ xs. AreBegun now r xs old) (sym (append-nil done)) was)
+  one_more (Some value) is none = record {
+    kept = record { units = is.units ∙ was.kept.units; longest = λ unit. is.longest unit ∙ was.kept.longest unit };
+    shown = λ unit. is.shown unit ∙ was.shown unit;
+    due = λ unit delay less.
+        by unit delay less (t.unit == unit && now + t.does.latency == now + delay) refl
+        ∙ ap (λ o. option_or (word_due o) (due_in r.rings (r.base + unit) delay)) (sym (find-append (is_due unit (now + delay)) done (due_of now t value ∷ [])));
+    beside = λ unit delay had other.
+        is.unit_apart unit delay (omega (arith, had, was.kept.units)) (not_among r.base r.units t.unit unit within other) ∙ was.beside unit delay had other;
+  } where
+    by : (unit delay : ℕ) → unit < r.units → (b : Bool) → (t.unit == unit && now + t.does.latency == now + delay) ≡ b
+        → due_in new (r.base + unit) delay
+        ≡ option_or (word_due (option_or (due_at unit (now + delay) done) (if b then Some (due_of now t value) else None))) (due_in r.rings (r.base + unit) delay)
+    by unit delay less true both =
+        let parts = parts_of t.unit unit t.does.latency delay now both in
+        let here : due_in new (r.base + unit) delay ≡ Some value = subst (λ n. due_in new (r.base + n) delay ≡ Some value) parts.0 (subst (λ d. due_in new (r.base + t.unit) d ≡ Some value) parts.1 is.here) in
+        let first : due_at unit (now + delay) done ≡ None = subst (λ n. due_at n (now + delay) done ≡ None) parts.0 (subst (λ d. due_at t.unit (now + d) done ≡ None) parts.1 none) in
+        here ∙ sym (ap (λ o. option_or (word_due (option_or o (Some (due_of now t value)))) (due_in r.rings (r.base + unit) delay)) first)
+    by unit delay less false other =
+        other_due value unit delay is less other ∙ was.due unit delay less
+        ∙ ap (λ o. option_or (word_due o) (due_in r.rings (r.base + unit) delay)) (sym (or_none (due_at unit (now + delay) done)))
+
+-- a unit whose result fits is there, with room for it
+fits_there : (r : Results) (t : Start) → IsTrue (is_fitting r t) → t.unit < r.units
+fits_there r t fits = ltb-true t.unit r.units (and_parts (nat_lt t.unit r.units) (not (has_result t.does.op) || (nat_lt 0 t.does.latency && nat_le t.does.latency (longest_by r t.unit))) fits).0
+
+fits_delay : (r : Results) (t : Start) → IsTrue (is_fitting r t) → has_result t.does.op ≡ true → (0 < t.does.latency) × (t.does.latency ≤ longest_by r t.unit)
+fits_delay r t fits has =
+    let second = (and_parts (nat_lt t.unit r.units) (not (has_result t.does.op) || (nat_lt 0 t.does.latency && nat_le t.does.latency (longest_by r t.unit))) fits).1 in
+    let both : (nat_lt 0 t.does.latency && nat_le t.does.latency (longest_by r t.unit)) ≡ true =
+    sym (ap (λ b. not b || (nat_lt 0 t.does.latency && nat_le t.does.latency (longest_by r t.unit))) has) ∙ second in
+    let parts = and_parts (nat_lt 0 t.does.latency) (nat_le t.does.latency (longest_by r t.unit)) both in
+    (at_least t.does.latency parts.0, at_most t.does.latency (longest_by r t.unit) parts.1)
+  where
+    at_least : (n : ℕ) → nat_lt 0 n ≡ true → 0 < n
+    at_least n is = grind (arith, is)
+
+    at_most : (n k : ℕ) → nat_le n k ≡ true → n ≤ k
+    at_most n k is = grind (arith, is)
+
+-- a result that does not clash is due at the time of no other
+none_due : (o : Option ℕ) (has : Bool) → (has && is_some o) ≡ false → has ≡ true → o ≡ None
+none_due None has free is = refl
+none_due (Some x) true free is = cc
+none_due (Some x) false free is = cc
 
 module _ (u : Units) (now : ℕ) (memory frame : List ℕ) (next : ℕ) where
   -- other units' results are none of this one's
@@ -66,115 +154,65 @@ module _ (u : Units) (now : ℕ) (memory frame : List ℕ) (next : ℕ) where
         | false ↦ rest
       ]
 
-  -- results that have begun are none of another unit's
-  clash_next : (r : Results) (starts : List Start) (t : Start) → AllByRecursion (λ a. (a.unit == t.unit) ≡ false) starts
-      → clashes_with (record r { coming = r.coming ++ filter_map (begun u now memory frame next) starts }) t ≡ clashes_with r t
-  clash_next r starts t others =
-      let due = r.cycle + t.does.latency in
-      let more = filter_map (begun u now memory frame next) starts in
-      let all : due_at t.unit due (r.coming ++ more) ≡ option_or (due_at t.unit due r.coming) None =
-      find-append (is_due t.unit due) r.coming more ∙ ap (option_or (due_at t.unit due r.coming)) (no_result t.unit due starts others) in
-      ap (λ o. has_result t.does.op && is_some o) (all ∙ or_none (due_at t.unit due r.coming))
-    where
-      or_none : (o : Option Result') → option_or o None ≡ o
-      or_none None = refl
-      or_none (Some q) = refl
+  module _ (r : Results) (there : AreThere r) (starts : List Start) (can : CanStart r starts) (k : ℕ) (d t : Start) (within : k < length starts) (at : t ≡ get_or starts k d)
+      (old : Rings) (was : AreBegun now r (filter_map (begun u now memory frame next) (take k starts)) old) where
+    fits : IsTrue (is_fitting r t)
+    fits = subst (λ x. IsTrue (is_fitting r x)) (sym at) (all_at (λ x. IsTrue (is_fitting r x)) starts k d can.fitting within)
 
-  module _ (places : List (Option ℕ)) (operand : ℕ → Option ℕ) (r before : Results) (moves : List DecodedStart) (k : ℕ) (d : DecodedStart) (within : k < length moves)
-      (so_far : before ≡ record r { coming = r.coming ++ filter_map (begun u now memory frame next) (filter_map (start_brought places r.shown operand) (take k moves)) }) where
-    -- the operation that a move to a trigger port starts, if the move acts and its source has a word
-    abbrev brought : DecodedStart → Option Start
-    brought = start_brought places r.shown operand
+    alone : due_at t.unit (now + t.does.latency) (filter_map (begun u now memory frame next) (take k starts)) ≡ None
+    alone =
+        no_result t.unit (now + t.does.latency) (take k starts)
+        (subst (λ x. AllByRecursion (λ a. (a.unit == x.unit) ≡ false) (take k starts)) (sym at) (apart_at (λ a b. a.unit == b.unit) starts k d can.apart within))
 
-    -- the start whose turn it is
-    abbrev s : DecodedStart
-    s = get_or moves k d
+    -- the next operation's result can begin
+    pub can_next : (value : Option ℕ) → is_some value ≡ has_result t.does.op → is_some value ≡ true → CanBegin r.base old t
+    can_next value same some =
+        let less = fits_there r t fits in
+        let has = sym same ∙ some in
+        let delay = fits_delay r t fits has in
+        let clash : clashes_with r t ≡ false = ap (clashes_with r) at ∙ none_at (clashes_with r) starts k d can.free within in
+        record {
+          few = omega (arith, less, there.few);
+          there = omega (arith, less, there.there, was.kept.units);
+          later = delay.0;
+          soon = omega (arith, delay.1, was.kept.longest (r.base + t.unit));
+          free =
+              was.due t.unit t.does.latency less ∙ ap (λ o. option_or (word_due o) (due_by r t.unit t.does.latency)) alone
+              ∙ none_due (due_by r t.unit t.does.latency) (has_result t.does.op) clash has;
+        }
 
-    -- the results, where those of operations that have begun stand behind the ones that were coming
-    abbrev grown : List Start → Results
-    grown starts = record r { coming = r.coming ++ filter_map (begun u now memory frame next) starts }
-
-    -- whether the next operation can start does not depend on those that have begun
-    pub cannot_next : are_different (λ a b. a.unit == b.unit) (filter_map brought moves) ≡ true → cannot_start places before operand s ≡ cannot_start places r operand s
-    cannot_next apart =
-        ap (λ q. cannot_start places q operand s) so_far
-        ∙ ap (λ b. is_unread places r.shown s.reading || b) (by (brought s) refl)
-      where
-        by : (o : Option Start) → brought s ≡ o → list_any (is_stopped (grown (filter_map brought (take k moves)))) (option_to_list o) ≡ list_any (is_stopped r) (option_to_list o)
-        by None is = refl
-        by (Some t) is =
-            ap (λ b. (lacks_operand t || b) || false) (clash_next r (filter_map brought (take k moves)) t (apart_next (λ a b. a.unit == b.unit) brought moves k d t apart within is))
-
-    -- the next operation fits
-    pub fits_next : AllByRecursion (λ t. IsTrue (is_fitting (length r.shown) t)) (filter_map brought moves)
-        → AllByRecursion (λ t. IsTrue (is_fitting (length before.shown) t)) (option_to_list (start_brought places before.shown operand s))
-    fits_next fits =
-        subst (λ q. AllByRecursion (λ t. IsTrue (is_fitting (length q.shown) t)) (option_to_list (start_brought places q.shown operand s))) (sym so_far)
-        (given_next (λ t. IsTrue (is_fitting (length r.shown) t)) brought moves k d fits within)
-
-    -- one more operation has begun
-    pub begun_next : (after : Results) → r.cycle ≡ now
-        → after ≡ record before { coming = before.coming ++ filter_map (begun u before.cycle memory frame next) (option_to_list (start_brought places before.shown operand s)) }
-        → after ≡ grown (filter_map brought (take (k + 1) moves))
-    begun_next after cycle added =
+    -- one more has begun
+    pub begun_next : (value : Option ℕ) (new : Rings) → ((n : ℕ) → option_map (due_of n t) value ≡ begun u n memory frame next t) → HasBegun r.base t value old new
+        → AreBegun now r (filter_map (begun u now memory frame next) (take (k + 1) starts)) new
+    begun_next value new begins is =
         let f = begun u now memory frame next in
-        let starts = filter_map brought (take k moves) in
-        let one = option_to_list (brought s) in
-        let more : filter_map f starts ++ filter_map f one ≡ filter_map f (filter_map brought (take (k + 1) moves)) =
-        sym (filter_map-append f starts one) ∙ ap (filter_map f) (filter_map-more brought moves k d starts (starts ++ one) within refl refl) in
-        added
-        ∙ ap {A = Results} (λ b. record b { coming = b.coming ++ filter_map (begun u b.cycle memory frame next) (option_to_list (start_brought places b.shown operand s)) }) so_far
-        ∙ ap (λ n. record r { coming = (r.coming ++ filter_map f starts) ++ filter_map (begun u n memory frame next) one }) cycle
-        ∙ ap {A = List Result'} (λ xs. record r { coming = xs }) (append_assoc r.coming (filter_map f starts) (filter_map f one) ∙ ap (λ xs. r.coming ++ xs) more)
+        let more : filter_map f (take k starts) ++ option_to_list (option_map (due_of now t) value) ≡ filter_map f (take (k + 1) starts) =
+        ap (λ o. filter_map f (take k starts) ++ option_to_list o) (begins now) ∙ ap (λ x. filter_map f (take k starts) ++ option_to_list (f x)) at
+        ∙ filter_map-more f starts k d (filter_map f (take k starts)) (filter_map f (take k starts) ++ option_to_list (f (get_or starts k d))) within refl refl in
+        subst (λ xs. AreBegun now r xs new) more (one_more now r there (filter_map f (take k starts)) t (fits_there r t fits) old new was value is alone)
 
--- ---- all at once
+  -- ---- all at once
 
-module _ (u : Units) (memory frame : List ℕ) (next : ℕ) (r : Results) where
   -- a result shows in a later cycle
-  begun_later : (units : ℕ) (starts : List Start) → AllByRecursion (λ t. IsTrue (is_fitting units t)) starts
-      → AllByRecursion (λ q. r.cycle < q.due) (filter_map (begun u r.cycle memory frame next) starts)
-  begun_later units [] fit = tt
-  begun_later units (t ∷ starts) fit =
-      let rest = begun_later units starts fit.1 in
-      let q : Result' = due_of r.cycle t (result_word u memory frame next t t.does.op) in
-      elim (has_result t.does.op) as (λ b. has_result t.does.op ≡ b → AllByRecursion (λ q. r.cycle < q.due) (cons_option (if b then Some q else None) (filter_map (begun u r.cycle memory frame next) starts))) [
-        | true ↦ λ is. (grind (arith, is, fit.0), rest)
+  begun_later : (r : Results) (starts : List Start) → AllByRecursion (λ t. IsTrue (is_fitting r t)) starts → AllByRecursion (λ q. now < q.due) (filter_map (begun u now memory frame next) starts)
+  begun_later r [] fit = tt
+  begun_later r (t ∷ starts) fit =
+      let rest = begun_later r starts fit.1 in
+      let q : Result' = due_of now t (result_word u memory frame next t t.does.op) in
+      elim (has_result t.does.op) as (λ b. has_result t.does.op ≡ b → AllByRecursion (λ q. now < q.due) (cons_option (if b then Some q else None) (filter_map (begun u now memory frame next) starts))) [
+        | true ↦ λ is. (omega (arith, (fits_delay r t fit.0 is).0), rest)
         | false ↦ λ is. rest
       ] refl
-
-  -- and no result that is to come is due at its time
-  begun_free : (starts : List Start) → list_any (clashes_with r) starts ≡ false
-      → AllByRecursion (λ q. due_at q.unit q.due r.coming ≡ None) (filter_map (begun u r.cycle memory frame next) starts)
-  begun_free [] free = tt
-  begun_free (t ∷ starts) free =
-      let rest = begun_free starts (grind arith) in
-      let q : Result' = due_of r.cycle t (result_word u memory frame next t t.does.op) in
-      elim (has_result t.does.op) as (λ b. has_result t.does.op ≡ b → AllByRecursion (λ q. due_at q.unit q.due r.coming ≡ None) (cons_option (if b then Some q else None) (filter_map (begun u r.cycle memory frame next) starts))) [
-        | true ↦ λ is. (none_due is, rest)
-        | false ↦ λ is. rest
-      ] refl
-    where
-      none_due : has_result t.does.op ≡ true → due_at t.unit (r.cycle + t.does.latency) r.coming ≡ None
-      none_due is = none_if (due_at t.unit (r.cycle + t.does.latency) r.coming) (grind (arith, is, free)) where
-        none_if : (o : Option Result') → is_some o ≡ false → o ≡ None
-        none_if None empty = refl
-        none_if (Some q) empty = cc
 
   -- the results of all operations come beside the others
-  pub results_begun : (units : ℕ) (starts : List Start) (started : List Result') → CanStart r units starts → AreResultsOf started r
-      → AreResultsOf (filter_map (begun u r.cycle memory frame next) starts ++ started) (record r { coming = r.coming ++ filter_map (begun u r.cycle memory frame next) starts })
-  results_begun units starts started can same =
-      results_more started (filter_map (begun u r.cycle memory frame next) starts) r same (begun_later units starts can.fitting) (begun_free starts can.free)
+  pub all_begun : (r : Results) (starts : List Start) (rings : Rings) → CanStart r starts → AreBegun now r (filter_map (begun u now memory frame next) starts) rings
+      → Begin (filter_map (begun u now memory frame next) starts) now r (record r { rings = rings })
+  all_begun r starts rings can are = λ started same.
+      results_more started (filter_map (begun u now memory frame next) starts) now r rings same (begun_later r starts can.fitting) (λ unit. are.shown (r.base + unit)) are.due
 
-  -- the results of the next cycle stand for all that was started
-  pub results_acted : (units : ℕ) (starts starts' : List Start) (memory' frame' : List ℕ) (began after : Results) → CanStart r units starts
-      → starts' ≡ starts → memory' ≡ memory → frame' ≡ frame
-      → began ≡ record r { coming = r.coming ++ filter_map (begun u r.cycle memory' frame' next) starts' }
-      → ((started : List Result') → AreResultsOf started began → AreResultsOf started after)
-      → (started : List Result') → AreResultsOf started r → AreResultsOf (filter_map (begun u r.cycle memory frame next) starts ++ started) after
-  results_acted units starts starts' memory' frame' began after can same_starts same_memory same_frame begins goes started same =
-      let with : List Start → List ℕ → List ℕ → Results = λ ts m f. record r { coming = r.coming ++ filter_map (begun u r.cycle m f next) ts } in
-      let all : began ≡ with starts memory frame =
-      begins ∙ ap (λ ts. with ts memory' frame') same_starts ∙ ap (λ m. with starts m frame') same_memory ∙ ap (λ f. with starts memory f) same_frame in
-      let more = filter_map (begun u r.cycle memory frame next) starts ++ started in
-      goes more (subst (AreResultsOf more) (sym all) (results_begun units starts started can same))
+-- other machines' units stay
+pub others_begun : (now : ℕ) (part : Part) (old : Rings) (new : List Result') (rings : Rings) → AreBegun now (results_at part old) new rings → KeepsOthers part old rings
+others_begun now part old new rings are = record {
+  kept = are.kept;
+  beside = record { shown = λ unit had other. are.shown unit; due = λ unit delay had other. are.beside unit delay had other };
+}

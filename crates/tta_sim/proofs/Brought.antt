@@ -13,14 +13,13 @@ use Rattle.tta_arch.specs.Effects.{KeptReg, KeptImm, KeptOperand, KeptRa, Reads,
 use Rattle.tta_code.specs.declared.code.Move.{Move}
 use Rattle.tta_code.specs.declared.code.Long.{Long}
 use Rattle.tta_code.specs.Cycle.{effect_of}
-use Rattle.tta_sim.specs.declared.arrivals.Arrival.{Arrival}
 use Rattle.tta_sim.specs.declared.decoded.DecodedStart.{DecodedStart}
 use Rattle.tta_sim.specs.declared.decoded.DecodedWrite.{DecodedWrite}
 use Rattle.tta_sim.specs.declared.decoded.DecodedSource.TheVariants as decoded
 use Rattle.tta_sim.specs.declared.lines.Write.{Write}
 use Rattle.tta_sim.specs.Places.{number_of, word_at, is_place}
-use Rattle.tta_sim.specs.Results.{Results}
-use Rattle.tta_sim.specs.Moves.{reads_of, lacks_register, is_reachable, arrival_of, brought_of}
+use Rattle.tta_sim.specs.Results.{Results, shown_by}
+use Rattle.tta_sim.specs.Moves.{Arrival, reads_of, lacks_register, is_reachable, arrival_of, brought_of}
 use Rattle.tta_sim.specs.Starts.{is_operand_of, operand_with, start_by, triggered, is_stopped, told_in, AreReachable}
 use Rattle.tta_sim.specs.Writing.{long_writes, is_long_place, numbered, numbered_one}
 use Rattle.tta_sim.specs.Decoded.{reading_of, write_decoded, start_decoded, tell_decoded, long_decoded, has_operation}
@@ -42,7 +41,7 @@ swap_three false false true false true z = refl
 swap_three false false true false false z = refl
 swap_three false false false x y z = refl
 
-any_three : {A : Type 0} (p a b c : A → Bool) (xs : List A) → AllByRecursion (λ x. p x ≡ (a x || (b x || c x))) xs
+pub any_three : {A : Type 0} (p a b c : A → Bool) (xs : List A) → AllByRecursion (λ x. p x ≡ (a x || (b x || c x))) xs
     → list_any p xs ≡ (list_any a xs || (list_any b xs || list_any c xs))
 any_three p a b c [] same = refl
 any_three p a b c (x ∷ xs) same =
@@ -52,116 +51,116 @@ any_three p a b c (x ∷ xs) same =
 module _ (m : Machine) (back : ℕ) (places : List (Option ℕ)) (r : Results) where
   -- the word of each source, by the places and the results shown
   abbrev reads : Reads
-  reads = reads_of places r.shown
+  reads = reads_of places (shown_by r)
 
   -- whether a move lacks the word of its guard, or acts and lacks that of its source
   abbrev unread : Move → Bool
-  unread v = is_unread places r.shown (reading_of v)
+  unread v = is_unread places (shown_by r) (reading_of v)
 
   -- moves cannot be read where the word of a register or of a port is lacking
   pub unread_moves : (ms : List Move) → list_any unread ms ≡ (list_any (lacks_register reads) (map effect_of ms) || list_any (has_unset reads is_port) (map effect_of ms))
   unread_moves [] = refl
   unread_moves (v ∷ ms) =
-      ap (λ b. b || list_any unread ms) (unread_same places r.shown v) ∙ ap (λ b. (lacks_register reads (effect_of v) || has_unset reads is_port (effect_of v)) || b) (unread_moves ms)
+      ap (λ b. b || list_any unread ms) (unread_same places (shown_by r) v) ∙ ap (λ b. (lacks_register reads (effect_of v) || has_unset reads is_port (effect_of v)) || b) (unread_moves ms)
       ∙ or_swap (lacks_register reads (effect_of v)) (has_unset reads is_port (effect_of v)) (list_any (lacks_register reads) (map effect_of ms)) (list_any (has_unset reads is_port) (map effect_of ms))
 
   -- whether any write of these moves, to a register, an operand port or the return address, cannot be read
   abbrev pub unread_writes : List Move → Bool
-  unread_writes ms = list_any (λ w. is_unread places r.shown w.reading) (filter_map (write_decoded m back) ms)
+  unread_writes ms = list_any (λ w. is_unread places (shown_by r) w.reading) (filter_map (write_decoded m back) ms)
 
   -- whether any of these moves that goes to the trigger port of a unit cannot be read
   abbrev pub unread_starts : List Move → Bool
-  unread_starts ms = list_any (λ s. is_unread places r.shown s.reading) (filter_map (start_decoded m) ms)
+  unread_starts ms = list_any (λ s. is_unread places (shown_by r) s.reading) (filter_map (start_decoded m) ms)
 
   -- whether any of these moves that goes to control's trigger port cannot be read
   abbrev pub unread_tells : List Move → Bool
-  unread_tells ms = list_any (λ t. is_unread places r.shown t.reading) (filter_map tell_decoded ms)
+  unread_tells ms = list_any (λ t. is_unread places (shown_by r) t.reading) (filter_map tell_decoded ms)
 
   parts_all : (ms : List Move) → AllByRecursion (λ v. has_operation m v ≡ true) ms → AllByRecursion (λ v. unread v
-      ≡ (option_map_or (λ w. is_unread places r.shown w.reading) (write_decoded m back v) false
-      || (option_map_or (λ s. is_unread places r.shown s.reading) (start_decoded m v) false
-      || option_map_or (λ t. is_unread places r.shown t.reading) (tell_decoded v) false))) ms
+      ≡ (option_map_or (λ w. is_unread places (shown_by r) w.reading) (write_decoded m back v) false
+      || (option_map_or (λ s. is_unread places (shown_by r) s.reading) (start_decoded m v) false
+      || option_map_or (λ t. is_unread places (shown_by r) t.reading) (tell_decoded v) false))) ms
   parts_all [] there = tt
-  parts_all (v ∷ ms) there = (parts_same places r.shown m back v there.0, parts_all ms there.1)
+  parts_all (v ∷ ms) there = (parts_same places (shown_by r) m back v there.0, parts_all ms there.1)
 
   -- they cannot be read where some of what they are decoded into cannot
   pub unread_parts : (ms : List Move) → AllByRecursion (λ v. has_operation m v ≡ true) ms → list_any unread ms ≡ (unread_writes ms || (unread_starts ms || unread_tells ms))
   unread_parts ms there =
-      any_three unread (λ v. option_map_or (λ w. is_unread places r.shown w.reading) (write_decoded m back v) false)
-      (λ v. option_map_or (λ s. is_unread places r.shown s.reading) (start_decoded m v) false)
-      (λ v. option_map_or (λ t. is_unread places r.shown t.reading) (tell_decoded v) false) ms (parts_all ms there)
-      ∙ ap (λ b. b || (list_any (λ v. option_map_or (λ s. is_unread places r.shown s.reading) (start_decoded m v) false) ms
-      || list_any (λ v. option_map_or (λ t. is_unread places r.shown t.reading) (tell_decoded v) false) ms))
-      (sym (any-filter_map (λ w. is_unread places r.shown w.reading) (write_decoded m back) ms))
-      ∙ ap (λ b. unread_writes ms || (b || list_any (λ v. option_map_or (λ t. is_unread places r.shown t.reading) (tell_decoded v) false) ms))
-      (sym (any-filter_map (λ s. is_unread places r.shown s.reading) (start_decoded m) ms))
-      ∙ ap (λ b. unread_writes ms || (unread_starts ms || b)) (sym (any-filter_map (λ t. is_unread places r.shown t.reading) tell_decoded ms))
+      any_three unread (λ v. option_map_or (λ w. is_unread places (shown_by r) w.reading) (write_decoded m back v) false)
+      (λ v. option_map_or (λ s. is_unread places (shown_by r) s.reading) (start_decoded m v) false)
+      (λ v. option_map_or (λ t. is_unread places (shown_by r) t.reading) (tell_decoded v) false) ms (parts_all ms there)
+      ∙ ap (λ b. b || (list_any (λ v. option_map_or (λ s. is_unread places (shown_by r) s.reading) (start_decoded m v) false) ms
+      || list_any (λ v. option_map_or (λ t. is_unread places (shown_by r) t.reading) (tell_decoded v) false) ms))
+      (sym (any-filter_map (λ w. is_unread places (shown_by r) w.reading) (write_decoded m back) ms))
+      ∙ ap (λ b. unread_writes ms || (b || list_any (λ v. option_map_or (λ t. is_unread places (shown_by r) t.reading) (tell_decoded v) false) ms))
+      (sym (any-filter_map (λ s. is_unread places (shown_by r) s.reading) (start_decoded m) ms))
+      ∙ ap (λ b. unread_writes ms || (unread_starts ms || b)) (sym (any-filter_map (λ t. is_unread places (shown_by r) t.reading) tell_decoded ms))
 
   -- ---- what is brought
 
   writes_each : (ms : List Move) → AllByRecursion (λ v. unread v ≡ false) ms
-      → AllByRecursion (λ v. option_and_then (write_brought places r.shown) (write_decoded m back v) ≡ option_map numbered_one (option_and_then (λ a. write_of m back (brought_of a)) (arrival_of reads v))) ms
+      → AllByRecursion (λ v. option_and_then (write_brought places (shown_by r)) (write_decoded m back v) ≡ option_map numbered_one (option_and_then (λ a. write_of m back (brought_of a)) (arrival_of reads v))) ms
   writes_each [] could = tt
-  writes_each (v ∷ ms) could = (write_same places r.shown m back v could.0, writes_each ms could.1)
+  writes_each (v ∷ ms) could = (write_same places (shown_by r) m back v could.0, writes_each ms could.1)
 
   pub writes_in : (ms : List Move) → AllByRecursion (λ v. unread v ≡ false) ms
-      → filter_map (write_brought places r.shown) (filter_map (write_decoded m back) ms) ≡ numbered (filter_map (write_of m back) (map brought_of (filter_map (arrival_of reads) ms)))
+      → filter_map (write_brought places (shown_by r)) (filter_map (write_decoded m back) ms) ≡ numbered (filter_map (write_of m back) (map brought_of (filter_map (arrival_of reads) ms)))
   writes_in ms could =
       let one : Move → Option Write = λ v. option_map numbered_one (option_and_then (λ a. write_of m back (brought_of a)) (arrival_of reads v)) in
-      filter_map-twice (write_brought places r.shown) (write_decoded m back) ms
-      ∙ filter_map-same (λ v. option_and_then (write_brought places r.shown) (write_decoded m back v)) one ms (writes_each ms could)
+      filter_map-twice (write_brought places (shown_by r)) (write_decoded m back) ms
+      ∙ filter_map-same (λ v. option_and_then (write_brought places (shown_by r)) (write_decoded m back v)) one ms (writes_each ms could)
       ∙ sym (map-filter_map numbered_one (λ v. option_and_then (λ a. write_of m back (brought_of a)) (arrival_of reads v)) ms)
       ∙ ap numbered (sym (filter_map-twice (λ a. write_of m back (brought_of a)) (arrival_of reads) ms))
       ∙ ap numbered (sym (filter_map-map (write_of m back) brought_of (filter_map (arrival_of reads) ms)))
 
-  pub long_in : (long : Option Long) → filter_map (write_brought places r.shown) (option_to_list (long_decoded m long)) ≡ numbered (long_writes m long)
+  pub long_in : (long : Option Long) → filter_map (write_brought places (shown_by r)) (option_to_list (long_decoded m long)) ≡ numbered (long_writes m long)
   long_in None = refl
   long_in (Some l) = by (slice_get m.templates l.template) where
-    by : (o : Option Template) → filter_map (write_brought places r.shown) (option_to_list (option_map (λ t. record { reading = record { guard = None; src = decoded.Word l.value }; place = number_of (KeptImm t.imm t.reg); narrow = false }) o))
+    by : (o : Option Template) → filter_map (write_brought places (shown_by r)) (option_to_list (option_map (λ t. record { reading = record { guard = None; src = decoded.Word l.value }; place = number_of (KeptImm t.imm t.reg); narrow = false }) o))
         ≡ numbered (option_map_or (λ t. (KeptImm t.imm t.reg, l.value) ∷ []) o [])
     by None = refl
     by (Some t) = refl
 
-  pub long_unread : (long : Option Long) → list_any {X = DecodedWrite} (λ w. is_unread places r.shown w.reading) (option_to_list (long_decoded m long)) ≡ false
+  pub long_unread : (long : Option Long) → list_any {X = DecodedWrite} (λ w. is_unread places (shown_by r) w.reading) (option_to_list (long_decoded m long)) ≡ false
   long_unread None = refl
   long_unread (Some l) = by (slice_get m.templates l.template) where
-    by : (o : Option Template) → list_any {X = DecodedWrite} (λ w. is_unread places r.shown w.reading) (option_to_list (option_map (λ t. record { reading = record { guard = None; src = decoded.Word l.value }; place = number_of (KeptImm t.imm t.reg); narrow = false }) o)) ≡ false
+    by : (o : Option Template) → list_any {X = DecodedWrite} (λ w. is_unread places (shown_by r) w.reading) (option_to_list (option_map (λ t. record { reading = record { guard = None; src = decoded.Word l.value }; place = number_of (KeptImm t.imm t.reg); narrow = false }) o)) ≡ false
     by None = refl
     by (Some t) = refl
 
-  pub starts_in : (operand : ℕ → Option ℕ) (ms : List Move) → filter_map (start_brought places r.shown operand) (filter_map (start_decoded m) ms) ≡ filter_map (start_by m operand) (filter_map (arrival_of reads) ms)
+  pub starts_in : (operand : ℕ → Option ℕ) (ms : List Move) → filter_map (start_brought places (shown_by r) operand) (filter_map (start_decoded m) ms) ≡ filter_map (start_by m operand) (filter_map (arrival_of reads) ms)
   starts_in operand ms =
-      filter_map-twice (start_brought places r.shown operand) (start_decoded m) ms
-      ∙ filter_map-same (λ v. option_and_then (start_brought places r.shown operand) (start_decoded m v)) (λ v. option_and_then (start_by m operand) (arrival_of reads v)) ms (each ms)
+      filter_map-twice (start_brought places (shown_by r) operand) (start_decoded m) ms
+      ∙ filter_map-same (λ v. option_and_then (start_brought places (shown_by r) operand) (start_decoded m v)) (λ v. option_and_then (start_by m operand) (arrival_of reads v)) ms (each ms)
       ∙ sym (filter_map-twice (start_by m operand) (arrival_of reads) ms)
     where
-      each : (ms : List Move) → AllByRecursion (λ v. option_and_then (start_brought places r.shown operand) (start_decoded m v) ≡ option_and_then (start_by m operand) (arrival_of reads v)) ms
+      each : (ms : List Move) → AllByRecursion (λ v. option_and_then (start_brought places (shown_by r) operand) (start_decoded m v) ≡ option_and_then (start_by m operand) (arrival_of reads v)) ms
       each [] = tt
-      each (v ∷ ms) = (start_same places r.shown m operand v, each ms)
+      each (v ∷ ms) = (start_same places (shown_by r) m operand v, each ms)
 
-  pub tells_in : (ms : List Move) → first_some (tell_brought places r.shown) (filter_map tell_decoded ms) ≡ told_in (filter_map (arrival_of reads) ms)
+  pub tells_in : (ms : List Move) → first_some (tell_brought places (shown_by r)) (filter_map tell_decoded ms) ≡ told_in (filter_map (arrival_of reads) ms)
   tells_in ms =
-      first-filter_map (tell_brought places r.shown) tell_decoded ms
-      ∙ first-same (λ v. option_and_then (tell_brought places r.shown) (tell_decoded v)) (λ v. option_and_then (λ a. control_of (brought_of a)) (arrival_of reads v)) ms (tell_same places r.shown)
+      first-filter_map (tell_brought places (shown_by r)) tell_decoded ms
+      ∙ first-same (λ v. option_and_then (tell_brought places (shown_by r)) (tell_decoded v)) (λ v. option_and_then (λ a. control_of (brought_of a)) (arrival_of reads v)) ms (tell_same places (shown_by r))
       ∙ sym (first-filter_map (λ a. control_of (brought_of a)) (arrival_of reads) ms)
       ∙ sym (first-map control_of brought_of (filter_map (arrival_of reads) ms))
 
   -- operations that cannot start, or cannot be read
   pub cannot_all : (operand : ℕ → Option ℕ) (starts : List DecodedStart) → list_any (cannot_start places r operand) starts
-      ≡ (list_any (λ s. is_unread places r.shown s.reading) starts || list_any (is_stopped r) (filter_map (start_brought places r.shown operand) starts))
+      ≡ (list_any (λ s. is_unread places (shown_by r) s.reading) starts || list_any (is_stopped r) (filter_map (start_brought places (shown_by r) operand) starts))
   cannot_all operand [] = refl
   cannot_all operand (s ∷ starts) =
-      let here : Option Start = start_brought places r.shown operand s in
-      let more = filter_map (start_brought places r.shown operand) starts in
-      ap (λ b. (is_unread places r.shown s.reading || list_any (is_stopped r) (option_to_list here)) || b) (cannot_all operand starts)
-      ∙ or_swap (is_unread places r.shown s.reading) (list_any (is_stopped r) (option_to_list here)) (list_any (λ s. is_unread places r.shown s.reading) starts) (list_any (is_stopped r) more)
-      ∙ ap (λ b. (is_unread places r.shown s.reading || list_any (λ s. is_unread places r.shown s.reading) starts) || b) (joined here)
+      let here : Option Start = start_brought places (shown_by r) operand s in
+      let more = filter_map (start_brought places (shown_by r) operand) starts in
+      ap (λ b. (is_unread places (shown_by r) s.reading || list_any (is_stopped r) (option_to_list here)) || b) (cannot_all operand starts)
+      ∙ or_swap (is_unread places (shown_by r) s.reading) (list_any (is_stopped r) (option_to_list here)) (list_any (λ s. is_unread places (shown_by r) s.reading) starts) (list_any (is_stopped r) more)
+      ∙ ap (λ b. (is_unread places (shown_by r) s.reading || list_any (λ s. is_unread places (shown_by r) s.reading) starts) || b) (joined here)
     where
-      joined : (o : Option Start) → (list_any (is_stopped r) (option_to_list o) || list_any (is_stopped r) (filter_map (start_brought places r.shown operand) starts))
-          ≡ list_any (is_stopped r) (cons_option o (filter_map (start_brought places r.shown operand) starts))
+      joined : (o : Option Start) → (list_any (is_stopped r) (option_to_list o) || list_any (is_stopped r) (filter_map (start_brought places (shown_by r) operand) starts))
+          ≡ list_any (is_stopped r) (cons_option o (filter_map (start_brought places (shown_by r) operand) starts))
       joined None = refl
       joined (Some t) = by (is_stopped r t) where
-        by : (b : Bool) → ((b || false) || list_any (is_stopped r) (filter_map (start_brought places r.shown operand) starts)) ≡ (b || list_any (is_stopped r) (filter_map (start_brought places r.shown operand) starts))
+        by : (b : Bool) → ((b || false) || list_any (is_stopped r) (filter_map (start_brought places (shown_by r) operand) starts)) ≡ (b || list_any (is_stopped r) (filter_map (start_brought places (shown_by r) operand) starts))
         by true = refl
         by false = refl
 

@@ -3,7 +3,7 @@ use Rattle.std.proofs.Common.{◌≡◌, ℕ, ◌<◌, ◌≤◌, Bool, true, fa
 use Rattle.std.specs.Prelude.{nat_lt, option_map, option_to_list, option_and_then, filter, slice_get, if◌then◌else◌}
 use Rattle.std.specs.Option.{option_map_or}
 use Rattle.std.specs.List.{filter_map, cons_option, AllByRecursion}
-use Rattle.std.proofs.lemmas.Bool.{and_parts, ltb-true}
+use Rattle.std.proofs.lemmas.Bool.{and_parts, and_from, ltb-true}
 use Rattle.std.proofs.lemmas.List.{length-append}
 use Rattle.tta_arch.specs.declared.parts.UnitOp.{UnitOp}
 use Rattle.tta_arch.specs.declared.parts.Template.{Template}
@@ -14,20 +14,19 @@ use Rattle.tta_arch.specs.declared.ends.Dest.{Dest}
 use Rattle.tta_arch.specs.declared.ends.Dest.TheVariants as dest
 use Rattle.tta_arch.specs.Machine.{Machine}
 use Rattle.tta_arch.specs.Rules.{IsMachine}
-use Rattle.tta_arch.specs.Effects.{KeptReg, KeptImm, KeptOperand, Written, write_of, op_at, has_result}
+use Rattle.tta_arch.specs.Effects.{KeptReg, KeptImm, KeptOperand, write_of, op_at, has_result}
 use Rattle.tta_code.specs.declared.code.Move.{Move}
 use Rattle.tta_code.specs.declared.code.Long.{Long}
 use Rattle.tta_code.specs.declared.code.Instruction.{Instruction}
 use Rattle.tta_code.specs.Cycle.{moves_of}
 use Rattle.tta_code.specs.Legal.{is_legal}
-use Rattle.tta_sim.specs.declared.arrivals.Arrival.{Arrival}
 use Rattle.tta_sim.specs.declared.decoded.DecodedSource.TheVariants as decoded
 use Rattle.tta_sim.specs.declared.decoded.DecodedStart.{DecodedStart}
 use Rattle.tta_sim.specs.declared.decoded.DecodedWrite.{DecodedWrite}
 use Rattle.tta_sim.specs.Places.{is_place, number_of}
-use Rattle.tta_sim.specs.Moves.{is_askable, is_readable, is_reachable, is_possible, is_possible_slot, brought_of}
+use Rattle.tta_sim.specs.Moves.{Arrival, is_askable, is_readable, is_reachable, is_possible, is_possible_slot, brought_of}
 use Rattle.tta_sim.specs.Starts.{AreReachable}
-use Rattle.tta_sim.specs.Writing.{is_long_place, long_writes, numbered, ArePlaces}
+use Rattle.tta_sim.specs.Writing.{is_long_place, long_writes, ArePlaces}
 use Rattle.tta_sim.specs.Decoded.{source_decoded, reading_of, write_decoded, start_decoded, store_decoded, tell_decoded, long_decoded, line_of}
 use Rattle.tta_sim.specs.Lines.{is_source_there, is_reading_there, is_write_there, is_start_there, is_tell_there, is_store, IsLineThere}
 use Rattle.tta_sim.proofs.Rows.{number_within}
@@ -105,7 +104,7 @@ module _ (m : Machine) (units : ℕ) (few : units ≤ 32) where
 
       of : (o : Option UnitOp) → option_map_or (is_start_there units) (option_map (λ u. record { reading = reading_of v; unit = unit; does = u }) o) true ≡ true
       of None = refl
-      of (Some u) = rw (reading_there v possible) unit_there
+      of (Some u) = rw (reading_there v possible) (and_from (is_place (KeptOperand unit)) (nat_lt unit units) unit_there there)
     by dest.Jump there = refl
     by dest.Call there = refl
     by dest.Halt there = refl
@@ -171,6 +170,7 @@ line_there m rules back i legal =
     record {
       few_writes =
           omega (arith, fits.few, count, length-filter_map (write_decoded m back) ms, length-append writes (option_to_list (long_decoded m i.long)), length-option (long_decoded m i.long));
+      few_starts = omega (arith, fits.few, count, length-filter_map (start_decoded m) ms);
       few_stores = omega (arith, fits.few, count, length-filter_map (store_decoded m) ms);
       stored = stored_parts m ms;
       quiet = refl;
@@ -212,7 +212,3 @@ writes_placed m back units (a ∷ arrivals) long there placed = by a.dst there.0
   by dest.Jump there rest = rest
   by dest.Call there rest = (refl, rest)
   by dest.Halt there rest = rest
-
-pub numbers_within : (written : Written) → ArePlaces written → AllByRecursion (λ w. w.place < 609) (numbered written)
-numbers_within [] there = tt
-numbers_within (w ∷ written) there = (number_within w.0 there.0, numbers_within written there.1)

@@ -1,5 +1,5 @@
 -- Runs that begin, go on or are over.
-use Rattle.std.proofs.Common.{◌≡◌, ℕ, zero, suc, ◌+◌, ◌≤◌, get_or, ◌^◌, IsTrue, List, [], ◌∷◌, length, replicate, Option, Some, None, refl, sym, ap, ◌∙◌, subst, arith}
+use Rattle.std.proofs.Common.{◌≡◌, ℕ, zero, suc, ◌+◌, ◌<◌, ◌≤◌, get_or, ◌^◌, true, false, IsTrue, List, [], ◌∷◌, length, replicate, Option, Some, None, refl, sym, ap, ◌∙◌, subst, arith}
 use Rattle.std.specs.Prelude.{slice_get}
 use Rattle.std.specs.List.{AllByRecursion}
 use Rattle.tta_ops.specs.Units.{Units}
@@ -11,25 +11,29 @@ use Rattle.std.proofs.lemmas.List.{length-replicate}
 use Rattle.tta_code.specs.declared.code.Instruction.{Instruction}
 use Rattle.tta_code.specs.declared.code.Code.{Code}
 use Rattle.tta_code.specs.Legal.{is_legal, IsLegalCode}
-use Rattle.tta_code.specs.Cycle.{Result', State, Running, Halted, Waiting, Fault, next, start, carry_out}
+use Rattle.tta_code.specs.Cycle.{State, Running, Halted, Fault, next, start, carry_out}
 use Rattle.tta_sim.specs.declared.answer.CycleStep.{CycleStep}
 use Rattle.tta_sim.specs.declared.answer.CycleStep.TheVariants.{Ran, Halted as HadHalted, Waiting as Waits, Fault as Faults}
 use Rattle.tta_sim.specs.declared.control.Control.{Control}
 use Rattle.tta_sim.specs.declared.control.Phase.TheVariants as phase
 use Rattle.tta_sim.specs.declared.decoded.Line.{Line}
 use Rattle.tta_sim.specs.declared.store.Store.{Store}
-use Rattle.tta_sim.specs.Decoded.{line_of, lines_from}
+use Rattle.tta_sim.specs.Decoded.{line_of, lines_from, IsDecoded}
+use Rattle.tta_sim.specs.Lines.{IsLineThere}
+use Rattle.tta_sim.specs.Ready.{FitsLine}
 use Rattle.tta_sim.specs.Places.{HasWritten}
-use Rattle.tta_sim.specs.Results.{AreResultsOf}
-use Rattle.tta_sim.specs.Held.{Held, Stands, GoesTo, IsAnswer, IsRunOf, is_fault}
+use Rattle.tta_sim.specs.Results.{Results, AreResultsOf, HasUnits}
+use Rattle.tta_sim.specs.Held.{HeldState, StandsWith, GoesWith, IsAnswer, IsStateOf, is_fault}
 use Rattle.tta_sim.specs.Controls.{outcome_of}
 use Rattle.tta_sim.specs.Kept.{held_of, IsCarried}
-use Rattle.tta_sim.proofs.Rows.{nothing_at}
+use Rattle.tta_sim.proofs.Possible.{Found}
+use Rattle.tta_sim.proofs.Fitting.{line_there}
+use Rattle.tta_sim.proofs.Facing.{fits_line}
 
 -- ---- over
 
-module _ (u : Units) (m : Machine) (code : Code) (h : Held) (s : State) (same : Stands h s) where
-  pub halted_stands : h.outcome ≡ Halted → Stands h (next u m code s)
+module _ (u : Units) (m : Machine) (code : Code) (r : Results) (h : HeldState) (s : State) (same : StandsWith r h s) where
+  pub halted_stands : h.outcome ≡ Halted → StandsWith r h (next u m code s)
   unfolding next
   halted_stands over =
       let ended : s.outcome ≡ Halted = sym same.outcome ∙ over in
@@ -45,8 +49,8 @@ module _ (u : Units) (m : Machine) (code : Code) (h : Held) (s : State) (same : 
       let ended : s.outcome ≡ Fault number at = sym same.outcome ∙ over in
       rw ended refl
 
-  pub fault_stands : (number at : ℕ) → h.outcome ≡ Fault number at → Stands h (next u m code s)
-  fault_stands number at over = subst (Stands h) (sym (fault_still number at over)) same
+  pub fault_stands : (number at : ℕ) → h.outcome ≡ Fault number at → StandsWith r h (next u m code s)
+  fault_stands number at over = subst (StandsWith r h) (sym (fault_still number at over)) same
 
   pub fault_answer : (number : ℕ) → h.outcome ≡ Fault number h.cycle → IsAnswer u m code s (Faults number)
   fault_answer number over =
@@ -54,10 +58,10 @@ module _ (u : Units) (m : Machine) (code : Code) (h : Held) (s : State) (same : 
 
 -- ---- going on
 
-module _ (u : Units) (m : Machine) (code : Code) (lines : List Line) (store : Store) (control : Control) (s : State) (same : Stands (held_of lines store control) s)
+module _ (u : Units) (m : Machine) (code : Code) (lines : List Line) (store : Store) (r : Results) (control : Control) (s : State) (same : StandsWith r (held_of lines store control) s)
     (running : control.phase ≡ phase.Running) where
   runs : s.outcome ≡ Running
-  runs = sym same.outcome ∙ ap (outcome_of store.results.cycle) running
+  runs = sym same.outcome ∙ ap (outcome_of store.cycle) running
 
   next_is : (o : Option Instruction) → slice_get code.words control.pc ≡ o → next u m code s ≡ carry_out u m s o
   unfolding next
@@ -69,8 +73,8 @@ module _ (u : Units) (m : Machine) (code : Code) (lines : List Line) (store : St
   past : slice_get code.words control.pc ≡ None → next u m code s ≡ record s { outcome = Fault 65 s.cycle }
   past none = next_is None none
 
-  pub past_stands : slice_get code.words control.pc ≡ None → Stands (held_of lines store (record control { phase = phase.Fault 65 })) (next u m code s)
-  past_stands none = subst (Stands (held_of lines store (record control { phase = phase.Fault 65 }))) (sym (past none)) (record {
+  pub past_stands : slice_get code.words control.pc ≡ None → StandsWith r (held_of lines store (record control { phase = phase.Fault 65 })) (next u m code s)
+  past_stands none = subst (StandsWith r (held_of lines store (record control { phase = phase.Fault 65 }))) (sym (past none)) (record {
     places = same.places;
     results = same.results;
     memory = same.memory;
@@ -84,18 +88,18 @@ module _ (u : Units) (m : Machine) (code : Code) (lines : List Line) (store : St
   pub past_answer : slice_get code.words control.pc ≡ None → IsAnswer u m code s (Faults 65)
   past_answer none = ap (λ t. t.outcome) (past none)
 
-  pub goes_stands : (i : Instruction) (h : Held) (answer : CycleStep) → slice_get code.words control.pc ≡ Some i
-      → IsCarried h s (carry_out u m s (Some i)) answer → GoesTo h s (next u m code s) answer
-  goes_stands i h answer at carried = subst (λ t. GoesTo h s t answer) (sym (next_is (Some i) at)) carried.stands
+  pub goes_stands : (i : Instruction) (r' : Results) (h : HeldState) (answer : CycleStep) → slice_get code.words control.pc ≡ Some i
+      → IsCarried r' h s (carry_out u m s (Some i)) answer → GoesWith r' h s (next u m code s) answer
+  goes_stands i r' h answer at carried = subst (λ t. GoesWith r' h s t answer) (sym (next_is (Some i) at)) carried.stands
 
-  pub goes_answer : (i : Instruction) (h : Held) (answer : CycleStep) → slice_get code.words control.pc ≡ Some i
-      → IsCarried h s (carry_out u m s (Some i)) answer → IsAnswer u m code s answer
-  goes_answer i h (Ran word took) at carried =
+  pub goes_answer : (i : Instruction) (r' : Results) (h : HeldState) (answer : CycleStep) → slice_get code.words control.pc ≡ Some i
+      → IsCarried r' h s (carry_out u m s (Some i)) answer → IsAnswer u m code s answer
+  goes_answer i r' h (Ran word took) at carried =
       let is = next_is (Some i) at in
       (runs, (ap (λ t. is_fault t.outcome) is ∙ carried.answers.0, ap (λ t. t.output) is ∙ carried.answers.1, ap (λ t. t.rest) is ∙ carried.answers.2))
-  goes_answer i h Waits at carried = (runs, next_is (Some i) at ∙ carried.answers)
-  goes_answer i h HadHalted at carried = absurd carried.answers
-  goes_answer i h (Faults number) at carried = ap (λ t. t.outcome) (next_is (Some i) at) ∙ carried.answers
+  goes_answer i r' h Waits at carried = (runs, next_is (Some i) at ∙ carried.answers)
+  goes_answer i r' h HadHalted at carried = absurd carried.answers
+  goes_answer i r' h (Faults number) at carried = ap (λ t. t.outcome) (next_is (Some i) at) ∙ carried.answers
 
 -- ---- the code
 
@@ -116,6 +120,55 @@ pub length-lines : (m : Machine) (back : ℕ) (words : List Instruction) → len
 length-lines m back [] = refl
 length-lines m back (i ∷ words) = ap suc (length-lines m (back + 1) words)
 
+-- an address within the code has an instruction
+instruction_there : (words : List Instruction) (k : ℕ) → k < length words → Found words k (λ i. true)
+instruction_there [] k within = absurd (omega (arith, within))
+instruction_there (i ∷ words) zero within = record { item = i; at = refl; within = omega arith; passes = refl }
+instruction_there (i ∷ words) (suc k) within =
+    let rest = instruction_there words k (omega (arith, within)) in
+    record { item = rest.item; at = rest.at; within = omega (arith, rest.within); passes = refl }
+
+-- and one past the code has none
+pub past_all : (words : List Instruction) (k : ℕ) → length words ≤ k → slice_get words k ≡ None
+past_all [] k past = refl
+past_all (i ∷ words) zero past = absurd (omega (arith, past))
+past_all (i ∷ words) (suc k) past = past_all words k (omega (arith, past))
+
+-- the line at an address is that of the instruction there
+decoded_at : (m : Machine) (code : Code) (h : HeldState) → IsMachine m → IsStateOf m code h → (k : ℕ) (i : Instruction) (delay : ℕ) (lines : List Line) (l : Line)
+    → slice_get code.words k ≡ Some i → delay ≡ m.control.delay → lines ≡ h.lines → l ≡ get_or lines k l → IsDecoded m (k + 1 + delay) i l
+decoded_at m code h rules run k i delay lines l at is same item =
+    let number : 1 + m.control.delay + k ≡ k + 1 + delay = omega (arith, is) in
+    record {
+      rules = rules;
+      legal = legal_at m code.words k i run.legal.words at;
+      line = item ∙ ap (λ xs. get_or xs k l) (same ∙ run.decoded) ∙ line_at m (1 + m.control.delay) code.words k i l at ∙ ap (λ n. line_of m n i) number;
+    }
+
+-- The instruction at an address within the code, and the line there, whose ends are there and whose operations fit.
+pub record Here (m : Machine) (code : Code) (k delay : ℕ) (store : Store) (r : Results) (l : Line) : Type 0 where
+  pub item : Instruction
+  pub at : slice_get code.words k ≡ Some item
+  pub decoded : IsDecoded m (k + 1 + delay) item l
+  pub there : IsLineThere r.units l
+  pub fits : FitsLine store r l
+
+pub line_here : (m : Machine) (code : Code) (h : HeldState) → IsMachine m → IsStateOf m code h → (k delay : ℕ) (lines : List Line) (store : Store) (r : Results) (l : Line)
+    → k < length code.words → delay ≡ m.control.delay → lines ≡ h.lines → l ≡ get_or lines k l → HasUnits r.base m r.rings → r.units ≡ length m.units
+    → Here m code k delay store r l
+line_here m code h rules run k delay lines store r l within is same item has size =
+    let i = instruction_there code.words k within in
+    let decoded = decoded_at m code h rules run k i.item delay lines l i.at is same item in
+    record {
+      item = i.item;
+      at = i.at;
+      decoded = decoded;
+      there =
+          subst (IsLineThere r.units) (sym decoded.line)
+          (subst (λ n. IsLineThere n (line_of m (k + 1 + delay) i.item)) (sym size) (line_there m rules (k + 1 + delay) i.item decoded.legal));
+      fits = fits_line m rules i.item decoded.legal (k + 1 + delay) l decoded.line store.places r false has size;
+    }
+
 -- addresses of 16 bits reach all instructions
 pub all_reached : (m : Machine) (code : Code) → IsMachine m → IsLegalCode m code → length code.words ≤ 65536
 all_reached m code rules legal =
@@ -124,30 +177,27 @@ all_reached m code rules legal =
 
 -- ---- the start
 
-pub first_stands : (m : Machine) (memory input : List ℕ) (lines : List Line) (store : Store) (control : Control) (units : ℕ) → HasWritten store.places []
-    → store.results ≡ record { cycle = 0; shown = replicate units None; coming = [] }
-    → store.memory.items ≡ memory → store.frame.items ≡ replicate m.frame_words 0
-    → control ≡ record { pc = 0; pending = None; phase = phase.Running } → Stands (held_of lines store control) (start m memory input)
-first_stands m memory input lines store control units written results words frame first = rw first (record {
+pub first_stands : (m : Machine) (memory input : List ℕ) (lines : List Line) (store : Store) (control : Control) (r : Results) → HasWritten store.places []
+    → store.cycle ≡ 0 → store.memory.items ≡ memory → store.frame.items ≡ replicate m.frame_words 0
+    → control ≡ record { pc = 0; pending = None; phase = phase.Running } → AreResultsOf [] 0 r → StandsWith r (held_of lines store control) (start m memory input)
+first_stands m memory input lines store control r written cycle words frame first results = rw first (record {
   places = written;
-  results = subst (AreResultsOf []) (sym results) (record { shown = λ unit there. sym (nothing_at units unit); coming = λ unit due less. refl });
+  results = results;
   memory = words;
   frame = frame;
   pc = refl;
-  cycle = ap (λ r. r.cycle) results;
+  cycle = cycle;
   pending = refl;
   outcome = refl;
 })
 
-pub first_run : (m : Machine) (code : Code) (lines : List Line) (store : Store) (control : Control) (units words : ℕ) → IsMachine m → IsLegalCode m code → lines ≡ lines_from m (1 + m.control.delay) code.words
-    → store.results ≡ record { cycle = 0; shown = replicate units None; coming = [] } → units ≡ length m.units
+pub first_run : (m : Machine) (code : Code) (lines : List Line) (store : Store) (control : Control) (words : ℕ) → IsMachine m → IsLegalCode m code → lines ≡ lines_from m (1 + m.control.delay) code.words
     → length store.memory.items ≡ m.data_words → store.frame.items ≡ replicate words 0 → words ≡ m.frame_words
-    → IsRunOf m code (held_of lines store control)
-first_run m code lines store control units words rules legal decoded results many size frame all = record {
+    → IsStateOf m code (held_of lines store control)
+first_run m code lines store control words rules legal decoded size frame all = record {
   legal = legal;
   reached = all_reached m code rules legal;
   decoded = decoded;
-  units = ap (λ r. length r.shown) results ∙ length-replicate {A = Option Result'} units None ∙ many;
   memory = size;
   frame = ap length frame ∙ length-replicate {A = ℕ} words 0 ∙ all;
 }

@@ -1,12 +1,9 @@
 pub mod Agreeing
 pub mod Decoding
 pub mod Beginning
-pub mod Gathering
-pub mod Landed
 pub mod Lining
 pub mod Lists
 pub mod Possible
-pub mod Room
 pub mod Rows
 pub mod Showing
 pub mod Starting
@@ -21,3 +18,6 @@ pub mod Brought
 pub mod Readying
 pub mod Going
 pub mod Taking
+pub mod UnsetReads
+pub mod Leaving
+pub mod Owning

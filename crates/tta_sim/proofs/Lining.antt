@@ -12,11 +12,10 @@ use Rattle.tta_arch.specs.declared.parts.UnitOp.{UnitOp}
 use Rattle.tta_arch.specs.Machine.{Machine}
 use Rattle.tta_arch.specs.Effects.{Kind, Jumps, Calls, Halts, Reads, KeptReg, KeptOperand, KeptRa, Start, width_of, write_of, op_at, or_else, first_some, control_of, moved, is_active, is_port, has_unset_guard, has_unset}
 use Rattle.tta_code.specs.declared.code.Move.{Move}
-use Rattle.tta_code.specs.Cycle.{Result', effect_of}
-use Rattle.tta_sim.specs.declared.arrivals.Arrival.{Arrival}
+use Rattle.tta_code.specs.Cycle.{effect_of}
 use Rattle.tta_sim.specs.declared.decoded.DecodedStart.{DecodedStart}
 use Rattle.tta_sim.specs.declared.lines.Write.{Write}
-use Rattle.tta_sim.specs.Moves.{reads_of, lacks_register, arrival_of, brought_of}
+use Rattle.tta_sim.specs.Moves.{Arrival, reads_of, lacks_register, arrival_of, brought_of}
 use Rattle.tta_sim.specs.Places.{number_of}
 use Rattle.tta_sim.specs.Starts.{start_by, started}
 use Rattle.tta_sim.specs.Decoded.{source_decoded, reading_of, write_decoded, start_decoded, tell_decoded, has_operation}
@@ -72,7 +71,7 @@ module _ {A B : Type 0} where
 
 -- ---- what a move reads
 
-module _ (places : List (Option ℕ)) (shown : List (Option Result')) where
+module _ (places : List (Option ℕ)) (shown : ℕ → Option ℕ) where
   -- the word of each source, by the places and the results shown
   abbrev reads : Reads
   reads = reads_of places shown
@@ -219,7 +218,7 @@ module _ (places : List (Option ℕ)) (shown : List (Option Result')) where
       by dest.Call = none dest.Call (λ word. refl) (moved reads (effect_of v))
       by dest.Halt = none dest.Halt (λ word. refl) (moved reads (effect_of v))
 
-  -- what a move tells control
+  -- a control move
   pub tell_same : (v : Move) → option_and_then (tell_brought places shown) (tell_decoded v) ≡ option_and_then (λ a. control_of (brought_of a)) (arrival_of reads v)
   tell_same v = by v.dst where
     tells : Dest → Option ℕ → Option (Kind × ℕ)

@@ -31,14 +31,20 @@ or_swap true false = refl
 or_swap false true = refl
 or_swap false false = refl
 
--- a test of a list that grew
-pub any_grown : {A : Type 0} (p : A → Bool) (xs more all : List A) (old one new : Bool) → old ≡ list_any p xs → one ≡ list_any p more
-    → new ≡ (one || old) → all ≡ xs ++ more → new ≡ list_any p all
-any_grown p xs more all old one new before here joined grown =
-    joined ∙ ap (λ b. b || old) here ∙ ap (λ b. list_any p more || b) before ∙ or_swap (list_any p more) (list_any p xs)
-    ∙ sym (list_any-append p xs more) ∙ ap (list_any p) (sym grown)
+or_false : (a : Bool) → (a || false) ≡ a
+or_false true = refl
+or_false false = refl
 
--- a test that the next element does not pass is one of those behind it
+-- a test of one more element
+pub any_more : {A : Type 0} (p : A → Bool) (xs : List A) (i : ℕ) (d : A) (old one new : Bool) → i < length xs → old ≡ list_any p (take i xs)
+    → one ≡ p (get_or xs i d) → new ≡ (one || old) → new ≡ list_any p (take (i + 1) xs)
+any_more p xs i d old one new within before here joined =
+    let next = get_or xs i d in
+    joined ∙ ap (λ b. b || old) here ∙ ap (λ b. p next || b) before ∙ or_swap (p next) (list_any p (take i xs))
+    ∙ ap (λ b. list_any p (take i xs) || b) (sym (or_false (p next)))
+    ∙ sym (list_any-append p (take i xs) (next ∷ [])) ∙ ap (list_any p) (sym (take_more xs i d within))
+
+-- a test that the next element does not pass is one of those after it
 pub any_left : {A : Type 0} (p : A → Bool) (xs : List A) (i : ℕ) (d : A) (all : Bool) → i < length xs → all ≡ list_any p (drop i xs)
     → p (get_or xs i d) ≡ false → all ≡ list_any p (drop (i + 1) xs)
 any_left p xs i d all within before here =
@@ -47,11 +53,6 @@ any_left p xs i d all within before here =
 -- no more elements come of a function than it is given
 pub length-so_far : {A B : Type 0} (f : A → Option B) (xs : List A) (i : ℕ) (ys : List B) → i < length xs → ys ≡ filter_map f (take i xs) → length ys ≤ i
 length-so_far f xs i ys within are = omega (arith, ap length are, length-filter_map f (take i xs), length-take-le i xs (omega arith))
-
--- a test that the next element passes
-pub any_here : {A : Type 0} (p : A → Bool) (xs : List A) (i : ℕ) (d : A) (all : Bool) → i < length xs → all ≡ list_any p (drop i xs)
-    → p (get_or xs i d) ≡ true → all ≡ true
-any_here p xs i d all within before here = before ∙ ap (list_any p) (drop_more xs i d within) ∙ ap (λ b. b || list_any p (drop (i + 1) xs)) here
 
 -- ---- looked up
 

@@ -1,6 +1,6 @@
 -- Which operations a legal instruction starts.
-use Rattle.std.proofs.Common.{◌≡◌, ℕ, zero, suc, ◌<◌, ◌≤◌, ◌==◌, Bool, true, false, not, ◌&&◌, ◌||◌, IsTrue, List, [], ◌∷◌, ◌++◌, length, map, Option, Some, None, refl, sym, ap, ◌∙◌, arith}
-use Rattle.std.specs.Prelude.{slice_get, option_map, option_and_then, option_to_list, fold, filter, if◌then◌else◌, nat_lt, nat_le}
+use Rattle.std.proofs.Common.{◌≡◌, ℕ, zero, suc, ◌<◌, ◌≤◌, ◌==◌, Bool, true, false, not, ◌&&◌, ◌||◌, IsTrue, List, [], ◌∷◌, ◌++◌, length, map, Option, Some, None, refl, sym, ap, ◌∙◌, subst, arith}
+use Rattle.std.specs.Prelude.{slice_get, option_map, option_and_then, option_to_list, fold, filter, if◌then◌else◌, nat_lt, nat_le, IfSome}
 use Rattle.std.specs.Option.{option_map_or}
 use Rattle.std.specs.List.{list_any, list_all, filter_map, cons_option, find, AllByRecursion}
 use Rattle.std.proofs.lemmas.Bool.{and_parts, and_from, or_parts, or_from, not-true}
@@ -16,16 +16,15 @@ use Rattle.tta_arch.specs.declared.ends.Dest.TheVariants as dest
 use Rattle.tta_arch.specs.Machine.{Machine}
 use Rattle.tta_arch.specs.Legal.{are_apart, same_place, ends_of as ends_in}
 use Rattle.tta_arch.specs.Rules.{IsMachine, is_unit, is_unit_op, fits_kind, same_op, is_stream_op, are_different}
-use Rattle.tta_arch.specs.Effects.{Start, Reads, has_result, put_out, moved, takes, takes_in}
+use Rattle.tta_arch.specs.Effects.{Start, Reads, op_at, has_result, put_out, moved, takes, takes_in}
 use Rattle.tta_code.specs.declared.code.Move.{Move}
 use Rattle.tta_code.specs.declared.code.Instruction.{Instruction}
 use Rattle.tta_code.specs.Cycle.{effect_of}
 use Rattle.tta_code.specs.Legal.{ends_of, is_legal}
 use Rattle.tta_code.proofs.LegalParts.{legal_parts}
-use Rattle.tta_sim.specs.declared.arrivals.Arrival.{Arrival}
-use Rattle.tta_sim.specs.Results.{Results}
-use Rattle.tta_sim.specs.Moves.{is_possible_slot, is_askable, is_readable, is_reachable, arrival_of, arrivals_of}
-use Rattle.tta_sim.specs.Starts.{triggered, start_by, is_fitting, puts, clashes_with, AreFitting, CanStart, AreReachable}
+use Rattle.tta_sim.specs.Results.{Results, HasUnits, longest_by}
+use Rattle.tta_sim.specs.Moves.{Arrival, is_possible_slot, is_askable, is_readable, is_reachable, arrival_of, arrivals_of}
+use Rattle.tta_sim.specs.Starts.{triggered, start_by, is_fitting, puts, AreFitting, AreReachable}
 
 -- ---- lists whose elements differ
 
@@ -137,8 +136,8 @@ starts_apart m operand arrivals apart =
     sym (ap (λ d. same_place d (dest.Trigger q.unit two.op)) one.dst) ∙ sym (ap (same_place a.dst) two.dst) ∙ differ)
     arrivals apart
 
-module _ (m : Machine) (rules : IsMachine m) where
-  fitting : (operand : ℕ → Option ℕ) (a : Arrival) (t : Start) → start_by m operand a ≡ Some t → is_fitting (length m.units) t ≡ true
+module _ (m : Machine) (rules : IsMachine m) (r : Results) (has : HasUnits r.base m r.rings) (size : r.units ≡ length m.units) where
+  fitting : (operand : ℕ → Option ℕ) (a : Arrival) (t : Start) → start_by m operand a ≡ Some t → is_fitting r t ≡ true
   fitting operand a t starts =
       let is = is_started m operand a t starts in
       let within = slice_get_within m.units t.unit is.unit is.at in
@@ -146,11 +145,19 @@ module _ (m : Machine) (rules : IsMachine m) where
       let ops : list_all (is_unit_op is.unit) is.unit.ops ≡ true = grind (arith, good) in
       let one : is_unit_op is.unit t.does ≡ true = list_all_one (is_unit_op is.unit) is.unit.ops is.op t.does ops is.does in
       let kind : fits_kind t.does ≡ true = grind (arith, one) in
+      let found : op_at m t.unit is.op ≡ Some t.does = ap (option_and_then (λ u. slice_get u.ops is.op)) is.at ∙ is.does in
+      let longest : t.does.latency ≤ longest_by r t.unit = subst (λ o. IfSome o (λ x. x.latency ≤ longest_by r t.unit)) found (has.longest t.unit is.op) in
+      let room : nat_le t.does.latency (longest_by r t.unit) ≡ true = grind (arith, longest) in
       let latency = by_kind t.does.op kind in
-      let there : nat_lt t.unit (length m.units) ≡ true = grind (arith, within) in
-      rw (there, latency) refl
+      let there : nat_lt t.unit r.units ≡ true = grind (arith, within, size) in
+      rw (there, room) (and_true (not (has_result t.does.op)) (nat_lt 0 t.does.latency) latency)
     where
-      by_kind : (o : Op) → fits_kind (record t.does { op = o }) ≡ true → (not (has_result o) || (nat_lt 0 t.does.latency && nat_le t.does.latency 16)) ≡ true
+      and_true : (a b : Bool) → (a || b) ≡ true → (a || (b && true)) ≡ true
+      and_true true b is = refl
+      and_true false true is = refl
+      and_true false false is = cc
+
+      by_kind : (o : Op) → fits_kind (record t.does { op = o }) ≡ true → (not (has_result o) || nat_lt 0 t.does.latency) ≡ true
       by_kind Ldw kind = grind arith
       by_kind Stw kind = refl
       by_kind Ldf kind = grind arith
@@ -159,31 +166,33 @@ module _ (m : Machine) (rules : IsMachine m) where
       by_kind Take kind = grind arith
       by_kind (Set id) kind = grind arith
 
-  pub all_fitting : (operand : ℕ → Option ℕ) (arrivals : List Arrival) → AllByRecursion (λ t. IsTrue (is_fitting (length m.units) t)) (filter_map (start_by m operand) arrivals)
+  all_fitting : (operand : ℕ → Option ℕ) (arrivals : List Arrival) → AllByRecursion (λ t. IsTrue (is_fitting r t)) (filter_map (start_by m operand) arrivals)
   all_fitting operand [] = tt
   all_fitting operand (a ∷ arrivals) =
-      elim (start_by m operand a) as (λ o. start_by m operand a ≡ o → AllByRecursion (λ t. IsTrue (is_fitting (length m.units) t)) (cons_option o (filter_map (start_by m operand) arrivals))) [
+      elim (start_by m operand a) as (λ o. start_by m operand a ≡ o → AllByRecursion (λ t. IsTrue (is_fitting r t)) (cons_option o (filter_map (start_by m operand) arrivals))) [
         | None ↦ λ is. all_fitting operand arrivals
         | Some t ↦ λ is. (fitting operand a t is, all_fitting operand arrivals)
       ] refl
 
-  -- the operations of a legal instruction can start at once
-  pub can_start : (i : Instruction) → is_legal m i ≡ true → (reads : Reads) (operand : ℕ → Option ℕ) (r : Results)
-      → list_any (clashes_with r) (filter_map (start_by m operand) (arrivals_of reads i.moves)) ≡ false
-      → CanStart r (length m.units) (filter_map (start_by m operand) (arrivals_of reads i.moves))
-  can_start i legal reads operand r free = record {
-    fitting = all_fitting operand (arrivals_of reads i.moves);
-    apart = starts_apart m operand (arrivals_of reads i.moves) (arrivals_apart reads i.moves (legal_parts m i legal).apart);
-    free = free;
-  }
-
   -- the operations that a legal instruction starts fit
   pub are_fitting : (i : Instruction) → is_legal m i ≡ true → (reads : Reads) (operand : ℕ → Option ℕ)
-      → AreFitting (length m.units) (filter_map (start_by m operand) (arrivals_of reads i.moves))
+      → AreFitting r (filter_map (start_by m operand) (arrivals_of reads i.moves))
   are_fitting i legal reads operand = record {
     fitting = all_fitting operand (arrivals_of reads i.moves);
     apart = starts_apart m operand (arrivals_of reads i.moves) (arrivals_apart reads i.moves (legal_parts m i legal).apart);
   }
+
+-- the operations that start are those of units that are there
+pub all_there : (m : Machine) (units : ℕ) → units ≡ length m.units → (operand : ℕ → Option ℕ) (arrivals : List Arrival)
+    → AllByRecursion (λ t. t.unit < units) (filter_map (start_by m operand) arrivals)
+all_there m units size operand [] = tt
+all_there m units size operand (a ∷ arrivals) =
+    elim (start_by m operand a) as (λ o. start_by m operand a ≡ o → AllByRecursion (λ t. t.unit < units) (cons_option o (filter_map (start_by m operand) arrivals))) [
+      | None ↦ λ is. all_there m units size operand arrivals
+      | Some t ↦ λ is.
+          let of = is_started m operand a t is in
+          (omega (arith, slice_get_within m.units t.unit of.unit of.at, size), all_there m units size operand arrivals)
+    ] refl
 
 -- arrivals of moves whose ends are there
 pub reachable : (units : ℕ) (reads : Reads) (slots : List (Option Move)) → AllByRecursion (λ slot. IsTrue (is_possible_slot units slot)) slots → AreReachable units (arrivals_of reads slots)
@@ -265,7 +274,7 @@ takes_stream Out is = cc
 takes_stream Take is = refl
 takes_stream (Set id) is = cc
 
--- at most one of the operations puts out
+-- at most one of the operations outputs a word
 pub outputs_apart : (m : Machine) → IsMachine m → (i : Instruction) → is_legal m i ≡ true → (reads : Reads) (operand : ℕ → Option ℕ)
     → are_different (λ p q. puts p && puts q) (filter_map (start_by m operand) (arrivals_of reads i.moves)) ≡ true
 outputs_apart m rules i legal reads operand =
@@ -308,7 +317,7 @@ put_no_more t output (q ∷ starts) is none =
     let rest : list_any (λ q. puts t && puts q) starts ≡ false = grind arith in
     ap (λ o. fold put_out o starts) (puts_nothing output q other) ∙ put_no_more t output starts is rest
 
--- what is put out then is the word of the first that does
+-- the output then is the word of the first that does
 pub put_once : (output : List ℕ) (starts : List Start) → are_different (λ p q. puts p && puts q) starts ≡ true
     → fold put_out output starts ≡ output ++ option_to_list (option_map (λ t. t.word) (find puts starts))
 put_once output [] apart = sym (append-nil output)

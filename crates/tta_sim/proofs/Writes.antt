@@ -95,7 +95,7 @@ length-numbered : (new : Written) → length (numbered new) ≡ length new
 length-numbered [] = refl
 length-numbered (w ∷ new) = ap suc (length-numbered new)
 
--- a write comes before those behind it
+-- a write comes before those after it
 pub written_next : (writes : List Write) (i : ℕ) (d : Write) (rows now : List (Option ℕ)) (new old : Written) → 0 < i → i ≤ length writes → writes ≡ numbered new → ArePlaces new
     → ((p : Place) (ws : Written) → is_place p ≡ true → number_of p ≡ (get_or writes (i - 1) d).place → HasWritten rows ws → HasWritten now ((p, (get_or writes (i - 1) d).word) ∷ ws))
     → HasWritten rows (drop i new ++ old) → HasWritten now (drop (i - 1) new ++ old)
@@ -128,7 +128,7 @@ stores_alone_frame words (t ∷ starts) = elim (is_resultless t) as (λ b. is_re
       | false ↦ λ is. stores_alone_frame words starts ∙ ap (λ ws. fold store_frame ws starts) (sym (kept_frame words t is))
     ] refl
 
--- only those put out
+-- only those output a word
 pub puts_alone : (starts : List Start) → find puts (filter is_resultless starts) ≡ find puts starts
 puts_alone [] = refl
 puts_alone (t ∷ starts) = elim (is_resultless t) as (λ b. is_resultless t ≡ b

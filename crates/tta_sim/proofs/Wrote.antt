@@ -12,9 +12,8 @@ use Rattle.tta_arch.specs.declared.ends.Dest.TheVariants as dest
 use Rattle.tta_arch.specs.Machine.{Machine}
 use Rattle.tta_arch.specs.Effects.{Imm, KeptImm, KeptOperand, Written, Brought, Start, kept, write_of, start_of, op_at}
 use Rattle.tta_code.specs.declared.code.Long.{Long}
-use Rattle.tta_sim.specs.declared.arrivals.Arrival.{Arrival}
 use Rattle.tta_sim.specs.Places.{word_at}
-use Rattle.tta_sim.specs.Moves.{is_reachable, brought_of}
+use Rattle.tta_sim.specs.Moves.{Arrival, is_reachable, brought_of}
 use Rattle.tta_sim.specs.Starts.{is_operand_of, operand_with, start_by, starts_of, AreReachable}
 use Rattle.tta_sim.specs.Writing.{long_writes}
 use Rattle.tta_sim.proofs.Agreeing.{long_brought}

@@ -22,7 +22,7 @@ outcome_of cycle (phase.Fault number) = Fault number cycle
 abbrev pub controlled : State → Control → State
 controlled s c = record s { pc = c.pc; pending = option_map underway c.pending; outcome = outcome_of s.cycle c.phase }
 
--- the control move that is under way after a cycle that told control this, where the cycle after it is `now`
+-- the control move that is under way after a cycle in which this one acted, where the cycle after it is `now`
 abbrev pub pending_with : (now delay : ℕ) → Option Underway → Option (Kind × ℕ) → Option Underway
 pending_with now delay before None = before
 pending_with now delay before (Some told) = Some (record { time = now + delay; kind = told.0; word = told.1 })

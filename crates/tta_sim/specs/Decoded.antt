@@ -1,5 +1,5 @@
 -- Instructions in the form in which they are carried out.
-use Rattle.std.specs.Prelude.{ℕ, ◌+◌, ◌==◌, Bool, true, false, ◌&&◌, if◌then◌else◌, List, [], ◌∷◌, ◌++◌, Option, None, Some, is_some, option_map, option_to_list, option_and_then, length, slice_get}
+use Rattle.std.specs.Prelude.{◌≡◌, ℕ, ◌+◌, ◌==◌, Bool, true, false, ◌&&◌, if◌then◌else◌, List, [], ◌∷◌, ◌++◌, Option, None, Some, is_some, option_map, option_to_list, option_and_then, length, slice_get}
 use Rattle.std.specs.List.{filter_map}
 use Rattle.tta_arch.specs.declared.ends.GuardRef.{GuardRef}
 use Rattle.tta_arch.specs.declared.ends.Source.{Source}
@@ -7,11 +7,13 @@ use Rattle.tta_arch.specs.declared.ends.Source.TheVariants as source
 use Rattle.tta_arch.specs.declared.ends.Dest.{Dest}
 use Rattle.tta_arch.specs.declared.ends.Dest.TheVariants as dest
 use Rattle.tta_arch.specs.Machine.{Machine}
+use Rattle.tta_arch.specs.Rules.{IsMachine}
 use Rattle.tta_arch.specs.Effects.{KeptReg, KeptImm, KeptOperand, KeptRa, width_of, op_at, has_result}
 use Rattle.tta_code.specs.declared.code.Move.{Move}
 use Rattle.tta_code.specs.declared.code.Long.{Long}
 use Rattle.tta_code.specs.declared.code.Instruction.{Instruction}
 use Rattle.tta_code.specs.Cycle.{moves_of}
+use Rattle.tta_code.specs.Legal.{is_legal}
 use Rattle.tta_sim.specs.declared.control.Kind.TheVariants as told
 use Rattle.tta_sim.specs.declared.decoded.DecodedSource.{DecodedSource}
 use Rattle.tta_sim.specs.declared.decoded.DecodedSource.TheVariants as decoded
@@ -80,7 +82,7 @@ has_operation m v = on v.dst where
   on dest.Call = true
   on dest.Halt = true
 
--- what a move to control's trigger port tells
+-- a move to control's trigger port
 abbrev pub tell_decoded : Move → Option DecodedTell
 tell_decoded v = on v.dst where
   on : Dest → Option DecodedTell
@@ -126,3 +128,9 @@ with_move m back line slot = record line {
 abbrev pub lines_from : Machine → (back : ℕ) → List Instruction → List Line
 lines_from m back [] = []
 lines_from m back (i ∷ is) = line_of m back i ∷ lines_from m (back + 1) is
+
+-- A line that a legal instruction of a machine is decoded into, where a call in it comes back to this address.
+pub record IsDecoded (m : Machine) (back : ℕ) (i : Instruction) (l : Line) : Type 0 where
+  pub rules : IsMachine m
+  pub legal : is_legal m i ≡ true
+  pub line : l ≡ line_of m back i

@@ -1,11 +1,11 @@
 -- What a simulator holds, and which state it stands for.
-use Rattle.std.specs.Prelude.{◌≡◌, ℕ, ◌+◌, ◌≤◌, Bool, true, false, List, ◌++◌, length, drop, if◌then◌else◌, slice_get, Option, None, Some, option_to_list}
+use Rattle.std.specs.Prelude.{◌≡◌, ℕ, ◌+◌, ◌≤◌, Bool, true, false, List, ◌++◌, length, Option, None, Some, option_to_list}
 use Rattle.tta_list.specs.Input.{left}
 use Rattle.tta_ops.specs.Units.{Units}
 use Rattle.tta_arch.specs.Machine.{Machine}
 use Rattle.tta_code.specs.declared.code.Code.{Code}
 use Rattle.tta_code.specs.Legal.{IsLegalCode}
-use Rattle.tta_code.specs.Cycle.{Result', Pending, Outcome, Running, Halted, Waiting, Fault, State, next}
+use Rattle.tta_code.specs.Cycle.{Pending, Outcome, Running, Halted, Waiting, Fault, State, next}
 use Rattle.tta_sim.specs.declared.answer.CycleStep.{CycleStep}
 use Rattle.tta_sim.specs.declared.answer.CycleStep.TheVariants.{Ran, Halted as HadHalted, Waiting as Waits, Fault as Faults}
 use Rattle.tta_sim.specs.declared.decoded.Line.{Line}
@@ -13,16 +13,17 @@ use Rattle.tta_sim.specs.declared.told.Ending.{Ending}
 use Rattle.tta_sim.specs.declared.told.Ending.TheVariants as ending
 use Rattle.tta_sim.specs.Decoded.{lines_from}
 use Rattle.tta_sim.specs.Places.{HasWritten}
-use Rattle.tta_sim.specs.Results.{Results, AreResultsOf}
+use Rattle.tta_sim.specs.Results.{Results, AreResultsOf, HasUnits}
+use Rattle.tta_flight.specs.declared.ring.Ring.{Ring}
+use Rattle.tta_flight.specs.declared.moving.Moving.{Moving}
+use Rattle.tta_flight.specs.Rings.{Rings, rings_of}
 
--- The code, decoded; the words of registers and operand ports in a row; what each unit's result port shows, and the results due later; the
--- spaces; the address of the next instruction, how many cycles were made, the control move under way, and how the run
--- stands. The input, what was put out, and every result that no port can show any more, is not held.
-pub record Held : Type 0 where
+-- What a run holds but for its results: the code, decoded; the words of registers and operand ports in a row; the spaces; the
+-- address of the next instruction, how many cycles were made, the control move under way, and how the run stands. The
+-- input and the output are not held.
+pub record HeldState : Type 0 where
   pub lines : List Line
   pub places : List (Option ℕ)
-  pub shown : List (Option Result')
-  pub coming : List Result'
   pub memory : List ℕ
   pub frame : List ℕ
   pub pc : ℕ
@@ -30,15 +31,61 @@ pub record Held : Type 0 where
   pub pending : Option Pending
   pub outcome : Outcome
 
--- the results that a simulator holds, shown and coming
-abbrev pub results_held : Held → Results
-results_held h = record { cycle = h.cycle; shown = h.shown; coming = h.coming }
+-- The same with the results: a ring for each unit, which has what the unit's result port shows, the cells of all rings with the
+-- results that are due later, and the units whose rings have one. Every result that no port can show any more is not held.
+pub record Held : Type 0 where
+  pub lines : List Line
+  pub places : List (Option ℕ)
+  pub shown : List Ring
+  pub cells : List (Option ℕ)
+  pub moving : Moving
+  pub memory : List ℕ
+  pub frame : List ℕ
+  pub pc : ℕ
+  pub cycle : ℕ
+  pub pending : Option Pending
+  pub outcome : Outcome
 
--- A simulator stands for each state that agrees with all that it holds. So it stands for none that waits, since it holds
--- no input: one that waits goes on where there is a word.
+-- the rings of a run
+abbrev pub rings_held : Held → Rings
+rings_held h = rings_of h.shown h.cells h.moving
+
+-- a run with these rings
+abbrev pub held_with : HeldState → Rings → Held
+held_with h r = record {
+  lines = h.lines;
+  places = h.places;
+  shown = r.rings;
+  cells = r.cells;
+  moving = r.moving;
+  memory = h.memory;
+  frame = h.frame;
+  pc = h.pc;
+  cycle = h.cycle;
+  pending = h.pending;
+  outcome = h.outcome;
+}
+
+-- the results that a run holds: those of all units of its region
+abbrev pub results_held : Held → Results
+results_held h = record { base = 0; units = length h.shown; rings = rings_held h }
+
+-- A run and some units of a region stand for each state that agrees with all that they hold. So they stand for none that waits,
+-- since the run holds no input: one that waits goes on where there is a word.
+pub record StandsWith (r : Results) (h : HeldState) (s : State) : Type 0 where
+  pub places : HasWritten h.places s.written
+  pub results : AreResultsOf s.started s.cycle r
+  pub memory : h.memory ≡ s.memory
+  pub frame : h.frame ≡ s.frame
+  pub pc : h.pc ≡ s.pc
+  pub cycle : h.cycle ≡ s.cycle
+  pub pending : h.pending ≡ s.pending
+  pub outcome : h.outcome ≡ s.outcome
+
+-- A run with a region of its own, and so with its results, stands for each state that agrees with all that it holds.
 pub record Stands (h : Held) (s : State) : Type 0 where
   pub places : HasWritten h.places s.written
-  pub results : AreResultsOf s.started (results_held h)
+  pub results : AreResultsOf s.started s.cycle (results_held h)
   pub memory : h.memory ≡ s.memory
   pub frame : h.frame ≡ s.frame
   pub pc : h.pc ≡ s.pc
@@ -54,12 +101,17 @@ is_fault Waiting = false
 is_fault (Fault number at) = true
 
 -- What a simulator stands for after a cycle that took a state to the next: the next, and where the cycle waits the same.
+abbrev pub GoesWith : Results → HeldState → (s next : State) → CycleStep → Type 0
+GoesWith r h s next Waits = StandsWith r h s
+GoesWith r h s next answer = StandsWith r h next
+
+-- the same of a run with a region of its own
 abbrev pub GoesTo : Held → (s next : State) → CycleStep → Type 0
 GoesTo h s next Waits = Stands h s
 GoesTo h s next answer = Stands h next
 
 -- The answer of a cycle from a state: Halted where the state has halted; the fault that the next state is at, now or since
--- earlier; Waiting where the cycle makes it wait; and else the word that the cycle puts out, if any, and whether it takes a
+-- earlier; Waiting where the cycle makes it wait; and else the word that the cycle outputs, if any, and whether it takes a
 -- word of the input.
 abbrev pub IsAnswer : Units → Machine → Code → State → CycleStep → Type 0
 IsAnswer u m code s (Ran word took) =
@@ -91,18 +143,27 @@ fault_number Halted = None
 fault_number Waiting = None
 fault_number (Fault number at) = Some number
 
--- the outcome that is told
+-- the outcome that is reported
 abbrev pub ending_told : Ending → Outcome
 ending_told ending.Running = Running
 ending_told ending.Halted = Halted
 ending_told (ending.Fault number cycle) = Fault number cycle
 
--- The run of a machine on code that it can carry out, which addresses of 16 bits reach: it has the code decoded, each
--- unit's port and each word of the spaces.
+-- The run of a machine on code that it can carry out, which addresses of 16 bits reach: it has the code decoded, and each
+-- word of the spaces.
+pub record IsStateOf (m : Machine) (code : Code) (h : HeldState) : Type 0 where
+  pub legal : IsLegalCode m code
+  pub reached : length code.words ≤ 65536
+  pub decoded : h.lines ≡ lines_from m (1 + m.control.delay) code.words
+  pub memory : length h.memory ≡ m.data_words
+  pub frame : length h.frame ≡ m.frame_words
+
+-- The same of a run with a region of its own: it also has each unit, with room for the unit's longest latency.
 pub record IsRunOf (m : Machine) (code : Code) (h : Held) : Type 0 where
   pub legal : IsLegalCode m code
   pub reached : length code.words ≤ 65536
   pub decoded : h.lines ≡ lines_from m (1 + m.control.delay) code.words
   pub units : length h.shown ≡ length m.units
+  pub has_units : HasUnits 0 m (rings_held h)
   pub memory : length h.memory ≡ m.data_words
   pub frame : length h.frame ≡ m.frame_words

@@ -7,22 +7,21 @@ use Rattle.tta_sim.specs.declared.decoded.Line.{Line}
 use Rattle.tta_sim.specs.declared.store.Store.{Store}
 use Rattle.tta_sim.specs.declared.control.Control.{Control}
 use Rattle.tta_list.specs.Input.{left}
-use Rattle.tta_sim.specs.Held.{Held, GoesTo, is_fault}
+use Rattle.tta_sim.specs.Held.{HeldState, GoesWith, is_fault}
+use Rattle.tta_sim.specs.Results.{Results}
 use Rattle.tta_sim.specs.Controls.{underway, outcome_of}
 
 -- what is held where these are kept
-abbrev pub held_of : List Line → Store → Control → Held
+abbrev pub held_of : List Line → Store → Control → HeldState
 held_of lines store control = record {
   lines = lines;
   places = store.places;
-  shown = store.results.shown;
-  coming = store.results.coming;
   memory = store.memory.items;
   frame = store.frame.items;
   pc = control.pc;
-  cycle = store.results.cycle;
+  cycle = store.cycle;
   pending = option_map underway control.pending;
-  outcome = outcome_of store.results.cycle control.phase;
+  outcome = outcome_of store.cycle control.phase;
 }
 
 -- the answer of a cycle that took a state to the next
@@ -34,6 +33,6 @@ Answers s next Waits = next ≡ record s { outcome = Waiting }
 Answers s next (Faults number) = next.outcome ≡ Fault number s.cycle
 
 -- what is held stands for the next state, or for the same where the cycle waits, and this was answered
-pub record IsCarried (h : Held) (s next : State) (answer : CycleStep) : Type 0 where
-  pub stands : GoesTo h s next answer
+pub record IsCarried (r : Results) (h : HeldState) (s next : State) (answer : CycleStep) : Type 0 where
+  pub stands : GoesWith r h s next answer
   pub answers : Answers s next answer

@@ -2,10 +2,11 @@ pub mod Controls
 pub mod Decoded
 pub mod Held
 pub mod Kept
-pub mod Landing
 pub mod Lines
 pub mod Moves
 pub mod Places
+pub mod Ready
 pub mod Results
 pub mod Starts
+pub mod Unset
 pub mod Writing

@@ -2,8 +2,7 @@
 use Rattle.std.specs.Prelude.{◌≡◌, ℕ, ◌≤◌, ◌%◌, ◌==◌, Bool, true, false, not, ◌&&◌, ◌||◌, nat_lt, if◌then◌else◌, List, Option, None, Some, is_none, is_some, option_map, option_to_list, filter, length, slice_index_or, IsTrue}
 use Rattle.std.specs.Option.{option_map_or, option_or}
 use Rattle.std.specs.List.{list_any, filter_map, find, AllByRecursion}
-use Rattle.tta_arch.specs.Effects.{Kind, KeptOperand, Start, first_some, has_result, takes_in}
-use Rattle.tta_code.specs.Cycle.{Result'}
+use Rattle.tta_arch.specs.Effects.{Kind, KeptOperand, Start, first_some, has_result}
 use Rattle.tta_sim.specs.declared.decoded.DecodedSource.{DecodedSource}
 use Rattle.tta_sim.specs.declared.decoded.DecodedSource.TheVariants as decoded
 use Rattle.tta_sim.specs.declared.decoded.DecodedGuard.{DecodedGuard}
@@ -17,12 +16,12 @@ use Rattle.tta_sim.specs.declared.lines.Read.TheVariants.{Nothing, Word, Unset}
 use Rattle.tta_sim.specs.declared.lines.Write.{Write}
 use Rattle.tta_sim.specs.Decoded.{is_nil}
 use Rattle.tta_sim.specs.Places.{is_place, number_of}
-use Rattle.tta_sim.specs.Results.{Results}
+use Rattle.tta_sim.specs.Results.{Results, shown_by}
 use Rattle.tta_sim.specs.Starts.{started, is_stopped, kind_of}
 
 -- ---- which lines a run can carry out
 
--- a source that is there where there are so many units
+-- a source that is there where there are `units` units
 abbrev pub is_source_there : (units : ℕ) → DecodedSource → Bool
 is_source_there units (decoded.Word word) = true
 is_source_there units (decoded.Place number) = nat_lt number 609
@@ -38,7 +37,7 @@ is_write_there units w = is_reading_there units w.reading && nat_lt w.place 609
 
 -- a start whose source, guard and unit are there
 abbrev pub is_start_there : (units : ℕ) → DecodedStart → Bool
-is_start_there units s = is_reading_there units s.reading && is_place (KeptOperand s.unit)
+is_start_there units s = is_reading_there units s.reading && (is_place (KeptOperand s.unit) && nat_lt s.unit units)
 
 -- a word for control whose source and guard are there
 abbrev pub is_tell_there : (units : ℕ) → DecodedTell → Bool
@@ -49,9 +48,10 @@ abbrev pub is_store : DecodedStart → Bool
 is_store s = not (has_result s.does.op)
 
 -- A line whose moves have ends that are there, no more of them than a machine can have buses. It knows which of its starts
--- are stores, and whether it has stores or tells.
+-- are stores, and whether it has stores or control moves.
 pub record IsLineThere (units : ℕ) (l : Line) : Type 0 where
   pub few_writes : length l.writes ≤ 17
+  pub few_starts : length l.starts ≤ 16
   pub few_stores : length l.stores ≤ 16
   pub stored : l.stores ≡ filter is_store l.starts
   pub quiet : l.quiet ≡ (is_nil l.stores && is_nil l.tells)
@@ -63,10 +63,10 @@ pub record IsLineThere (units : ℕ) (l : Line) : Type 0 where
 -- ---- what they read
 
 -- the word of a source, if it has one
-abbrev pub source_word : (places : List (Option ℕ)) → (shown : List (Option Result')) → DecodedSource → Option ℕ
+abbrev pub source_word : (places : List (Option ℕ)) → (shown : ℕ → Option ℕ) → DecodedSource → Option ℕ
 source_word places shown (decoded.Word word) = Some word
 source_word places shown (decoded.Place number) = slice_index_or places number None
-source_word places shown (decoded.Port unit) = option_map (λ r. r.value) (slice_index_or shown unit None)
+source_word places shown (decoded.Port unit) = shown unit
 
 -- whether a guard lets its move act at this word
 abbrev pub lets : DecodedGuard → ℕ → Bool
@@ -77,11 +77,11 @@ abbrev pub is_let : (places : List (Option ℕ)) → Reading → Bool
 is_let places r = option_map_or (λ g. option_map_or (lets g) (slice_index_or places g.place None) false) r.guard true
 
 -- the word that a move takes, if it acts
-abbrev pub word_read : (places : List (Option ℕ)) → (shown : List (Option Result')) → Reading → Option ℕ
+abbrev pub word_read : (places : List (Option ℕ)) → (shown : ℕ → Option ℕ) → Reading → Option ℕ
 word_read places shown r = if is_let places r then source_word places shown r.src else None
 
 -- whether a move cannot be read: its guard has no word, or it acts and its source has none
-abbrev pub is_unread : (places : List (Option ℕ)) → (shown : List (Option Result')) → Reading → Bool
+abbrev pub is_unread : (places : List (Option ℕ)) → (shown : ℕ → Option ℕ) → Reading → Bool
 is_unread places shown r =
     option_map_or (λ g. is_none (slice_index_or places g.place None)) r.guard false
     || is_let places r && is_none (source_word places shown r.src)
@@ -90,18 +90,18 @@ is_unread places shown r =
 abbrev pub word_of : Read → Option ℕ
 word_of Nothing = None
 word_of (Word word) = Some word
-word_of Unset = None
+word_of (Unset what) = None
 
 -- what was read was never written
 abbrev pub is_unset : Read → Bool
 is_unset Nothing = false
 is_unset (Word word) = false
-is_unset Unset = true
+is_unset (Unset what) = true
 
 -- ---- what they bring
 
 -- the word that a move brings to its place
-abbrev pub write_brought : (places : List (Option ℕ)) → (shown : List (Option Result')) → DecodedWrite → Option Write
+abbrev pub write_brought : (places : List (Option ℕ)) → (shown : ℕ → Option ℕ) → DecodedWrite → Option Write
 write_brought places shown w =
     option_map (λ word. record { place = w.place; word = if w.narrow then word % 2 else word }) (word_read places shown w.reading)
 
@@ -112,32 +112,28 @@ operand_in places writes unit =
     option_or (option_map (λ w. w.word) (find (λ w. w.place == number) writes)) (slice_index_or places number None)
 
 -- the operation that a move starts
-abbrev pub start_brought : (places : List (Option ℕ)) → (shown : List (Option Result')) → (operand : ℕ → Option ℕ) → DecodedStart → Option Start
+abbrev pub start_brought : (places : List (Option ℕ)) → (shown : ℕ → Option ℕ) → (operand : ℕ → Option ℕ) → DecodedStart → Option Start
 start_brought places shown operand s = option_map (started operand s.unit s.does) (word_read places shown s.reading)
 
 -- whether a move cannot be read, or starts an operation that cannot start
 abbrev pub cannot_start : (places : List (Option ℕ)) → Results → (operand : ℕ → Option ℕ) → DecodedStart → Bool
 cannot_start places r operand s =
-    is_unread places r.shown s.reading || list_any (is_stopped r) (option_to_list (start_brought places r.shown operand s))
+    is_unread places (shown_by r) s.reading || list_any (is_stopped r) (option_to_list (start_brought places (shown_by r) operand s))
 
--- whether a move starts an operation that takes a word of the input
-abbrev pub takes_brought : (places : List (Option ℕ)) → (shown : List (Option Result')) → DecodedStart → Bool
-takes_brought places shown s = takes_in s.does.op && is_some (word_read places shown s.reading)
-
--- what a move tells control
-abbrev pub tell_brought : (places : List (Option ℕ)) → (shown : List (Option Result')) → DecodedTell → Option (Kind × ℕ)
+-- a control move with its word, if it acts
+abbrev pub tell_brought : (places : List (Option ℕ)) → (shown : ℕ → Option ℕ) → DecodedTell → Option (Kind × ℕ)
 tell_brought places shown t = option_map (λ word. (kind_of t.kind, word)) (word_read places shown t.reading)
 
--- whether control can be told what some moves tell it: all can be read, and no earlier control move is under way
-abbrev pub tells_well : (places : List (Option ℕ)) → (shown : List (Option Result')) → (is_pending : Bool) → List DecodedTell → Bool
+-- whether control moves can act: all can be read, and where one acts, no earlier one is under way
+abbrev pub tells_well : (places : List (Option ℕ)) → (shown : ℕ → Option ℕ) → (is_pending : Bool) → List DecodedTell → Bool
 tells_well places shown is_pending tells =
     not (list_any (λ t. is_unread places shown t.reading) tells) && not (is_pending && is_some (first_some (tell_brought places shown) tells))
 
--- whether a line can be carried out: all of its moves can be read and all operations start, and no move tells control
--- something while an earlier one is under way
+-- whether a line can be carried out: all of its moves can be read and all operations start, and no control move acts
+-- while an earlier one is under way
 abbrev pub is_ready : (places : List (Option ℕ)) → Results → (is_pending : Bool) → Line → Bool
 is_ready places r is_pending l =
-    let unread = is_unread places r.shown in
-    let operand = operand_in places (filter_map (write_brought places r.shown) l.writes) in
+    let unread = is_unread places (shown_by r) in
+    let operand = operand_in places (filter_map (write_brought places (shown_by r)) l.writes) in
     not (list_any (λ w. unread w.reading) l.writes)
-    && (not (list_any (cannot_start places r operand) l.starts) && tells_well places r.shown is_pending l.tells)
+    && (not (list_any (cannot_start places r operand) l.starts) && tells_well places (shown_by r) is_pending l.tells)

@@ -1,27 +1,22 @@
 -- What the moves of a cycle read and bring, as it is carried out on what is held.
-use Rattle.std.specs.Prelude.{ℕ, ◌≤◌, Bool, true, false, ◌&&◌, ◌||◌, nat_lt, if◌then◌else◌, List, [], ◌∷◌, map, Option, None, Some, option_map, length, slice_index_or, IsTrue}
+use Rattle.std.specs.Prelude.{ℕ, ◌≤◌, Bool, true, ◌&&◌, ◌||◌, nat_lt, List, map, Option, Some, option_map, length, IsTrue}
 use Rattle.std.specs.Option.{option_map_or}
-use Rattle.std.specs.List.{list_any, filter_map, AllByRecursion}
+use Rattle.std.specs.List.{filter_map, AllByRecursion}
 use Rattle.tta_arch.specs.declared.ends.GuardRef.{GuardRef}
 use Rattle.tta_arch.specs.declared.ends.Source.{Source}
 use Rattle.tta_arch.specs.declared.ends.Source.TheVariants as source
 use Rattle.tta_arch.specs.declared.ends.Dest.{Dest}
 use Rattle.tta_arch.specs.declared.ends.Dest.TheVariants as dest
-use Rattle.tta_arch.specs.Effects.{KeptReg, KeptImm, KeptOperand, KeptRa, Effect, Brought, Reads, target_of, moved, is_register, is_port, has_unset_guard, has_unset}
+use Rattle.tta_arch.specs.Effects.{KeptReg, KeptImm, KeptOperand, KeptRa, Effect, Brought, Reads, target_of, moved, is_register, has_unset_guard, has_unset}
 use Rattle.tta_arch.specs.Machine.{Machine}
 use Rattle.tta_code.specs.declared.code.Move.{Move}
 use Rattle.tta_code.specs.declared.code.Instruction.{Instruction}
-use Rattle.tta_code.specs.Cycle.{Result', effect_of, first_fault}
-use Rattle.tta_sim.specs.declared.arrivals.Arrival.{Arrival}
-use Rattle.tta_sim.specs.declared.reading.Taken.{Taken}
-use Rattle.tta_sim.specs.declared.reading.Taken.TheVariants.{Nothing, Word, UnsetRegister, UnsetPort}
-use Rattle.tta_sim.specs.declared.reading.Verdict.{Verdict}
-use Rattle.tta_sim.specs.declared.reading.Verdict.TheVariants.{Acts, Rests, Unset}
+use Rattle.tta_code.specs.Cycle.{effect_of}
 use Rattle.tta_sim.specs.Places.{is_place, word_at}
 
 -- ---- which moves a run can make
 
--- a source that is there where there are so many units
+-- a source that is there where there are `units` units
 abbrev pub is_readable : (units : ℕ) → Source → Bool
 is_readable units (source.Reg file index) = is_place (KeptReg file index)
 is_readable units (source.Imm unit index) = is_place (KeptImm unit index)
@@ -53,63 +48,27 @@ is_possible_slot units slot = option_map_or (is_possible units) slot true
 -- ---- what they read
 
 -- the word of each source
-abbrev pub reads_of : (places : List (Option ℕ)) → (shown : List (Option Result')) → Reads
+abbrev pub reads_of : (places : List (Option ℕ)) → (shown : ℕ → Option ℕ) → Reads
 reads_of places shown (source.Reg file index) = word_at places (KeptReg file index)
 reads_of places shown (source.Imm unit index) = word_at places (KeptImm unit index)
-reads_of places shown (source.Shown unit) = option_map (λ r. r.value) (slice_index_or shown unit None)
+reads_of places shown (source.Shown unit) = shown unit
 reads_of places shown source.Ra = word_at places KeptRa
 reads_of places shown (source.Value word) = Some word
-
--- what a guard says of a move that acts
-abbrev pub is_acting : Verdict → Bool
-is_acting Acts = true
-is_acting Rests = false
-is_acting Unset = false
-
--- what a guard says whose register was never written
-abbrev pub is_unset : Verdict → Bool
-is_unset Acts = false
-is_unset Rests = false
-is_unset Unset = true
-
--- the word that was taken, if one was
-abbrev pub word_taken : Taken → Option ℕ
-word_taken Nothing = None
-word_taken (Word word) = Some word
-word_taken UnsetRegister = None
-word_taken UnsetPort = None
-
--- the fault of a move that took this
-abbrev pub fault_taken : Taken → Option ℕ
-fault_taken Nothing = None
-fault_taken (Word word) = None
-fault_taken UnsetRegister = Some 60
-fault_taken UnsetPort = Some 61
-
--- the fault of an active move whose source has no word
-abbrev pub fault_missing : Source → Option ℕ
-fault_missing src = Some (if is_port src then 61 else 60)
 
 -- whether a move lacks a word that was never written
 abbrev pub lacks_register : Reads → Effect → Bool
 lacks_register reads e = has_unset_guard reads e || has_unset reads is_register e
 
--- the first fault of what some moves read
-abbrev pub fault_reading : Reads → List Effect → Option ℕ
-fault_reading reads effects =
-    first_fault ((list_any (lacks_register reads) effects, 60) ∷ (list_any (has_unset reads is_port) effects, 61) ∷ [])
-
 -- the moves that there are in some slots, as effects
 abbrev pub effects_in : List (Option Move) → List Effect
 effects_in slots = map effect_of (filter_map (λ o. o) slots)
 
--- the earlier of two faults in their order
-abbrev pub earlier_fault : Option ℕ → Option ℕ → Option ℕ
-earlier_fault None other = other
-earlier_fault (Some a) None = Some a
-earlier_fault (Some a) (Some b) = if nat_lt b a then Some b else Some a
-
 -- ---- what they bring
+
+-- a word that a move brings, with the destination
+pub record Arrival : Type 0 where
+  pub dst : Dest
+  pub word : ℕ
 
 -- the word that a move brings
 abbrev pub arrival_of : Reads → Move → Option Arrival

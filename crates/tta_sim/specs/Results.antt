@@ -1,8 +1,11 @@
 -- The results of units: those that show, and those that are still to come.
-use Rattle.std.specs.Prelude.{◌≡◌, ℕ, ◌+◌, ◌*◌, ◌<◌, ◌≤◌, ◌==◌, Bool, true, ◌&&◌, List, length, take, fold, if◌then◌else◌, Option, None, Some, slice_index_or}
-use Rattle.std.specs.List.{AllByRecursion, find}
-use Rattle.tta_arch.specs.Rules.{are_different}
+use Rattle.std.specs.Prelude.{◌≡◌, ℕ, ◌+◌, ◌<◌, ◌≤◌, ◌==◌, Bool, ◌&&◌, List, length, fold, Option, None, Some, option_map, IfSome}
+use Rattle.std.specs.List.{find}
+use Rattle.tta_arch.specs.Machine.{Machine}
+use Rattle.tta_arch.specs.Effects.{Start, op_at}
 use Rattle.tta_code.specs.Cycle.{Result', later}
+use Rattle.tta_flight.specs.Rings.{Rings, shown_in, due_in, longest_of, IsStarted}
+use Rattle.tta_sim.specs.declared.results.Part.{Part}
 
 -- the latest result of a unit that is due by now
 abbrev pub latest : (unit now : ℕ) → List Result' → Option Result'
@@ -16,41 +19,72 @@ is_due unit due r = r.unit == unit && r.due == due
 abbrev pub due_at : (unit due : ℕ) → List Result' → Option Result'
 due_at unit due started = find (is_due unit due) started
 
--- the result of a unit that is due so many cycles from now
+-- the result of a unit that is due `latency` cycles from now
 abbrev pub due_after : (now unit latency value : ℕ) → Result'
 due_after now unit latency value = record { unit = unit; due = now + latency; value = value }
 
--- the cycle that has come, what each unit's result port shows, and the results that are due later
+-- the word of a result, if there is one
+abbrev pub word_due : Option Result' → Option ℕ
+word_due o = option_map (λ r. r.value) o
+
+-- so many units of a region from one on
 pub record Results : Type 0 where
-  pub cycle : ℕ
-  pub shown : List (Option Result')
-  pub coming : List Result'
+  pub base : ℕ
+  pub units : ℕ
+  pub rings : Rings
 
--- The results of all that was ever started: each port shows the unit's latest result, and no other result is to come.
-pub record AreResultsOf (started : List Result') (r : Results) : Type 0 where
-  pub shown : (unit : ℕ) → unit < length r.shown → latest unit r.cycle started ≡ slice_index_or r.shown unit None
-  pub coming : (unit due : ℕ) → r.cycle < due → due_at unit due started ≡ due_at unit due r.coming
+-- these units of a region
+abbrev pub results_at : Part → Rings → Results
+results_at part rings = record { base = part.base; units = part.count; rings = rings }
 
--- the result that shows from this very cycle on
-abbrev pub shown_first : (now : ℕ) → Option Result' → Option Result'
-shown_first now None = None
-shown_first now (Some r) = if r.due == now then Some r else None
+-- the units of a machine in a region, from one on
+abbrev pub units_of : (base : ℕ) → Machine → Rings → Results
+units_of base m rings = record { base = base; units = length m.units; rings = rings }
 
--- results beside which more are to come
-pub record IsGrown (old new : Results) : Type 0 where
-  pub cycle : new.cycle ≡ old.cycle
-  pub shown : new.shown ≡ old.shown
-  pub first : take (length old.coming) new.coming ≡ old.coming
+-- what a unit's result port shows
+abbrev pub shown_by : Results → (unit : ℕ) → Option ℕ
+shown_by r unit = shown_in r.rings (r.base + unit)
 
--- ---- room
+-- the result of a unit that is due in so many cycles
+abbrev pub due_by : Results → (unit delay : ℕ) → Option ℕ
+due_by r unit delay = due_in r.rings (r.base + unit) delay
 
--- whether two results are of one unit and due at one time
-abbrev pub meet : Result' → Result' → Bool
-meet a b = is_due a.unit a.due b
+-- the longest delay of a unit's results
+abbrev pub longest_by : Results → (unit : ℕ) → ℕ
+longest_by r unit = longest_of r.rings (r.base + unit)
 
--- Results are to come for at most 16 cycles, no two of a unit at one time, so that there is always room for them.
-pub record HaveRoom (capacity : ℕ) (r : Results) : Type 0 where
-  pub soon : AllByRecursion (λ q. (r.cycle < q.due) × (q.due ≤ r.cycle + 16)) r.coming
-  pub units : AllByRecursion (λ q. q.unit < length r.shown) r.coming
-  pub apart : are_different meet r.coming ≡ true
-  pub room : 16 * length r.shown ≤ capacity
+-- units that are there
+pub record AreThere (r : Results) : Type 0 where
+  pub few : r.base + r.units ≤ 256
+  pub there : r.base + r.units ≤ length r.rings.rings
+
+-- A region has a machine's units from one on, each with room for its longest latency.
+pub record HasUnits (base : ℕ) (m : Machine) (r : Rings) : Type 0 where
+  pub few : base + length m.units ≤ 256
+  pub there : base + length m.units ≤ length r.rings
+  pub longest : (unit op : ℕ) → IfSome (op_at m unit op) (λ o. o.latency ≤ longest_of r (base + unit))
+
+-- The results of all that was ever started, in a cycle: each port shows the unit's latest result, and no other result is due.
+pub record AreResultsOf (started : List Result') (now : ℕ) (r : Results) : Type 0 where
+  pub shown : (unit : ℕ) → unit < r.units → shown_by r unit ≡ word_due (latest unit now started)
+  pub due : (unit delay : ℕ) → unit < r.units → due_by r unit delay ≡ word_due (due_at unit (now + delay) started)
+
+-- ---- results that begin
+
+-- each unit has the room that it had
+pub record AreKept (old new : Rings) : Type 0 where
+  pub units : length new.rings ≡ length old.rings
+  pub longest : (unit : ℕ) → longest_of new unit ≡ longest_of old unit
+
+-- An operation's result can begin: its unit and its latency are there, and no result is due then.
+pub record CanBegin (base : ℕ) (r : Rings) (t : Start) : Type 0 where
+  pub few : base + t.unit < 256
+  pub there : base + t.unit < length r.rings
+  pub later : 0 < t.does.latency
+  pub soon : t.does.latency ≤ longest_of r (base + t.unit)
+  pub free : due_in r (base + t.unit) t.does.latency ≡ None
+
+-- an operation's result, if it has one, has begun
+abbrev pub HasBegun : (base : ℕ) → Start → Option ℕ → (old new : Rings) → Type 0
+HasBegun base t None old new = new ≡ old
+HasBegun base t (Some value) old new = IsStarted (base + t.unit) t.does.latency value old new

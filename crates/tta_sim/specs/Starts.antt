@@ -1,5 +1,5 @@
 -- Which operations the moves of a cycle start, and what these do.
-use Rattle.std.specs.Prelude.{◌≡◌, ℕ, ◌+◌, ◌==◌, Bool, true, false, not, ◌&&◌, ◌||◌, nat_lt, nat_le, if◌then◌else◌, List, [], ◌∷◌, map, Option, None, Some, is_some, option_map, IsTrue}
+use Rattle.std.specs.Prelude.{◌≡◌, ℕ, ◌==◌, Bool, true, false, not, ◌&&◌, ◌||◌, nat_lt, nat_le, if◌then◌else◌, List, [], ◌∷◌, map, Option, None, Some, is_some, option_map, IsTrue}
 use Rattle.std.specs.Option.{option_or}
 use Rattle.std.specs.List.{list_any, filter_map, find, AllByRecursion}
 use Rattle.tta_ops.specs.Units.{Units}
@@ -12,13 +12,12 @@ use Rattle.tta_arch.specs.Rules.{are_different, same_op}
 use Rattle.tta_arch.specs.Effects.{KeptOperand, Start, Kind, Jumps, Calls, Halts, op_at, has_result, result_word, lacks_operand, first_some, control_of, is_port, has_unset}
 use Rattle.tta_code.specs.Cycle.{Result', first_fault}
 use Rattle.tta_code.specs.declared.code.Move.{Move}
-use Rattle.tta_sim.specs.declared.arrivals.Arrival.{Arrival}
 use Rattle.tta_sim.specs.declared.control.Told.{Told}
 use Rattle.tta_sim.specs.declared.control.Kind.{Kind as ToldKind}
 use Rattle.tta_sim.specs.declared.control.Kind.TheVariants as told
 use Rattle.tta_sim.specs.Places.{word_at}
-use Rattle.tta_sim.specs.Results.{Results, due_at, due_after}
-use Rattle.tta_sim.specs.Moves.{is_reachable, reads_of, lacks_register, effects_in, arrivals_of, brought_of}
+use Rattle.tta_sim.specs.Results.{Results, shown_by, due_by, longest_by, due_after}
+use Rattle.tta_sim.specs.Moves.{Arrival, is_reachable, reads_of, lacks_register, effects_in, arrivals_of, brought_of}
 
 -- ---- operations
 
@@ -64,11 +63,11 @@ starts_of m places arrivals = filter_map (start_by m (operand_with places arriva
 
 -- whether a result would be due at the time of another one of its unit
 abbrev pub clashes_with : Results → Start → Bool
-clashes_with r t = has_result t.does.op && is_some (due_at t.unit (r.cycle + t.does.latency) r.coming)
+clashes_with r t = has_result t.does.op && is_some (due_by r t.unit t.does.latency)
 
 -- whether the result of an operation of a unit would be due at the time of another one
 abbrev pub clashes_at : Results → (unit : ℕ) → UnitOp → Bool
-clashes_at r unit o = has_result o.op && is_some (due_at unit (r.cycle + o.latency) r.coming)
+clashes_at r unit o = has_result o.op && is_some (due_by r unit o.latency)
 
 -- whether an operation cannot start: it lacks its operand, or its result would be due at the time of another
 abbrev pub is_stopped : Results → Start → Bool
@@ -77,7 +76,7 @@ is_stopped r t = lacks_operand t || clashes_with r t
 -- the fault of a cycle, if any
 abbrev pub fault_in : Machine → (places : List (Option ℕ)) → Results → (is_pending : Bool) → List (Option Move) → Option ℕ
 fault_in m places r is_pending slots =
-    let reads = reads_of places r.shown in
+    let reads = reads_of places (shown_by r) in
     let arrivals = arrivals_of reads slots in
     let starts = starts_of m places arrivals in
     first_fault (
@@ -101,27 +100,27 @@ begun u now memory frame next t =
     then Some (due_of now t (result_word u memory frame next t t.does.op))
     else None
 
--- whether an operation shows no result: it stores its word or puts it out
+-- whether an operation shows no result: it stores its word or outputs it
 abbrev pub is_resultless : Start → Bool
 is_resultless t = not (has_result t.does.op)
 
--- whether an operation puts its word out
+-- whether an operation outputs its word
 abbrev pub puts : Start → Bool
 puts t = same_op t.does.op Out
 
--- an operation of one of so many units, whose result, if it has one, shows after 1 to 16 cycles
-abbrev pub is_fitting : (units : ℕ) → Start → Bool
-is_fitting units t = nat_lt t.unit units && (not (has_result t.does.op) || (nat_lt 0 t.does.latency && nat_le t.does.latency 16))
+-- an operation of one of the units, whose result, if it has one, shows after at least one cycle, and within the unit's longest delay
+abbrev pub is_fitting : Results → Start → Bool
+is_fitting r t = nat_lt t.unit r.units && (not (has_result t.does.op) || (nat_lt 0 t.does.latency && nat_le t.does.latency (longest_by r t.unit)))
 
 -- Operations that can start at once: each fits, no unit starts two, and no result is due at the time of another.
-pub record CanStart (r : Results) (units : ℕ) (starts : List Start) : Type 0 where
-  pub fitting : AllByRecursion (λ t. IsTrue (is_fitting units t)) starts
+pub record CanStart (r : Results) (starts : List Start) : Type 0 where
+  pub fitting : AllByRecursion (λ t. IsTrue (is_fitting r t)) starts
   pub apart : are_different (λ a b. a.unit == b.unit) starts ≡ true
   pub free : list_any (clashes_with r) starts ≡ false
 
 -- Operations that fit, no two of them of one unit.
-pub record AreFitting (units : ℕ) (starts : List Start) : Type 0 where
-  pub fitting : AllByRecursion (λ t. IsTrue (is_fitting units t)) starts
+pub record AreFitting (r : Results) (starts : List Start) : Type 0 where
+  pub fitting : AllByRecursion (λ t. IsTrue (is_fitting r t)) starts
   pub apart : are_different (λ a b. a.unit == b.unit) starts ≡ true
 
 -- arrivals at destinations that are there
@@ -130,16 +129,16 @@ AreReachable units arrivals = AllByRecursion (λ a. IsTrue (is_reachable units a
 
 -- ---- control
 
--- what control is told
+-- the kind of a control move
 abbrev pub kind_of : ToldKind → Kind
 kind_of told.Jump = Jumps
 kind_of told.Call = Calls
 kind_of told.Halt = Halts
 
--- what a move tells control, with the word that it brings
+-- a control move, with the word that it brings
 abbrev pub told_of : Told → Kind × ℕ
 told_of t = (kind_of t.kind, t.word)
 
--- what the arrivals tell control
+-- the control move among the arrivals
 abbrev pub told_in : List Arrival → Option (Kind × ℕ)
 told_in arrivals = first_some control_of (map brought_of arrivals)

@@ -3,8 +3,8 @@
 /// What became of a cycle.
 #[derive(Clone, Copy, Debug, PartialEq, Eq)]
 pub enum CycleStep {
-    /// The cycle was carried out. It put out this word, if any, and it took a word of the input or
-    /// did not.
+    /// The cycle was carried out. `put` is the word that it output, if any, and `took` is whether
+    /// it took a word of the input.
     Ran { put: Option<u32>, took: bool },
     /// The run has halted before, and nothing was changed.
     Halted,

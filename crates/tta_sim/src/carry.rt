@@ -1,225 +1,120 @@
 //! One instruction.
 
-ghost use Rattle.std.specs.Prelude.{◌≡◌, ◌+◌, ◌<◌, ◌^◌, ◌++◌, ◌&&◌, None, Some, Option, List};
-ghost use Rattle.std.specs.Prelude.{length, map, take, is_none};
-ghost use Rattle.std.specs.Prelude.{ℕ, true, false, not, filter, is_some, IsTrue};
-ghost use Rattle.std.specs.List.{filter_map, list_any, AllByRecursion};
+ghost use Rattle.std.specs.Prelude.{◌≡◌, ◌+◌, ◌<◌, ◌^◌, ◌++◌, ◌&&◌, ℕ, None, Some, List, Bool};
+ghost use Rattle.std.specs.Prelude.{fold, length, is_none, true, false, is_some, option_map};
+ghost use Rattle.std.specs.Prelude.{filter, []};
+ghost use Rattle.std.specs.List.{find, AllByRecursion};
 ghost use Rattle.tta_ops.specs.Set.{stated};
-ghost use Rattle.tta_arch.specs.Effects.{Written, write_of, first_some, takes};
-ghost use Rattle.tta_arch.specs.Rules.{IsMachine};
+ghost use Rattle.tta_arch.specs.Machine.{Machine};
+ghost use Rattle.tta_arch.specs.Effects.{Written, store_data, store_frame};
+ghost use Rattle.tta_code.specs.declared.code.Instruction.{Instruction};
 ghost use Rattle.tta_code.specs.Cycle.{State, Result', carry_out};
-ghost use Rattle.tta_code.specs.Legal.{is_legal};
 ghost use Rattle.tta_sim.specs.Places.{HasWritten};
-ghost use Rattle.tta_sim.specs.Results.{AreResultsOf};
-ghost use Rattle.tta_sim.specs.Moves.{reads_of, arrivals_of, brought_of, IsPossible};
-ghost use Rattle.tta_sim.specs.Starts.{starts_of, fault_in, begun, is_resultless, AreFitting};
-ghost use Rattle.tta_sim.specs.Writing.{long_writes, numbered, ArePlaces};
-ghost use Rattle.tta_sim.specs.Decoded.{line_of};
-ghost use Rattle.tta_sim.specs.Lines.{write_brought, start_brought, operand_in, cannot_start};
-ghost use Rattle.tta_sim.specs.Lines.{tells_well, takes_brought, is_ready, IsLineThere};
+ghost use Rattle.tta_sim.specs.Results.{AreResultsOf, AreThere, results_at, shown_by};
+ghost use Rattle.tta_sim.specs.Starts.{is_resultless, puts};
+ghost use Rattle.tta_sim.specs.Writing.{numbered, ArePlaces};
+ghost use Rattle.tta_sim.specs.Decoded.{IsDecoded};
+ghost use Rattle.tta_sim.specs.Lines.{is_ready, IsLineThere};
+ghost use Rattle.tta_sim.specs.Ready.{FitsLine, AreNoted, AreLeft, KeepsOthers};
+ghost use Rattle.tta_sim.specs.Unset.{IsFaultOf};
 ghost use Rattle.tta_list.specs.Input.{IsFed};
-ghost use Rattle.tta_sim.specs.Held.{Stands, cycles_of};
+ghost use Rattle.tta_sim.specs.Held.{StandsWith, cycles_of};
 ghost use Rattle.tta_sim.specs.declared.answer.CycleStep.TheVariants.{Waiting};
 ghost use Rattle.tta_sim.specs.Kept.{held_of, IsCarried};
 
 use crate::answer::CycleStep;
-use crate::arrivals::{any_tells, gather};
-use crate::begin::{any_takes, begin_each};
+use crate::begin::{any_takes, begin_all};
 use crate::control::{Control, Phase};
 use crate::decoded::Line;
-use crate::lines::{Write, note_stores, note_writes};
+use crate::fault::{CONTROL_IN_DELAY, UNSET_PORT, UNSET_REGISTER};
+use crate::lines::{Missing, Write, note_starts, note_writes};
+use crate::results::{Part, Results};
 use crate::spaces::{put_out, store_all};
-use crate::starts::collect;
+use crate::starts;
+use crate::starts::Start;
 use crate::store::{Doings, Store};
-use crate::telling::{tells_well, told_by};
+use crate::telling::{tells_well, told_in};
+use crate::unset::reads_unset;
 use crate::writing::write_all;
-use crate::{arrivals, starts};
-use tta_arch::Machine;
-use tta_code::Instruction;
+use tta_flight::Region;
 use tta_ops::UnitSet;
 
-/// Starts the results of a line's operations, and answers whether all of them can start, and
-/// control can be told what the line tells it. Else no result is started.
-fn begin_line(
-    store: &mut Store,
-    writes: &[Write],
-    control: &Control,
-    units: &UnitSet,
-    next: u32,
-    line: &Line,
-) -> bool
-    requires there { IsLineThere (length store.old.results.shown) line.now }
-    requires fitting { let operand = operand_in store.old.places writes.now in
-        let brought = start_brought store.old.places store.old.results.shown operand in
-        AreFitting (length store.old.results.shown) (filter_map brought line.now.starts) }
-    requires few { store.old.results.cycle + 256 < 2 ^ 64 }
-    ensures ready { let old = store.old in
-        let operand = operand_in old.places writes.now in
-        let is_pending = is_some control.now.pending in
-        result ≡ (not (list_any (cannot_start old.places old.results operand) line.now.starts)
-        && tells_well old.places old.results.shown is_pending line.now.tells) }
-    ensures places { store.new.places ≡ store.old.places }
-    ensures data { store.new.memory.items ≡ store.old.memory.items }
-    ensures frame { store.new.frame.items ≡ store.old.frame.items }
-    ensures begun { let U = stated unit_meaning units.now in
-        let old = store.old in
-        let operand = operand_in old.places writes.now in
-        let brought = start_brought old.places old.results.shown operand in
-        let begins = begun U old.results.cycle old.memory.items old.frame.items next in
-        result ≡ true → store.new.results ≡ record old.results {
-          coming = old.results.coming ++ filter_map begins (filter_map brought line.now.starts);
-        } }
-    ensures kept { result ≡ false → store.new.results ≡ store.old.results }
-{
-    let count = store.results.count();
-    let can = begin_each(
-        &mut store.results,
-        writes,
-        &store.places,
-        units,
-        store.memory.as_slice(),
-        store.frame.as_slice(),
-        next,
-        line.starts.as_slice(),
-    );
-    let pending = control.pending.is_some();
-    if can && tells_well(&store.places, &store.results, pending, line) {
-        return true;
-    }
-    store.results.keep(count);
-    false
-}
-
-/// Collects what an instruction writes and stores, and starts the results of its operations. It
-/// answers whether all of its moves can be carried out, and starts nothing where they cannot.
+/// Collects what a line writes and starts, and answers whether all of its moves can be carried out.
 fn is_ready(
     doings: &mut Doings,
-    store: &mut Store,
+    store: &Store,
+    results: &Results<'_>,
     control: &Control,
-    units: &UnitSet,
-    next: u32,
     line: &Line,
 ) -> bool
-    requires there { IsLineThere (length store.old.results.shown) line.now }
-    requires fitting { let brought = start_brought store.old.places store.old.results.shown in
-        let units = length store.old.results.shown in (operand : ℕ → Option ℕ)
-        → AreFitting units (filter_map (brought operand) line.now.starts) }
-    requires few { store.old.results.cycle + 256 < 2 ^ 64 }
+    requires { IsLineThere results.now.units line.now }
     ensures ready { let is_pending = is_some control.now.pending in
-        result ≡ is_ready store.old.places store.old.results is_pending line.now }
-    ensures places { store.new.places ≡ store.old.places }
-    ensures data { store.new.memory.items ≡ store.old.memory.items }
-    ensures frame { store.new.frame.items ≡ store.old.frame.items }
-    ensures writes { let brought = write_brought store.old.places store.old.results.shown in
-        result ≡ true → doings.new.writes ≡ filter_map brought line.now.writes }
-    ensures stores { let writes = write_brought store.old.places store.old.results.shown in
-        let operand = operand_in store.old.places (filter_map writes line.now.writes) in
-        let brought = start_brought store.old.places store.old.results.shown operand in
-        result ≡ true → line.now.quiet ≡ false
-        → doings.new.starts ≡ filter_map brought line.now.stores }
-    ensures begun { let U = stated unit_meaning units.now in
-        let old = store.old in
-        let writes = write_brought old.places old.results.shown in
-        let operand = operand_in old.places (filter_map writes line.now.writes) in
-        let brought = start_brought old.places old.results.shown operand in
-        let begins = begun U old.results.cycle old.memory.items old.frame.items next in
-        result ≡ true → store.new.results ≡ record old.results {
-          coming = old.results.coming ++ filter_map begins (filter_map brought line.now.starts);
-        } }
-    ensures kept { result ≡ false → store.new.results ≡ store.old.results }
+        result ≡ is_ready store.now.places results.now is_pending line.now }
+    ensures noted { let shown = shown_by results.now in
+        AreNoted store.now.places shown line.now doings.new.writes }
+    ensures left { result ≡ true → AreLeft store.now results.now line.now doings.new }
 {
     let places = &store.places;
-    let results = &store.results;
     if !note_writes(&mut doings.writes, places, results, line.writes.as_slice()) {
         return false;
     }
     let writes = doings.writes.as_slice();
-    if !note_stores(&mut doings.starts, writes, places, results, line) {
+    let moves = line.starts.as_slice();
+    if !note_starts(&mut doings.starts, writes, places, results, moves) {
         return false;
     }
-    begin_line(store, writes, control, units, next, line)
+    tells_well(places, results, control.pending.is_some(), line)
 }
 
-/// The fault of a cycle, move by move.
-#[tactic(auto, using(crate::proofs::Faulting::stopped_by))]
-fn fault_of(
-    doings: &mut Doings,
-    store: &Store,
-    control: &Control,
-    m: &Machine,
-    i: &Instruction,
-) -> Option<u8>
-    requires possible { IsPossible m.now i.now }
-    requires units { length store.now.results.shown ≡ length m.now.units }
-    requires few { store.now.results.cycle + 256 < 2 ^ 64 }
-    ensures { let is_pending = is_some control.now.pending in
-        result ≡ fault_in m.now store.now.places store.now.results is_pending i.now.moves }
+/// The fault of a cycle whose line is not ready: 60 where a register is read that was never
+/// written, else 61 where a result port is read that shows nothing yet, else 62 or 63 where an
+/// operation cannot start, and else 64, since only control is left.
+fn fault_of(doings: &mut Doings, store: &Store, results: &Results<'_>, line: &Line) -> u8
+    requires there { IsLineThere results.now.units line.now }
+    requires noted { let shown = shown_by results.now in
+        AreNoted store.now.places shown line.now doings.old.writes }
+    ensures { (is_pending : Bool)
+        → is_ready store.now.places results.now is_pending line.now ≡ false
+        → IsFaultOf store.now.places results.now is_pending line.now (Some result) }
 {
-    let moves = i.moves.as_slice();
     let places = &store.places;
-    let results = &store.results;
-    if !gather(&mut doings.arrivals, places, results, moves) {
-        return arrivals::fault_of(places, results, moves);
+    if reads_unset(Missing::Place, places, results, line) {
+        return UNSET_REGISTER;
     }
-    let arrivals = doings.arrivals.as_slice();
-    if collect(&mut doings.starts, m, arrivals, places, results) {
-        return Some(starts::fault_of(doings.starts.as_slice()));
+    if reads_unset(Missing::Port, places, results, line) {
+        return UNSET_PORT;
     }
-    if control.pending.is_some() && any_tells(arrivals) {
-        return Some(64);
+    // All can be read, so all words to write were collected.
+    let writes = doings.writes.as_slice();
+    if !note_starts(
+        &mut doings.starts,
+        writes,
+        places,
+        results,
+        line.starts.as_slice(),
+    ) {
+        return starts::fault_of(doings.starts.as_slice());
     }
-    None
+    CONTROL_IN_DELAY
 }
 
-/// Collects what an instruction writes and stores, and starts the results of its operations, or
-/// answers the fault of its cycle. Which fault it is is found in the instruction itself, where it
-/// is at one at all.
+/// Collects what a line writes and starts, or answers the fault of its cycle.
 fn find_fault(
     doings: &mut Doings,
-    store: &mut Store,
+    store: &Store,
+    results: &Results<'_>,
     control: &Control,
-    m: &Machine,
-    i: &Instruction,
     line: &Line,
-    units: &UnitSet,
-    next: u32,
 ) -> Option<u8>
-    requires rules { IsMachine m.now }
-    requires legal { IsTrue (is_legal m.now i.now) }
-    requires line { let back = control.now.pc + 1 + m.now.control.delay in
-        line.now ≡ line_of m.now back i.now }
-    requires units { length store.old.results.shown ≡ length m.now.units }
-    requires few { store.old.results.cycle + 256 < 2 ^ 64 }
+    requires { IsLineThere results.now.units line.now }
     ensures fault { let is_pending = is_some control.now.pending in
-        result ≡ fault_in m.now store.old.places store.old.results is_pending i.now.moves }
-    ensures places { store.new.places ≡ store.old.places }
-    ensures data { store.new.memory.items ≡ store.old.memory.items }
-    ensures frame { store.new.frame.items ≡ store.old.frame.items }
-    ensures writes { let reads = reads_of store.old.places store.old.results.shown in
-        let back = control.now.pc + 1 + m.now.control.delay in
-        let brought = map brought_of (arrivals_of reads i.now.moves) in
-        result ≡ None → doings.new.writes
-        ≡ numbered (filter_map (write_of m.now back) brought ++ long_writes m.now i.now.long) }
-    ensures stores { let reads = reads_of store.old.places store.old.results.shown in
-        let starts = starts_of m.now store.old.places (arrivals_of reads i.now.moves) in
-        result ≡ None → line.now.quiet ≡ false → doings.new.starts ≡ filter is_resultless starts }
-    ensures begun { let U = stated unit_meaning units.now in
-        let old = store.old in
-        let arrivals = arrivals_of (reads_of old.places old.results.shown) i.now.moves in
-        let begins = begun U old.results.cycle old.memory.items old.frame.items next in
-        result ≡ None → store.new.results ≡ record old.results {
-          coming = old.results.coming ++ filter_map begins (starts_of m.now old.places arrivals);
-        } }
-    ensures taken { let old = store.old in
-        let arrivals = arrivals_of (reads_of old.places old.results.shown) i.now.moves in
-        result ≡ None → list_any (takes_brought old.places old.results.shown) line.now.starts
-        ≡ list_any takes (starts_of m.now old.places arrivals) }
-    ensures kept { is_some result ≡ true → store.new.results ≡ store.old.results }
+        IsFaultOf store.now.places results.now is_pending line.now result }
+    ensures left { result ≡ None → AreLeft store.now results.now line.now doings.new }
 {
-    if is_ready(doings, store, control, units, next, line) {
+    if is_ready(doings, store, results, control, line) {
         return None;
     }
-    fault_of(doings, store, control, m, i)
+    Some(fault_of(doings, store, results, line))
 }
 
 /// Whether a cycle has to wait: it takes a word of the input, and none is left.
@@ -229,87 +124,94 @@ fn is_stuck(took: bool, next: Option<u32>) -> bool
     took && next.is_none()
 }
 
-/// Drops the results behind so many that are to come.
-fn undo(store: &mut Store, count: usize)
-    ensures results { let results = store.old.results in
-        store.new.results ≡ record results { coming = take count results.coming } }
+/// Stores the words of a cycle's operations, and answers the word that they output, if any. Where
+/// the line is quiet, none of them stores or outputs a word.
+fn put_all(store: &mut Store, quiet: bool, starts: &[Start]) -> Option<u32>
+    requires { quiet ≡ true → filter is_resultless starts.now ≡ [] }
     ensures places { store.new.places ≡ store.old.places }
-    ensures data { store.new.memory.items ≡ store.old.memory.items }
-    ensures frame { store.new.frame.items ≡ store.old.frame.items }
+    ensures cycle { store.new.cycle ≡ store.old.cycle }
+    ensures data { store.new.memory.items ≡ fold store_data store.old.memory.items starts.now }
+    ensures frame { store.new.frame.items ≡ fold store_frame store.old.frame.items starts.now }
+    ensures put { result ≡ option_map (λ t. t.word) (find puts starts.now) }
 {
-    store.results.keep(count);
+    if quiet {
+        return None;
+    }
+    store_all(&mut store.memory, &mut store.frame, starts);
+    put_out(starts)
 }
 
 /// Writes the words that were collected, and goes on to the next cycle.
 #[inline(always)]
-fn go_on(store: &mut Store, writes: &[Write])
+fn go_on(store: &mut Store, region: &mut Region, part: Part, writes: &[Write])
     requires writes { AllByRecursion (λ w. w.place < 609) writes.now }
-    requires few { store.old.results.cycle + 256 < 2 ^ 64 }
+    requires few { store.old.cycle + 256 < 2 ^ 64 }
+    requires there { AreThere (results_at part region.old) }
     ensures written { (new old : Written) → writes.now ≡ numbered new → ArePlaces new
         → HasWritten store.old.places old → HasWritten store.new.places (new ++ old) }
-    ensures results { (started : List Result') → AreResultsOf started store.old.results
-        → AreResultsOf started store.new.results }
-    ensures cycle { store.new.results.cycle ≡ store.old.results.cycle + 1 }
-    ensures units { length store.new.results.shown ≡ length store.old.results.shown }
+    ensures results { (started : List Result') → (now : ℕ)
+        → AreResultsOf started now (results_at part region.old)
+        → AreResultsOf started (now + 1) (results_at part region.new) }
+    ensures others { KeepsOthers part region.old region.new }
+    ensures cycle { store.new.cycle ≡ store.old.cycle + 1 }
     ensures data { store.new.memory.items ≡ store.old.memory.items }
     ensures frame { store.new.frame.items ≡ store.old.frame.items }
 {
     write_all(&mut store.places, writes);
-    store.results.advance();
+    region.advance_units(part.base, part.count);
+    store.cycle += 1;
 }
 
-/// Carries out a cycle of a run that goes on, with the instruction at its address, where `next` is
-/// the next word of the input.
+/// Carries out a cycle of a run that goes on, with the line at its address, where `next` is the
+/// next word of the input, and these are the machine's units in the region. A control move takes
+/// effect `delay` cycles after the next one.
 pub fn carry(
     store: &mut Store,
     control: &mut Control,
     doings: &mut Doings,
-    m: &Machine,
-    i: &Instruction,
+    region: &mut Region,
+    part: Part,
+    delay: u8,
     line: &Line,
     units: &UnitSet,
     next: Option<u32>,
 ) -> CycleStep
     requires running { control.old.phase ≡ Phase.Running }
-    requires legal { IsTrue (is_legal m.now i.now) }
-    requires line { let back = control.old.pc + 1 + m.now.control.delay in
-        line.now ≡ line_of m.now back i.now }
-    requires units { length store.old.results.shown ≡ length m.now.units }
-    requires few { store.old.results.cycle < 2 ^ 62 }
+    requires units { AreThere (results_at part region.old) }
+    requires there { IsLineThere part.count line.now }
+    requires fitting { FitsLine store.old (results_at part region.old) line.now }
+    requires few { store.old.cycle < 2 ^ 62 }
     requires within { control.old.pc < 65536 }
-    ensures units { length store.new.results.shown ≡ length store.old.results.shown }
+    ensures others { KeepsOthers part region.old region.new }
     ensures data { length store.new.memory.items ≡ length store.old.memory.items }
     ensures frame { length store.new.frame.items ≡ length store.old.frame.items }
-    ensures counted { store.new.results.cycle ≡ store.old.results.cycle + cycles_of result }
-    ensures carried { let U = stated unit_meaning units.now in (lines : List Line)
-        → (s : State) → Stands (held_of lines store.old control.old) s → IsFed s.rest next
-        → IsCarried (held_of lines store.new control.new) s
-        (carry_out U m.now s (Some i.now)) result }
+    ensures counted { store.new.cycle ≡ store.old.cycle + cycles_of result }
+    ensures carried { let U = stated unit_meaning units.now in
+        (m : Machine) → (i : Instruction) → (lines : List Line) → (s : State)
+        → IsDecoded m (control.old.pc + 1 + delay) i line.now
+        → part.count ≡ length m.units → delay ≡ m.control.delay
+        → StandsWith (results_at part region.old) (held_of lines store.old control.old) s
+        → IsFed s.rest next
+        → IsCarried (results_at part region.new) (held_of lines store.new control.new) s
+        (carry_out U m s (Some i)) result }
     ensures waits { (lines : List Line) → result ≡ Waiting
         → held_of lines store.new control.new ≡ held_of lines store.old control.old }
+    ensures stays { result ≡ Waiting → region.new ≡ region.old }
 {
-    let delay = m.control.delay;
-    let word = next.unwrap_or(0);
-    let count = store.results.count();
-    if let Some(number) = find_fault(doings, store, control, m, i, line, units, word) {
+    let results = Results::of(region, part);
+    if let Some(number) = find_fault(doings, store, &results, control, line) {
         control.phase = Phase::Fault(number);
         return CycleStep::Fault(number);
     }
-    let took = any_takes(&store.places, &store.results, line.starts.as_slice());
+    let starts = doings.starts.as_slice();
+    let took = any_takes(starts);
     if is_stuck(took, next) {
-        undo(store, count);
         return CycleStep::Waiting;
     }
-    if line.quiet {
-        go_on(store, doings.writes.as_slice());
-        control.advance(None, store.results.cycle(), delay);
-        return CycleStep::Ran { put: None, took };
-    }
-    let told = told_by(&store.places, &store.results, line.tells.as_slice());
-    let starts = doings.starts.as_slice();
-    store_all(&mut store.memory, &mut store.frame, starts);
-    let put = put_out(starts);
-    go_on(store, doings.writes.as_slice());
-    control.advance(told, store.results.cycle(), delay);
+    let told = told_in(&store.places, &results, line);
+    begin_all(region, part, units, store, next.unwrap_or(0), starts);
+    let put = put_all(store, line.quiet, starts);
+    go_on(store, region, part, doings.writes.as_slice());
+    control.advance(told, store.cycle, delay);
     CycleStep::Ran { put, took }
 }

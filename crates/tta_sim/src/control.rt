@@ -5,7 +5,7 @@ ghost use Rattle.tta_code.specs.Cycle.{State, takes_effect, lands};
 ghost use Rattle.tta_sim.specs.Starts.{told_of};
 ghost use Rattle.tta_sim.specs.Controls.{underway, controlled, pending_with, outcome_of};
 
-/// What control can be told.
+/// The kinds of control moves.
 #[derive(Clone, Copy)]
 pub enum Kind {
     Jump,
@@ -13,7 +13,7 @@ pub enum Kind {
     Halt,
 }
 
-/// What a move tells control, with the moved word.
+/// A control move that acts, with the moved word.
 #[derive(Clone, Copy)]
 pub struct Told {
     pub kind: Kind,
@@ -79,7 +79,7 @@ impl Control {
         }
     }
 
-    /// Takes what a cycle tells control. The cycle after it is `now`.
+    /// Takes the control move of a cycle, if any acted. The cycle after it is `now`.
     fn tell(&mut self, told: Option<Told>, now: u64, delay: u8)
         requires few { now + 256 < 2 ^ 64 }
         ensures pc { self.new.pc ≡ self.old.pc }
@@ -96,7 +96,7 @@ impl Control {
         }
     }
 
-    /// Goes on to the next cycle, which is `now`, after one that told control this.
+    /// Goes on to the next cycle, which is `now`, where `told` is the control move that acted.
     pub fn advance(&mut self, told: Option<Told>, now: u64, delay: u8)
         requires within { self.old.pc + 1 < 2 ^ 32 }
         requires few { now + 256 < 2 ^ 64 }

@@ -15,6 +15,7 @@ use crate::control::Kind;
 use crate::decoded::{
     DecodedGuard, DecodedSource, DecodedStart, DecodedTell, DecodedWrite, Line, Reading,
 };
+use crate::places::{IMMEDIATE_REGISTERS, IMMEDIATES, OPERANDS, REGISTERS, RETURN_ADDRESS};
 use crate::starts::has_result;
 use std::alloc::{AllocError, Global};
 use tta_arch::{Dest, GuardRef, Machine, Source, UnitOp};
@@ -25,14 +26,14 @@ use tta_list::Items;
 fn register(file: u8, index: u8) -> u32
     ensures { result ≡ number_of (KeptReg file index) }
 {
-    u32::from(file) * 64 + u32::from(index)
+    u32::from(file) * REGISTERS + u32::from(index)
 }
 
 /// The number of an immediate register's place.
 fn immediate(unit: u8, index: u8) -> u32
     ensures { result ≡ number_of (KeptImm unit index) }
 {
-    512 + u32::from(unit) * 16 + u32::from(index)
+    IMMEDIATES + u32::from(unit) * IMMEDIATE_REGISTERS + u32::from(index)
 }
 
 fn source(src: Source) -> DecodedSource
@@ -42,7 +43,7 @@ fn source(src: Source) -> DecodedSource
         Source::Reg { file, index } => DecodedSource::Place(register(file, index)),
         Source::Imm { unit, index } => DecodedSource::Place(immediate(unit, index)),
         Source::Shown { unit } => DecodedSource::Port(unit),
-        Source::Ra => DecodedSource::Place(608),
+        Source::Ra => DecodedSource::Place(RETURN_ADDRESS),
         Source::Value(word) => DecodedSource::Word(word),
     }
 }
@@ -105,7 +106,7 @@ fn write_in(m: &Machine, back: u32, slot: &Option<Move>) -> Option<DecodedWrite>
         }),
         Dest::Operand { unit } => Some(DecodedWrite {
             reading,
-            place: 576 + u32::from(unit),
+            place: OPERANDS + u32::from(unit),
             narrow: false,
         }),
         Dest::Call => Some(DecodedWrite {
@@ -113,7 +114,7 @@ fn write_in(m: &Machine, back: u32, slot: &Option<Move>) -> Option<DecodedWrite>
                 guard: reading.guard,
                 src: DecodedSource::Word(back),
             },
-            place: 608,
+            place: RETURN_ADDRESS,
             narrow: false,
         }),
         Dest::Trigger { .. } | Dest::Jump | Dest::Halt => None,
@@ -140,7 +141,7 @@ fn start_in(m: &Machine, slot: &Option<Move>) -> Option<DecodedStart>
     }
 }
 
-/// What a move tells control, if anything.
+/// The control move that a move is, if it is one.
 fn tell_in(slot: &Option<Move>) -> Option<DecodedTell>
     ensures { result ≡ option_and_then tell_decoded slot.now }
 {
@@ -220,7 +221,7 @@ fn add_moves(line: &mut Line, m: &Machine, back: u32, i: &Instruction) -> Result
     add(&mut line.writes, write_long(m, i.long))
 }
 
-/// Whether there are neither stores nor tells.
+/// Whether there are neither stores nor control moves.
 fn are_none(stores: &Items<DecodedStart>, tells: &Items<DecodedTell>) -> bool
     ensures { result ≡ (is_nil stores.now && is_nil tells.now) }
 {

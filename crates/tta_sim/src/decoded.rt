@@ -47,7 +47,7 @@ pub struct DecodedStart {
     pub does: UnitOp,
 }
 
-/// A move that tells control something.
+/// A control move.
 #[derive(Clone, Copy)]
 pub struct DecodedTell {
     pub reading: Reading,
@@ -59,9 +59,9 @@ pub struct DecodedTell {
 pub struct Line {
     pub writes: Items<DecodedWrite>,
     pub starts: Items<DecodedStart>,
-    /// Those of the starts whose operations show no result, but store a word or put it out.
+    /// Those of the starts whose operations show no result, but store or output a word.
     pub stores: Items<DecodedStart>,
     pub tells: Items<DecodedTell>,
-    /// Whether there are neither stores nor tells, as in most instructions.
+    /// Whether there are neither stores nor control moves, as in most instructions.
     pub quiet: bool,
 }

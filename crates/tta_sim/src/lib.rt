@@ -2,28 +2,28 @@
 #![tactic(auto)]
 
 mod answer;
-mod arrivals;
 mod begin;
 mod carry;
 mod control;
 mod decode;
 mod decoded;
-mod due;
-mod landing;
+mod fault;
 mod lines;
 mod places;
-mod reading;
 mod results;
 mod short;
 mod sim;
 mod spaces;
 mod starts;
+mod state;
 mod store;
 mod telling;
 mod told;
 mod truth;
+mod unset;
 mod writing;
 
 pub use answer::CycleStep;
 pub use sim::Sim;
+pub use state::SimState;
 pub use told::Ending;

@@ -1,21 +1,24 @@
 //! What the moves of a decoded instruction bring.
 
-ghost use Rattle.std.specs.Prelude.{◌≡◌, ◌<◌, ◌≤◌, ◌+◌, ◌^◌, ◌++◌, ◌||◌, not, true, false, is_none};
+ghost use Rattle.std.specs.Prelude.{◌≡◌, ◌<◌, ◌≤◌, ◌+◌, ◌^◌, ◌++◌, ◌&&◌, ◌||◌, not, true, false, is_none};
 ghost use Rattle.std.specs.Prelude.{◌==◌, Some, if◌then◌else◌, length, option_to_list, IsTrue};
 ghost use Rattle.std.specs.List.{filter_map, list_any, AllByRecursion};
 ghost use Rattle.tta_arch.specs.Effects.{KeptOperand};
 ghost use Rattle.tta_sim.specs.Places.{is_place};
+ghost use Rattle.tta_sim.specs.Results.{shown_by};
 ghost use Rattle.tta_sim.specs.Lines.{source_word, word_read, is_unread, word_of, is_unset};
 ghost use Rattle.tta_sim.specs.Lines.{is_source_there, is_reading_there, is_write_there};
 ghost use Rattle.tta_sim.specs.Lines.{is_start_there};
 ghost use Rattle.tta_sim.specs.Lines.{write_brought, start_brought, operand_in, cannot_start};
-ghost use Rattle.tta_sim.specs.Lines.{IsLineThere};
+ghost use Rattle.tta_sim.specs.Unset.{is_place_source, is_port_source, lacks_place, lacks_port};
+ghost use Rattle.tta_sim.specs.Unset.{misses_place, misses_port};
 
-use crate::decoded::{DecodedSource, DecodedStart, DecodedWrite, Line, Reading};
-use crate::places::Places;
+use crate::decoded::{DecodedSource, DecodedStart, DecodedWrite, Reading};
+use crate::places::{OPERANDS, Places};
 use crate::results::Results;
 use crate::short::Short;
 use crate::starts::{Start, clashes};
+use crate::truth::either;
 use tta_arch::UnitOp;
 
 /// A word that is brought to a place.
@@ -25,53 +28,62 @@ pub struct Write {
     pub word: u32,
 }
 
+/// What has no word where a move cannot be read.
+#[derive(Clone, Copy)]
+pub enum Missing {
+    /// The place of its guard or its source was never written.
+    Place,
+    /// The result port that is its source shows nothing yet.
+    Port,
+}
+
 /// What is read for a move.
 #[derive(Clone, Copy)]
 pub enum Read {
     /// The move does not act.
     Nothing,
     Word(u32),
-    /// Its guard or its source has no word.
-    Unset,
-}
-
-/// The word of a source.
-fn word(places: &Places, results: &Results, src: DecodedSource) -> Option<u32>
-    requires { IsTrue (is_source_there (length results.now.shown) src) }
-    ensures { result ≡ source_word places.now results.now.shown src }
-{
-    match src {
-        DecodedSource::Word(word) => Some(word),
-        DecodedSource::Place(number) => places.at(number),
-        DecodedSource::Port(unit) => results.port(unit),
-    }
+    Unset(Missing),
 }
 
 /// What is read for a move that acts.
 #[inline(always)]
-fn read_source(places: &Places, results: &Results, src: DecodedSource) -> Read
-    requires { IsTrue (is_source_there (length results.now.shown) src) }
-    ensures word { word_of result ≡ source_word places.now results.now.shown src }
-    ensures unset { is_unset result ≡ is_none (source_word places.now results.now.shown src) }
+fn read_source(places: &Places, results: &Results<'_>, src: DecodedSource) -> Read
+    requires { IsTrue (is_source_there results.now.units src) }
+    ensures word { word_of result ≡ source_word places.now (shown_by results.now) src }
+    ensures unset { is_unset result ≡ is_none (source_word places.now (shown_by results.now) src) }
+    ensures place { misses_place result
+        ≡ (is_place_source src && is_none (source_word places.now (shown_by results.now) src)) }
+    ensures port { misses_port result
+        ≡ (is_port_source src && is_none (source_word places.now (shown_by results.now) src)) }
 {
-    match word(places, results, src) {
-        Some(word) => Read::Word(word),
-        None => Read::Unset,
+    match src {
+        DecodedSource::Word(word) => Read::Word(word),
+        DecodedSource::Place(number) => match places.at(number) {
+            Some(word) => Read::Word(word),
+            None => Read::Unset(Missing::Place),
+        },
+        DecodedSource::Port(unit) => match results.port(unit) {
+            Some(word) => Read::Word(word),
+            None => Read::Unset(Missing::Port),
+        },
     }
 }
 
 /// What is read for a move at the start of a cycle.
 #[inline(always)]
-pub fn read_move(places: &Places, results: &Results, r: &Reading) -> Read
-    requires { IsTrue (is_reading_there (length results.now.shown) r.now) }
-    ensures word { word_of result ≡ word_read places.now results.now.shown r.now }
-    ensures unset { is_unset result ≡ is_unread places.now results.now.shown r.now }
+pub fn read_move(places: &Places, results: &Results<'_>, r: &Reading) -> Read
+    requires { IsTrue (is_reading_there results.now.units r.now) }
+    ensures word { word_of result ≡ word_read places.now (shown_by results.now) r.now }
+    ensures unset { is_unset result ≡ is_unread places.now (shown_by results.now) r.now }
+    ensures place { misses_place result ≡ lacks_place places.now (shown_by results.now) r.now }
+    ensures port { misses_port result ≡ lacks_port places.now (shown_by results.now) r.now }
 {
     let Some(g) = r.guard else {
         return read_source(places, results, r.src);
     };
     match places.at(g.place) {
-        None => Read::Unset,
+        None => Read::Unset(Missing::Place),
         Some(word) => {
             if (word == 0) == g.inverted {
                 read_source(places, results, r.src)
@@ -86,14 +98,14 @@ pub fn read_move(places: &Places, results: &Results, r: &Reading) -> Read
 fn note_write(
     writes: &mut Short<Write>,
     places: &Places,
-    results: &Results,
+    results: &Results<'_>,
     w: &DecodedWrite,
 ) -> bool
     requires room { length writes.old < 32 }
-    requires there { IsTrue (is_write_there (length results.now.shown) w.now) }
-    ensures writes { let brought = write_brought places.now results.now.shown in
+    requires there { IsTrue (is_write_there results.now.units w.now) }
+    ensures writes { let brought = write_brought places.now (shown_by results.now) in
         writes.new ≡ writes.old ++ option_to_list (brought w.now) }
-    ensures unset { result ≡ is_unread places.now results.now.shown w.now.reading }
+    ensures unset { result ≡ is_unread places.now (shown_by results.now) w.now.reading }
 {
     match read_move(places, results, &w.reading) {
         Read::Nothing => false,
@@ -104,7 +116,7 @@ fn note_write(
             });
             false
         }
-        Read::Unset => true,
+        Read::Unset(_) => true,
     }
 }
 
@@ -112,15 +124,15 @@ fn note_write(
 pub fn note_writes(
     writes: &mut Short<Write>,
     places: &Places,
-    results: &Results,
+    results: &Results<'_>,
     moves: &[DecodedWrite],
 ) -> bool
     requires few { length moves.now ≤ 17 }
     requires there { AllByRecursion
-        (λ w. IsTrue (is_write_there (length results.now.shown) w)) moves.now }
-    ensures read { let unread = is_unread places.now results.now.shown in
+        (λ w. IsTrue (is_write_there results.now.units w)) moves.now }
+    ensures read { let unread = is_unread places.now (shown_by results.now) in
         result ≡ not (list_any (λ w. unread w.reading) moves.now) }
-    ensures writes { let brought = write_brought places.now results.now.shown in
+    ensures writes { let brought = write_brought places.now (shown_by results.now) in
         result ≡ true → writes.new ≡ filter_map brought moves.now }
 {
     writes.clear();
@@ -137,7 +149,7 @@ fn operand_after(writes: &[Write], places: &Places, unit: u8) -> Option<u32>
     requires { IsTrue (is_place (KeptOperand unit)) }
     ensures { result ≡ operand_in places.now writes.now unit }
 {
-    let place = 576 + usize::from(unit);
+    let place = OPERANDS as usize + usize::from(unit);
     for w in writes {
         if w.place == place {
             return Some(w.word);
@@ -164,14 +176,13 @@ fn note_start(
     starts: &mut Short<Start>,
     writes: &[Write],
     places: &Places,
-    results: &Results,
+    results: &Results<'_>,
     s: &DecodedStart,
 ) -> bool
     requires room { length starts.old < 32 }
-    requires there { IsTrue (is_start_there (length results.now.shown) s.now) }
-    requires few { results.now.cycle + 256 < 2 ^ 64 }
+    requires there { IsTrue (is_start_there results.now.units s.now) }
     ensures starts { let operand = operand_in places.now writes.now in
-        let brought = start_brought places.now results.now.shown operand in
+        let brought = start_brought places.now (shown_by results.now) operand in
         starts.new ≡ starts.old ++ option_to_list (brought s.now) }
     ensures stopped { let operand = operand_in places.now writes.now in
         result ≡ cannot_start places.now results.now operand s.now }
@@ -182,61 +193,40 @@ fn note_start(
             let operand = operand_of(writes, places, s.unit, &s.does);
             let stopped = operand.is_none() || clashes(results, s.unit, &s.does);
             starts.push(Start {
-                unit: u32::from(s.unit),
+                unit: s.unit,
                 does: s.does,
                 operand,
                 word,
             });
             stopped
         }
-        Read::Unset => true,
+        Read::Unset(_) => true,
     }
 }
 
-/// Collects the operations that the moves start, and answers whether all of them can start.
-fn note_starts(
+/// Collects the operations that the moves start, whether or not these can start, and answers
+/// whether all of them can.
+pub fn note_starts(
     starts: &mut Short<Start>,
     writes: &[Write],
     places: &Places,
-    results: &Results,
+    results: &Results<'_>,
     moves: &[DecodedStart],
 ) -> bool
     requires few { length moves.now ≤ 16 }
     requires there { AllByRecursion
-        (λ s. IsTrue (is_start_there (length results.now.shown) s)) moves.now }
-    requires cycle { results.now.cycle + 256 < 2 ^ 64 }
+        (λ s. IsTrue (is_start_there results.now.units s)) moves.now }
     ensures can { let operand = operand_in places.now writes.now in
         result ≡ not (list_any (cannot_start places.now results.now operand) moves.now) }
     ensures starts { let operand = operand_in places.now writes.now in
-        let brought = start_brought places.now results.now.shown operand in
-        result ≡ true → starts.new ≡ filter_map brought moves.now }
+        let brought = start_brought places.now (shown_by results.now) operand in
+        starts.new ≡ filter_map brought moves.now }
 {
     starts.clear();
+    let mut stopped = false;
     for s in moves {
-        if note_start(starts, writes, places, results, s) {
-            return false;
-        }
+        let by_this = note_start(starts, writes, places, results, s);
+        stopped = either(by_this, stopped);
     }
-    true
-}
-
-/// Collects the operations of a line that show no result, and answers whether all of them can
-/// start. Where the line is quiet, it has none, and nothing is collected.
-pub fn note_stores(
-    starts: &mut Short<Start>,
-    writes: &[Write],
-    places: &Places,
-    results: &Results,
-    line: &Line,
-) -> bool
-    requires there { IsLineThere (length results.now.shown) line.now }
-    requires cycle { results.now.cycle + 256 < 2 ^ 64 }
-    ensures can { let operand = operand_in places.now writes.now in
-        result ≡ not (list_any (cannot_start places.now results.now operand) line.now.stores) }
-    ensures stores { let operand = operand_in places.now writes.now in
-        let brought = start_brought places.now results.now.shown operand in
-        result ≡ true → line.now.quiet ≡ false
-        → starts.new ≡ filter_map brought line.now.stores }
-{
-    line.quiet || note_starts(starts, writes, places, results, line.stores.as_slice())
+    !stopped
 }

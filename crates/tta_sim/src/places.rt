@@ -1,11 +1,29 @@
 //! The words of registers and operand ports.
 
 ghost use Rattle.std.specs.Prelude.{◌≡◌, ◌<◌, [], ◌∷◌, None, slice_index_or, IfOk, IsTrue};
-ghost use Rattle.tta_arch.specs.Effects.{KeptReg, KeptImm, KeptOperand, KeptRa, Place, Written};
+ghost use Rattle.tta_arch.specs.Effects.{KeptReg, KeptOperand, Place, Written};
 ghost use Rattle.tta_sim.specs.Places.{is_place, number_of, word_at, HasWritten};
 
 use std::alloc::{AllocError, Global};
 use std::marker::Model;
+
+/// How many registers a file can have.
+pub const REGISTERS: u32 = 64;
+
+/// Where the immediate registers stand in the row of places, after the registers of eight files.
+pub const IMMEDIATES: u32 = 8 * REGISTERS;
+
+/// How many registers an immediate unit can have.
+pub const IMMEDIATE_REGISTERS: u32 = 16;
+
+/// Where the operand ports stand, after the registers of four immediate units.
+pub const OPERANDS: u32 = IMMEDIATES + 4 * IMMEDIATE_REGISTERS;
+
+/// Where the return address stands, after the operand ports of 32 units.
+pub const RETURN_ADDRESS: u32 = OPERANDS + 32;
+
+/// How many places there are.
+pub const PLACES: usize = RETURN_ADDRESS as usize + 1;
 
 /// The words that registers, immediate registers, operand ports and the return address keep, where
 /// one was ever written. All stand in one row, with room for as many as any machine can have.
@@ -30,7 +48,7 @@ impl Places {
         ensures { IfOk result (λ p. HasWritten p []) }
     {
         Ok(Places {
-            words: vec![in alloc; None; 609]?,
+            words: vec![in alloc; None; PLACES]?,
         })
     }
 
@@ -46,27 +64,14 @@ impl Places {
         requires { IsTrue (is_place (KeptReg file index)) }
         ensures { result ≡ word_at self.now (KeptReg file index) }
     {
-        self.words[usize::from(file) * 64 + usize::from(index)]
-    }
-
-    pub fn immediate(&self, unit: u8, index: u8) -> Option<u32>
-        requires { IsTrue (is_place (KeptImm unit index)) }
-        ensures { result ≡ word_at self.now (KeptImm unit index) }
-    {
-        self.words[512 + usize::from(unit) * 16 + usize::from(index)]
+        self.words[usize::from(file) * REGISTERS as usize + usize::from(index)]
     }
 
     pub fn operand(&self, unit: u8) -> Option<u32>
         requires { IsTrue (is_place (KeptOperand unit)) }
         ensures { result ≡ word_at self.now (KeptOperand unit) }
     {
-        self.words[576 + usize::from(unit)]
-    }
-
-    pub fn return_address(&self) -> Option<u32>
-        ensures { result ≡ word_at self.now KeptRa }
-    {
-        self.words[608]
+        self.words[OPERANDS as usize + usize::from(unit)]
     }
 
     /// Puts a word into the place with this number in the row.

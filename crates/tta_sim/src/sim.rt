@@ -1,59 +1,68 @@
 //! A run.
 
-ghost use Rattle.std.specs.Prelude.{◌≡◌, ◌+◌, ◌<◌, ◌^◌, ℕ, List, length, option_copied};
+ghost use Rattle.std.specs.Prelude.{◌≡◌, ◌+◌, ◌<◌, ◌^◌, [], ℕ, List, length};
 ghost use Rattle.std.specs.Prelude.{option_map};
-ghost use Rattle.std.specs.Prelude.{slice_get, slice_index, IfOk, IsTrue};
+ghost use Rattle.std.specs.Prelude.{replicate, slice_index, IfOk, IsTrue};
 ghost use Rattle.tta_ops.specs.Set.{stated};
 ghost use Rattle.tta_arch.specs.Effects.{KeptReg, kept};
 ghost use Rattle.tta_code.specs.Cycle.{State, next as next_state, start};
 ghost use Rattle.tta_code.specs.Cycle.{port as port_of};
 ghost use Rattle.tta_code.specs.Legal.{IsLegalCode};
 ghost use Rattle.tta_sim.specs.Places.{is_place};
-ghost use Rattle.tta_sim.specs.Results.{due_at};
+ghost use Rattle.tta_sim.specs.Results.{due_at, HasUnits, AreResultsOf, units_of};
 ghost use Rattle.tta_list.specs.Input.{IsFed};
 ghost use Rattle.tta_sim.specs.Held.{Stands, GoesTo, IsAnswer, IsRunOf, cycles_of};
-ghost use Rattle.tta_sim.specs.Held.{is_halted, fault_number};
+ghost use Rattle.tta_sim.specs.Held.{is_halted, fault_number, ending_told};
 ghost use Rattle.tta_sim.specs.declared.answer.CycleStep.TheVariants.{Waiting};
 
 use crate::answer::CycleStep;
-use crate::carry::carry;
-use crate::control::{Control, Phase};
-use crate::decode::decode;
-use crate::decoded::Line;
-use crate::spaces::load;
-use crate::store::{Doings, Store};
+use crate::state::SimState;
+use crate::told::Ending;
 use std::alloc::{AllocError, Global};
 use std::marker::Model;
 use tta_arch::Machine;
-use tta_code::{Code, Instruction};
-use tta_list::Items;
+use tta_code::Code;
+use tta_flight::Region;
 use tta_ops::UnitSet;
 
+/// The longest latency that a unit can have, in cycles.
+const LONGEST: u8 = 16;
+
 /// The run of a machine's code, cycle by cycle: the words of registers, ports and spaces, the
-/// results that are still to come, and control. The input and what was put out are not kept.
+/// results that are still to come, and control. The input and the output are not kept.
 #[derive(Drop)]
 pub struct Sim {
-    pub(crate) store: Store,
-    pub(crate) control: Control,
-    doings: Doings,
-    /// The code that is run, decoded.
-    lines: Items<Line>,
+    state: SimState,
+    region: Region,
 }
 
 impl Model for Sim {
-    ghost use Rattle.tta_sim.specs.Held.{Held};
-    ghost use Rattle.tta_sim.specs.Kept.{held_of};
+    ghost use Rattle.tta_sim.specs.Held.{Held, held_with};
 
     ghost Value = { Held };
 
-    ghost view = { λ s. held_of s.lines s.store s.control };
+    ghost view = { λ s. held_with s.state s.region };
 }
 
-/// The instruction at an address, if there is one.
-fn instruction_at(code: &Code, address: u32) -> Option<&Instruction>
-    ensures { option_copied result ≡ slice_get code.now.words address }
+/// The longest latency that there is, for each of so many units.
+fn longest(alloc: Global, units: usize) -> Result<Vec<u8>, AllocError>
+    ensures { IfOk result (λ v. v.items ≡ replicate units 16) }
 {
-    code.words.as_slice().get(address as usize)
+    let longest = vec![in alloc; LONGEST; units]?;
+    Ok(longest)
+}
+
+/// A region of a machine's units: nothing was started.
+fn region_of(alloc: Global, m: &Machine) -> Result<Region, AllocError>
+    ensures units { IfOk result (λ r. length r.rings ≡ length m.now.units) }
+    ensures has_units { IfOk result (λ r. HasUnits 0 m.now r) }
+    ensures none { IfOk result (λ r. AreResultsOf [] 0 (units_of 0 m.now r)) }
+{
+    let longest = longest(alloc, m.units.len())?;
+    let Ok(region) = Region::new(alloc, longest.as_slice()) else {
+        return Err(AllocError);
+    };
+    Ok(region)
 }
 
 impl Sim {
@@ -74,30 +83,16 @@ impl Sim {
             → Stands r (start m.now memory.items input)) }
         ensures loaded { IfOk result (λ r. IsRunOf m.now code.now r) }
     {
-        // What was taken so far is dropped by name, so that a way out is left with nothing.
-        let units = m.units.len();
-        let Ok(store) = Store::unset(alloc, units, m.frame_words as usize, memory) else {
+        let state = SimState::load(alloc, m, code, memory)?;
+        let Ok(region) = region_of(alloc, m) else {
+            drop(state);
             return Err(AllocError);
         };
-        let Ok(lines) = decode(alloc, m, code) else {
-            drop(store);
-            return Err(AllocError);
-        };
-        let Ok(doings) = Doings::none(alloc) else {
-            drop(store);
-            drop(lines);
-            return Err(AllocError);
-        };
-        Ok(Sim {
-            store,
-            control: Control::first(),
-            doings,
-            lines,
-        })
+        Ok(Sim { state, region })
     }
 
     /// Carries out one cycle of the code that was loaded, where `next` is the next word of the
-    /// input, `None` where none is left. It answers `Ran` with the word that it put out, if any. It
+    /// input, `None` where none is left. It answers `Ran` with the word that it output, if any. It
     /// answers `Halted` exactly where the run has halted before, `Fault` exactly where this cycle
     /// faults or an earlier one did, and `Waiting` exactly where a cycle without a fault takes a
     /// word of the input and there is none; the run then stays as it is. It takes no memory.
@@ -119,26 +114,7 @@ impl Sim {
             → Stands self.old s → IsFed s.rest next → IsAnswer U m.now code.now s result }
         ensures waits { result ≡ Waiting → self.new ≡ self.old }
     {
-        match self.control.phase {
-            Phase::Running => {}
-            Phase::Halted => return CycleStep::Halted,
-            Phase::Fault(number) => return CycleStep::Fault(number),
-        }
-        let Some(i) = instruction_at(code, self.control.pc) else {
-            self.control.phase = Phase::Fault(65);
-            return CycleStep::Fault(65);
-        };
-        let line = &self.lines.as_slice()[self.control.pc as usize];
-        carry(
-            &mut self.store,
-            &mut self.control,
-            &mut self.doings,
-            m,
-            i,
-            line,
-            units,
-            next,
-        )
+        self.state.cycle(&mut self.region, 0, m, code, units, next)
     }
 
     /// The word in a register of a file, `None` where none was ever written.
@@ -146,7 +122,7 @@ impl Sim {
         requires { IsTrue (is_place (KeptReg file index)) }
         ensures { (s : State) → Stands self.now s → result ≡ kept s.written (KeptReg file index) }
     {
-        self.store.places.register(file, index)
+        self.state.reg(file, index)
     }
 
     /// The word on a unit's result port, `None` where no result was due yet.
@@ -154,17 +130,17 @@ impl Sim {
         requires { unit < length self.now.shown }
         ensures { (s : State) → Stands self.now s → result ≡ port_of s unit }
     {
-        self.store.results.port(unit)
+        self.region.port(unit)
     }
 
-    /// The result of a unit that is due so many cycles from now, `None` where none is.
+    /// The result of a unit that is due `delay` cycles from now, `None` where none is.
     pub fn due(&self, unit: u8, delay: u8) -> Option<u32>
         requires unit { unit < length self.now.shown }
         requires few { self.now.cycle < 2 ^ 63 }
         ensures { (s : State) → Stands self.now s
             → result ≡ option_map (λ r. r.value) (due_at unit (s.cycle + delay) s.started) }
     {
-        self.store.results.due(unit, delay)
+        self.region.due(unit, delay)
     }
 
     /// A data word.
@@ -172,40 +148,48 @@ impl Sim {
         requires { i < length self.now.memory }
         ensures { result ≡ slice_index self.now.memory i }
     {
-        load(self.store.memory.as_slice(), i)
+        self.state.mem(i)
+    }
+
+    /// All data words, from address 0 on.
+    pub fn memory(&self) -> &[u32]
+        ensures { result.now ≡ self.now.memory }
+    {
+        self.state.memory()
     }
 
     /// The address of the next instruction.
     pub fn pc(&self) -> u32
         ensures { result ≡ self.now.pc }
     {
-        self.control.pc
+        self.state.pc()
     }
 
     /// How many cycles were made.
     pub fn cycles(&self) -> u64
         ensures { result ≡ self.now.cycle }
     {
-        self.store.results.cycle()
+        self.state.cycles()
     }
 
     /// Whether the run has halted.
     pub fn halted(&self) -> bool
         ensures { result ≡ is_halted self.now.outcome }
     {
-        match self.control.phase {
-            Phase::Halted => true,
-            Phase::Running | Phase::Fault(_) => false,
-        }
+        self.state.halted()
     }
 
     /// The number of the fault that the run is at, `None` where it is at none.
     pub fn fault(&self) -> Option<u8>
         ensures { result ≡ fault_number self.now.outcome }
     {
-        match self.control.phase {
-            Phase::Fault(number) => Some(number),
-            Phase::Running | Phase::Halted => None,
-        }
+        self.state.fault()
+    }
+
+    /// How the run stands.
+    pub fn ending(&self) -> Ending
+        ensures { ending_told result ≡ self.now.outcome }
+    {
+        self.state.ending()
     }
 }

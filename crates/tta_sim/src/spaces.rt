@@ -10,7 +10,7 @@ use crate::starts::Start;
 use std::alloc::{AllocError, Global};
 use tta_arch::Op;
 
-/// A space of so many words, each 0.
+/// A space of `count` words, each 0.
 pub fn zeros(alloc: Global, count: usize) -> Result<Vec<u32>, AllocError>
     ensures { IfOk result (λ v. v.items ≡ replicate count 0) }
 {
@@ -60,7 +60,7 @@ pub fn store_all(memory: &mut Vec<u32>, frame: &mut Vec<u32>, starts: &[Start])
     }
 }
 
-/// The word that the operations put out, if any.
+/// The word that the operations output, if any.
 pub fn put_out(starts: &[Start]) -> Option<u32>
     ensures { result ≡ option_map (λ t. t.word) (find puts starts.now) }
 {

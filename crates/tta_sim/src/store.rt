@@ -1,12 +1,10 @@
 //! What a run holds but for control, and what its moves are about.
 
-ghost use Rattle.std.specs.Prelude.{◌≡◌, ◌<◌, [], None, replicate, IfOk};
+ghost use Rattle.std.specs.Prelude.{◌≡◌, [], replicate, IfOk};
 ghost use Rattle.tta_sim.specs.Places.{HasWritten};
 
-use crate::arrivals::Arrival;
 use crate::lines::Write;
 use crate::places::Places;
-use crate::results::Results;
 use crate::short::Short;
 use crate::spaces::zeros;
 use crate::starts::Start;
@@ -16,7 +14,8 @@ use std::alloc::{AllocError, Global};
 #[derive(Drop)]
 pub struct Store {
     pub places: Places,
-    pub results: Results,
+    /// How many cycles were made.
+    pub cycle: u64,
     /// The data space.
     pub memory: Vec<u32>,
     /// The frame space.
@@ -24,18 +23,11 @@ pub struct Store {
 }
 
 impl Store {
-    /// The words at the start of a run with so many units and frame words: nothing was ever
-    /// written, every frame word is 0, and the data words are these.
-    pub fn unset(
-        alloc: Global,
-        units: usize,
-        frame_words: usize,
-        memory: Vec<u32>,
-    ) -> Result<Self, AllocError>
-        requires { units < 256 }
+    /// The words at the start of a run with so many frame words: nothing was ever written, every
+    /// frame word is 0, and the data words are these.
+    pub fn unset(alloc: Global, frame_words: usize, memory: Vec<u32>) -> Result<Self, AllocError>
         ensures places { IfOk result (λ s. HasWritten s.places []) }
-        ensures results { IfOk result (λ s. s.results
-            ≡ record { cycle = 0; shown = replicate units None; coming = [] }) }
+        ensures cycle { IfOk result (λ s. s.cycle ≡ 0) }
         ensures memory { IfOk result (λ s. s.memory.items ≡ memory.items) }
         ensures frame { IfOk result (λ s. s.frame.items ≡ replicate frame_words 0) }
     {
@@ -44,32 +36,25 @@ impl Store {
             drop(memory);
             return Err(AllocError);
         };
-        let Ok(results) = Results::none(alloc, units) else {
-            drop(memory);
-            drop(places);
-            return Err(AllocError);
-        };
         let Ok(frame) = zeros(alloc, frame_words) else {
             drop(memory);
             drop(places);
-            drop(results);
             return Err(AllocError);
         };
         Ok(Store {
             places,
-            results,
+            cycle: 0,
             memory,
             frame,
         })
     }
 }
 
-/// What the moves of a cycle write, bring and start. It is of no use behind the cycle, and kept
-/// only for its room.
+/// What the moves of a cycle write and start. It is of no use after the cycle, and kept only for
+/// its room.
 #[derive(Drop)]
 pub struct Doings {
     pub writes: Short<Write>,
-    pub arrivals: Short<Arrival>,
     pub starts: Short<Start>,
 }
 
@@ -80,19 +65,10 @@ impl Doings {
         let Ok(writes) = Short::new(alloc) else {
             return Err(AllocError);
         };
-        let Ok(arrivals) = Short::new(alloc) else {
-            drop(writes);
-            return Err(AllocError);
-        };
         let Ok(starts) = Short::new(alloc) else {
             drop(writes);
-            drop(arrivals);
             return Err(AllocError);
         };
-        Ok(Doings {
-            writes,
-            arrivals,
-            starts,
-        })
+        Ok(Doings { writes, starts })
     }
 }

@@ -1,8 +1,9 @@
-//! What the moves of a decoded instruction tell control.
+//! The control moves of a decoded instruction.
 
 ghost use Rattle.std.specs.Prelude.{◌≡◌, length, option_map, IsTrue};
 ghost use Rattle.std.specs.List.{list_any, AllByRecursion};
 ghost use Rattle.tta_arch.specs.Effects.{first_some};
+ghost use Rattle.tta_sim.specs.Results.{shown_by};
 ghost use Rattle.tta_sim.specs.Starts.{told_of};
 ghost use Rattle.tta_sim.specs.Lines.{is_unread, is_reading_there, is_tell_there, tell_brought};
 ghost use Rattle.tta_sim.specs.Lines.{tells_well, IsLineThere};
@@ -14,18 +15,18 @@ use crate::places::Places;
 use crate::results::Results;
 
 /// Whether a move could not be read.
-fn is_unset(places: &Places, results: &Results, r: &Reading) -> bool
-    requires { IsTrue (is_reading_there (length results.now.shown) r.now) }
-    ensures { result ≡ is_unread places.now results.now.shown r.now }
+fn is_unset(places: &Places, results: &Results<'_>, r: &Reading) -> bool
+    requires { IsTrue (is_reading_there results.now.units r.now) }
+    ensures { result ≡ is_unread places.now (shown_by results.now) r.now }
 {
-    matches!(read_move(places, results, r), Read::Unset)
+    matches!(read_move(places, results, r), Read::Unset(_))
 }
 
 /// Whether some of the moves could not be read.
-fn any_unset(places: &Places, results: &Results, moves: &[DecodedTell]) -> bool
+fn any_unset(places: &Places, results: &Results<'_>, moves: &[DecodedTell]) -> bool
     requires { AllByRecursion
-        (λ t. IsTrue (is_tell_there (length results.now.shown) t)) moves.now }
-    ensures { let unread = is_unread places.now results.now.shown in
+        (λ t. IsTrue (is_tell_there results.now.units t)) moves.now }
+    ensures { let unread = is_unread places.now (shown_by results.now) in
         result ≡ list_any (λ t. unread t.reading) moves.now }
 {
     for t in moves {
@@ -36,22 +37,22 @@ fn any_unset(places: &Places, results: &Results, moves: &[DecodedTell]) -> bool
     false
 }
 
-/// What a move tells control, if it acts.
-fn tell(places: &Places, results: &Results, t: &DecodedTell) -> Option<Told>
-    requires { IsTrue (is_tell_there (length results.now.shown) t.now) }
-    ensures { option_map told_of result ≡ tell_brought places.now results.now.shown t.now }
+/// A control move with its word, if it acts.
+fn tell(places: &Places, results: &Results<'_>, t: &DecodedTell) -> Option<Told>
+    requires { IsTrue (is_tell_there results.now.units t.now) }
+    ensures { option_map told_of result ≡ tell_brought places.now (shown_by results.now) t.now }
 {
     match read_move(places, results, &t.reading) {
         Read::Word(word) => Some(Told { kind: t.kind, word }),
-        Read::Nothing | Read::Unset => None,
+        Read::Nothing | Read::Unset(_) => None,
     }
 }
 
-/// What the moves tell control.
-pub fn told_by(places: &Places, results: &Results, moves: &[DecodedTell]) -> Option<Told>
+/// The first of the control moves that acts, if any does.
+fn told_by(places: &Places, results: &Results<'_>, moves: &[DecodedTell]) -> Option<Told>
     requires { AllByRecursion
-        (λ t. IsTrue (is_tell_there (length results.now.shown) t)) moves.now }
-    ensures { let tells = tell_brought places.now results.now.shown in
+        (λ t. IsTrue (is_tell_there results.now.units t)) moves.now }
+    ensures { let tells = tell_brought places.now (shown_by results.now) in
         option_map told_of result ≡ first_some tells moves.now }
 {
     for t in moves {
@@ -62,20 +63,32 @@ pub fn told_by(places: &Places, results: &Results, moves: &[DecodedTell]) -> Opt
     None
 }
 
-/// Whether control can be told what the moves tell it: all of them can be read, and no earlier
-/// control move is under way.
-fn can_tell(places: &Places, results: &Results, pending: bool, moves: &[DecodedTell]) -> bool
+/// Whether these control moves can act: all of them can be read, and where one acts, no earlier
+/// one is under way.
+fn can_tell(places: &Places, results: &Results<'_>, pending: bool, moves: &[DecodedTell]) -> bool
     requires { AllByRecursion
-        (λ t. IsTrue (is_tell_there (length results.now.shown) t)) moves.now }
-    ensures { result ≡ tells_well places.now results.now.shown pending moves.now }
+        (λ t. IsTrue (is_tell_there results.now.units t)) moves.now }
+    ensures { result ≡ tells_well places.now (shown_by results.now) pending moves.now }
 {
     !any_unset(places, results, moves) && (!pending || told_by(places, results, moves).is_none())
 }
 
-/// Whether control can be told what a line tells it.
-pub fn tells_well(places: &Places, results: &Results, pending: bool, line: &Line) -> bool
-    requires { IsLineThere (length results.now.shown) line.now }
-    ensures { result ≡ tells_well places.now results.now.shown pending line.now.tells }
+/// Whether the control moves of a line can act.
+pub fn tells_well(places: &Places, results: &Results<'_>, pending: bool, line: &Line) -> bool
+    requires { IsLineThere results.now.units line.now }
+    ensures { result ≡ tells_well places.now (shown_by results.now) pending line.now.tells }
 {
     line.quiet || can_tell(places, results, pending, line.tells.as_slice())
+}
+
+/// The control move of a line that acts, if any does.
+pub fn told_in(places: &Places, results: &Results<'_>, line: &Line) -> Option<Told>
+    requires { IsLineThere results.now.units line.now }
+    ensures { let tells = tell_brought places.now (shown_by results.now) in
+        option_map told_of result ≡ first_some tells line.now.tells }
+{
+    if line.quiet {
+        return None;
+    }
+    told_by(places, results, line.tells.as_slice())
 }

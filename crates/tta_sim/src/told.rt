@@ -1,10 +1,4 @@
-//! What is told of a whole run.
-
-ghost use Rattle.std.specs.Prelude.{◌≡◌};
-ghost use Rattle.tta_sim.specs.Held.{ending_told};
-
-use crate::control::Phase;
-use crate::sim::Sim;
+//! What is reported of a whole run.
 
 /// How a run stands.
 #[derive(Clone, Copy, Debug, PartialEq, Eq)]
@@ -13,29 +7,6 @@ pub enum Ending {
     Running,
     /// It has halted.
     Halted,
-    /// It is at a fault of this number, after so many cycles without one.
+    /// It is at a fault of this number, after `cycle` cycles without one.
     Fault { number: u8, cycle: u64 },
-}
-
-impl Sim {
-    /// All data words, from address 0 on.
-    pub fn memory(&self) -> &[u32]
-        ensures { result.now ≡ self.now.memory }
-    {
-        self.store.memory.as_slice()
-    }
-
-    /// How the run stands.
-    pub fn ending(&self) -> Ending
-        ensures { ending_told result ≡ self.now.outcome }
-    {
-        match self.control.phase {
-            Phase::Running => Ending::Running,
-            Phase::Halted => Ending::Halted,
-            Phase::Fault(number) => Ending::Fault {
-                number,
-                cycle: self.cycles(),
-            },
-        }
-    }
 }

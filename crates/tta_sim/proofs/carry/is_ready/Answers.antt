@@ -1,44 +1,58 @@
-use Rattle.std.proofs.Common.{◌++◌, sym, ap, ◌∙◌}
-use Rattle.std.specs.Prelude.{is_some}
-use Rattle.std.specs.List.{filter_map}
-use Rattle.tta_ops.specs.Set.{stated}
-use Rattle.tta_sim.specs.Starts.{begun}
-use Rattle.tta_sim.specs.Lines.{start_brought, operand_in}
-use Rattle.tta_sim.proofs.Noting.{noted_are, ready_with, not_ready}
+use Rattle.std.proofs.Common.{not, sym, ap, ◌∙◌}
+use Rattle.std.specs.Prelude.{◌&&◌, is_some}
+use Rattle.std.specs.List.{filter_map, list_any}
+use Rattle.tta_sim.specs.Results.{shown_by}
+use Rattle.tta_sim.specs.Starts.{clashes_with}
+use Rattle.tta_sim.specs.Lines.{is_unread, write_brought, operand_in, tells_well}
+use Rattle.tta_sim.specs.Ready.{starts_in}
+use Rattle.tta_sim.proofs.Noting.{noted_are, ready_with, none_stopped}
 use Rattle.tta_sim.proofs.carry.is_ready.Goals as goal
 
-pub returns-then-not-note_stores-clause-ready : goal.returns-then-not-note_stores-clause-ready
-returns-then-not-note_stores-clause-ready g c =
-    sym (not_ready c.args.store.now.places c.args.store.now.results (is_some c.args.control.now.pending) c.args.line.now _ _ _ c.as_slice.ensures
-    c.as_slice-writes.ensures _ c.note_writes.ensures.read c.if-not-note_writes.false c.note_writes.ensures.writes c.requires.there.stored _ c.note_stores.ensures.can c.if-not-note_stores.true)
+pub returns-then-not-note_starts-clause-ready : goal.returns-then-not-note_starts-clause-ready
+returns-then-not-note_starts-clause-ready c =
+    let places = c.args.store.now.places in
+    let results = c.args.results.now in
+    let p = is_some c.args.control.now.pending in
+    let line = c.args.line.now in
+    sym (ready_with places results p line _ _ _ c.as_slice.ensures c.as_slice-writes.ensures _ c.note_writes.ensures.read c.if-not-note_writes.false c.note_writes.ensures.writes
+    _ c.as_slice-moves.ensures _ c.note_starts.ensures.can ∙ ap (λ b. b && tells_well places (shown_by results) p line.tells) c.if-not-note_starts.true)
 
 pub returns-clause-ready : goal.returns-clause-ready
-returns-clause-ready g c = c.begin_line.ensures.ready ∙ sym (ready_with c.args.store.now.places c.args.store.now.results (is_some c.args.control.now.pending) c.args.line.now _ _ _ c.as_slice.ensures
-    c.as_slice-writes.ensures _ c.note_writes.ensures.read c.if-not-note_writes.false c.note_writes.ensures.writes)
+returns-clause-ready c =
+    let places = c.args.store.now.places in
+    let results = c.args.results.now in
+    let p = is_some c.args.control.now.pending in
+    let line = c.args.line.now in
+    c.tells_well.ensures ∙ ap (λ b. tells_well places (shown_by results) b line.tells) c.is_some.ensures
+    ∙ sym (ready_with places results p line _ _ _ c.as_slice.ensures c.as_slice-writes.ensures _ c.note_writes.ensures.read c.if-not-note_writes.false c.note_writes.ensures.writes
+    _ c.as_slice-moves.ensures _ c.note_starts.ensures.can ∙ ap (λ b. b && tells_well places (shown_by results) p line.tells) c.if-not-note_starts.false)
 
-pub returns-clause-stores : goal.returns-clause-stores
-returns-clause-stores g c = λ ready loud.
-    let brought = start_brought c.args.store.now.places c.args.store.now.results.shown in
-    let noted = noted_are c.args.store.now.places c.args.store.now.results (is_some c.args.control.now.pending) c.args.line.now _ _ _ c.as_slice.ensures
-    c.as_slice-writes.ensures _ c.note_writes.ensures.read c.if-not-note_writes.false c.note_writes.ensures.writes in
-    c.note_stores.ensures.stores c.if-not-note_stores.false loud ∙ ap (λ xs. filter_map (brought (operand_in c.args.store.now.places xs)) c.args.line.now.stores) noted
-
-pub returns-clause-begun : goal.returns-clause-begun
-returns-clause-begun g c = λ ready.
-    let U = stated (λ v. (goal.OpUnit-dyn g v).unit_meaning v.1) c.args.units.now in
+pub returns-clause-left : goal.returns-clause-left
+returns-clause-left c = λ ready.
     let store = c.args.store.now in
-    let brought = start_brought store.places store.results.shown in
-    let begins = begun U store.results.cycle store.memory.items store.frame.items c.args.next in
-    let noted = noted_are c.args.store.now.places c.args.store.now.results (is_some c.args.control.now.pending) c.args.line.now _ _ _ c.as_slice.ensures
+    let results = c.args.results.now in
+    let line = c.args.line.now in
+    let noted = noted_are store.places results (is_some c.args.control.now.pending) line _ _ _ c.as_slice.ensures
     c.as_slice-writes.ensures _ c.note_writes.ensures.read c.if-not-note_writes.false c.note_writes.ensures.writes in
-    c.begin_line.ensures.begun ready
-    ∙ ap (λ xs. record store.results { coming = store.results.coming ++ filter_map begins (filter_map (brought (operand_in store.places xs)) c.args.line.now.starts) }) noted
+    record {
+      writes = c.note_writes.ensures.writes c.if-not-note_writes.false ∙ ap (filter_map (write_brought store.places (shown_by results))) c.as_slice.ensures;
+      starts = c.note_starts.ensures.starts ∙ ap (starts_in store results c.as_slice-writes.result.now) c.as_slice-moves.ensures ∙ ap (λ xs. starts_in store results xs line.starts) noted;
+      free =
+          ap (list_any (clashes_with results)) c.note_starts.ensures.starts
+          ∙ none_stopped store.places results (operand_in store.places c.as_slice-writes.result.now) c.as_slice-moves.result.now _ c.note_starts.ensures.can c.if-not-note_starts.false;
+    }
 
-pub returns-clause-places : goal.returns-clause-places
-returns-clause-places g c = c.begin_line.ensures.places
+pub returns-then-not-note_writes-clause-noted : goal.returns-then-not-note_writes-clause-noted
+returns-then-not-note_writes-clause-noted c = λ read.
+    let unread = is_unread c.args.store.now.places (shown_by c.args.results.now) in
+    cc (sym c.if-not-note_writes.true ∙ c.note_writes.ensures.read ∙ ap (λ ws. not (list_any (λ w. unread w.reading) ws)) c.as_slice.ensures ∙ ap not read)
 
-pub returns-clause-data : goal.returns-clause-data
-returns-clause-data g c = c.begin_line.ensures.data
+pub returns-then-not-note_starts-clause-noted : goal.returns-then-not-note_starts-clause-noted
+returns-then-not-note_starts-clause-noted c = λ read.
+    c.note_writes.ensures.writes c.if-not-note_writes.false
+    ∙ ap (filter_map (write_brought c.args.store.now.places (shown_by c.args.results.now))) c.as_slice.ensures
 
-pub returns-clause-frame : goal.returns-clause-frame
-returns-clause-frame g c = c.begin_line.ensures.frame
+pub returns-clause-noted : goal.returns-clause-noted
+returns-clause-noted c = λ read.
+    c.note_writes.ensures.writes c.if-not-note_writes.false
+    ∙ ap (filter_map (write_brought c.args.store.now.places (shown_by c.args.results.now))) c.as_slice.ensures

@@ -1,20 +1,13 @@
-use Rattle.std.proofs.Common.{length, replicate, ap, ◌∙◌, subst}
-use Rattle.tta_arch.specs.Rules.{IsMachine}
-use Rattle.tta_sim.proofs.Going.{all_reached, first_stands, first_run}
+use Rattle.tta_code.specs.Cycle.{start}
+use Rattle.tta_sim.specs.Results.{units_of}
+use Rattle.tta_sim.proofs.Owning.{own_run, own_stands}
 use Rattle.tta_sim.proofs.sim.Sim.load.Goals as goal
 
 pub returns-clause-start : goal.returns-clause-start
 returns-clause-start c = λ input.
-    let s = c.in-Ok.ensures in
-    first_stands c.args.m.now c.args.memory.items input c.in-Ok-decode.lines c.in-Ok.store c.first.result
-    _ s.places s.results s.memory (s.frame ∙ ap (λ m. replicate m.frame_words 0) c.m.view_is) c.first.ensures
+    own_stands c.args.m.now c.args.code.now c.in_ok-state.state c.in-Ok.region c.in-Ok.ensures.units (start c.args.m.now c.args.memory.items input)
+    (c.in_ok-state.ensures.start (units_of 0 c.args.m.now c.in-Ok.region) input c.in-Ok.ensures.none)
 
 pub returns-clause-loaded : goal.returns-clause-loaded
 returns-clause-loaded c =
-    let s = c.in-Ok.ensures in
-    first_run c.args.m.now c.args.code.now c.in-Ok-decode.lines c.in-Ok.store c.first.result
-    _ _ (subst IsMachine c.m.view_is c.m.invariant) c.requires.legal c.in-Ok-decode.ensures s.results (c.len-units.ensures ∙ ap (λ m. length m.units) c.m.view_is)
-    (ap length s.memory ∙ c.requires.size) s.frame (ap (λ m. m.frame_words) c.m.view_is)
-
-pub decode-requires : goal.decode-requires
-decode-requires c = all_reached c.args.m.now c.args.code.now (subst IsMachine c.m.view_is c.m.invariant) c.requires.legal
+    own_run c.args.m.now c.args.code.now c.in_ok-state.state c.in-Ok.region c.in-Ok.ensures.units c.in_ok-state.ensures.loaded c.in-Ok.ensures.has_units

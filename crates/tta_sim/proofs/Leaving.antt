@@ -1,0 +1,79 @@
+-- What a line leaves is what the instruction does that it was decoded from.
+use Rattle.std.proofs.Common.{◌≡◌, ℕ, ◌<◌, true, IsTrue, List, [], ◌∷◌, ◌++◌, map, Option, Some, None, refl, sym, ap, ◌∙◌, subst}
+use Rattle.std.specs.Prelude.{◌%◌, Bool, is_none, nat_lt, filter, option_map, if◌then◌else◌}
+use Rattle.std.specs.List.{filter_map, cons_option, list_any, AllByRecursion}
+use Rattle.std.proofs.lemmas.Bool.{and_parts, ltb-true}
+use Rattle.tta_arch.specs.Machine.{Machine}
+use Rattle.tta_arch.specs.Effects.{Start, write_of}
+use Rattle.tta_code.specs.declared.code.Instruction.{Instruction}
+use Rattle.tta_sim.specs.declared.decoded.DecodedWrite.{DecodedWrite}
+use Rattle.tta_sim.specs.declared.decoded.Line.{Line}
+use Rattle.tta_sim.specs.declared.lines.Write.{Write}
+use Rattle.tta_sim.specs.declared.store.Store.{Store}
+use Rattle.tta_sim.specs.declared.store.Doings.{Doings}
+use Rattle.tta_sim.specs.Results.{Results, shown_by}
+use Rattle.tta_sim.specs.Moves.{Arrival, reads_of, arrivals_of, brought_of}
+use Rattle.tta_sim.specs.Starts.{starts_of, fault_in, is_resultless, clashes_with, AreFitting, CanStart}
+use Rattle.tta_sim.specs.Writing.{long_writes, numbered}
+use Rattle.tta_sim.specs.Decoded.{is_nil, IsDecoded}
+use Rattle.tta_sim.specs.Lines.{is_reading_there, is_write_there, word_read, write_brought, start_brought, operand_in, is_ready, IsLineThere}
+use Rattle.tta_sim.specs.Ready.{writes_in, FitsLine, AreLeft}
+use Rattle.tta_sim.proofs.Facing.{stores_of, ready_same, writes_same, starts_same}
+use Rattle.tta_sim.proofs.Noting.{nothing_in, quiet_parts}
+
+module _ (m : Machine) (i : Instruction) (old : Store) (r : Results) where
+  -- the words that the moves of an instruction bring, and the operations that they start
+  abbrev pub arrivals : List Arrival
+  arrivals = arrivals_of (reads_of old.places (shown_by r)) i.moves
+
+  abbrev pub starts : List Start
+  starts = starts_of m old.places arrivals
+
+  -- What an instruction writes and starts.
+  pub record IsLeft (back : ℕ) (doings : Doings) : Type 0 where
+    pub writes : doings.writes ≡ numbered (filter_map (write_of m back) (map brought_of arrivals) ++ long_writes m i.long)
+    pub starts_are : doings.starts ≡ starts
+
+  -- where it gives no fault, its line leaves just that
+  pub is_left : (back : ℕ) (l : Line) (doings : Doings) → IsDecoded m back i l → (p : Bool) → fault_in m old.places r p i.moves ≡ None
+      → AreLeft old r l doings → IsLeft back doings
+  is_left back l doings decoded p none has =
+      let ready : is_ready old.places r p l ≡ true = ready_same m decoded.rules i decoded.legal back l decoded.line old.places r p ∙ ap is_none none in
+      record {
+        writes =
+            writes_same m decoded.rules i decoded.legal back l decoded.line old.places r p (is_ready old.places r p l) refl ready doings.writes (λ yes'. has.writes);
+        starts_are =
+            has.starts ∙ starts_same m decoded.rules i decoded.legal back l decoded.line old.places r p (is_ready old.places r p l) refl ready;
+      }
+
+-- the words to write have places
+pub written_within : (units : ℕ) (store : Store) (r : Results) (l : Line) → IsLineThere units l → AllByRecursion (λ w. w.place < 609) (writes_in store r l)
+written_within units store r l there = each l.writes there.writes where
+  one : (w : DecodedWrite) → is_write_there units w ≡ true → w.place < 609
+  one w is = ltb-true w.place 609 (and_parts (is_reading_there units w.reading) (nat_lt w.place 609) is).1
+
+  each : (ws : List DecodedWrite) → AllByRecursion (λ w. IsTrue (is_write_there units w)) ws
+      → AllByRecursion (λ w. w.place < 609) (filter_map (write_brought store.places (shown_by r)) ws)
+  each [] there = tt
+  each (w ∷ ws) there = by (word_read store.places (shown_by r) w.reading) (one w there.0) (each ws there.1) where
+    by : (o : Option ℕ) → w.place < 609 → AllByRecursion (λ w. w.place < 609) (filter_map (write_brought store.places (shown_by r)) ws)
+        → AllByRecursion (λ w. w.place < 609) (cons_option (option_map {T = ℕ} {U = Write} (λ word. record { place = w.place; word = if w.narrow then word % 2 else word }) o)
+        (filter_map (write_brought store.places (shown_by r)) ws))
+    by None within rest = rest
+    by (Some word) within rest = (within, rest)
+
+-- the operations that are left can start at once
+pub left_can : (store : Store) (r : Results) (l : Line) (doings : Doings) (ts : List Start) → FitsLine store r l → AreLeft store r l doings → ts ≡ doings.starts
+    → CanStart r ts
+left_can store r l doings ts fits left same =
+    let fit = subst (AreFitting r) (sym (same ∙ left.starts)) (fits (operand_in store.places (writes_in store r l))) in
+    record { fitting = fit.fitting; apart = fit.apart; free = ap (list_any (clashes_with r)) same ∙ left.free }
+
+-- those of a quiet line all show a result
+pub left_quiet : (units : ℕ) (store : Store) (r : Results) (l : Line) (doings : Doings) (ts : List Start) → IsLineThere units l → AreLeft store r l doings → ts ≡ doings.starts
+    → l.quiet ≡ true → filter is_resultless ts ≡ []
+left_quiet units store r l doings ts there left same quiet =
+    let brought = start_brought store.places (shown_by r) (operand_in store.places (writes_in store r l)) in
+    let none : l.stores ≡ [] = nothing_in l.stores (quiet_parts l.quiet (is_nil l.stores) (is_nil l.tells) there.quiet quiet).0 in
+    ap (filter is_resultless) (same ∙ left.starts) ∙ sym (stores_of store.places (shown_by r) (operand_in store.places (writes_in store r l)) l.starts)
+    ∙ ap (filter_map brought) (sym there.stored ∙ none)

@@ -1,0 +1,230 @@
+//! A run whose results are kept in a region that it is given.
+
+ghost use Rattle.std.specs.Prelude.{◌≡◌, ◌+◌, ◌<◌, ◌^◌, [], ℕ, List, length, slice_index};
+ghost use Rattle.std.specs.Prelude.{IfOk, IsTrue};
+ghost use Rattle.tta_ops.specs.Set.{stated};
+ghost use Rattle.tta_arch.specs.Effects.{KeptReg, kept};
+ghost use Rattle.tta_code.specs.Cycle.{State, next as next_state, start};
+ghost use Rattle.tta_code.specs.Legal.{IsLegalCode};
+ghost use Rattle.tta_flight.specs.Flight.{StayBeside};
+ghost use Rattle.tta_sim.specs.Places.{is_place};
+ghost use Rattle.tta_sim.specs.Results.{Results, AreResultsOf, AreKept, HasUnits, units_of};
+ghost use Rattle.tta_list.specs.Input.{IsFed};
+ghost use Rattle.tta_sim.specs.Held.{StandsWith, GoesWith, IsAnswer, IsStateOf, cycles_of};
+ghost use Rattle.tta_sim.specs.Held.{is_halted, fault_number, ending_told};
+ghost use Rattle.tta_sim.specs.declared.answer.CycleStep.TheVariants.{Waiting};
+
+use crate::answer::CycleStep;
+use crate::carry::carry;
+use crate::control::{Control, Phase};
+use crate::decode::decode;
+use crate::decoded::Line;
+use crate::fault::NO_INSTRUCTION;
+use crate::results::Part;
+use crate::spaces::load;
+use crate::store::{Doings, Store};
+use crate::told::Ending;
+use std::alloc::{AllocError, Global};
+use std::marker::Model;
+use tta_arch::Machine;
+use tta_code::Code;
+use tta_flight::Region;
+use tta_list::Items;
+use tta_ops::UnitSet;
+
+/// The run of a machine's code, cycle by cycle, but for its results: the words of registers, operand
+/// ports and spaces, and control. The results are kept in some units of a region. The input and the
+/// output are not kept.
+#[derive(Drop)]
+pub struct SimState {
+    store: Store,
+    control: Control,
+    doings: Doings,
+    /// The code that is run, decoded.
+    lines: Items<Line>,
+}
+
+impl Model for SimState {
+    ghost use Rattle.tta_sim.specs.Held.{HeldState};
+    ghost use Rattle.tta_sim.specs.Kept.{held_of};
+
+    ghost Value = { HeldState };
+
+    ghost view = { λ s. held_of s.lines s.store s.control };
+}
+
+/// The units of a machine in a region, where the first of them is `base`.
+fn part_of(base: u8, m: &Machine) -> Part
+    ensures { result ≡ record { base = base; count = length m.now.units } }
+{
+    Part {
+        base,
+        count: m.units.len() as u8,
+    }
+}
+
+impl SimState {
+    /// The start of a run: the first instruction comes, nothing was ever written, every frame word
+    /// is 0, and the data words are these. No result was started.
+    ///
+    /// It takes all memory that the run needs: room for each register and operand port, and for the
+    /// code once more, decoded.
+    pub fn load(
+        alloc: Global,
+        m: &Machine,
+        code: &Code,
+        memory: Vec<u32>,
+    ) -> Result<Self, AllocError>
+        requires size { length memory.items ≡ m.now.data_words }
+        requires legal { IsLegalCode m.now code.now }
+        ensures start { IfOk result (λ h. (r : Results) (input : List ℕ) → AreResultsOf [] 0 r
+            → StandsWith r h (start m.now memory.items input)) }
+        ensures loaded { IfOk result (λ h. IsStateOf m.now code.now h) }
+    {
+        // What was taken so far is dropped by name, so that a way out is left with nothing.
+        let Ok(store) = Store::unset(alloc, m.frame_words as usize, memory) else {
+            return Err(AllocError);
+        };
+        let Ok(lines) = decode(alloc, m, code) else {
+            drop(store);
+            return Err(AllocError);
+        };
+        let Ok(doings) = Doings::none(alloc) else {
+            drop(store);
+            drop(lines);
+            return Err(AllocError);
+        };
+        Ok(SimState {
+            store,
+            control: Control::first(),
+            doings,
+            lines,
+        })
+    }
+
+    /// Carries out one cycle of the code that was loaded, where `next` is the next word of the
+    /// input, `None` where none is left, and the machine's first unit is `base` of the region. Every
+    /// unit that is none of the machine's stays. It answers as a cycle of a `Sim` does, and it takes
+    /// no memory.
+    pub fn cycle(
+        &mut self,
+        region: &mut Region,
+        base: u8,
+        m: &Machine,
+        code: &Code,
+        units: &UnitSet,
+        next: Option<u32>,
+    ) -> CycleStep
+        requires loaded { IsStateOf m.now code.now self.old }
+        requires has_units { HasUnits base m.now region.old }
+        requires few { self.old.cycle < 2 ^ 62 }
+        ensures loaded { IsStateOf m.now code.now self.new }
+        ensures kept { AreKept region.old region.new }
+        ensures beside { StayBeside base (length m.now.units) region.old region.new }
+        ensures counted { self.new.cycle ≡ self.old.cycle + cycles_of result }
+        ensures next { let U = stated unit_meaning units.now in (s : State)
+            → StandsWith (units_of base m.now region.old) self.old s → IsFed s.rest next
+            → GoesWith (units_of base m.now region.new) self.new s
+            (next_state U m.now code.now s) result }
+        ensures answer { let U = stated unit_meaning units.now in (s : State)
+            → StandsWith (units_of base m.now region.old) self.old s → IsFed s.rest next
+            → IsAnswer U m.now code.now s result }
+        ensures waits { result ≡ Waiting → self.new ≡ self.old }
+        ensures stays { result ≡ Waiting → region.new ≡ region.old }
+    {
+        match self.control.phase {
+            Phase::Running => {}
+            Phase::Halted => return CycleStep::Halted,
+            Phase::Fault(number) => return CycleStep::Fault(number),
+        }
+        if self.control.pc as usize >= code.words.len() {
+            self.control.phase = Phase::Fault(NO_INSTRUCTION);
+            return CycleStep::Fault(NO_INSTRUCTION);
+        }
+        let line = &self.lines.as_slice()[self.control.pc as usize];
+        let part = part_of(base, m);
+        carry(
+            &mut self.store,
+            &mut self.control,
+            &mut self.doings,
+            region,
+            part,
+            m.control.delay,
+            line,
+            units,
+            next,
+        )
+    }
+
+    /// The word in a register of a file, `None` where none was ever written.
+    pub fn reg(&self, file: u8, index: u8) -> Option<u32>
+        requires { IsTrue (is_place (KeptReg file index)) }
+        ensures { (r : Results) (s : State) → StandsWith r self.now s
+            → result ≡ kept s.written (KeptReg file index) }
+    {
+        self.store.places.register(file, index)
+    }
+
+    /// A data word.
+    pub fn mem(&self, i: u32) -> u32
+        requires { i < length self.now.memory }
+        ensures { result ≡ slice_index self.now.memory i }
+    {
+        load(self.store.memory.as_slice(), i)
+    }
+
+    /// All data words, from address 0 on.
+    pub fn memory(&self) -> &[u32]
+        ensures { result.now ≡ self.now.memory }
+    {
+        self.store.memory.as_slice()
+    }
+
+    /// The address of the next instruction.
+    pub fn pc(&self) -> u32
+        ensures { result ≡ self.now.pc }
+    {
+        self.control.pc
+    }
+
+    /// How many cycles were made.
+    pub fn cycles(&self) -> u64
+        ensures { result ≡ self.now.cycle }
+    {
+        self.store.cycle
+    }
+
+    /// Whether the run has halted.
+    pub fn halted(&self) -> bool
+        ensures { result ≡ is_halted self.now.outcome }
+    {
+        match self.control.phase {
+            Phase::Halted => true,
+            Phase::Running | Phase::Fault(_) => false,
+        }
+    }
+
+    /// The number of the fault that the run is at, `None` where it is at none.
+    pub fn fault(&self) -> Option<u8>
+        ensures { result ≡ fault_number self.now.outcome }
+    {
+        match self.control.phase {
+            Phase::Fault(number) => Some(number),
+            Phase::Running | Phase::Halted => None,
+        }
+    }
+
+    /// How the run stands.
+    pub fn ending(&self) -> Ending
+        ensures { ending_told result ≡ self.now.outcome }
+    {
+        match self.control.phase {
+            Phase::Running => Ending::Running,
+            Phase::Halted => Ending::Halted,
+            Phase::Fault(number) => Ending::Fault {
+                number,
+                cycle: self.store.cycle,
+            },
+        }
+    }
+}
