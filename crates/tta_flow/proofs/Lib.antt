@@ -1,6 +1,7 @@
 pub mod BitLemmas
 pub mod GrowthLemmas
 pub mod Searches
+pub mod Walks
 pub mod Tables
 pub mod Reaching
 pub mod RunLemmas
@@ -10,6 +11,9 @@ pub mod Programs
 pub mod RowLemmas
 pub mod VisitLemmas
 pub mod RoundLemmas
+pub mod PutLemmas
+pub mod CarryLemmas
+pub mod SettleLemmas
 pub mod LiveLemmas
 pub mod FlowLawLemmas
 pub mod Samples

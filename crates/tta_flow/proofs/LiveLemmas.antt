@@ -1,4 +1,4 @@
--- What the rows and the steps that can follow tell of a program.
+-- What the rows and the steps that can follow say of a program.
 use Rattle.std.proofs.Common.{◌≡◌, ℕ, ◌+◌, ◌<◌, ◌≤◌, Bool, true, false, List, [], ◌∷◌, ◌++◌, length, get_or, Option, Some, None, refl, sym, ◌∙◌, ap, subst, arith, ◌⊎◌, inl, inr, if◌then◌else◌, length-append}
 use Rattle.std.specs.Prelude.{◌↔◌, ◌&&◌, ◌||◌, ◌==◌, slice_get, option_map}
 use Rattle.std.specs.Option.{option_map_or}

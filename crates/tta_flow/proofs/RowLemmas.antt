@@ -1,5 +1,5 @@
 -- Rows of live variables, and what a step wants by them.
-use Rattle.std.proofs.Common.{◌≡◌, ◌≢◌, ◌<◌, ◌+◌, ℕ, zero, suc, Bool, true, false, List, [], ◌∷◌, length, get_or, Option, Some, None, refl, sym, ap, ◌∙◌, inl, inr, arith}
+use Rattle.std.proofs.Common.{◌≡◌, ◌≢◌, ◌<◌, ◌+◌, ℕ, zero, suc, Bool, true, false, List, [], ◌∷◌, length, Option, Some, None, refl, sym, ap, ◌∙◌, inl, inr, arith}
 use Rattle.std.specs.Prelude.{◌==◌, ◌||◌, ◌&&◌, not, slice_get, slice_set}
 use Rattle.std.specs.Option.{option_map_or}
 use Rattle.std.proofs.lemmas.Bool.{eq-eqb, or_cases, eqb-true}
@@ -7,7 +7,6 @@ use Rattle.std.proofs.Math.Bool.{or-true}
 use Rattle.tta_list.proofs.Tests.{and_left, and_right}
 use Rattle.tta_program.specs.declared.step.Step.{Step}
 use Rattle.tta_flow.specs.declared.bits.BitRow.{BitRow}
-use Rattle.tta_flow.specs.Growth.{spare_words, spare}
 use Rattle.tta_flow.specs.Paths.{LiveBefore, ReadHere, ReadLater}
 use Rattle.tta_flow.specs.Rows.{has_at, leaves, wanted}
 use Rattle.tta_flow.specs.Steps.{falls, target, follows, leads, reads, assigns}
@@ -28,12 +27,6 @@ get_set_other (x ∷ xs) zero zero v other = absurd (other refl)
 get_set_other (x ∷ xs) zero (suc k) v other = refl
 get_set_other (x ∷ xs) (suc i) zero v other = refl
 get_set_other (x ∷ xs) (suc i) (suc k) v other = get_set_other xs i k v (λ e. other (ap suc e))
-
-pub spare_row : (rows : List BitRow) (at : ℕ) (row d : BitRow) → at < length rows
-    → spare (slice_set rows at row) + spare_words (get_or rows at d).words.items ≡ spare rows + spare_words row.words.items
-spare_row [] at row d below = absurd (omega arith)
-spare_row (r ∷ rows) zero row d below = omega arith
-spare_row (r ∷ rows) (suc at) row d below = let e = spare_row rows at row d (omega arith) in omega arith
 
 -- ---- what a step wants, by the rows of those that can follow it
 

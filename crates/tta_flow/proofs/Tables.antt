@@ -114,7 +114,7 @@ adds_same place t u a b same h = record {
 
 -- ---- all places in turn
 
--- the lists tell a relation of the places below a number
+-- the lists hold a relation of the places below a number
 pub record Tells (keys : ℕ) (rel : ℕ → ℕ → Bool) (n : ℕ) (t : Table) : Type 0 where
   pub size : length t.lists.items ≡ keys
   pub all : (k p : ℕ) → k < keys → is_listed t k p ≡ (nat_lt p n && rel p k)

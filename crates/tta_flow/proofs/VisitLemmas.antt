@@ -11,12 +11,12 @@ use Rattle.tta_program.specs.declared.step.Step.{Step}
 use Rattle.tta_flow.specs.declared.bits.BitRow.{BitRow}
 use Rattle.tta_flow.specs.declared.rows.Work.{Work}
 use Rattle.tta_flow.specs.Bits.{has}
-use Rattle.tta_flow.specs.Growth.{spare_words, spare, Grows}
+use Rattle.tta_flow.specs.Growth.{Grows}
 use Rattle.tta_flow.specs.Paths.{LiveBefore}
-use Rattle.tta_flow.specs.Rows.{has_at, wanted, AreWide, IsSettled, IsWork, Spares, Visits}
+use Rattle.tta_flow.specs.Rows.{has_at, wanted, AreWide, IsSettled, IsWork, Visits}
 use Rattle.tta_flow.specs.Steps.{leads}
 use Rattle.tta_flow.proofs.GrowthLemmas.{bit_in, has_within}
-use Rattle.tta_flow.proofs.RowLemmas.{no, get_set_same, get_set_other, spare_row, wanted_from, wanted_live}
+use Rattle.tta_flow.proofs.RowLemmas.{no, get_set_same, get_set_other, wanted_from, wanted_live}
 
 -- a step's row takes what the step wants; the others stay
 pub record Takes (steps : List Step) (vars at : ℕ) (step : Step) (grown : Bool) (old new : Work) : Type 0 where
@@ -30,7 +30,6 @@ pub record Takes (steps : List Step) (vars at : ℕ) (step : Step) (grown : Bool
   pub same : grown ≡ false → (x : ℕ) → has_at new.rows.items at x ≡ has_at old.rows.items at x
   pub calm : grown ≡ false → (i : ℕ) → has new.due i ≡ (has old.due i && not (at == i))
   pub due : grown ≡ true → (i : ℕ) → i < length steps → has new.due i ≡ ((has old.due i && not (at == i)) || leads steps i at)
-  pub spares : Spares grown old new
 
 module _ (steps : List Step) (vars at : ℕ) (step : Step) (grown : Bool) (old new : Work) (small : at < length steps) (h : IsWork steps vars old)
     (t : Takes steps vars at step grown old new) where
@@ -123,7 +122,6 @@ module _ (steps : List Step) (vars at : ℕ) (step : Step) (grown : Bool) (old n
       sound = sound;
       left = left;
     };
-    spares = t.spares;
     calm = λ g i e.
         let f = sym (t.calm g i) ∙ e in
         (and_left (has old.due i) _ f, λ (s : i ≡ at). no (sym (and_right (has old.due i) _ f) ∙ ap not (eq-eqb at i (sym s))));
@@ -174,12 +172,6 @@ module _ (steps : List Step) (vars at : ℕ) (step : Step) (grown : Bool) (row f
   has_row : (x : ℕ) → has row x ≡ has_at old.rows.items at x
   has_row x = sym (ap (λ o. option_map_or (λ row. has row x) o false) row_there)
 
-  spare_then : spare new.rows.items + spare_words row.words.items ≡ spare old.rows.items + spare_words filled.words.items
-  spare_then =
-      ap (λ l. spare l + spare_words row.words.items) f.set
-      ∙ ap (λ (r : BitRow). spare (slice_set old.rows.items at filled) + spare_words r.words.items) f.is
-      ∙ spare_row old.rows.items at filled row row_below
-
   pub filled_takes : Takes steps vars at step grown old new
   filled_takes = record {
     count = ap length f.set ∙ length-set old.rows.items at filled;
@@ -194,10 +186,6 @@ module _ (steps : List Step) (vars at : ℕ) (step : Step) (grown : Bool) (row f
     same = λ g x. has_filled x ∙ ap (λ ws. bit_in ws x) (f.grows.same g) ∙ has_row x;
     calm = f.calm;
     due = f.due;
-    spares = record {
-      same = λ g. let s = spare_then in let e = ap spare_words (f.grows.same g) in omega arith;
-      less = λ g. let s = spare_then in let l = f.grows.less g in omega arith;
-    };
   }
 
   pub filled_visits : Visits steps vars at grown old new
@@ -208,6 +196,5 @@ pub visits_none : (steps : List Step) (vars at : ℕ) (work : Work) → IsWork s
     → Visits steps vars at false work work
 visits_none steps vars at work h closed = record {
   work = h;
-  spares = record { same = λ e. refl; less = λ e. no (sym e) };
   calm = λ g i e. (e, λ (s : i ≡ at). no (sym e ∙ ap (has work.due) s ∙ closed));
 }

@@ -8,11 +8,6 @@ abbrev pub spare_words : List ℕ → ℕ
 spare_words [] = 0
 spare_words (w ∷ words) = (2 ^ 64 - w) + spare_words words
 
--- the same of all rows
-abbrev pub spare : List BitRow → ℕ
-spare [] = 0
-spare (row ∷ rows) = spare_words row.words.items + spare rows
-
 -- A row has the same room as before; it is the same where no bit is new, and has less to spare where one is.
 pub record Grows (grown : Bool) (old new : BitRow) : Type 0 where
   pub room : length new.words.items ≡ length old.words.items

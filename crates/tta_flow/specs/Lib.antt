@@ -4,8 +4,10 @@ pub mod Blocks
 pub mod Bits
 pub mod Growth
 pub mod Search
+pub mod Order
 pub mod Table
 pub mod Runs
 pub mod Rows
+pub mod Settle
 pub mod Live
 pub mod Laws

@@ -48,7 +48,7 @@ pub record IsLiveProc (q : Proc) (l : LiveProc) : Type 0 where
 
 -- ---- what is live in a program
 
--- The answers are those of a program: they tell of each of its variables, by paths, whether it is live.
+-- The answers are those of a program: they say of each of its variables, by paths, whether it is live.
 pub record IsLive (p : Program) (l : Live) : Type 0 where
   pub before : (owner step x : ℕ) (q : Proc) → slice_get p.procs owner ≡ Some q → x < q.vars
       → (live_before l owner step x ≡ true) ↔ LiveBefore q.steps x step

@@ -6,12 +6,11 @@ use Rattle.tta_flow.specs.declared.bits.BitRow.{BitRow}
 use Rattle.tta_flow.specs.declared.rows.Work.{Work}
 use Rattle.tta_flow.specs.declared.table.Table.{Table}
 use Rattle.tta_flow.specs.Bits.{has}
-use Rattle.tta_flow.specs.Growth.{spare}
 use Rattle.tta_flow.specs.Paths.{LiveBefore}
 use Rattle.tta_flow.specs.Steps.{reads, assigns, falls, target, leads}
 use Rattle.tta_flow.specs.Table.{is_listed}
 
--- ---- what rows tell
+-- ---- what rows hold
 
 -- whether the row of a step has a variable
 abbrev pub has_at : List BitRow → (step x : ℕ) → Bool
@@ -37,7 +36,7 @@ abbrev pub IsSettled : List Step → (vars : ℕ) → List BitRow → ℕ → Ty
 IsSettled steps vars rows i =
     (x : ℕ) → x < vars → option_map_or (λ step. wanted rows step i x) (slice_get steps i) false ≡ true → has_at rows i x ≡ true
 
--- the lists of a table tell which steps each step can follow
+-- the lists of a table say which steps each step can follow
 pub record TellsBefore (steps : List Step) (before : Table) : Type 0 where
   pub size : length before.lists.items ≡ length steps
   pub all : (k p : ℕ) → k < length steps → is_listed before k p ≡ leads steps p k
@@ -51,19 +50,12 @@ pub record IsWork (steps : List Step) (vars : ℕ) (work : Work) : Type 0 where
   pub sound : (i x : ℕ) → has_at work.rows.items i x ≡ true → LiveBefore steps x i
   pub left : (i : ℕ) → i < length steps → (has work.due i ≡ true) ⊎ (IsSettled steps vars work.rows.items i)
 
--- the rows have less to spare where one has grown, and else as much as before
-pub record Spares (grown : Bool) (old new : Work) : Type 0 where
-  pub same : grown ≡ false → spare new.rows.items ≡ spare old.rows.items
-  pub less : grown ≡ true → spare new.rows.items < spare old.rows.items
-
 -- One step was looked at: where its row has not grown, it is done and no other step has to be looked at because of it.
 pub record Visits (steps : List Step) (vars at : ℕ) (grown : Bool) (old new : Work) : Type 0 where
   pub work : IsWork steps vars new
-  pub spares : Spares grown old new
   pub calm : grown ≡ false → (i : ℕ) → has new.due i ≡ true → (has old.due i ≡ true) × (i ≢ at)
 
 -- All steps were looked at: where no row has grown, all are done.
-pub record Rounds (steps : List Step) (vars : ℕ) (grown : Bool) (old new : Work) : Type 0 where
+pub record Rounds (steps : List Step) (vars : ℕ) (grown : Bool) (new : Work) : Type 0 where
   pub work : IsWork steps vars new
-  pub spares : Spares grown old new
   pub calm : grown ≡ false → (i : ℕ) → i < length steps → has new.due i ≡ false

@@ -13,7 +13,7 @@ abbrev pub count_below : (ℕ → Bool) → ℕ → ℕ
 count_below test zero = 0
 count_below test (suc n) = (if test n then 1 else 0) + count_below test n
 
--- the mark of a place tells whether it was found, and none was found twice
+-- the mark of a place says whether it was found, and none was found twice
 pub record IsMarked (s : Search) : Type 0 where
   pub same : (k : ℕ) → has s.marks k ≡ is_found s.queue.items k
   pub once : count_below (has s.marks) s.places ≡ length s.queue.items
@@ -26,7 +26,7 @@ pub record Finds (test : ℕ → Bool) (old new : Search) : Type 0 where
   pub places : new.places ≡ old.places
   pub all : (k : ℕ) → is_found new.queue.items k ≡ (is_found old.queue.items k || (nat_lt k old.places && test k))
   pub more : List ℕ
-  pub front : new.queue.items ≡ old.queue.items ++ more
+  pub prefix : new.queue.items ≡ old.queue.items ++ more
 
 -- a place from which edges lead on
 pub data Spread (seed : ℕ → Bool) (edge : ℕ → ℕ → Bool) : ℕ → Type 0 where

@@ -119,6 +119,22 @@ impl BitRow {
         joined(word, other.word(at)) == word
     }
 
+    /// The end of the word of a bit, where all bits of that word of another row are set here too,
+    /// and else the bit itself. So of the other row's bits from there up to it none is missing.
+    pub fn covered_to(&self, other: &BitRow, bit: usize) -> usize
+        requires { bit + 64 < 2 ^ 64 }
+        ensures low { bit ≤ result }
+        ensures all { (k : ℕ) → bit ≤ k → k < result
+            → has other.now k ≡ true → has self.now k ≡ true }
+    {
+        let at = bit / 64;
+        if self.covers_word(other, at) {
+            at * 64 + 64
+        } else {
+            bit
+        }
+    }
+
     /// The first place of the word before a bit, where that word has no bits, and else the bit
     /// itself. So no bit is set from there up to it.
     pub fn clear_from(&self, bit: usize) -> usize

@@ -5,12 +5,15 @@ mod bits;
 mod edges;
 mod firsts;
 mod flow;
+mod gather;
 mod live;
+mod order;
 mod reach;
 mod reads;
 mod rows;
 mod runs;
 mod search;
+mod settle;
 mod steps;
 mod table;
 

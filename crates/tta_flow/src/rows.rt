@@ -1,20 +1,17 @@
 //! For each step of a procedure the variables that are live before it.
 
-ghost use Rattle.std.specs.Prelude.{◌≡◌, ◌==◌, ◌&&◌, ◌||◌, not, ◌+◌, ◌<◌, ◌/◌, ◌^◌, ℕ, true, false};
-ghost use Rattle.std.specs.Prelude.{length, IfOk, List};
-ghost use Rattle.std.specs.Option.{option_map_or};
-ghost use Rattle.tta_flow.specs.Bits.{has};
+ghost use Rattle.std.specs.Prelude.{◌≡◌, ◌<◌, length, IfOk};
 ghost use Rattle.tta_flow.specs.Growth.{Sets};
 ghost use Rattle.tta_flow.specs.Live.{AreRows};
-ghost use Rattle.tta_flow.specs.Rows.{has_at, AreWide, wanted, TellsBefore};
-ghost use Rattle.tta_flow.specs.Rows.{IsWork, Visits, Rounds};
+ghost use Rattle.tta_flow.specs.Order.{ArePlaces};
+ghost use Rattle.tta_flow.specs.Rows.{TellsBefore, IsWork, Visits, Rounds};
 ghost use Rattle.tta_flow.specs.Search.{is_found};
-ghost use Rattle.tta_flow.specs.Steps.{falls, target, assigns, reads, leads};
 
 use crate::bits::{BitRow, either};
 use crate::edges::steps_before;
-use crate::reads::add_reads;
-use crate::steps::{assigned_by, falls_on, target_of};
+use crate::gather::gather;
+use crate::order::postorder;
+use crate::settle::Settling;
 use crate::table::Table;
 use std::alloc::{AllocError, Global};
 use tta_program::Step;
@@ -28,17 +25,26 @@ pub struct Work {
     pub room: BitRow,
 }
 
+/// How many rounds are made at most before the rest is settled.
+const ROUNDS: usize = 4;
+
 /// For each step the variables that are live before it.
+///
+/// At most `ROUNDS` rounds are made, each in time as the steps times the words of a row: they are
+/// enough for most procedures. The rest is settled, in time as the steps times the variables,
+/// whatever the flow is: a variable is put into the row of a step once, and carried on from there.
 pub fn live_rows(alloc: Global, steps: &[Step], vars: u32) -> Result<Vec<BitRow>, AllocError>
     ensures { IfOk result (λ rows. AreRows steps.now vars rows.items) }
 {
     let before = steps_before(alloc, steps)?;
+    let order = postorder(alloc, steps)?;
     let mut work = Work::new(alloc, steps, vars)?;
-    let mut grown = true;
-    while grown {
-        grown = work.round(steps, vars, &before);
+    for _ in 0..ROUNDS {
+        if !work.round(steps, vars, &before, order.as_slice()) {
+            return Ok(work.into_rows());
+        }
     }
-    Ok(work.into_rows())
+    work.settle(alloc, steps, vars, &before)
 }
 
 impl Work {
@@ -56,31 +62,38 @@ impl Work {
         Ok(Work { rows, due, room })
     }
 
-    /// Looks once at each step that has to be looked at, the last one first and then the first one
-    /// first, and says whether any row has grown. What is live goes against the order of the steps
-    /// along a text, and with it along jumps backward: so each way needs few rounds.
-    fn round(&mut self, steps: &[Step], vars: u32, before: &Table) -> bool
+    /// Looks at each step that has to be looked at, the last one first, and where a row has grown
+    /// looks again along an order. Says whether any row has grown.
+    ///
+    /// Where the order is the postorder of a depth-first walk, d + 2 rounds are enough, d being the
+    /// largest number of edges backward in that order on a path that comes to no step twice (Kam and
+    /// Ullman, Global data flow analysis and iterative algorithms, J. ACM 23, 1976). Loops inside one
+    /// another seldom make it more than two or three, but a procedure can be written in which it
+    /// grows as its steps do. So no more than `ROUNDS` are made, and then the rest is settled.
+    fn round(&mut self, steps: &[Step], vars: u32, before: &Table, order: &[usize]) -> bool
         requires work { IsWork steps.now vars self.old }
         requires before { TellsBefore steps.now before.now }
-        ensures { Rounds steps.now vars result self.old self.new }
+        requires places { ArePlaces (length steps.now) order.now }
+        ensures { Rounds steps.now vars result self.new }
     {
         let upward = self.look_upward(steps, vars, before);
         if !upward {
             return false;
         }
-        let downward = self.look_downward(steps, vars, before);
-        either(upward, downward)
+        let along = self.look_along(steps, vars, before, order);
+        either(upward, along)
     }
 
-    /// Looks at each step, the first one first, and says whether any row has grown.
-    fn look_downward(&mut self, steps: &[Step], vars: u32, before: &Table) -> bool
+    /// Looks at the steps of an order, and says whether any row has grown.
+    fn look_along(&mut self, steps: &[Step], vars: u32, before: &Table, order: &[usize]) -> bool
         requires work { IsWork steps.now vars self.old }
         requires before { TellsBefore steps.now before.now }
-        ensures { Rounds steps.now vars result self.old self.new }
+        requires places { ArePlaces (length steps.now) order.now }
+        ensures { IsWork steps.now vars self.new }
     {
         let mut grown = false;
-        for at in 0..steps.len() {
-            let more = self.visit(steps, vars, before, at);
+        for place in order {
+            let more = self.visit(steps, vars, before, *place);
             grown = either(grown, more);
         }
         grown
@@ -90,7 +103,7 @@ impl Work {
     fn look_upward(&mut self, steps: &[Step], vars: u32, before: &Table) -> bool
         requires work { IsWork steps.now vars self.old }
         requires before { TellsBefore steps.now before.now }
-        ensures { Rounds steps.now vars result self.old self.new }
+        ensures { Rounds steps.now vars result self.new }
     {
         let mut grown = false;
         let mut at = steps.len();
@@ -124,6 +137,36 @@ impl Work {
         grown
     }
 
+    /// Settles the steps that have still to be looked at, one after the other: what a step wants is
+    /// put into its row, and carried backward from there. So no step has to be looked at again.
+    fn settle(
+        self,
+        alloc: Global,
+        steps: &[Step],
+        vars: u32,
+        before: &Table,
+    ) -> Result<Vec<BitRow>, AllocError>
+        requires work { IsWork steps.now vars self }
+        requires before { TellsBefore steps.now before.now }
+        ensures { IfOk result (λ rows. AreRows steps.now vars rows.items) }
+    {
+        let Work {
+            rows,
+            due,
+            mut room,
+        } = self;
+        let stack = Vec::new(alloc);
+        let mut settling = Settling { rows, stack };
+        for at in 0..steps.len() {
+            if due.get(at) {
+                gather(&mut room, settling.rows.as_slice(), &steps[at], at);
+                settling.take(steps, vars, before, &room, at)?;
+            }
+        }
+        Ok(settling.into_rows())
+    }
+
+    /// The rows.
     fn into_rows(self) -> Vec<BitRow>
         ensures { result ≡ self.rows }
     {
@@ -138,62 +181,5 @@ fn due_all(due: &mut BitRow, places: &[usize])
 {
     for place in places {
         due.set_within(*place);
-    }
-}
-
-/// The variables that a step wants live before it, by the rows of those that can follow it.
-fn gather(room: &mut BitRow, rows: &[BitRow], step: &Step, at: usize)
-    requires small { at + 1 < 2 ^ 64 }
-    requires wide { AreWide rows.now (length room.old.words.items) }
-    ensures bits { (x : ℕ) → x / 64 < length room.old.words.items
-        → has room.new x ≡ wanted rows.now step.now at x }
-    ensures room { length room.new.words.items ≡ length room.old.words.items }
-{
-    room.clear();
-    gather_next(room, rows, step, at);
-    gather_target(room, rows, step);
-    forget(room, step);
-    add_reads(room, step);
-}
-
-/// Adds what is live before the step in the next place, where that can follow.
-fn gather_next(room: &mut BitRow, rows: &[BitRow], step: &Step, at: usize)
-    requires small { at + 1 < 2 ^ 64 }
-    requires wide { AreWide rows.now (length room.old.words.items) }
-    ensures { Sets (λ x. falls step.now && has_at rows.now (at + 1) x) room.old room.new }
-{
-    if falls_on(step) {
-        add_row(room, rows, at + 1);
-    }
-}
-
-/// Adds what is live before the step that a branch names.
-fn gather_target(room: &mut BitRow, rows: &[BitRow], step: &Step)
-    requires wide { AreWide rows.now (length room.old.words.items) }
-    ensures { Sets (λ x. option_map_or (λ to. has_at rows.now to x) (target step.now) false)
-        room.old room.new }
-{
-    if let Some(to) = target_of(step) {
-        add_row(room, rows, to as usize);
-    }
-}
-
-/// Adds a row, where it is there.
-fn add_row(room: &mut BitRow, rows: &[BitRow], at: usize)
-    requires wide { AreWide rows.now (length room.old.words.items) }
-    ensures { Sets (has_at rows.now at) room.old room.new }
-{
-    if at < rows.len() {
-        room.absorb(&rows[at]);
-    }
-}
-
-/// Unsets the variable that a step assigns.
-fn forget(room: &mut BitRow, step: &Step)
-    ensures bits { (x : ℕ) → has room.new x ≡ (has room.old x && not (assigns step.now x)) }
-    ensures room { length room.new.words.items ≡ length room.old.words.items }
-{
-    if let Some(d) = assigned_by(step) {
-        room.unset(d as usize);
     }
 }

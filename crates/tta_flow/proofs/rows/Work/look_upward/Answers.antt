@@ -18,11 +18,11 @@ loop-at-preserved c =
     record {
       within = let w = c.loop-at.invariant.within in let l = c.clear_from-at.ensures.low in omega arith;
       rounds = rw c.either-grown.ensures (round_skip c.args.steps.now c.args.vars (c.loop-at.at - 1) _ (c.loop-at.grown || c.visit-more.result)
-          c.args.self.now c.visit-more.new.self c.clear_from-at.ensures.none (round_more c.args.steps.now c.args.vars (c.loop-at.at - 1) c.loop-at.grown c.visit-more.result
-          c.args.self.now c.loop-at.self c.visit-more.new.self
-          (subst (λ (n : ℕ). RoundsTo c.args.steps.now c.args.vars n c.loop-at.grown c.args.self.now c.loop-at.self) same c.loop-at.invariant.rounds)
+          c.visit-more.new.self c.clear_from-at.ensures.none (round_more c.args.steps.now c.args.vars (c.loop-at.at - 1) c.loop-at.grown c.visit-more.result
+          c.loop-at.self c.visit-more.new.self
+          (subst (λ (n : ℕ). RoundsTo c.args.steps.now c.args.vars n c.loop-at.grown c.loop-at.self) same c.loop-at.invariant.rounds)
           c.visit-more.ensures));
     }
 
 pub returns : goal.returns
-returns c = round_all _ _ c.loop-at.at _ _ _ (let t = c.loop-at-test.false in omega arith) c.loop-at.invariant.rounds
+returns c = round_all _ _ c.loop-at.at _ _ (let t = c.loop-at-test.false in omega arith) c.loop-at.invariant.rounds

@@ -5,7 +5,7 @@ use Rattle.tta_flow.proofs.rows.Work.look_upward.Given as goal
 abbrev pub invariant-loop-at : goal.invariant-loop-at
 invariant-loop-at l = record {
   within : l.at ≤ length l.steps;
-  rounds : RoundsTo l.steps l.vars l.at l.grown l.initial.self l.self;
+  rounds : RoundsTo l.steps l.vars l.at l.grown l.self;
 }
 
 abbrev pub decreases-loop-at : goal.decreases-loop-at
