@@ -14,10 +14,10 @@ use Rattle.tta_program.specs.Rules.{IsProgram}
 use Rattle.tta_rcode.specs.declared.code.Exit.{Exit}
 use Rattle.tta_lower.specs.declared.numbers.Numbers.{Numbers}
 use Rattle.tta_lower.specs.Liveness.{Span, Has, Homes, IsFlow, leads}
-use Rattle.tta_lower.specs.Lower.{Part, Entry, Steps, Behind, parts, proc_parts, number_of, entry_number, block_of, live_behind, Answers}
+use Rattle.tta_lower.specs.Lower.{Part, Entry, Steps, Returned, parts, proc_parts, number_of, entry_number, block_of, live_past, Answers}
 use Rattle.tta_lower.specs.Members.{In}
 use Rattle.tta_lower.specs.Tables.{HasNumbers, number_in}
-use Rattle.tta_lower.specs.Laid.{block_by, stays_behind, test_of}
+use Rattle.tta_lower.specs.Laid.{block_by, stays_after, test_of}
 use Rattle.tta_lower.specs.Layout.{vars_of, source, exit_for, code_from}
 use Rattle.tta_rcode.specs.declared.code.Exit.TheVariants as exit
 use Rattle.tta_lower.proofs.Steps.{step_of}
@@ -26,7 +26,7 @@ use Rattle.tta_lower.proofs.Placed.{span-there, proc-there}
 use Rattle.tta_lower.proofs.Shutting.{IsPartOf}
 
 module _ (p : Program) (blocks : List Span) (live_first : (owner x : ℕ) → Bool) (home : Homes) (live_after : (owner at x : ℕ) → Bool) (homes : ℕ) where
-  stays : (b : Span) (st : Step) → stays_behind home (vars_of p b.owner) homes b.owner (live_after b.owner b.last) st ≡ live_behind p blocks live_first home live_after homes b st
+  stays : (b : Span) (st : Step) → stays_after home (vars_of p b.owner) homes b.owner (live_after b.owner b.last) st ≡ live_past p blocks live_first home live_after homes b st
   stays b (Copy d s) = refl
   stays b (Apply d op x y) = refl
   stays b (Load d x) = refl
@@ -45,7 +45,7 @@ module _ (p : Program) (blocks : List Span) (live_first : (owner x : ℕ) → Bo
   pub block-by-is : (x : Part) → block_by p home (number_of p blocks live_first) (entry_number p blocks live_first) homes (test_of live_first live_after x) x
       ≡ block_of p blocks live_first home live_after homes x
   block-by-is (Entry owner) = refl
-  block-by-is (Behind b d callee) = refl
+  block-by-is (Returned b d callee) = refl
   block-by-is (Steps b) = by (step_at p b.owner b.last) where
     shape : Step → List ℕ → RBlock
     shape st l = record {
@@ -58,11 +58,11 @@ module _ (p : Program) (blocks : List Span) (live_first : (owner x : ℕ) → Bo
         → ◌≡◌ {A = RBlock} (record {
           steps = code_from p home b.owner b.first (b.last + 1 - b.first);
           exit = option_map_or (exit_for p home (number_of p blocks live_first) (entry_number p blocks live_first) b.owner) st exit.Halt;
-          live_out = option_map_or (stays_behind home (vars_of p b.owner) homes b.owner (live_after b.owner b.last)) st [];
+          live_out = option_map_or (stays_after home (vars_of p b.owner) homes b.owner (live_after b.owner b.last)) st [];
         }) (record {
           steps = code_from p home b.owner b.first (b.last + 1 - b.first);
           exit = option_map_or (exit_for p home (number_of p blocks live_first) (entry_number p blocks live_first) b.owner) st exit.Halt;
-          live_out = option_map_or (live_behind p blocks live_first home live_after homes b) st [];
+          live_out = option_map_or (live_past p blocks live_first home live_after homes b) st [];
         })
     by None = refl
     by (Some st) = ap (shape st) (stays b st)
@@ -128,7 +128,7 @@ module _ (p : Program) (blocks : List Span) (home : Homes) (live_first : (owner 
   pub block-agrees : (x : Part) → IsPartOf p blocks x
       → block_by p home (number_in n.rows.items) (slice_index n.entries.items) homes (test_of live_first live_after x) x ≡ block_of p blocks live_first home live_after homes x
   block-agrees (Entry owner) is = block-by-is p blocks live_first home live_after homes (Entry owner)
-  block-agrees (Behind b d callee) is = block-by-is p blocks live_first home live_after homes (Behind b d callee)
+  block-agrees (Returned b d callee) is = block-by-is p blocks live_first home live_after homes (Returned b d callee)
   block-agrees (Steps b) is =
       let last = flow.last b is in
       same last.st last.there ∙ block-by-is p blocks live_first home live_after homes (Steps b) where
@@ -136,7 +136,7 @@ module _ (p : Program) (blocks : List Span) (home : Homes) (live_first : (owner 
         shape e = record {
           steps = code_from p home b.owner b.first (b.last + 1 - b.first);
           exit = e;
-          live_out = option_map_or (stays_behind home (vars_of p b.owner) homes b.owner (live_after b.owner b.last)) (step_at p b.owner b.last) [];
+          live_out = option_map_or (stays_after home (vars_of p b.owner) homes b.owner (live_after b.owner b.last)) (step_at p b.owner b.last) [];
         }
 
         same : (st : Step) → step_at p b.owner b.last ≡ Some st

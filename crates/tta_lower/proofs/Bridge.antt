@@ -9,7 +9,7 @@ use Rattle.tta_program.specs.Program.{Program}
 use Rattle.tta_program.specs.Sequential.{step_at}
 use Rattle.tta_lower.specs.Liveness.{Span, Has, Begins, Homes, StepThere, Reached, First, Then, IsFlow, IsHomes, leads, is_plain}
 use Rattle.tta_lower.specs.Lower.{spans_of, EndsBefore, InOrder}
-use Rattle.tta_lower.specs.FlowFacts.{names_step, IsFirst, AtBegin, Named, Behind, StandsBefore, AreBlocks, AtEntry, AtStep, HomeLaw}
+use Rattle.tta_lower.specs.FlowFacts.{names_step, IsFirst, AtBegin, Named, AfterStep, StandsBefore, AreBlocks, AtEntry, AtStep, HomeLaw}
 
 -- a step leads to one that it names, or to the next where it is plain or a branch or a call
 names-or-next : (st : Step) (at to : ℕ) → leads st at to ≡ true → (names_step st to ≡ true) ⊎ (at + 1 ≡ to)
@@ -83,7 +83,7 @@ module _ (p : Program) (blocks : List Span) (are : AreBlocks p blocks) where
   } where
     plain-by : (b : Span) → Has blocks b → (i : ℕ) → b.first ≤ i → i < b.last → (st : Step) → step_at p b.owner i ≡ Some st → (t : Bool) → is_plain st ≡ t → is_plain st ≡ true
     plain-by b has i lo hi st there true is = is
-    plain-by b has i lo hi st there false is = absurd ((are.sound b has).only (i + 1) (omega (arith, lo)) (omega (arith, hi)) (Behind i (i + 1) st there is refl))
+    plain-by b has i lo hi st there false is = absurd ((are.sound b has).only (i + 1) (omega (arith, lo)) (omega (arith, hi)) (AfterStep i (i + 1) st there is refl))
 
     first-by : (b : Span) → Has blocks b → (st : Step) (to : ℕ) → step_at p b.owner b.last ≡ Some st → leads st b.last to ≡ true → Reached p b.owner to
         → (names_step st to ≡ true) ⊎ (b.last + 1 ≡ to) → Reached p b.owner b.last → IsFirst p b.owner to

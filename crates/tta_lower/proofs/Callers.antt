@@ -62,14 +62,14 @@ reads-below p q (If rel a b to) x is var =
 reads-below p q (Goto to) x is var = cc
 reads-below p q (When rel a b d s) x is var =
     let whole = and_parts (is_src q.vars a && is_src q.vars b && nat_lt d q.vars) (is_src q.vars s) is in
-    let front = and_parts (is_src q.vars a && is_src q.vars b) (nat_lt d q.vars) whole.0 in
-    let first = and_parts (is_src q.vars a) (is_src q.vars b) front.0 in
+    let prefix = and_parts (is_src q.vars a && is_src q.vars b) (nat_lt d q.vars) whole.0 in
+    let first = and_parts (is_src q.vars a) (is_src q.vars b) prefix.0 in
     elim (or_cases (is_var x a) _ var) as (λ c. x < q.vars) [
       | inl e ↦ var-below q.vars x a first.0 e
       | inr e ↦ elim (or_cases (is_var x b) _ e) as (λ c. x < q.vars) [
         | inl e ↦ var-below q.vars x b first.1 e
         | inr e ↦ elim (or_cases (d == x) _ e) as (λ c. x < q.vars) [
-          | inl e ↦ below-same d x q.vars (ltb-true d q.vars front.1) (eqb-true d x e)
+          | inl e ↦ below-same d x q.vars (ltb-true d q.vars prefix.1) (eqb-true d x e)
           | inr e ↦ var-below q.vars x s whole.1 e
         ]
       ]

@@ -22,9 +22,9 @@ filter-by g true x xs is = rw is refl
 filter-by g false x xs is = rw is refl
 
 -- one number more
-pub filter_more : (g : ℕ → Bool) (b : Bool) (x n : ℕ) (front made : List ℕ) → x < n → b ≡ g x → made ≡ front ++ (if b then x ∷ [] else [])
-    → made ++ filter g (numbers (x + 1) (n - (x + 1))) ≡ front ++ filter g (numbers x (n - x))
-filter_more g b x n front made lt read is =
+pub filter_more : (g : ℕ → Bool) (b : Bool) (x n : ℕ) (prefix made : List ℕ) → x < n → b ≡ g x → made ≡ prefix ++ (if b then x ∷ [] else [])
+    → made ++ filter g (numbers (x + 1) (n - (x + 1))) ≡ prefix ++ filter g (numbers x (n - x))
+filter_more g b x n prefix made lt read is =
     ap (λ l. l ++ filter g (numbers (x + 1) (n - (x + 1)))) is
-    ∙ append_assoc front (if b then x ∷ [] else []) (filter g (numbers (x + 1) (n - (x + 1))))
-    ∙ ap (λ l. front ++ l) (sym (ap (filter g) (numbers-more x n lt) ∙ filter-by g b x (numbers (x + 1) (n - (x + 1))) (sym read)))
+    ∙ append_assoc prefix (if b then x ∷ [] else []) (filter g (numbers (x + 1) (n - (x + 1))))
+    ∙ ap (λ l. prefix ++ l) (sym (ap (filter g) (numbers-more x n lt) ∙ filter-by g b x (numbers (x + 1) (n - (x + 1))) (sym read)))

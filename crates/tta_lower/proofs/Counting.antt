@@ -1,7 +1,6 @@
 -- Blocks of register code ask for no more than the parts that they stand for.
-use Rattle.std.proofs.Common.{◌≡◌, ◌≤◌, ◌+◌, ◌-◌, ◌==◌, ◌&&◌, ◌++◌, ◌∷◌, [], ℕ, zero, suc, Bool, List, Option, Some, None, true, false, length, nat_lt, is_none, refl, sym, ap, ◌∙◌, arith, add-zero, append-nil}
+use Rattle.std.proofs.Common.{◌≡◌, ◌≤◌, ◌+◌, ◌==◌, ◌&&◌, ◌∷◌, [], ℕ, zero, suc, Bool, List, Option, Some, None, true, false, length, nat_lt, is_none, refl, arith}
 use Rattle.std.specs.Prelude.{if◌then◌else◌, ⊤}
-use Rattle.std.specs.Option.{option_map_or}
 use Rattle.std.specs.List.{sum_by}
 use Rattle.std.proofs.lemmas.List.Sums.{sum_by-cons, sum_by-append}
 use Rattle.tta_ops.specs.Units.{Units}
@@ -10,74 +9,21 @@ use Rattle.tta_program.specs.declared.operand.Src.TheVariants.{Var, Word}
 use Rattle.tta_program.specs.declared.step.Step.{Step}
 use Rattle.tta_program.specs.declared.step.Step.TheVariants.{Copy, Apply, Load, Take, Store, Put, If, Goto, When, Invoke, Return, Halt, End}
 use Rattle.tta_program.specs.Program.{Program}
-use Rattle.tta_program.specs.Sequential.{step_at}
 use Rattle.tta_rcode.specs.declared.code.Place.{Place}
 use Rattle.tta_rcode.specs.declared.code.Place.TheVariants.{Reg, Frame}
 use Rattle.tta_rcode.specs.declared.code.RSrc.{RSrc}
 use Rattle.tta_rcode.specs.declared.code.RSrc.TheVariants as rsrc
-use Rattle.tta_rcode.specs.declared.code.RStep.{RStep}
 use Rattle.tta_rcode.specs.declared.code.RStep.TheVariants as rstep
 use Rattle.tta_rcode.specs.declared.code.RBlock.{RBlock}
 use Rattle.tta_lower.specs.Liveness.{Span, Has, Homes, IsFlow}
 use Rattle.tta_lower.specs.Layout
 use Rattle.tta_lower.specs.Layout.{vars_of, params_of, place, place_by, source, passes, gives, steps_for, code_from, exit_for, keeps_ra, first_value, sets, sets_from}
-use Rattle.tta_lower.specs.Lower.{Part, Entry, Steps, Behind, number_of, entry_number, block_of}
+use Rattle.tta_lower.specs.Lower.{Part, Entry, Steps, Returned, number_of, entry_number, block_of}
 use Rattle.tta_rcode.specs.Counts.{names_place, names_src, names_step, names_exit, names, Need, asks_rstep, asks_exit, asks, assigns_place, assigns_rstep, assigns_block}
-use Rattle.tta_lower.specs.Counts.{in_slot, slot_src, leaving, traffic_step, over_steps, over_live, fetched, traffic, asks_step, asks_part, assigns_step, assigns_part}
-use Rattle.tta_lower.proofs.Exits.{code_from-more}
+use Rattle.tta_lower.specs.Counts.{in_slot, slot_src, leaving, traffic_step, over_live, fetched, traffic, asks_step, asks_part, assigns_step, assigns_part}
+use Rattle.tta_lower.proofs.StepSums.{block-sum, entry-sum}
 
 module _ (p : Program) (home : Homes) where
-  -- ---- sums over some steps
-
-  -- a sum over one step more
-  pub over-more : (g : Step → ℕ) (owner at n : ℕ) (st : Step) → step_at p owner (at + n) ≡ Some st
-      → over_steps p home g owner at (suc n) ≡ over_steps p home g owner at n + g st
-  over-more g owner at zero st there =
-      let here : step_at p owner at ≡ Some st = ap (step_at p owner) (sym (add-zero at)) ∙ there in
-      rw here (omega arith)
-  over-more g owner at (suc n) st there =
-      let later : step_at p owner (at + 1 + n) ≡ Some st = ap (step_at p owner) (omega arith) ∙ there in
-      let rest = over-more g owner (at + 1) n st later in
-      omega (arith, rest)
-
-  -- a sum over register code is at most the sum over its steps
-  code-sum : (f : RStep → ℕ) (g : Step → ℕ) (owner at n : ℕ) → ((s : Step) → sum_by f (steps_for p home owner s) ≤ g s)
-      → sum_by f (code_from p home owner at n) ≤ over_steps p home g owner at n
-  code-sum f g owner at zero le = omega arith
-  code-sum f g owner at (suc n) le =
-      let rest = code-sum f g owner (at + 1) n le in
-      let one = by (step_at p owner at) in
-      rw (sum_by-append f (option_map_or (steps_for p home owner) (step_at p owner at) []) (code_from p home owner (at + 1) n)) (omega (arith, rest, one)) where
-        by : (o : Option Step) → sum_by f (option_map_or (steps_for p home owner) o []) ≤ option_map_or g o 0
-        by None = omega arith
-        by (Some s) = le s
-
-  -- a block's steps and something more that its last step allows
-  pub block-sum : (f : RStep → ℕ) (g : Step → ℕ) (extra : ℕ) (b : Span) (st : Step) → b.first ≤ b.last → step_at p b.owner b.last ≡ Some st
-      → ((s : Step) → sum_by f (steps_for p home b.owner s) ≤ g s) → sum_by f (steps_for p home b.owner st) + extra ≤ g st
-      → sum_by f (code_from p home b.owner b.first (b.last + 1 - b.first)) + extra ≤ over_steps p home g b.owner b.first (b.last + 1 - b.first)
-  block-sum f g extra b st rises there le last =
-      let n = b.last - b.first in
-      let e : b.last + 1 - b.first ≡ suc n = omega (arith, rises) in
-      let l : b.first + n ≡ b.last = omega (arith, rises) in
-      let there_n : step_at p b.owner (b.first + n) ≡ Some st = ap (step_at p b.owner) l ∙ there in
-      let inner = code-sum f g b.owner b.first n le in
-      let nil = ap (sum_by f) (append-nil (steps_for p home b.owner st)) in
-      let split = sum_by-append f (code_from p home b.owner b.first n) (steps_for p home b.owner st ++ []) in
-      rw (e, code_from-more p home b.owner b.first n st there_n, split, over-more g b.owner b.first n st there_n) (omega (arith, inner, last, nil))
-
-  -- an entry block's
-  pub entry-sum : (f : RStep → ℕ) (h : ℕ → ℕ) (live : ℕ → Bool) (owner x n : ℕ) → ((y : ℕ) → sum_by f (sets p home owner y) ≤ h y)
-      → sum_by f (sets_from p home live owner x n) ≤ over_live p home live h x n
-  entry-sum f h live owner x zero le = omega arith
-  entry-sum f h live owner x (suc n) le =
-      let rest = entry-sum f h live owner (x + 1) n le in
-      let one = by (live x) in
-      rw (sum_by-append f (if live x then sets p home owner x else []) (sets_from p home live owner (x + 1) n)) (omega (arith, rest, one)) where
-        by : (b : Bool) → sum_by f (if b then sets p home owner x else []) ≤ (if b then h x else 0)
-        by true = le x
-        by false = omega arith
-
   -- ---- slots
 
   -- the slots that a place names
@@ -270,7 +216,7 @@ module _ (p : Program) (blocks : List Span) (home : Homes) (live_first : (owner 
       let all = block-sum p home names_step (traffic_step p home b.owner) (names_exit (exit_for p home number entry b.owner last.st)) b last.st (flow.rises b is) last.there
       (λ s. let one = step-names p home live_first number entry b.owner s in omega (arith, one)) (step-names p home live_first number entry b.owner last.st) in
       rw (last.there) all
-  names-few (Behind b d callee) is = one (place p home b.owner d) where
+  names-few (Returned b d callee) is = one (place p home b.owner d) where
     one : (pl : Place) → 0 + (names_place pl + 1) + 0 ≤ 2
     one (Reg k) = omega arith
     one (Frame f) = omega arith
@@ -287,7 +233,7 @@ module _ (p : Program) (blocks : List Span) (home : Homes) (live_first : (owner 
       let all = block-sum p home (asks_rstep u wanted) (asks_step u wanted) (asks_exit u wanted (exit_for p home number entry b.owner last.st)) b last.st (flow.rises b is) last.there
       (λ s. let one = step-asks p home u wanted number entry b.owner s in omega (arith, one)) (step-asks p home u wanted number entry b.owner last.st) in
       rw (last.there) all
-  asks-few u wanted (Behind b d callee) is = omega arith
+  asks-few u wanted (Returned b d callee) is = omega arith
 
   -- and assigns at most as often
   pub assigns-few : (x : Part) → IsPart x → assigns_block (block x) ≤ assigns_part p home live_first x
@@ -300,4 +246,4 @@ module _ (p : Program) (blocks : List Span) (home : Homes) (live_first : (owner 
       let one = step-assigns p home b.owner last.st in
       let all = block-sum p home assigns_rstep assigns_step 0 b last.st (flow.rises b is) last.there (step-assigns p home b.owner) (omega (arith, one)) in
       omega (arith, all)
-  assigns-few (Behind b d callee) is = omega (arith, at-most-one p home (place p home b.owner d))
+  assigns-few (Returned b d callee) is = omega (arith, at-most-one p home (place p home b.owner d))

@@ -24,7 +24,7 @@ use Rattle.tta_rcode.specs.Meaning.{State, Kept, Plain, Return as ReturnTo, put_
 use Rattle.tta_lower.specs.Liveness.{LiveBefore, LiveAfter, After, Reached, Span, Homes, IsFlow, IsHomes}
 use Rattle.tta_lower.specs.Layout.{vars_of, params_of, var_slot, value_slot, back_slot, place, place_by, keeps_ra, sets_from}
 use Rattle.tta_lower.specs.Shape.{Counts, StartsAt, BlockFor, ReturnFor, EntryFor, IsLowered, may_fall, is_call, is_kept}
-use Rattle.tta_lower.specs.Relation.{running, going, HeldBefore, KeepsBack, HasBack, Callers, behind, AtBlock, AtEntry, AtReturn, Stands, BlockNext, EntryNext, ReturnNext, Untouched}
+use Rattle.tta_lower.specs.Relation.{running, going, HeldBefore, KeepsBack, HasBack, Callers, next_block, AtBlock, AtEntry, AtReturn, Stands, BlockNext, EntryNext, ReturnNext, Untouched}
 use Rattle.tta_lower.proofs.Lookups.{word-same, found-same, found-other, found-stay}
 use Rattle.tta_lower.proofs.Steps.{step_of}
 use Rattle.tta_lower.proofs.Callers.{outside, callers-stay, live-below, vars-are}
@@ -105,8 +105,8 @@ module _ (u : Units) (p : Program) (blocks : List Span) (home : Homes) (live : �
         ret.kept x j (subst (λ o. LiveAfter p o x (a.block).last) (sym a.owned) alive) (ap (λ o. home o x) a.owned ∙ is)
 
     -- the destination, and every other variable that is live
-    held-behind : HeldBefore p home f (stay (ret.code).live_out (put_reg (place p home f.proc a.d) (slice_index f.vars a.d) regs)) (put_slot (place p home f.proc a.d) (slice_index f.vars a.d) frame) f.at
-    held-behind x alive = elim (cases_eq x a.d) as (λ c. word (stay (ret.code).live_out (put_reg (place p home f.proc a.d) (slice_index f.vars a.d) regs)) (put_slot (place p home f.proc a.d) (slice_index f.vars a.d) frame) (place p home f.proc x) ≡ Some (slice_index f.vars x)) [
+    held-on : HeldBefore p home f (stay (ret.code).live_out (put_reg (place p home f.proc a.d) (slice_index f.vars a.d) regs)) (put_slot (place p home f.proc a.d) (slice_index f.vars a.d) frame) f.at
+    held-on x alive = elim (cases_eq x a.d) as (λ c. word (stay (ret.code).live_out (put_reg (place p home f.proc a.d) (slice_index f.vars a.d) regs)) (put_slot (place p home f.proc a.d) (slice_index f.vars a.d) frame) (place p home f.proc x) ≡ Some (slice_index f.vars x)) [
       | inl e ↦
           stays (home f.proc x) refl
           ∙ ap (λ z. word (put_reg (place p home f.proc a.d) (slice_index f.vars a.d) regs) (put_slot (place p home f.proc a.d) (slice_index f.vars a.d) frame) (place p home f.proc z)) e
@@ -155,7 +155,7 @@ module _ (u : Units) (p : Program) (blocks : List Span) (home : Homes) (live : �
           first = begins.from ∙ a.last;
           here = ap (λ n. n + 1) at_is ∙ omega arith ∙ sym ret.onward ∙ ap₂ number a.owned a.last;
           size = a.size;
-          held = held-behind;
+          held = held-on;
           back = back-own p sound blocks number frame new_frame f.proc rest a.callers return-untouched a.back;
           callers = callers-stay p sound blocks number f.proc of_step.proc of_step.is frame new_frame (frame-by-vars p f.proc frame new_frame return-untouched)
               f.proc rest (outside p sound blocks number frame f.proc rest a.callers) a.callers;
@@ -216,15 +216,15 @@ module _ (u : Units) (p : Program) (blocks : List Span) (home : Homes) (live : �
         let these : Callers p blocks number frame f.proc (g ∷ more) = subst (λ l. Callers p blocks number frame f.proc l) some a.callers in
         let other = not-main p sound blocks number frame f.proc g more these in
         let two = other-own p f.proc other in
-        let address : ra ≡ Some (behind p blocks number g) = subst (λ l. HasBack p blocks number ra l) some a.address in
+        let address : ra ≡ Some (next_block p blocks number g) = subst (λ l. HasBack p blocks number ra l) some a.address in
         let slot = back_slot p f.proc in
-        let frame_kept = (slot, ReturnTo (behind p blocks number g)) ∷ frame in
+        let frame_kept = (slot, ReturnTo (next_block p blocks number g)) ∷ frame in
         entry-from frame_kept
-        (λ tail. rw (ne_eqb f.proc p.main other, save-ra u at regs frame ra memory input output slot (behind p blocks number g) address) refl)
-        (λ x lt. ap plain (found-other slot (var_slot p f.proc x) (ReturnTo (behind p blocks number g)) frame (λ e. absurd (omega (arith, two, e)))) ∙ a.params x lt)
-        (subst (λ l. KeepsBack p blocks number frame_kept f.proc l) (sym some) (found-same slot (ReturnTo (behind p blocks number g)) frame))
+        (λ tail. rw (ne_eqb f.proc p.main other, save-ra u at regs frame ra memory input output slot (next_block p blocks number g) address) refl)
+        (λ x lt. ap plain (found-other slot (var_slot p f.proc x) (ReturnTo (next_block p blocks number g)) frame (λ e. absurd (omega (arith, two, e)))) ∙ a.params x lt)
+        (subst (λ l. KeepsBack p blocks number frame_kept f.proc l) (sym some) (found-same slot (ReturnTo (next_block p blocks number g)) frame))
         (callers-stay p sound blocks number f.proc a.proc a.is frame frame_kept
-        (λ s notin. found-other slot s (ReturnTo (behind p blocks number g)) frame (λ e. notin (omega (arith, e), omega (arith, two, e))))
+        (λ s notin. found-other slot s (ReturnTo (next_block p blocks number g)) frame (λ e. notin (omega (arith, e), omega (arith, two, e))))
         f.proc rest (outside p sound blocks number frame f.proc rest a.callers) a.callers)
 
     entry-by : (l : List Frame) → rest ≡ l → Goes (running k (f ∷ rest) memory input output Running) (walk u (drop at r.blocks) (going at regs frame ra memory input output Running)) (before at)

@@ -16,7 +16,7 @@ use Rattle.tta_lower.specs.declared.numbers.Numbers.{Numbers}
 use Rattle.tta_lower.specs.Liveness.{Span, Has, Homes}
 use Rattle.tta_lower.specs.Layout.{vars_of}
 use Rattle.tta_lower.specs.Law.{IsKnown}
-use Rattle.tta_lower.specs.Lower.{Part, Entry, Steps, Behind, parts, block_of}
+use Rattle.tta_lower.specs.Lower.{Part, Entry, Steps, Returned, parts, block_of}
 use Rattle.tta_lower.specs.Tables.{fits, uses_below, StandOnce, HasNumbers, number_in}
 use Rattle.tta_lower.specs.Laid.{IsSpan, IsPart, AreParts, block_by, test_of}
 use Rattle.tta_lower.proofs.Steps.{StepOf, step_of}
@@ -122,7 +122,7 @@ module _ (p : Program) (sound : IsProgram p) where
       by : (x : Part) → IsPartOf p blocks x → IsPart p x
       by (Entry owner) lt = lt
       by (Steps b) has = span-is b has
-      by (Behind b d callee) r =
+      by (Returned b d callee) r =
           let call = called p sound b.owner b.last callee (Some d) r.args r.call in
           let of = step_of p sound b.owner b.last (Invoke (Some d) callee r.args) r.call in
           let vars = vars-are p b.owner of.proc of.is in

@@ -19,9 +19,9 @@ use Rattle.tta_lower.proofs.Callers.{vars-are}
 -- ---- the need
 
 -- main is one procedure at most
-main-behind : (p : Program) (from : ℕ) (qs : List Proc) → p.main < from → main_among p from qs ≡ 0
-main-behind p from [] lt = refl
-main-behind p from (q ∷ qs) lt = by (from == p.main) refl (main-behind p (from + 1) qs (omega (arith, lt))) where
+main-passed : (p : Program) (from : ℕ) (qs : List Proc) → p.main < from → main_among p from qs ≡ 0
+main-passed p from [] lt = refl
+main-passed p from (q ∷ qs) lt = by (from == p.main) refl (main-passed p (from + 1) qs (omega (arith, lt))) where
   by : (b : Bool) → (from == p.main) ≡ b → main_among p (from + 1) qs ≡ 0 → (if b then 2 else 0) + main_among p (from + 1) qs ≡ 0
   by true is rest = let same = eqb-true from p.main is in absurd (omega (arith, same, lt))
   by false is rest = omega (arith, rest)
@@ -33,7 +33,7 @@ main-most p from (q ∷ qs) = by (from == p.main) refl (main-most p (from + 1) q
   by : (b : Bool) → (from == p.main) ≡ b → main_among p (from + 1) qs ≤ 2 → (if b then 2 else 0) + main_among p (from + 1) qs ≤ 2
   by true is rest =
       let same = eqb-true from p.main is in
-      let none = main-behind p (from + 1) qs (omega (arith, same)) in
+      let none = main-passed p (from + 1) qs (omega (arith, same)) in
       omega (arith, none)
   by false is rest = omega (arith, rest)
 

@@ -18,7 +18,7 @@ use Rattle.tta_rcode.specs.declared.code.RBlock.{RBlock}
 use Rattle.tta_rcode.specs.declared.code.Exit.TheVariants as exit
 use Rattle.tta_lower.specs.Liveness.{Span, Has, Homes, IsFlow, leads}
 use Rattle.tta_lower.specs.Layout.{vars_of, own, base, var_slot, value_slot, back_slot, size, place, place_by, exit_for}
-use Rattle.tta_lower.specs.Lower.{numbers, code_order, spans_of, Part, Steps, behind_step, span_parts, entry_parts, proc_parts, parts, number_of, entry_number, block_of, EndsBefore, InOrder, Answers}
+use Rattle.tta_lower.specs.Lower.{numbers, code_order, spans_of, Part, Steps, return_after, span_parts, entry_parts, proc_parts, parts, number_of, entry_number, block_of, EndsBefore, InOrder, Answers}
 use Rattle.tta_program.specs.Sizes.{frame_need}
 use Rattle.tta_rcode.specs.Closed.{block_passes, is_not_slot, wants_next}
 use Rattle.tta_lower.proofs.Slots.{one-frame}
@@ -27,20 +27,20 @@ use Rattle.tta_lower.proofs.Lists.{In, in-has, in-filter, filter-in, has-in, in-
 use Rattle.tta_lower.proofs.Shutting.{all-pass, in-append, main-in, order-below}
 
 -- a list that is not empty has a last value
-last-of : {A : Type 0} (x : A) (xs : List A) → (front : List A) × (last : A) × (x ∷ xs ≡ front ++ last ∷ [])
+last-of : {A : Type 0} (x : A) (xs : List A) → (prefix : List A) × (last : A) × (x ∷ xs ≡ prefix ++ last ∷ [])
 last-of x [] = ([], x, refl)
 last-of x (y ∷ ys) =
     let rest = last-of y ys in
     (x ∷ rest.0, rest.1, ap (λ l. x ∷ l) rest.2)
 
 -- a block ends before a later one begins
-numbers-order : (front : List Span) (c d : Span) → InOrder (front ++ c ∷ []) → In d front → d.last < c.first
+numbers-order : (prefix : List Span) (c d : Span) → InOrder (prefix ++ c ∷ []) → In d prefix → d.last < c.first
 numbers-order [] c d order is = absurd is
-numbers-order (b ∷ front) c d order (inl e) = subst (λ x. x.last < c.first) (sym e) (ends front order.0) where
-  ends : (front : List Span) → EndsBefore b (front ++ c ∷ []) → b.last < c.first
+numbers-order (b ∷ prefix) c d order (inl e) = subst (λ x. x.last < c.first) (sym e) (ends prefix order.0) where
+  ends : (prefix : List Span) → EndsBefore b (prefix ++ c ∷ []) → b.last < c.first
   ends [] h = h.0
-  ends (a ∷ front) h = ends front h.1
-numbers-order (b ∷ front) c d order (inr more) = numbers-order front c d order.1 more
+  ends (a ∷ prefix) h = ends prefix h.1
+numbers-order (b ∷ prefix) c d order (inr more) = numbers-order prefix c d order.1 more
 
 module _ (p : Program) (blocks : List Span) (home : Homes) (live_first : (owner x : ℕ) → Bool) (live_after : (owner at x : ℕ) → Bool) (homes frame_words : ℕ)
     (sound : IsProgram p) (flow : IsFlow p blocks) (answers : Answers p blocks home live_first live_after homes) (need : frame_need p ≤ frame_words) where
@@ -89,7 +89,7 @@ module _ (p : Program) (blocks : List Span) (home : Homes) (live_first : (owner 
 
   -- a last step of a procedure's last block leads to no next one
   ends-so : (b : Span) → Has blocks b → (st : Step) → step_at p b.owner b.last ≡ Some st → (leads st b.last (b.last + 1) ≡ true → ⊥)
-      → (behind_step b (Some st) ≡ []) × (wants_next (exit_for p home number entry b.owner st) ≡ false)
+      → (return_after b (Some st) ≡ []) × (wants_next (exit_for p home number entry b.owner st) ≡ false)
   ends-so b has (If rel a c to) there no_more = absurd (no_more (or_right (to == b.last + 1) _ (eq-eqb (b.last + 1) (b.last + 1) refl)))
   ends-so b has (Invoke d callee args) there no_more = absurd (no_more (eq-eqb (b.last + 1) (b.last + 1) refl))
   ends-so b has (Copy d s) there no_more = absurd (no_more (eq-eqb (b.last + 1) (b.last + 1) refl))
@@ -111,17 +111,17 @@ module _ (p : Program) (blocks : List Span) (home : Homes) (live_first : (owner 
     by false = refl
 
   -- the last block of a procedure leads to no next one
-  last-span : (owner : ℕ) (front : List Span) (c : Span) → spans_of blocks owner ≡ front ++ c ∷ [] → Has blocks c → c.owner ≡ owner → (st : Step)
+  last-span : (owner : ℕ) (prefix : List Span) (c : Span) → spans_of blocks owner ≡ prefix ++ c ∷ [] → Has blocks c → c.owner ≡ owner → (st : Step)
       → step_at p c.owner c.last ≡ Some st → leads st c.last (c.last + 1) ≡ true → ⊥
-  last-span owner front c split has owned st there goes =
+  last-span owner prefix c split has owned st there goes =
       let begins = flow.onward c has st (c.last + 1) there goes in
       let d = begins.block in
       let d_owner : (d.owner == owner) ≡ true = eq-eqb d.owner owner (begins.owned ∙ owned) in
-      let inside : In d (front ++ c ∷ []) = subst (λ l. In d l) split (in-filter (λ b. b.owner == owner) blocks d (has-in blocks (begins.has).0 d (begins.has).1) d_owner) in
+      let inside : In d (prefix ++ c ∷ []) = subst (λ l. In d l) split (in-filter (λ b. b.owner == owner) blocks d (has-in blocks (begins.has).0 d (begins.has).1) d_owner) in
       let order = subst InOrder split (answers.order owner) in
-      by d begins.from (flow.rises d begins.has) (in-append front (c ∷ []) d inside) order where
-        by : (d : Span) → d.first ≡ c.last + 1 → d.first ≤ d.last → In d front ⊎ In d (c ∷ []) → InOrder (front ++ c ∷ []) → ⊥
-        by d first rises (inl e) order = absurd (omega (arith, numbers-order front c d order e, first, rises, flow.rises c has))
+      by d begins.from (flow.rises d begins.has) (in-append prefix (c ∷ []) d inside) order where
+        by : (d : Span) → d.first ≡ c.last + 1 → d.first ≤ d.last → In d prefix ⊎ In d (c ∷ []) → InOrder (prefix ++ c ∷ []) → ⊥
+        by d first rises (inl e) order = absurd (omega (arith, numbers-order prefix c d order e, first, rises, flow.rises c has))
         by d first rises (inr (inl e)) order =
             let same : d.first ≡ c.first = ap (λ x. x.first) e in
             absurd (omega (arith, same, first, flow.rises c has))
@@ -129,9 +129,9 @@ module _ (p : Program) (blocks : List Span) (home : Homes) (live_first : (owner 
 
   -- the last part of all
   record LastPart : Type 0 where
-    front : List Part
+    prefix : List Part
     part : Part
-    split : all ≡ front ++ part ∷ []
+    split : all ≡ prefix ++ part ∷ []
     done : wants_next (block part).exit ≡ false
 
   -- the last part
@@ -141,30 +141,30 @@ module _ (p : Program) (blocks : List Span) (home : Homes) (live_first : (owner 
       let owner = os.1 in
       let in_order : In owner (code_order p) = subst (λ l. In owner l) (sym os.2) (in-end os.0 owner) in
       of-owner os.0 owner os.2 (order-below p blocks home live_first live_after homes sound flow answers owner in_order) where
-        in-end : {A : Type 0} (front : List A) (x : A) → In x (front ++ x ∷ [])
+        in-end : {A : Type 0} (prefix : List A) (x : A) → In x (prefix ++ x ∷ [])
         in-end [] x = inl refl
-        in-end (y ∷ front) x = inr (in-end front x)
+        in-end (y ∷ prefix) x = inr (in-end prefix x)
 
-        of-span : (procs : List ℕ) (owner : ℕ) → code_order p ≡ procs ++ owner ∷ [] → (front : List Span) (c : Span) → spans_of blocks owner ≡ front ++ c ∷ [] → LastPart
-        of-span procs owner order front c split =
-            let both = filter-in (λ b. b.owner == owner) blocks c (subst (λ l. In c l) (sym split) (in-end front c)) in
+        of-span : (procs : List ℕ) (owner : ℕ) → code_order p ≡ procs ++ owner ∷ [] → (prefix : List Span) (c : Span) → spans_of blocks owner ≡ prefix ++ c ∷ [] → LastPart
+        of-span procs owner order prefix c split =
+            let both = filter-in (λ b. b.owner == owner) blocks c (subst (λ l. In c l) (sym split) (in-end prefix c)) in
             let has = in-has blocks c both.0 in
             let owned = eqb-true c.owner owner both.1 in
             let last = flow.last c has in
-            let ended = ends-so c has last.st last.there (last-span owner front c split has owned last.st last.there) in
-            let one : span_parts p c ≡ Steps c ∷ [] = ap (λ o. Steps c ∷ behind_step c o) last.there ∙ ap (λ l. Steps c ∷ l) ended.0 in
-            let spans : flat_map (span_parts p) (spans_of blocks owner) ≡ flat_map (span_parts p) front ++ Steps c ∷ [] =
-            ap (flat_map (span_parts p)) split ∙ flat_map-append (span_parts p) front (c ∷ [])
-            ∙ ap (λ l. flat_map (span_parts p) front ++ l) (append-nil (span_parts p c) ∙ one) in
-            let procs_all : all ≡ flat_map (proc_parts p blocks live_first) procs ++ (entry_parts p blocks live_first owner ++ (flat_map (span_parts p) front ++ Steps c ∷ [])) =
+            let ended = ends-so c has last.st last.there (last-span owner prefix c split has owned last.st last.there) in
+            let one : span_parts p c ≡ Steps c ∷ [] = ap (λ o. Steps c ∷ return_after c o) last.there ∙ ap (λ l. Steps c ∷ l) ended.0 in
+            let spans : flat_map (span_parts p) (spans_of blocks owner) ≡ flat_map (span_parts p) prefix ++ Steps c ∷ [] =
+            ap (flat_map (span_parts p)) split ∙ flat_map-append (span_parts p) prefix (c ∷ [])
+            ∙ ap (λ l. flat_map (span_parts p) prefix ++ l) (append-nil (span_parts p c) ∙ one) in
+            let procs_all : all ≡ flat_map (proc_parts p blocks live_first) procs ++ (entry_parts p blocks live_first owner ++ (flat_map (span_parts p) prefix ++ Steps c ∷ [])) =
             ap (flat_map (proc_parts p blocks live_first)) order ∙ flat_map-append (proc_parts p blocks live_first) procs (owner ∷ [])
             ∙ ap (λ l. flat_map (proc_parts p blocks live_first) procs ++ l) (append-nil (proc_parts p blocks live_first owner) ∙ ap (λ l. entry_parts p blocks live_first owner ++ l) spans) in
             record {
-              front = flat_map (proc_parts p blocks live_first) procs ++ (entry_parts p blocks live_first owner ++ flat_map (span_parts p) front);
+              prefix = flat_map (proc_parts p blocks live_first) procs ++ (entry_parts p blocks live_first owner ++ flat_map (span_parts p) prefix);
               part = Steps c;
               split = procs_all
-                  ∙ ap (λ l. flat_map (proc_parts p blocks live_first) procs ++ l) (sym (append_assoc (entry_parts p blocks live_first owner) (flat_map (span_parts p) front) (Steps c ∷ [])))
-                  ∙ sym (append_assoc (flat_map (proc_parts p blocks live_first) procs) (entry_parts p blocks live_first owner ++ flat_map (span_parts p) front) (Steps c ∷ []));
+                  ∙ ap (λ l. flat_map (proc_parts p blocks live_first) procs ++ l) (sym (append_assoc (entry_parts p blocks live_first owner) (flat_map (span_parts p) prefix) (Steps c ∷ [])))
+                  ∙ sym (append_assoc (flat_map (proc_parts p blocks live_first) procs) (entry_parts p blocks live_first owner ++ flat_map (span_parts p) prefix) (Steps c ∷ []));
               done = ap (λ o. wants_next (option_map_or (exit_for p home number entry c.owner) o exit.Halt)) last.there ∙ ended.1;
             }
 
@@ -184,11 +184,11 @@ module _ (p : Program) (blocks : List Span) (home : Homes) (live_first : (owner 
   pub last-closed : option_map_or (λ b. wants_next b.exit) (slice_get (map block all) (length (map block all) - 1)) true ≡ false
   last-closed =
       let l = last-part in
-      let size : length all ≡ length l.front + 1 = ap length l.split ∙ length-append l.front (l.part ∷ []) in
-      let at : length (map block all) - 1 ≡ length l.front + 0 = omega (arith, length-map all block, size) in
-      let there : slice_get all (length l.front + 0) ≡ Some l.part = ap (λ x. slice_get x (length l.front + 0)) l.split ∙ slice_get-back l.front (l.part ∷ []) 0 in
+      let size : length all ≡ length l.prefix + 1 = ap length l.split ∙ length-append l.prefix (l.part ∷ []) in
+      let at : length (map block all) - 1 ≡ length l.prefix + 0 = omega (arith, length-map all block, size) in
+      let there : slice_get all (length l.prefix + 0) ≡ Some l.part = ap (λ x. slice_get x (length l.prefix + 0)) l.split ∙ slice_get-back l.prefix (l.part ∷ []) 0 in
       ap (λ k. option_map_or (λ b. wants_next b.exit) (slice_get (map block all) k) true) at
-      ∙ ap (λ o. option_map_or (λ b. wants_next b.exit) o true) (slice_get-map block all (length l.front + 0) ∙ ap (option_map block) there)
+      ∙ ap (λ o. option_map_or (λ b. wants_next b.exit) o true) (slice_get-map block all (length l.prefix + 0) ∙ ap (option_map block) there)
       ∙ l.done
 
   -- ---- slots for return addresses are set apart

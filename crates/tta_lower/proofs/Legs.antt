@@ -1,11 +1,8 @@
 -- A leg of the register code, and the steps of the program that it stands for.
-use Rattle.std.proofs.Common.{◌≡◌, ◌≢◌, ◌<◌, ◌≤◌, ◌+◌, ◌==◌, ◌++◌, ◌∷◌, [], ℕ, Bool, List, Option, Some, None, true, false, length, map, drop, slice_set, nat_lt, refl, sym, ap, ◌∙◌, subst, ap₂, arith, get_or-set_same, get_or-set_other, length-set}
+use Rattle.std.proofs.Common.{◌≡◌, ◌<◌, ◌≤◌, ◌+◌, ◌==◌, ◌++◌, ◌∷◌, [], ℕ, Bool, List, Option, Some, None, true, false, length, map, drop, refl, sym, ap, ◌∙◌, subst, arith}
 use Rattle.std.specs.Prelude.{if◌then◌else◌}
-use Rattle.std.specs.Option.{option_map_or}
-use Rattle.std.specs.List.{list_all}
-use Rattle.std.proofs.lemmas.Bool.{eq-eqb, ne_eqb, or_left, or_right, and_parts, ltb-true}
+use Rattle.std.proofs.lemmas.Bool.{eq-eqb, or_left, or_right}
 use Rattle.std.proofs.lemmas.List.{length-map}
-use Rattle.std.proofs.lemmas.Option.{none-some}
 use Rattle.tta_list.proofs.Lists.{all_one}
 use Rattle.tta_ops.specs.Units.{Units}
 use Rattle.tta_program.specs.declared.operand.Src.{Src}
@@ -13,56 +10,31 @@ use Rattle.tta_program.specs.declared.operand.Rel.{Rel}
 use Rattle.tta_program.specs.declared.step.Step.{Step}
 use Rattle.tta_program.specs.declared.step.Step.TheVariants.{Copy, Apply, Load, Take, Store, Put, If, Goto, When, Invoke, Return, Halt, End}
 use Rattle.tta_program.specs.Program.{Program}
-use Rattle.tta_program.specs.Rules.{IsProgram, IsProc, is_step, is_src}
-use Rattle.tta_program.specs.Rules as rules
+use Rattle.tta_program.specs.Rules.{IsProgram, IsProc}
 use Rattle.tta_program.specs.Sequential as program
 use Rattle.tta_program.specs.Sequential.{Frame, Outcome, Running, Halted, Waiting, step_at, holds, enter, next, take_value, goes_through, returns}
 use Rattle.tta_rcode.specs.declared.code.RSrc.{RSrc}
 use Rattle.tta_rcode.specs.declared.code.RSrc.TheVariants as rsrc
 use Rattle.tta_rcode.specs.declared.code.RStep.{RStep}
-use Rattle.tta_rcode.specs.declared.code.Exit.TheVariants as exit
 use Rattle.tta_rcode.specs.declared.code.RBlock.{RBlock}
 use Rattle.tta_rcode.specs.declared.code.Rir.{Rir}
 use Rattle.tta_rcode.specs.Meaning as code
 use Rattle.tta_rcode.specs.Meaning.{State, Kept, Plain, found, plain, word, steps_of, walk, stay, is_running, leg}
-use Rattle.tta_lower.specs.Liveness.{Reads, LiveAfter, After, Reached, Span, Has, Homes, IsFlow, IsHomes, is_plain, is_var, reads, assigned, leads}
-use Rattle.tta_lower.specs.Layout.{vars_of, params_of, var_slot, value_slot, back_slot, place_by, source, gives, steps_for, exit_for, InFrame, back as back_exit}
+use Rattle.tta_lower.specs.Liveness.{Reads, After, Reached, Span, Has, Homes, IsFlow, IsHomes, is_plain, is_var, reads, assigned, leads}
+use Rattle.tta_lower.specs.Layout.{vars_of, params_of, var_slot, place_by, source, gives, steps_for, exit_for, InFrame, back as back_exit}
 use Rattle.tta_lower.specs.Shape.{Counts, BlockFor, IsLowered, may_fall, is_call}
-use Rattle.tta_lower.specs.Relation.{running, going, one_more, HeldBefore, HeldAfter, IsCaller, KeepsBack, Callers, behind, AtBlock, BlockNext, EntryNext, ReturnNext}
-use Rattle.tta_lower.proofs.Lookups.{found-same, found-other, found-stay}
+use Rattle.tta_lower.specs.Relation.{running, going, one_more, HeldBefore, HeldAfter, IsCaller, KeepsBack, Callers, AtBlock, BlockNext, EntryNext}
+use Rattle.tta_lower.proofs.Lookups.{found-stay}
 use Rattle.tta_lower.proofs.Slots.{one-frame}
 use Rattle.tta_lower.proofs.Plain.{PlainStep, GoesOn, Waits, plain-step, operand-set, live-before, held-kept, next-is}
 use Rattle.tta_lower.proofs.Steps.{step_of}
 use Rattle.tta_lower.proofs.Callers.{called, outside, callers-stay, live-below, vars-are}
-use Rattle.tta_lower.proofs.Runs.{plain-leads}
-use Rattle.tta_lower.proofs.Exits.{fall, fall-if, jump-if, jump, call, back, halt, wait}
-use Rattle.tta_lower.proofs.Passing.{pass, copy-slot}
-use Rattle.tta_lower.proofs.Frames.{var-in, frame-by-vars, other-own, not-main, back-own, enter-length, enter-arg, enter-zero}
+use Rattle.tta_lower.proofs.Exits.{fall, fall-if, jump-if, jump, call, halt, wait}
+use Rattle.tta_lower.proofs.Passing.{pass}
+use Rattle.tta_lower.proofs.Frames.{var-in, frame-by-vars, back-own, enter-length, enter-arg, enter-zero}
+use Rattle.tta_lower.proofs.Falling.{falls-leads, IsPlainExit, plain-exit}
+use Rattle.tta_lower.proofs.Returning.{last-return}
 use Rattle.tta_lower.proofs.Walks.{Walked, walked-after, walked-code, comes-now, ends-now, WalkFrom}
-
--- a step that may fall through leads to the next one
-falls-leads : (st : Step) (at : ℕ) → may_fall st ≡ true → leads st at (at + 1) ≡ true
-falls-leads (If rel a b to) at may = or_right (to == at + 1) (at + 1 == at + 1) (eq-eqb (at + 1) (at + 1) refl)
-falls-leads (Copy d s) at may = plain-leads (Copy d s) at may
-falls-leads st at may = plain-leads st at may
-
--- a plain step may fall through, is no call, and its block has no transfer
-record IsPlainExit (p : Program) (home : Homes) (number : ℕ → ℕ → ℕ) (entry : ℕ → ℕ) (owner : ℕ) (st : Step) : Type 0 where
-  falls : may_fall st ≡ true
-  no_call : is_call st ≡ false
-  next : exit_for p home number entry owner st ≡ exit.Next
-
--- a plain step leads to the next block
-plain-exit : (p : Program) (home : Homes) (number : ℕ → ℕ → ℕ) (entry : ℕ → ℕ) (owner : ℕ) (st : Step) → is_plain st ≡ true
-    → IsPlainExit p home number entry owner st
-plain-exit p home number entry owner (Copy d s) plain = record { falls = refl; no_call = refl; next = refl }
-plain-exit p home number entry owner (Apply d op a b) plain = record { falls = refl; no_call = refl; next = refl }
-plain-exit p home number entry owner (Load d a) plain = record { falls = refl; no_call = refl; next = refl }
-plain-exit p home number entry owner (Take d) plain = record { falls = refl; no_call = refl; next = refl }
-plain-exit p home number entry owner (Store a v) plain = record { falls = refl; no_call = refl; next = refl }
-plain-exit p home number entry owner (Put v) plain = record { falls = refl; no_call = refl; next = refl }
-plain-exit p home number entry owner (When rel a b d s) plain = record { falls = refl; no_call = refl; next = refl }
-plain-exit p home number entry owner st plain = cc
 
 module _ (u : Units) (p : Program) (blocks : List Span) (home : Homes) (live : ℕ → ℕ → Bool) (r : Rir) (number : ℕ → ℕ → ℕ) (entry : ℕ → ℕ) (before : Counts) where
   -- ---- the last step of a block
@@ -284,129 +256,12 @@ module _ (u : Units) (p : Program) (blocks : List Span) (home : Homes) (live : �
 
       -- ---- a return
 
-      module _ (v : ℕ) (src : RSrc) (given : code.operand now src ≡ Some v)
-          (by_steps : steps_of u (bf.code).steps first_state ≡ steps_of u (gives p home b.owner src ++ []) now)
-          (by_exit : (bf.code).exit ≡ back_exit p home number entry b.owner)
-          (by_program : next u p program_now ≡ returns p (one_more program_now) rest v) where
-        -- main's return ends the run
-        from-main : rest ≡ [] → Claim
-        from-main none =
-            let main : b.owner ≡ p.main = subst (λ l. Callers p blocks number frame b.owner l) none callers in
-            let same = eq-eqb b.owner p.main main in
-            ends-now u p blocks home live r number entry before program_now _ low (before (here + 1)) (k + 1) [] here (stay (bf.code).live_out regs) frame ra memory input output Halted
-            counted (lowered.all_counted (here + 1)) refl
-            (by_program ∙ ap (λ l. returns p (one_more program_now) l v) none)
-            (halt u bf.code bs here regs frame ra memory input output first_state (by_steps ∙ rw same refl) (by_exit ∙ rw same refl))
-
-        -- the frame after the value was given
-        abbrev given_frame : List (ℕ × Kept)
-        given_frame = (value_slot p b.owner, Plain v) ∷ frame
-
-        module _ (g : Frame) (more : List Frame) (some : rest ≡ g ∷ more) where
-          these : Callers p blocks number frame b.owner (g ∷ more)
-          these = subst (λ l. Callers p blocks number frame b.owner l) some callers
-
-          other : b.owner ≢ p.main
-          other = not-main p sound blocks number frame b.owner g more these
-
-          -- the calls below, with the value given
-          still : Callers p blocks number given_frame b.owner (g ∷ more)
-          still =
-              let of_step = step_of p sound b.owner b.last st there in
-              let two = other-own p b.owner other in
-              callers-stay p sound blocks number b.owner of_step.proc of_step.is frame given_frame
-              (λ slot notin. found-other (value_slot p b.owner) slot (Plain v) frame (λ e. notin (omega (arith, e), omega (arith, two, e))))
-              b.owner (g ∷ more) (outside p sound blocks number frame b.owner (g ∷ more) these) these
-
-          kept_back : found (back_slot p b.owner) given_frame ≡ Some (code.Return (behind p blocks number g))
-          kept_back =
-              found-other (value_slot p b.owner) (back_slot p b.owner) (Plain v) frame (λ e. absurd (omega (arith, e)))
-              ∙ subst (λ l. KeepsBack p blocks number frame b.owner l) some kept
-
-          by_code : walk u (bf.code ∷ bs) first_state ≡ going (behind p blocks number g) (stay (bf.code).live_out regs) given_frame ra memory input output Running
-          by_code =
-              let differs = ne_eqb b.owner p.main other in
-              back u bf.code bs here regs given_frame ra memory input output first_state (back_slot p b.owner) (behind p blocks number g)
-              (by_steps ∙ rw (differs, copy-slot u here regs frame ra memory input output (value_slot p b.owner) src v given) refl)
-              (by_exit ∙ rw differs refl) kept_back
-
-          next-caller : (d : Option ℕ) → (still.0).d ≡ d → next u p program_now ≡ take_value (one_more program_now) g more v (Some (Invoke d b.owner (still.0).args))
-          next-caller d is =
-              by_program ∙ ap (λ l. returns p (one_more program_now) l v) some
-              ∙ ap (take_value (one_more program_now) g more v) ((still.0).call ∙ ap (λ o. Some (Invoke o b.owner (still.0).args)) is)
-
-          -- the caller's call, by the block that it ends
-          block-call : step_at p ((still.0).block).owner ((still.0).block).last ≡ Some (Invoke (still.0).d b.owner (still.0).args)
-          block-call = ap₂ (step_at p) (still.0).owned (still.0).last ∙ (still.0).call
-
-          number-call : number g.proc g.at ≡ number ((still.0).block).owner ((still.0).block).first
-          number-call = sym (ap₂ number (still.0).owned (still.0).last) ∙ lowered.same (still.0).block (still.0).has
-
-          reached-call : Reached p g.proc g.at
-          reached-call =
-              subst (λ l. Reached p g.proc l) (still.0).last
-              (subst (λ o. Reached p o ((still.0).block).last) (still.0).owned
-              (flow.reached (still.0).block (still.0).has ((still.0).block).last (flow.rises (still.0).block (still.0).has) (omega arith)))
-
-          to-caller : (still.0).d ≡ None → Claim
-          to-caller none =
-              let c = still.0 in
-              let called_so = block-call ∙ ap (λ o. Some (Invoke o b.owner c.args)) none in
-              let begins = flow.onward c.block c.has (Invoke c.d b.owner c.args) ((c.block).last + 1) block-call (eq-eqb ((c.block).last + 1) ((c.block).last + 1) refl) in
-              comes-now u p blocks home live r number entry before program_now _ low (before (here + 1)) (k + 1) (record g { at = g.at + 1 }) more (behind p blocks number g) (stay (bf.code).live_out regs) given_frame ra
-              memory input output counted (lowered.all_counted (here + 1)) (next-caller None none) by_code
-              (BlockNext (record {
-                block = begins.block;
-                has = begins.has;
-                owned = begins.owned ∙ c.owned;
-                first = begins.from ∙ ap (λ n. n + 1) c.last;
-                here = ap (λ n. n + 1) number-call ∙ sym (lowered.called c.block c.has b.owner c.args called_so)
-                    ∙ ap₂ (λ o l. number o (l + 1)) c.owned c.last;
-                size = c.size;
-                held = λ x alive.
-                    let after = After (g.at + 1) (Invoke c.d b.owner c.args) c.call (eq-eqb (g.at + 1) (g.at + 1) refl) alive in
-                    let ne : c.d ≢ Some x = λ e. none-some x (sym none ∙ e) in
-                    let in_slot = homes.saved g.proc g.at b.owner x c.d c.args reached-call c.call after ne in
-                    ap (λ o. word (stay (bf.code).live_out regs) given_frame (place_by p home g.proc x o)) in_slot ∙ c.saved x after ne;
-                back = still.1;
-                callers = still.2;
-              }))
-
-          to-return : (d : ℕ) → (still.0).d ≡ Some d → Claim
-          to-return d is =
-              let c = still.0 in
-              let caller_step = step_of p sound g.proc g.at (Invoke c.d b.owner c.args) c.call in
-              let vars_are = vars-are p g.proc caller_step.proc caller_step.is in
-              let test : option_map_or (λ x. nat_lt x (caller_step.proc).vars) c.d true ≡ true = (and_parts _ (list_all (is_src (caller_step.proc).vars) c.args) (and_parts _ (rules.is_call p b.owner c.args) caller_step.rules).0).0 in
-              let below : d < (caller_step.proc).vars = ltb-true d (caller_step.proc).vars (sym (ap (λ o. option_map_or (λ x. nat_lt x (caller_step.proc).vars) o true) is) ∙ test) in
-              comes-now u p blocks home live r number entry before program_now _ low (before (here + 1)) (k + 1) (record g { at = g.at + 1; vars = slice_set g.vars d v }) more (behind p blocks number g) (stay (bf.code).live_out regs) given_frame ra
-              memory input output counted (lowered.all_counted (here + 1)) (next-caller (Some d) is) by_code
-              (ReturnNext (record {
-                block = c.block;
-                has = c.has;
-                owned = c.owned;
-                last = ap (λ n. n + 1) c.last;
-                d = d;
-                callee = b.owner;
-                args = c.args;
-                call = ap (step_at p g.proc) c.last ∙ c.call ∙ ap (λ o. Some (Invoke o b.owner c.args)) is;
-                here = ap (λ n. n + 1) (number-call ∙ ap (λ o. number o (c.block).first) c.owned);
-                size = length-set g.vars d v ∙ c.size;
-                saved = λ x alive ne.
-                    c.saved x (subst (λ l. LiveAfter p g.proc x l) c.last alive) (λ e. ne (sym is ∙ e))
-                    ∙ ap Some (sym (get_or-set_other g.vars d x v 0 (λ e. ne (ap Some (sym e)))));
-                value = ap plain (found-same (value_slot p b.owner) (Plain v) frame) ∙ ap Some (sym (get_or-set_same g.vars d v 0 (omega (arith, below, vars_are, c.size))));
-                back = still.1;
-                callers = still.2;
-              }))
-
-          from-callee : (d : Option ℕ) → (still.0).d ≡ d → Claim
-          from-callee None is = to-caller is
-          from-callee (Some d) is = to-return d is
-
-        last-return : (l : List Frame) → rest ≡ l → Claim
-        last-return [] is = from-main is
-        last-return (g ∷ more) is = from-callee g more is (still g more is).0.d refl
+      returning : (v : ℕ) (src : RSrc) → code.operand now src ≡ Some v
+          → steps_of u (bf.code).steps first_state ≡ steps_of u (gives p home b.owner src ++ []) now
+          → (bf.code).exit ≡ back_exit p home number entry b.owner → next u p program_now ≡ returns p (one_more program_now) rest v → Claim
+      returning v src given by_steps by_exit by_program =
+          last-return u p blocks home live r number entry before flow homes sound lowered b has st there bf bs rest first_state vars regs frame ra k memory input output
+          kept callers low counted v src given by_steps by_exit by_program rest refl
 
       -- ---- any step
 
@@ -415,11 +270,11 @@ module _ (u : Units) (p : Program) (blocks : List Span) (home : Homes) (live : �
       last-step (Goto to) is = last-goto to is
       last-step (Invoke d callee args) is = last-invoke d callee args is
       last-step (Return (Some v)) is =
-          last-return (program.operand vars v) (source p home b.owner v) (set v (λ x e. ap (λ s. reads s x) is ∙ e))
-          (row-of (Return (Some v)) is) (exit-of (Return (Some v)) is) (moves (Return (Some v)) is) rest refl
-      last-step (Return None) is = last-return 0 (rsrc.Word 0) refl (row-of (Return None) is) (exit-of (Return None) is) (moves (Return None) is) rest refl
+          returning (program.operand vars v) (source p home b.owner v) (set v (λ x e. ap (λ s. reads s x) is ∙ e))
+          (row-of (Return (Some v)) is) (exit-of (Return (Some v)) is) (moves (Return (Some v)) is)
+      last-step (Return None) is = returning 0 (rsrc.Word 0) refl (row-of (Return None) is) (exit-of (Return None) is) (moves (Return None) is)
       last-step Halt is = last-halt is
-      last-step End is = last-return 0 (rsrc.Word 0) refl (row-of End is) (exit-of End is) (moves End is) rest refl
+      last-step End is = returning 0 (rsrc.Word 0) refl (row-of End is) (exit-of End is) (moves End is)
       last-step (Copy d v) is = last-plain (ap is_plain is)
       last-step (Apply d op a c) is = last-plain (ap is_plain is)
       last-step (Load d a) is = last-plain (ap is_plain is)

@@ -8,6 +8,8 @@ pub mod Exits
 pub mod Passing
 pub mod Frames
 pub mod Walks
+pub mod Falling
+pub mod Returning
 pub mod Legs
 pub mod Blocks
 pub mod SettingUp
@@ -16,7 +18,9 @@ pub mod Growing
 pub mod Whole
 pub mod Lists
 pub mod Sums
+pub mod AfterSteps
 pub mod Placed
+pub mod StepSums
 pub mod Counting
 pub mod Samples
 pub mod Weighing
@@ -24,6 +28,7 @@ pub mod Closing
 pub mod Shutting
 pub mod Lasts
 pub mod Lengths
+pub mod Procs
 pub mod Shut
 pub mod Lowering
 pub mod Bridge

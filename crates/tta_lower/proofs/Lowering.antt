@@ -1,6 +1,6 @@
 -- The law of register code.
 use Rattle.std.proofs.Common.{arith}
-use Rattle.tta_lower.specs.Lower.{Part, Entry, Steps, Behind, parts, number_of, entry_number, lowered}
+use Rattle.tta_lower.specs.Lower.{Part, Entry, Steps, Returned, parts, number_of, entry_number, lowered}
 use Rattle.tta_lower.specs.Keeps.{KeepsMeaning}
 use Rattle.tta_lower.specs.Law.{LowersWell}
 use Rattle.tta_lower.specs.Members.{In}
@@ -32,4 +32,4 @@ lowers_well u p blocks home live_first live_after homes frame_words sound flow a
     by : (x : Part) → IsPartOf p blocks x → IsPart p blocks home live_first live_after homes flow x
     by (Entry owner) lt = tt
     by (Steps b) has = has
-    by (Behind b d callee) r = tt
+    by (Returned b d callee) r = tt

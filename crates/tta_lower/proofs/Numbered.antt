@@ -6,7 +6,7 @@ use Rattle.tta_program.specs.declared.program.Proc.{Proc}
 use Rattle.tta_program.specs.Program.{Program}
 use Rattle.tta_lower.specs.declared.numbers.Numbers.{Numbers}
 use Rattle.tta_lower.specs.Liveness.{Span}
-use Rattle.tta_lower.specs.Lower.{Part, Entry, Steps, Behind}
+use Rattle.tta_lower.specs.Lower.{Part, Entry, Steps, Returned}
 use Rattle.tta_lower.specs.Tables.{StandOnce, HasRoom, HasNumbers, IsWritten, row_of, number_in}
 
 -- a number below the next that is not the latest
@@ -105,17 +105,17 @@ module _ (p : Program) (parts : List Part) (old new : Numbers) (k : ℕ) (once :
 
   -- ---- a return
 
-  module _ (b : Span) (d callee : ℕ) (here : slice_get parts k ≡ Some (Behind b d callee)) where
+  module _ (b : Span) (d callee : ℕ) (here : slice_get parts k ≡ Some (Returned b d callee)) where
     return-more : HasNumbers p parts old (k + 1)
     return-more = record {
       room = has.room;
       size = has.size;
       steps = λ j c q lt there of within. elim (cases_eq j k) as (λ t. number_in old.rows.items c.owner c.first ≡ j) [
-        | inl e ↦ let other : Steps c ≡ Behind b d callee = latest j (Behind b d callee) (Steps c) e here there in cc
+        | inl e ↦ let other : Steps c ≡ Returned b d callee = latest j (Returned b d callee) (Steps c) e here there in cc
         | inr ne ↦ has.steps j c q (below j k ne lt) there of within
       ];
       entries = λ j a lt there within. elim (cases_eq j k) as (λ t. slice_index old.entries.items a ≡ j) [
-        | inl e ↦ let other : Entry a ≡ Behind b d callee = latest j (Behind b d callee) (Entry a) e here there in cc
+        | inl e ↦ let other : Entry a ≡ Returned b d callee = latest j (Returned b d callee) (Entry a) e here there in cc
         | inr ne ↦ has.entries j a (below j k ne lt) there within
       ];
     }
@@ -124,4 +124,4 @@ module _ (p : Program) (parts : List Part) (old new : Numbers) (k : ℕ) (once :
   pub numbers-more : (x : Part) → slice_get parts k ≡ Some x → IsWritten x k old new → HasNumbers p parts new (k + 1)
   numbers-more (Entry o) here is = entry-more o here is
   numbers-more (Steps b) here is = steps-more b here is
-  numbers-more (Behind b d callee) here is = subst (λ n. HasNumbers p parts n (k + 1)) (sym is) (return-more b d callee here)
+  numbers-more (Returned b d callee) here is = subst (λ n. HasNumbers p parts n (k + 1)) (sym is) (return-more b d callee here)

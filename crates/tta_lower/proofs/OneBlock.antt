@@ -1,4 +1,4 @@
--- A program that only puts constants out and halts becomes one block.
+-- A program that only outputs constants and halts becomes one block.
 use Rattle.std.proofs.Common.{◌≡◌, ◌≢◌, ◌<◌, ◌≤◌, ◌+◌, ◌-◌, ◌==◌, ◌++◌, ◌∷◌, [], ℕ, zero, suc, Bool, List, Some, true, false, length, map, drop, filter, get_or, slice_get, refl, sym, ap, ◌∙◌, subst, arith, ◌⊎◌, inl, inr, append-nil}
 use Rattle.std.specs.List.{list_any}
 use Rattle.std.proofs.lemmas.Bool.{eq-eqb, eqb-true, cases_lt, cases_order, and_parts, false≢true, false_from_ne_true}
@@ -14,7 +14,7 @@ use Rattle.tta_rcode.specs.declared.code.RStep.TheVariants as rstep
 use Rattle.tta_lower.specs.Liveness.{Span, Has, Homes, Reached, First, Then, LiveBefore, Reads, Leads, LiveAfter, After, reads, leads, is_plain}
 use Rattle.tta_lower.specs.Layout.{steps_for, code_from}
 use Rattle.tta_lower.specs.Lower.{numbers, is_home_of, homes_of, lowered, Answers}
-use Rattle.tta_lower.specs.FlowFacts.{names_step, IsFirst, AtBegin, Named, Behind, IsRun, AreBlocks}
+use Rattle.tta_lower.specs.FlowFacts.{names_step, IsFirst, AtBegin, Named, AfterStep, IsRun, AreBlocks}
 use Rattle.tta_lower.proofs.Exits.{code_from-more}
 use Rattle.tta_lower.proofs.Staying.{any-there}
 use Rattle.tta_program.specs.Direct.{only_constants, puts, alone}
@@ -98,7 +98,7 @@ module _ (q : Proc) (init : List DataLine) (only : only_constants q.steps ≡ tr
       none (IsEnd h) = false≢true (sym (ap (λ s. names_step s to) h) ∙ named)
     by (inr (inl lt)) le = false≢true (sym (ap (λ s. names_step s to) (same-step (sym there ∙ put-at from lt))) ∙ named)
     by (inr (inr gt)) le = omega (arith, le, gt)
-  first-alone j (Behind i at st there cuts is) le =
+  first-alone j (AfterStep i at st there cuts is) le =
       absurd (false≢true (sym cuts ∙ ap is_plain (same-step (sym there ∙ put-at i (omega (arith, is, le))))))
 
   -- ---- the one block

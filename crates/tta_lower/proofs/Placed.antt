@@ -18,32 +18,13 @@ use Rattle.tta_program.specs.Sequential.{step_at}
 use Rattle.tta_rcode.specs.declared.code.Rir.{Rir}
 use Rattle.tta_lower.specs.Liveness.{Span, Has, Homes, IsFlow}
 use Rattle.tta_lower.specs.Layout.{vars_of}
-use Rattle.tta_lower.specs.Shape.{BlockFor, ReturnFor, EntryFor, IsLowered, StartsAt, AtEntry, AtFirst, may_fall, is_call}
-use Rattle.tta_lower.specs.Lower.{numbers, code_order, spans_of, Part, Entry, Steps, Behind, behind_step, span_parts, has_entry, entry_parts, proc_parts, parts, procs_before, spans_before, entry_number, number_of, is_home_of, homes_of, live_behind, block_of, lowered, steps_in, EndsBefore, InOrder, Answers}
+use Rattle.tta_lower.specs.Shape.{BlockFor, ReturnFor, EntryFor, IsLowered, StartsAt, AtEntry, AtFirst, may_fall}
+use Rattle.tta_lower.specs.Lower.{numbers, code_order, spans_of, Part, Entry, Steps, Returned, return_after, span_parts, has_entry, entry_parts, proc_parts, parts, procs_before, spans_before, entry_number, number_of, is_home_of, homes_of, block_of, lowered, steps_in, EndsBefore, InOrder, Answers}
 use Rattle.tta_lower.proofs.Steps.{step_of}
+use Rattle.tta_lower.proofs.AfterSteps.{return-none, live-past, return-steps}
 use Rattle.tta_lower.proofs.Callers.{live-below, live-after-below}
 use Rattle.tta_lower.proofs.Lists.{In, in-has, filter-in, has-in, in-filter, in-any, in-numbers, part-at, procs-split, spans-split, spans-same, spans-next}
 use Rattle.tta_lower.proofs.Sums.{sum-more, sum-rises, sum-flat_map, code-order-sum}
-
--- ---- parts after a step
-
--- no part comes after a step that falls through
-behind-none : (b : Span) (st : Step) → may_fall st ≡ true → behind_step b (Some st) ≡ []
-behind-none b (Invoke d callee args) may = cc
-behind-none b st may = refl
-
--- what stays after a step that is no call
-live-behind : (p : Program) (blocks : List Span) (live_first : (owner x : ℕ) → Bool) (home : Homes) (live_after : (owner at x : ℕ) → Bool) (homes : ℕ)
-    (b : Span) (st : Step) → is_call st ≡ false
-    → live_behind p blocks live_first home live_after homes b st ≡ homes_of p blocks live_first home live_after homes b.owner (live_after b.owner b.last)
-live-behind p blocks live_first home live_after homes b (Invoke d callee args) none = cc
-live-behind p blocks live_first home live_after homes b st none = refl
-
--- a return stands for no steps
-behind-steps : (b : Span) (o : Option Step) → sum_by steps_in (behind_step b o) ≡ 0
-behind-steps b (Some (Invoke (Some d) callee args)) = refl
-behind-steps b (Some (Invoke None callee args)) = refl
-behind-steps b o = refl
 
 module _ (p : Program) (blocks : List Span) (home : Homes) (live_first : (owner x : ℕ) → Bool) (live_after : (owner at x : ℕ) → Bool) (homes : ℕ)
     (sound : IsProgram p) (flow : IsFlow p blocks) (answers : Answers p blocks home live_first live_after homes) where
@@ -100,13 +81,13 @@ module _ (p : Program) (blocks : List Span) (home : Homes) (live_first : (owner 
   pub span-there : (b : Span) → Has blocks b → (j : ℕ) (x : Part) → slice_get (span_parts p b) j ≡ Some x → slice_get all (number b.owner b.first + j) ≡ Some x
   span-there b has j x is =
       let split = spans-split p blocks live_first (spans_of blocks b.owner) b b.first (span-rises b.owner) (answers.order b.owner) (span-in b has) (omega arith) (flow.rises b has) in
-      let fronts = spans_before p blocks live_first b.first (spans_of blocks b.owner) in
+      let prefixes = spans_before p blocks live_first b.first (spans_of blocks b.owner) in
       let entries = entry_parts p blocks live_first b.owner in
-      let within = part-at (span_parts p) (spans_of blocks b.owner) fronts split.0 b j x split.1 is in
-      let behind : slice_get (proc_parts p blocks live_first b.owner) (length entries + (length (flat_map (span_parts p) fronts) + j)) ≡ Some x =
-      slice_get-back entries (flat_map (span_parts p) (spans_of blocks b.owner)) (length (flat_map (span_parts p) fronts) + j) ∙ within in
-      ap (slice_get all) (sums (entry b.owner) (length entries) (length (flat_map (span_parts p) fronts)) j)
-      ∙ proc-there b.owner (length entries + (length (flat_map (span_parts p) fronts) + j)) x (owner-below b has) behind where
+      let within = part-at (span_parts p) (spans_of blocks b.owner) prefixes split.0 b j x split.1 is in
+      let after_it : slice_get (proc_parts p blocks live_first b.owner) (length entries + (length (flat_map (span_parts p) prefixes) + j)) ≡ Some x =
+      slice_get-back entries (flat_map (span_parts p) (spans_of blocks b.owner)) (length (flat_map (span_parts p) prefixes) + j) ∙ within in
+      ap (slice_get all) (sums (entry b.owner) (length entries) (length (flat_map (span_parts p) prefixes)) j)
+      ∙ proc-there b.owner (length entries + (length (flat_map (span_parts p) prefixes) + j)) x (owner-below b has) after_it where
         sums : (a b c d : ℕ) → a + b + c + d ≡ a + (b + (c + d))
         sums a b c d = omega arith
 
@@ -114,13 +95,13 @@ module _ (p : Program) (blocks : List Span) (home : Homes) (live_first : (owner 
   next-number : (b : Span) → Has blocks b → number b.owner (b.last + 1) ≡ number b.owner b.first + length (span_parts p b)
   next-number b has =
       let next = spans-next p blocks live_first (spans_of blocks b.owner) b (span-rises b.owner) (answers.order b.owner) (span-in b has) in
-      let fronts = spans_before p blocks live_first b.first (spans_of blocks b.owner) in
-      let longer : length (flat_map (span_parts p) (fronts ++ b ∷ [])) ≡ length (flat_map (span_parts p) fronts) + length (span_parts p b) =
-      ap length (flat_map-append (span_parts p) fronts (b ∷ [])) ∙ length-append (flat_map (span_parts p) fronts) (span_parts p b ++ [])
-      ∙ ap (λ l. length (flat_map (span_parts p) fronts) + length l) (append-nil (span_parts p b)) in
+      let prefixes = spans_before p blocks live_first b.first (spans_of blocks b.owner) in
+      let longer : length (flat_map (span_parts p) (prefixes ++ b ∷ [])) ≡ length (flat_map (span_parts p) prefixes) + length (span_parts p b) =
+      ap length (flat_map-append (span_parts p) prefixes (b ∷ [])) ∙ length-append (flat_map (span_parts p) prefixes) (span_parts p b ++ [])
+      ∙ ap (λ l. length (flat_map (span_parts p) prefixes) + length l) (append-nil (span_parts p b)) in
       ap (λ l. entry b.owner + length (entry_parts p blocks live_first b.owner) + length (flat_map (span_parts p) l)) next
       ∙ ap (λ n. entry b.owner + length (entry_parts p blocks live_first b.owner) + n) longer
-      ∙ sums (entry b.owner) (length (entry_parts p blocks live_first b.owner)) (length (flat_map (span_parts p) fronts)) (length (span_parts p b)) where
+      ∙ sums (entry b.owner) (length (entry_parts p blocks live_first b.owner)) (length (flat_map (span_parts p) prefixes)) (length (span_parts p b)) where
         sums : (a b c d : ℕ) → a + b + (c + d) ≡ a + b + c + d
         sums a b c d = omega arith
 
@@ -151,34 +132,34 @@ module _ (p : Program) (blocks : List Span) (home : Homes) (live_first : (owner 
     steps = refl;
     exit = rw there refl;
     kept = λ x k no_call alive is.
-        ap (λ l. list_any (λ l. l == k) l) ((rw there refl) ∙ live-behind p blocks live_first home live_after homes b st no_call)
+        ap (λ l. list_any (λ l. l == k) l) ((rw there refl) ∙ live-past p blocks live_first home live_after homes b st no_call)
         ∙ homes-kept b.owner x k (live_after b.owner b.last) (live-after-below p sound b.owner x b.last alive) (answers.after_all b has x alive) is;
   }
 
   -- the next block follows one that falls through
   falls : (b : Span) → Has blocks b → (st : Step) → step_at p b.owner b.last ≡ Some st → may_fall st ≡ true → number b.owner (b.last + 1) ≡ number b.owner b.first + 1
   falls b has st there may =
-      let one : length (span_parts p b) ≡ 1 = ap (λ l. length (Steps b ∷ l)) (ap (behind_step b) there ∙ behind-none b st may) in
+      let one : length (span_parts p b) ≡ 1 = ap (λ l. length (Steps b ∷ l)) (ap (return_after b) there ∙ return-none b st may) in
       next-number b has ∙ ap (λ n. number b.owner b.first + n) one
 
   -- the next block follows a call without a destination
   called : (b : Span) → Has blocks b → (callee : ℕ) (args : List Src) → step_at p b.owner b.last ≡ Some (Invoke None callee args)
       → number b.owner (b.last + 1) ≡ number b.owner b.first + 1
   called b has callee args there =
-      let one : length (span_parts p b) ≡ 1 = ap (λ o. length (Steps b ∷ behind_step b o)) there in
+      let one : length (span_parts p b) ≡ 1 = ap (λ o. length (Steps b ∷ return_after b o)) there in
       next-number b has ∙ ap (λ n. number b.owner b.first + n) one
 
   -- a return block follows a call with a destination
   returns : (b : Span) → Has blocks b → (d callee : ℕ) (args : List Src) → step_at p b.owner b.last ≡ Some (Invoke (Some d) callee args)
       → ReturnFor p blocks home live_first code number entry before b d callee
   returns b has d callee args there = record {
-    code = block_of p blocks live_first home live_after homes (Behind b d callee);
-    there = block-there (number b.owner b.first + 1) (Behind b d callee) (span-there b has 1 (Behind b d callee) (ap (λ o. slice_get (behind_step b o) 0) there));
+    code = block_of p blocks live_first home live_after homes (Returned b d callee);
+    there = block-there (number b.owner b.first + 1) (Returned b d callee) (span-there b has 1 (Returned b d callee) (ap (λ o. slice_get (return_after b o) 0) there));
     steps = refl;
     exit = refl;
     kept = λ x k alive is. homes-kept b.owner x k (live_after b.owner b.last) (live-after-below p sound b.owner x b.last alive) (answers.after_all b has x alive) is;
     onward =
-        let two : length (span_parts p b) ≡ 2 = ap (λ o. length (Steps b ∷ behind_step b o)) there in
+        let two : length (span_parts p b) ≡ 2 = ap (λ o. length (Steps b ∷ return_after b o)) there in
         next-number b has ∙ ap (λ n. number b.owner b.first + n) two;
   }
 
@@ -247,7 +228,7 @@ module _ (p : Program) (blocks : List Span) (home : Homes) (live_first : (owner 
   spans-sum (b ∷ bs) low high order rises below above le =
       let rest = spans-sum bs (b.last + 1) high order.1 (λ c is. rises c (inr is)) (λ c is. below c (inr is)) (λ c is. later b bs c order.0 is) (omega (arith, below b (inl refl))) in
       let one : sum_by steps_in (span_parts p b) ≡ b.last + 1 - b.first + 0 =
-      sum_by-cons steps_in (Steps b) (behind_step b (step_at p b.owner b.last)) ∙ ap (λ n. b.last + 1 - b.first + n) (behind-steps b (step_at p b.owner b.last)) in
+      sum_by-cons steps_in (Steps b) (return_after b (step_at p b.owner b.last)) ∙ ap (λ n. b.last + 1 - b.first + n) (return-steps b (step_at p b.owner b.last)) in
       rw (sum_by-cons (λ c. sum_by steps_in (span_parts p c)) b bs) (omega (arith, rest, one, rises b (inl refl), above b (inl refl))) where
         later : (b : Span) (bs : List Span) (c : Span) → EndsBefore b bs → In c bs → b.last + 1 ≤ c.first
         later b [] c ends is = absurd is

@@ -17,12 +17,12 @@ use Rattle.tta_lower.specs.Liveness.{Homes}
 use Rattle.tta_lower.specs.Layout.{var_slot, source, passes, steps_for, code_from, sets, sets_from}
 
 -- one argument more was passed
-pub passes_more : (p : Program) (home : Homes) (owner callee x : ℕ) (args : List Src) (s : Src) (front : List RStep) → x < length args → s ≡ get_or args x s
-    → (front ++ rstep.Copy (places.Frame (var_slot p callee x)) (source p home owner s) ∷ []) ++ passes p home owner callee (x + 1) (drop (x + 1) args)
-    ≡ front ++ passes p home owner callee x (drop x args)
-passes_more p home owner callee x args s front lt is =
-    append_assoc front (rstep.Copy (places.Frame (var_slot p callee x)) (source p home owner s) ∷ []) (passes p home owner callee (x + 1) (drop (x + 1) args))
-    ∙ ap (λ l. front ++ passes p home owner callee x l) (ap (λ y. y ∷ drop (x + 1) args) is ∙ sym (drop_more args x s lt))
+pub passes_more : (p : Program) (home : Homes) (owner callee x : ℕ) (args : List Src) (s : Src) (prefix : List RStep) → x < length args → s ≡ get_or args x s
+    → (prefix ++ rstep.Copy (places.Frame (var_slot p callee x)) (source p home owner s) ∷ []) ++ passes p home owner callee (x + 1) (drop (x + 1) args)
+    ≡ prefix ++ passes p home owner callee x (drop x args)
+passes_more p home owner callee x args s prefix lt is =
+    append_assoc prefix (rstep.Copy (places.Frame (var_slot p callee x)) (source p home owner s) ∷ []) (passes p home owner callee (x + 1) (drop (x + 1) args))
+    ∙ ap (λ l. prefix ++ passes p home owner callee x l) (ap (λ y. y ∷ drop (x + 1) args) is ∙ sym (drop_more args x s lt))
 
 -- one of operands that are all in range
 pub src_in : (vars : ℕ) (args : List Src) (x : ℕ) (s : Src) → list_all (is_src vars) args ≡ true → x < length args → s ≡ get_or args x s → is_src vars s ≡ true
@@ -31,12 +31,12 @@ src_in vars (a ∷ args) zero s all lt is = ap (is_src vars) is ∙ (and_parts (
 src_in vars (a ∷ args) (suc x) s all lt is = src_in vars args x s (and_parts (is_src vars a) _ all).1 (omega (arith, lt)) is
 
 -- one step more of a row
-pub row_more : (p : Program) (home : Homes) (owner at last : ℕ) (st : Step) (front made : List RStep) → step_at p owner at ≡ Some st → at ≤ last
-    → made ≡ front ++ steps_for p home owner st → made ++ code_from p home owner (at + 1) (last + 1 - (at + 1)) ≡ front ++ code_from p home owner at (last + 1 - at)
-row_more p home owner at last st front made there le is =
+pub row_more : (p : Program) (home : Homes) (owner at last : ℕ) (st : Step) (prefix made : List RStep) → step_at p owner at ≡ Some st → at ≤ last
+    → made ≡ prefix ++ steps_for p home owner st → made ++ code_from p home owner (at + 1) (last + 1 - (at + 1)) ≡ prefix ++ code_from p home owner at (last + 1 - at)
+row_more p home owner at last st prefix made there le is =
     let e : last + 1 - at ≡ suc (last + 1 - (at + 1)) = omega (arith, le) in
     ap (λ l. l ++ code_from p home owner (at + 1) (last + 1 - (at + 1))) is
-    ∙ append_assoc front (steps_for p home owner st) (code_from p home owner (at + 1) (last + 1 - (at + 1)))
+    ∙ append_assoc prefix (steps_for p home owner st) (code_from p home owner (at + 1) (last + 1 - (at + 1)))
     ∙ rw (e, there) refl
 
 -- a step there of a procedure that is there
@@ -44,12 +44,12 @@ pub there_at : (p : Program) (owner at : ℕ) (q : Proc) (st : Step) → slice_g
 there_at p owner at q st is here = rw is here
 
 -- one variable more of an entry, live or not
-pub sets_more : (p : Program) (home : Homes) (live : ℕ → Bool) (owner x n : ℕ) (b : Bool) (front made : List RStep) → x < n → b ≡ live x
-    → made ≡ front ++ (if b then sets p home owner x else [])
-    → made ++ sets_from p home live owner (x + 1) (n - (x + 1)) ≡ front ++ sets_from p home live owner x (n - x)
-sets_more p home live owner x n b front made lt here is =
+pub sets_more : (p : Program) (home : Homes) (live : ℕ → Bool) (owner x n : ℕ) (b : Bool) (prefix made : List RStep) → x < n → b ≡ live x
+    → made ≡ prefix ++ (if b then sets p home owner x else [])
+    → made ++ sets_from p home live owner (x + 1) (n - (x + 1)) ≡ prefix ++ sets_from p home live owner x (n - x)
+sets_more p home live owner x n b prefix made lt here is =
     let e : n - x ≡ suc (n - (x + 1)) = omega (arith, lt) in
     ap (λ l. l ++ sets_from p home live owner (x + 1) (n - (x + 1))) is
-    ∙ append_assoc front (if b then sets p home owner x else []) (sets_from p home live owner (x + 1) (n - (x + 1)))
-    ∙ ap (λ t. front ++ ((if t then sets p home owner x else []) ++ sets_from p home live owner (x + 1) (n - (x + 1)))) here
+    ∙ append_assoc prefix (if b then sets p home owner x else []) (sets_from p home live owner (x + 1) (n - (x + 1)))
+    ∙ ap (λ t. prefix ++ ((if t then sets p home owner x else []) ++ sets_from p home live owner (x + 1) (n - (x + 1)))) here
     ∙ rw e refl

@@ -18,9 +18,9 @@ use Rattle.tta_lower.proofs.Plain.{PlainStep, GoesOn, Waits, Went, plain-step}
 -- ---- steps in a row
 
 -- one step before the others
-pub iterate-front : {S : Type 0} (n : ℕ) (f : S → S) (s : S) → iterate (suc n) f s ≡ iterate n f (f s)
-iterate-front zero f s = refl
-iterate-front (suc n) f s = ap f (iterate-front n f s)
+pub iterate-first : {S : Type 0} (n : ℕ) (f : S → S) (s : S) → iterate (suc n) f s ≡ iterate n f (f s)
+iterate-first zero f s = refl
+iterate-first (suc n) f s = ap f (iterate-first n f s)
 
 -- some steps, and then others
 pub iterate-add : {S : Type 0} (n m : ℕ) (f : S → S) (s : S) → iterate (n + m) f s ≡ iterate m f (iterate n f s)
@@ -105,7 +105,7 @@ module _ (u : Units) (p : Program) (home : Homes) (homes : IsHomes p home) (soun
     memory_new = a.memory_new;
     input_new = a.input_new;
     output_new = a.output_new;
-    program = iterate-front n (next u p) (running k (f ∷ rest) memory input output Running) ∙ ap (iterate n (next u p)) w.program ∙ a.program;
+    program = iterate-first n (next u p) (running k (f ∷ rest) memory input output Running) ∙ ap (iterate n (next u p)) w.program ∙ a.program;
     code = λ tail. rw (row f n st r tail there one, w.code) (a.code tail);
     size = a.size ∙ w.size;
     held = a.held;
@@ -122,7 +122,7 @@ module _ (u : Units) (p : Program) (home : Homes) (homes : IsHomes p home) (soun
     memory_new = a.memory_new;
     input_new = a.input_new;
     output_new = a.output_new;
-    program = iterate-front a.made (next u p) (running k (f ∷ rest) memory input output Running) ∙ ap (iterate a.made (next u p)) w.program ∙ a.program;
+    program = iterate-first a.made (next u p) (running k (f ∷ rest) memory input output Running) ∙ ap (iterate a.made (next u p)) w.program ∙ a.program;
     code = λ tail. rw (row f n st r tail there one, w.code) (a.code tail);
   })
 

@@ -64,14 +64,14 @@ module _ (p : Program) (rules : IsProgram p) where
         lower.Named from to s.st (reached_to p owner q is from r) s.there (sym (same_names s.st to) ∙ s.passes)
     first_to _ (flow.After i e) =
         let s = passing p owner q is steps.cuts i e in
-        lower.Behind i (i + 1) s.st s.there (plain_not s.st s.passes) refl
+        lower.AfterStep i (i + 1) s.st s.there (plain_not s.st s.passes) refl
 
     first_from : (i : ℕ) → lower.IsFirst p owner i → flow.IsFirst q.steps i
     first_from i (lower.AtBegin at e) = subst (λ (n : ℕ). flow.IsFirst q.steps n) (sym e) flow.AtBegin
     first_from i (lower.Named from to st r there e) =
         flow.Named from to (reached_from p owner q is from r)
         (passes_at p owner q is (λ s. option_map_or (λ t. t == to) (steps.target s) false) from st there true (same_names st to ∙ e))
-    first_from i (lower.Behind j at st there e next) =
+    first_from i (lower.AfterStep j at st there e next) =
         subst (λ (n : ℕ). flow.IsFirst q.steps n) (sym next)
         (flow.After j (passes_at p owner q is steps.cuts j st there true (same_cuts st ∙ ap not e)))
 

@@ -180,6 +180,6 @@ answers_know p homes blocks l h rules flow live scan = record {
   };
 }
 
--- the homes of a scan over so many home registers are those of a scan over as many as they tell
+-- the homes of a scan over so many home registers are those of a scan over as many as they use
 pub counted-scan : (p : Program) (homes : ℕ) (h : Homes) → IsScan p homes h → IsScan p (count_of h) h
 counted-scan p homes h scan = subst (λ (n : ℕ). IsScan p n h) (sym scan.count) scan

@@ -1,12 +1,12 @@
 -- The register code of a program is closed.
-use Rattle.std.proofs.Common.{◌≡◌, ◌≢◌, ◌<◌, ◌≤◌, ◌+◌, ◌-◌, ◌^◌, ◌==◌, ◌&&◌, ◌++◌, ◌∷◌, [], ℕ, zero, suc, Bool, List, Option, Some, None, true, false, length, map, slice_get, nat_lt, nat_le, is_none, is_some, refl, sym, ap, ap₂, ◌∙◌, subst, arith, append-nil, length-append}
+use Rattle.std.proofs.Common.{◌≡◌, ◌≢◌, ◌<◌, ◌≤◌, ◌+◌, ◌-◌, ◌^◌, ◌==◌, ◌&&◌, ◌++◌, ◌∷◌, [], ℕ, zero, suc, Bool, List, Option, Some, None, true, false, length, map, slice_get, nat_lt, nat_le, is_none, refl, ap, ap₂, ◌∙◌, subst, arith, append-nil, length-append}
 use Rattle.std.specs.Prelude.{if◌then◌else◌}
 use Rattle.std.specs.Option.{option_map_or}
 use Rattle.std.specs.List.{list_all}
-use Rattle.std.proofs.lemmas.Bool.{eq-eqb, ne_eqb, and_from, lt-ltb, le-leb, false≢true, or_left}
+use Rattle.std.proofs.lemmas.Bool.{eq-eqb, ne_eqb, and_from, lt-ltb, le-leb, or_left}
 use Rattle.std.proofs.lemmas.List.{length-map}
 use Rattle.std.proofs.lemmas.Option.{slice_get_within}
-use Rattle.tta_list.proofs.Lists.{all_one, some_within}
+use Rattle.tta_list.proofs.Lists.{all_one}
 use Rattle.tta_ops.specs.Units.{Units}
 use Rattle.tta_program.specs.declared.operand.Src.{Src}
 use Rattle.tta_program.specs.declared.step.Step.{Step}
@@ -23,19 +23,20 @@ use Rattle.tta_rcode.specs.declared.code.RSrc.TheVariants as rsrc
 use Rattle.tta_lower.specs.Liveness.{Span, Has, Homes, IsFlow, leads}
 use Rattle.tta_lower.specs.Layout
 use Rattle.tta_lower.specs.Layout.{vars_of, params_of, own, base, slots_before, var_slot, value_slot, back_slot, size, InFrame, place, place_by, exit_for, keeps_ra, sets_from, steps_for, code_from}
-use Rattle.tta_lower.specs.Lower.{numbers, Part, Entry, Steps, Behind, parts, number_of, entry_number, homes_of, block_of, lowered, Answers}
+use Rattle.tta_lower.specs.Lower.{numbers, Part, Entry, Steps, Returned, parts, number_of, entry_number, homes_of, block_of, lowered, Answers}
 use Rattle.tta_program.specs.Sizes.{frame_need}
 use Rattle.tta_rcode.specs.Closed.{block_passes, is_place, leads_within, is_closed_block, IsClosed}
 use Rattle.tta_lower.proofs.Callers.{called, vars-are}
 use Rattle.tta_lower.proofs.Frames.{other-own}
 use Rattle.tta_lower.proofs.Lists.{filter-in, numbers-below}
 use Rattle.tta_lower.proofs.Placed.{span-in, span-there, entry-block, span-below, steps_of_proc}
-use Rattle.tta_lower.specs.Lower.{live_behind}
+use Rattle.tta_lower.specs.Lower.{live_past}
 use Rattle.tta_rcode.specs.Meaning.{rrun}
 use Rattle.tta_lower.proofs.Exits.{code_from-more}
 use Rattle.tta_lower.proofs.Weighing.{few-blocks}
 use Rattle.tta_lower.proofs.Shutting.{IsPartOf, parts-are, part-passes, all-mapped, all-in, frame-within, main-in}
 use Rattle.tta_lower.proofs.Lengths.{one-of-sum, plain-length}
+use Rattle.tta_lower.proofs.Procs.{proc-below, proc-by-var}
 use Rattle.tta_lower.proofs.Lasts.{last-closed, set-apart}
 
 module _ (p : Program) (blocks : List Span) (home : Homes) (live_first : (owner x : ℕ) → Bool) (live_after : (owner at x : ℕ) → Bool) (homes frame_words : ℕ)
@@ -59,41 +60,19 @@ module _ (p : Program) (blocks : List Span) (home : Homes) (live_first : (owner 
   main_below : p.main < length p.procs
   main_below = main-in p blocks home live_first live_after homes sound flow answers
 
-  -- a procedure that is there
-  record ProcOf (owner : ℕ) : Type 0 where
-    proc : Proc
-    is : slice_get p.procs owner ≡ Some proc
-
-  -- a procedure below their number
-  proc-below : (owner : ℕ) → owner < length p.procs → ProcOf owner
-  proc-below owner lt = by (slice_get p.procs owner) refl where
-    by : (t : Option Proc) → slice_get p.procs owner ≡ t → ProcOf owner
-    by None is = absurd (false≢true (sym (ap is_some is) ∙ some_within p.procs owner lt))
-    by (Some q) is = record { proc = q; is = is }
-
-  -- a procedure that has a variable
-  proc-by-var : (owner x : ℕ) → x < vars_of p owner → ProcOf owner
-  proc-by-var owner x lt = by (slice_get p.procs owner) refl where
-    none : slice_get p.procs owner ≡ None → vars_of p owner ≡ 0
-    none is = rw is refl
-
-    by : (t : Option Proc) → slice_get p.procs owner ≡ t → ProcOf owner
-    by None is = absurd (omega (arith, lt, none is))
-    by (Some q) is = record { proc = q; is = is }
-
   -- ---- slots are there
 
   -- the slot of a variable is there
   var-within : (owner x : ℕ) → x < vars_of p owner → var_slot p owner x < frame_words
   var-within owner x lt =
-      let q = proc-by-var owner x lt in
+      let q = proc-by-var p owner x lt in
       let end = frame-within p owner q.proc main_below q.is in
       omega (arith, end, lt, need)
 
   -- a slot of a procedure's own is there
   own-within : (owner k : ℕ) → owner < length p.procs → owner ≢ p.main → k < 2 → base p owner + k < frame_words
   own-within owner k lt ne few =
-      let q = proc-below owner lt in
+      let q = proc-below p owner lt in
       let end = frame-within p owner q.proc main_below q.is in
       omega (arith, end, other-own p owner ne, few, need)
 
@@ -122,13 +101,13 @@ module _ (p : Program) (blocks : List Span) (home : Homes) (live_first : (owner 
   -- the registers of a block's live_out are there
   live-there : (x : Part) → IsPartOf p blocks x → list_all (λ k. nat_lt k homes) (block x).live_out ≡ true
   live-there (Entry owner) is = homes-there owner (live_first owner)
-  live-there (Behind b d callee) is = homes-there b.owner (live_after b.owner b.last)
+  live-there (Returned b d callee) is = homes-there b.owner (live_after b.owner b.last)
   live-there (Steps b) is = by (step_at p b.owner b.last) where
-    of : (st : Step) → list_all (λ k. nat_lt k homes) (live_behind p blocks live_first home live_after homes b st) ≡ true
+    of : (st : Step) → list_all (λ k. nat_lt k homes) (live_past p blocks live_first home live_after homes b st) ≡ true
     of (Invoke d callee args) = refl
     of st = homes-there b.owner (live_after b.owner b.last)
 
-    by : (o : Option Step) → list_all (λ k. nat_lt k homes) (option_map_or (live_behind p blocks live_first home live_after homes b) o []) ≡ true
+    by : (o : Option Step) → list_all (λ k. nat_lt k homes) (option_map_or (live_past p blocks live_first home live_after homes b) o []) ≡ true
     by None = refl
     by (Some st) = of st
 
@@ -181,7 +160,7 @@ module _ (p : Program) (blocks : List Span) (home : Homes) (live_first : (owner 
   -- the exit of a block leads to a block
   leads-there : (x : Part) → IsPartOf p blocks x → leads_within (length (map block all)) (block x).exit ≡ true
   leads-there (Entry owner) is = refl
-  leads-there (Behind b d callee) is = refl
+  leads-there (Returned b d callee) is = refl
   leads-there (Steps b) is =
       let last = flow.last b is in
       ap (λ o. leads_within (length (map block all)) (option_map_or (exit_for p home number entry b.owner) o exit.Halt)) last.there ∙ exit-within b is last.st last.there
@@ -247,7 +226,7 @@ module _ (p : Program) (blocks : List Span) (home : Homes) (live_first : (owner 
   -- an entry block is short
   entry-length : (owner : ℕ) → owner < length p.procs → length (keeps_ra p home owner ++ sets_from p home (live_first owner) owner 0 (vars_of p owner)) ≤ 2 ^ 18
   entry-length owner lt =
-      let q = proc-below owner lt in
+      let q = proc-below p owner lt in
       let most = (all_one (IsProc p) p.procs owner q.proc sound.procs q.is).vars in
       let is = vars-are p owner q.proc q.is in
       let cut = length-append (keeps_ra p home owner) (sets_from p home (live_first owner) owner 0 (vars_of p owner)) in
@@ -274,7 +253,7 @@ module _ (p : Program) (blocks : List Span) (home : Homes) (live_first : (owner 
   short : (x : Part) → IsPartOf p blocks x → nat_le (length (block x).steps) (2 ^ 18) ≡ true
   short (Entry owner) is = le-leb _ (2 ^ 18) (entry-length owner is)
   short (Steps b) is = le-leb _ (2 ^ 18) (block-length b is)
-  short (Behind b d callee) is = refl
+  short (Returned b d callee) is = refl
 
   -- ---- all of it
 
@@ -282,7 +261,7 @@ module _ (p : Program) (blocks : List Span) (home : Homes) (live_first : (owner 
   pub is-closed : (u : Units) → ((memory input : List ℕ) (n : ℕ) → (rrun u (lowered p blocks live_first home live_after homes) memory input n).sound ≡ true)
       → IsClosed u (lowered p blocks live_first home live_after homes) homes frame_words
   is-closed u meaning =
-      let q = proc-below p.main main_below in
+      let q = proc-below p p.main main_below in
       let begins = flow.entry p.main q.proc q.is in
       let first = number-within begins.block begins.has in
       let most = few-blocks p blocks home live_first live_after homes sound flow answers in

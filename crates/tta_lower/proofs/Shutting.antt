@@ -19,7 +19,7 @@ use Rattle.tta_rcode.specs.declared.code.Place.TheVariants.{Frame}
 use Rattle.tta_rcode.specs.declared.code.RBlock.{RBlock}
 use Rattle.tta_lower.specs.Liveness.{Span, Has, Homes, IsFlow}
 use Rattle.tta_lower.specs.Layout.{vars_of, base, slots_before, var_slot, value_slot, back_slot, size, place, keeps_ra, sets_from, code_from}
-use Rattle.tta_lower.specs.Lower.{numbers, code_order, spans_of, Part, Entry, Steps, Behind, behind_step, span_parts, has_entry, entry_parts, proc_parts, parts, number_of, entry_number, block_of, lowered, Answers}
+use Rattle.tta_lower.specs.Lower.{numbers, code_order, spans_of, Part, Entry, Steps, Returned, return_after, span_parts, has_entry, entry_parts, proc_parts, parts, number_of, entry_number, block_of, lowered, Answers}
 use Rattle.tta_program.specs.Sizes.{frame_need}
 use Rattle.tta_rcode.specs.Closed.{step_passes, block_passes}
 use Rattle.tta_lower.proofs.Steps.{step_of}
@@ -113,7 +113,7 @@ pub record IsReturn (p : Program) (blocks : List Span) (b : Span) (d callee : �
 abbrev pub IsPartOf : Program → List Span → Part → Type 0
 IsPartOf p blocks (Entry owner) = owner < length p.procs
 IsPartOf p blocks (Steps b) = Has blocks b
-IsPartOf p blocks (Behind b d callee) = IsReturn p blocks b d callee
+IsPartOf p blocks (Returned b d callee) = IsReturn p blocks b d callee
 
 module _ (p : Program) (blocks : List Span) (home : Homes) (live_first : (owner x : ℕ) → Bool) (live_after : (owner at x : ℕ) → Bool) (homes : ℕ)
     (sound : IsProgram p) (flow : IsFlow p blocks) (answers : Answers p blocks home live_first live_after homes) where
@@ -128,11 +128,11 @@ module _ (p : Program) (blocks : List Span) (home : Homes) (live_first : (owner 
       omega (arith, numbers-below 0 (length p.procs) owner both.0)
 
   -- the part after a block
-  behind-is : (b : Span) → Has blocks b → (o : Option Step) → step_at p b.owner b.last ≡ o → (x : Part) → In x (behind_step b o) → IsPartOf p blocks x
-  behind-is b has (Some (Invoke (Some d) callee args)) there x (inl e) = subst (IsPartOf p blocks) (sym e) (record { has = has; args = args; call = there })
-  behind-is b has (Some (Invoke (Some d) callee args)) there x (inr none) = absurd none
-  behind-is b has (Some (Invoke None callee args)) there x is = absurd is
-  behind-is b has o there x is = absurd is
+  return-is : (b : Span) → Has blocks b → (o : Option Step) → step_at p b.owner b.last ≡ o → (x : Part) → In x (return_after b o) → IsPartOf p blocks x
+  return-is b has (Some (Invoke (Some d) callee args)) there x (inl e) = subst (IsPartOf p blocks) (sym e) (record { has = has; args = args; call = there })
+  return-is b has (Some (Invoke (Some d) callee args)) there x (inr none) = absurd none
+  return-is b has (Some (Invoke None callee args)) there x is = absurd is
+  return-is b has o there x is = absurd is
 
   -- each part is one of the program
   pub parts-are : (x : Part) → In x (parts p blocks live_first) → IsPartOf p blocks x
@@ -152,7 +152,7 @@ module _ (p : Program) (blocks : List Span) (home : Homes) (live_first : (owner 
 
       within : In x (span_parts p s.from) → IsPartOf p blocks x
       within (inl e) = subst (IsPartOf p blocks) (sym e) has
-      within (inr more) = behind-is s.from has (step_at p (s.from).owner (s.from).last) refl x more
+      within (inr more) = return-is s.from has (step_at p (s.from).owner (s.from).last) refl x more
 
     by : In x (entry_parts p blocks live_first of.from) ⊎ In x (flat_map (span_parts p) (spans_of blocks of.from)) → IsPartOf p blocks x
     by (inl e) = entry-is (has_entry p blocks live_first of.from) e
@@ -182,7 +182,7 @@ module _ (p : Program) (blocks : List Span) (home : Homes) (live_first : (owner 
         and_from (list_all (step_passes test slot) (code_from p home b.owner b.first (b.last + 1 - b.first))) _
         (code-ok p home sound test slot place_ok var_ok value_ok slot_ok b.owner b.first (b.last + 1 - b.first))
         (rw (last.there) exit)
-    part-passes (Behind b d callee) r =
+    part-passes (Returned b d callee) r =
         let of_call = called p sound b.owner b.last callee (Some d) r.args r.call in
         let of_step = step_of p sound b.owner b.last (Invoke (Some d) callee r.args) r.call in
         let vars = vars-are p b.owner of_step.proc of_step.is in

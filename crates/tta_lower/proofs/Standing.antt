@@ -26,7 +26,7 @@ use Rattle.tta_lower.specs.FlowFacts.{AreBlocks}
 use Rattle.tta_lower.specs.Liveness.{Span, Has, Homes, IsFlow, LiveBefore, LiveAfter}
 use Rattle.tta_lower.specs.Layout.{vars_of}
 use Rattle.tta_lower.specs.Law.{IsKnown, IsRegisterCode}
-use Rattle.tta_lower.specs.Lower.{Part, Entry, Steps, Behind, owner_of, parts, homes_of, live_behind, block_of, lowered, Answers}
+use Rattle.tta_lower.specs.Lower.{Part, Entry, Steps, Returned, owner_of, parts, homes_of, live_past, block_of, lowered, Answers}
 use Rattle.tta_lower.specs.Members.{In, Rises}
 use Rattle.tta_lower.specs.Known.{spans, first_by, home_by, after_by}
 use Rattle.tta_lower.specs.Statement.{IsCall, IsLiveAt, StandsFor, IsCodeOf}
@@ -76,7 +76,7 @@ module _ (p : Program) (blocks : List Span) (home : Homes) (live_first : (owner 
 
   -- the registers that stay after a block, by its last step
   abbrev kept_after : Span → Option Step → List ℕ
-  kept_after b o = option_map_or (live_behind p blocks live_first home live_after homes b) o []
+  kept_after b o = option_map_or (live_past p blocks live_first home live_after homes b) o []
 
   -- they are those of the variables that are live after it
   abbrev KeepsAfter : Span → Option Step → Type 0
@@ -108,7 +108,7 @@ module _ (p : Program) (blocks : List Span) (home : Homes) (live_first : (owner 
     live_out = kept-are owner (live_first owner) (λ v. LiveBefore p owner v 0) (answers.first_only owner) (answers.first_all owner) (λ v a. live-below p sound owner v 0 a);
   }
   keeps (Steps b) is = steps-keep b is
-  keeps (Behind b d callee) is = record {
+  keeps (Returned b d callee) is = record {
     rising = homes-rise p blocks live_first home live_after homes answers.few b.owner (live_after b.owner b.last);
     live_out = kept-are b.owner (live_after b.owner b.last) (λ v. LiveAfter p b.owner v b.last) (answers.after_only b is.has) (answers.after_all b is.has)
         (λ v a. live-after-below p sound b.owner v b.last a);

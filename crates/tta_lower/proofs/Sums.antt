@@ -57,18 +57,18 @@ one-of g (y ∷ ys) x (inr more) =
     rw (sum_by-cons g y ys) (omega (arith, rest))
 
 -- a sum over procedures by their numbers
-over-procs : (h : Proc → ℕ) (front qs : List Proc) → sum_by (λ o. option_map_or h (slice_get (front ++ qs) o) 0) (numbers (length front) (length qs)) ≡ sum_by h qs
-over-procs h front [] = refl
-over-procs h front (q ∷ qs) =
-    let here : slice_get (front ++ q ∷ qs) (length front) ≡ Some q = ap (slice_get (front ++ q ∷ qs)) (sym (add-zero (length front))) ∙ slice_get-back front (q ∷ qs) 0 in
-    let longer : length (front ++ q ∷ []) ≡ length front + 1 = length-append front (q ∷ []) in
-    let rest = over-procs h (front ++ q ∷ []) qs in
-    let lists : (front ++ q ∷ []) ++ qs ≡ front ++ q ∷ qs = append_assoc front (q ∷ []) qs in
-    let tail : sum_by (λ o. option_map_or h (slice_get (front ++ q ∷ qs) o) 0) (numbers (length front + 1) (length qs)) ≡ sum_by h qs =
-    ap (λ l. sum_by (λ o. option_map_or h (slice_get l o) 0) (numbers (length front + 1) (length qs))) (sym lists)
-    ∙ ap (λ n. sum_by (λ o. option_map_or h (slice_get ((front ++ q ∷ []) ++ qs) o) 0) (numbers n (length qs))) (sym longer) ∙ rest in
-    sum_by-cons (λ o. option_map_or h (slice_get (front ++ q ∷ qs) o) 0) (length front) (numbers (length front + 1) (length qs))
-    ∙ ap (λ o. option_map_or h o 0 + sum_by (λ o. option_map_or h (slice_get (front ++ q ∷ qs) o) 0) (numbers (length front + 1) (length qs))) here
+over-procs : (h : Proc → ℕ) (prefix qs : List Proc) → sum_by (λ o. option_map_or h (slice_get (prefix ++ qs) o) 0) (numbers (length prefix) (length qs)) ≡ sum_by h qs
+over-procs h prefix [] = refl
+over-procs h prefix (q ∷ qs) =
+    let here : slice_get (prefix ++ q ∷ qs) (length prefix) ≡ Some q = ap (slice_get (prefix ++ q ∷ qs)) (sym (add-zero (length prefix))) ∙ slice_get-back prefix (q ∷ qs) 0 in
+    let longer : length (prefix ++ q ∷ []) ≡ length prefix + 1 = length-append prefix (q ∷ []) in
+    let rest = over-procs h (prefix ++ q ∷ []) qs in
+    let lists : (prefix ++ q ∷ []) ++ qs ≡ prefix ++ q ∷ qs = append_assoc prefix (q ∷ []) qs in
+    let tail : sum_by (λ o. option_map_or h (slice_get (prefix ++ q ∷ qs) o) 0) (numbers (length prefix + 1) (length qs)) ≡ sum_by h qs =
+    ap (λ l. sum_by (λ o. option_map_or h (slice_get l o) 0) (numbers (length prefix + 1) (length qs))) (sym lists)
+    ∙ ap (λ n. sum_by (λ o. option_map_or h (slice_get ((prefix ++ q ∷ []) ++ qs) o) 0) (numbers n (length qs))) (sym longer) ∙ rest in
+    sum_by-cons (λ o. option_map_or h (slice_get (prefix ++ q ∷ qs) o) 0) (length prefix) (numbers (length prefix + 1) (length qs))
+    ∙ ap (λ o. option_map_or h o 0 + sum_by (λ o. option_map_or h (slice_get (prefix ++ q ∷ qs) o) 0) (numbers (length prefix + 1) (length qs))) here
     ∙ ap (λ n. h q + n) tail ∙ sym (sum_by-cons h q qs)
 
 -- a sum over the procedures in the order of their code is at most that in the order of the text

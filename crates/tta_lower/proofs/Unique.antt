@@ -9,7 +9,7 @@ use Rattle.tta_program.specs.declared.step.Step.TheVariants.{Invoke}
 use Rattle.tta_program.specs.Program.{Program}
 use Rattle.tta_program.specs.Sequential.{step_at}
 use Rattle.tta_lower.specs.Liveness.{Span}
-use Rattle.tta_lower.specs.Lower.{numbers, code_order, spans_of, Entry, Steps, behind_step, span_parts, entry_parts, has_entry, proc_parts, parts, procs_before, spans_before, entry_number, number_of, EndsBefore, InOrder}
+use Rattle.tta_lower.specs.Lower.{numbers, code_order, spans_of, Entry, Steps, return_after, span_parts, entry_parts, has_entry, proc_parts, parts, procs_before, spans_before, entry_number, number_of, EndsBefore, InOrder}
 use Rattle.tta_lower.specs.Members.{In, Rises}
 use Rattle.tta_lower.specs.Tables.{StandOnce}
 use Rattle.tta_lower.proofs.Lists.{filter-in}
@@ -17,12 +17,12 @@ use Rattle.tta_lower.proofs.Staying.{rising-filter}
 
 -- where a value of a flat list comes from
 record Cut {A B : Type 0} (f : A → List B) (xs : List A) (k : ℕ) (y : B) : Type 0 where
-  front : List A
+  prefix : List A
   from : A
   back : List A
-  split : xs ≡ front ++ from ∷ back
+  split : xs ≡ prefix ++ from ∷ back
   at : ℕ
-  place : k ≡ length (flat_map f front) + at
+  place : k ≡ length (flat_map f prefix) + at
   there : slice_get (f from) at ≡ Some y
 
 -- a value of a flat list has its place in one of them
@@ -31,7 +31,7 @@ cut-of f [] k y is = cc
 cut-of {A = A} {B = B} f (x ∷ xs) k y is = by (cases_lt k (length (f x))) (λ j e. cut-of f xs j y e) where
   by : (k < length (f x)) ⊎ (length (f x) ≤ k) → ((j : ℕ) → slice_get (flat_map f xs) j ≡ Some y → Cut f xs j y) → Cut f (x ∷ xs) k y
   by (inl lt) more = record {
-    front = [];
+    prefix = [];
     from = x;
     back = xs;
     split = refl;
@@ -43,66 +43,66 @@ cut-of {A = A} {B = B} f (x ∷ xs) k y is = by (cases_lt k (length (f x))) (λ 
       let e : length (f x) + (k - length (f x)) ≡ k = omega (arith, ge) in
       let rest = more (k - length (f x)) (sym (slice_get-back (f x) (flat_map f xs) (k - length (f x))) ∙ ap (slice_get (f x ++ flat_map f xs)) e ∙ is) in
       record {
-        front = x ∷ rest.front;
+        prefix = x ∷ rest.prefix;
         from = rest.from;
         back = rest.back;
         split = ap (λ l. x ∷ l) rest.split;
         at = rest.at;
-        place = sym e ∙ ap (λ n. length (f x) + n) rest.place ∙ omega (arith, length-append (f x) (flat_map f rest.front));
+        place = sym e ∙ ap (λ n. length (f x) + n) rest.place ∙ omega (arith, length-append (f x) (flat_map f rest.prefix));
         there = rest.there;
       }
 
 -- what stands after a step is no block of steps
-behind-none : (b c : Span) (o : Option Step) (i : ℕ) → slice_get (behind_step c o) i ≡ Some (Steps b) → ⊥
-behind-none b c (Some (Invoke (Some d) callee args)) zero is = cc
-behind-none b c (Some (Invoke (Some d) callee args)) (suc i) is = cc
-behind-none b c (Some (Invoke None callee args)) i is = cc
-behind-none b c o i is = cc
+return-none : (b c : Span) (o : Option Step) (i : ℕ) → slice_get (return_after c o) i ≡ Some (Steps b) → ⊥
+return-none b c (Some (Invoke (Some d) callee args)) zero is = cc
+return-none b c (Some (Invoke (Some d) callee args)) (suc i) is = cc
+return-none b c (Some (Invoke None callee args)) i is = cc
+return-none b c o i is = cc
 
 -- a block of steps is the first part of its block
 steps-at : (p : Program) (b c : Span) (i : ℕ) → slice_get (span_parts p c) i ≡ Some (Steps b) → (i ≡ 0) × (c ≡ b)
 steps-at p b c zero is = (refl, same is) where
   same : {x y : Span} → Some (Steps x) ≡ Some (Steps y) → x ≡ y
   same e = cc
-steps-at p b c (suc i) is = absurd (behind-none b c (step_at p c.owner c.last) i is)
+steps-at p b c (suc i) is = absurd (return-none b c (step_at p c.owner c.last) i is)
 
 -- what a block becomes is no entry
-behind-no-entry : (a : ℕ) (c : Span) (o : Option Step) (i : ℕ) → slice_get (behind_step c o) i ≡ Some (Entry a) → ⊥
-behind-no-entry a c (Some (Invoke (Some d) callee args)) zero is = cc
-behind-no-entry a c (Some (Invoke (Some d) callee args)) (suc i) is = cc
-behind-no-entry a c (Some (Invoke None callee args)) i is = cc
-behind-no-entry a c o i is = cc
+return-no-entry : (a : ℕ) (c : Span) (o : Option Step) (i : ℕ) → slice_get (return_after c o) i ≡ Some (Entry a) → ⊥
+return-no-entry a c (Some (Invoke (Some d) callee args)) zero is = cc
+return-no-entry a c (Some (Invoke (Some d) callee args)) (suc i) is = cc
+return-no-entry a c (Some (Invoke None callee args)) i is = cc
+return-no-entry a c o i is = cc
 
 -- a part of a block is no entry
 span-no-entry : (p : Program) (a : ℕ) (c : Span) (i : ℕ) → slice_get (span_parts p c) i ≡ Some (Entry a) → ⊥
 span-no-entry p a c zero is = cc
-span-no-entry p a c (suc i) is = behind-no-entry a c (step_at p c.owner c.last) i is
+span-no-entry p a c (suc i) is = return-no-entry a c (step_at p c.owner c.last) i is
 
 -- ---- the split that the number counts
 
 -- a number that rises stands once
-rises-split : (front : List ℕ) (o : ℕ) (back : List ℕ) → Rises (front ++ o ∷ back) → In o front → ⊥
+rises-split : (prefix : List ℕ) (o : ℕ) (back : List ℕ) → Rises (prefix ++ o ∷ back) → In o prefix → ⊥
 rises-split [] o back rises is = is
-rises-split (x ∷ front) o back rises (inl e) =
-    let lt = rises.0 o (in-end front) in
+rises-split (x ∷ prefix) o back rises (inl e) =
+    let lt = rises.0 o (in-end prefix) in
     omega (arith, lt, e) where
-      in-end : (front : List ℕ) → In o (front ++ o ∷ back)
+      in-end : (prefix : List ℕ) → In o (prefix ++ o ∷ back)
       in-end [] = inl refl
-      in-end (y ∷ front) = inr (in-end front)
-rises-split (x ∷ front) o back rises (inr more) = rises-split front o back rises.1 more
+      in-end (y ∷ prefix) = inr (in-end prefix)
+rises-split (x ∷ prefix) o back rises (inr more) = rises-split prefix o back rises.1 more
 
 module _ (p : Program) (blocks : List Span) (live_first : (owner x : ℕ) → Bool) where
-  before-is : (front : List ℕ) (o : ℕ) (back : List ℕ) → (In o front → ⊥) → procs_before p blocks live_first o (front ++ o ∷ back) ≡ front
+  before-is : (prefix : List ℕ) (o : ℕ) (back : List ℕ) → (In o prefix → ⊥) → procs_before p blocks live_first o (prefix ++ o ∷ back) ≡ prefix
   before-is [] o back none = rw (eq-eqb o o refl) refl
-  before-is (x ∷ front) o back none = rw (ne_eqb x o (λ e. none (inl (sym e)))) (ap (λ l. x ∷ l) (before-is front o back (λ is. none (inr is))))
+  before-is (x ∷ prefix) o back none = rw (ne_eqb x o (λ e. none (inl (sym e)))) (ap (λ l. x ∷ l) (before-is prefix o back (λ is. none (inr is))))
 
-  -- main stands in front, and the others rise
-  order-once : (front : List ℕ) (o : ℕ) (back : List ℕ) → code_order p ≡ front ++ o ∷ back → In o front → ⊥
+  -- main stands first, and the others rise
+  order-once : (prefix : List ℕ) (o : ℕ) (back : List ℕ) → code_order p ≡ prefix ++ o ∷ back → In o prefix → ⊥
   order-once [] o back split is = is
-  order-once (x ∷ front) o back split is =
+  order-once (x ∷ prefix) o back split is =
       let main : p.main ≡ x = head-same split in
-      let rest : filter (λ k. not (k == p.main)) (numbers 0 (length p.procs)) ≡ front ++ o ∷ back = tail-same split in
-      let other : not (o == p.main) ≡ true = (filter-in (λ k. not (k == p.main)) (numbers 0 (length p.procs)) o (subst (λ l. In o l) (sym rest) (in-end front))).1 in
+      let rest : filter (λ k. not (k == p.main)) (numbers 0 (length p.procs)) ≡ prefix ++ o ∷ back = tail-same split in
+      let other : not (o == p.main) ≡ true = (filter-in (λ k. not (k == p.main)) (numbers 0 (length p.procs)) o (subst (λ l. In o l) (sym rest) (in-end prefix))).1 in
       by is main other rest where
         head-same : {a b : ℕ} {ks js : List ℕ} → a ∷ ks ≡ b ∷ js → a ≡ b
         head-same e = cc
@@ -110,22 +110,22 @@ module _ (p : Program) (blocks : List Span) (live_first : (owner x : ℕ) → Bo
         tail-same : {a b : ℕ} {ks js : List ℕ} → a ∷ ks ≡ b ∷ js → ks ≡ js
         tail-same e = cc
 
-        in-end : (front : List ℕ) → In o (front ++ o ∷ back)
+        in-end : (prefix : List ℕ) → In o (prefix ++ o ∷ back)
         in-end [] = inl refl
-        in-end (y ∷ front) = inr (in-end front)
+        in-end (y ∷ prefix) = inr (in-end prefix)
 
-        by : In o (x ∷ front) → p.main ≡ x → not (o == p.main) ≡ true → filter (λ k. not (k == p.main)) (numbers 0 (length p.procs)) ≡ front ++ o ∷ back → ⊥
+        by : In o (x ∷ prefix) → p.main ≡ x → not (o == p.main) ≡ true → filter (λ k. not (k == p.main)) (numbers 0 (length p.procs)) ≡ prefix ++ o ∷ back → ⊥
         by (inl e) main other rest = false≢true (sym (not-true (o == p.main) other) ∙ eq-eqb o p.main (e ∙ sym main))
-        by (inr more) main other rest = rises-split front o back (subst Rises rest (rising-filter (λ k. not (k == p.main)) 0 (length p.procs))) more
+        by (inr more) main other rest = rises-split prefix o back (subst Rises rest (rising-filter (λ k. not (k == p.main)) 0 (length p.procs))) more
 
   -- the blocks before one
-  spans-is : (front : List Span) (b : Span) (back : List Span) → b.first ≤ b.last → InOrder (front ++ b ∷ back) → spans_before p blocks live_first b.first (front ++ b ∷ back) ≡ front
+  spans-is : (prefix : List Span) (b : Span) (back : List Span) → b.first ≤ b.last → InOrder (prefix ++ b ∷ back) → spans_before p blocks live_first b.first (prefix ++ b ∷ back) ≡ prefix
   spans-is [] b back rises order = rw (le-ltb b.last b.first rises) refl
-  spans-is (c ∷ front) b back rises order =
-      rw (lt-ltb c.last b.first (ends front order.0)) (ap (λ l. c ∷ l) (spans-is front b back rises order.1)) where
-        ends : (front : List Span) → EndsBefore c (front ++ b ∷ back) → c.last < b.first
+  spans-is (c ∷ prefix) b back rises order =
+      rw (lt-ltb c.last b.first (ends prefix order.0)) (ap (λ l. c ∷ l) (spans-is prefix b back rises order.1)) where
+        ends : (prefix : List Span) → EndsBefore c (prefix ++ b ∷ back) → c.last < b.first
         ends [] h = h.0
-        ends (d ∷ front) h = ends front h.1
+        ends (d ∷ prefix) h = ends prefix h.1
 
   -- a block's steps stand at the block's number alone
   pub steps-once : ((owner : ℕ) → InOrder (spans_of blocks owner)) → (k : ℕ) (b : Span) → b.first ≤ b.last → slice_get (parts p blocks live_first) k ≡ Some (Steps b)
@@ -143,19 +143,19 @@ module _ (p : Program) (blocks : List Span) (live_first : (owner x : ℕ) → Bo
         → k ≡ number_of p blocks live_first b.owner b.first
     inner j at c =
         let first = steps-at p b c.from c.at c.there in
-        let split : spans_of blocks outer.from ≡ c.front ++ b ∷ c.back = c.split ∙ ap (λ x. c.front ++ x ∷ c.back) first.1 in
-        let mine : b.owner ≡ outer.from = eqb-true b.owner outer.from (filter-in (λ x. x.owner == outer.from) blocks b (subst (λ l. In b l) (sym split) (in-end c.front c.back))).1 in
-        let spans : spans_before p blocks live_first b.first (spans_of blocks outer.from) ≡ c.front =
-        ap (spans_before p blocks live_first b.first) split ∙ spans-is c.front b c.back rises (subst InOrder split (order outer.from)) in
-        let procs : procs_before p blocks live_first outer.from (code_order p) ≡ outer.front =
-        ap (procs_before p blocks live_first outer.from) outer.split ∙ before-is outer.front outer.from outer.back (order-once outer.front outer.from outer.back outer.split) in
+        let split : spans_of blocks outer.from ≡ c.prefix ++ b ∷ c.back = c.split ∙ ap (λ x. c.prefix ++ x ∷ c.back) first.1 in
+        let mine : b.owner ≡ outer.from = eqb-true b.owner outer.from (filter-in (λ x. x.owner == outer.from) blocks b (subst (λ l. In b l) (sym split) (in-end c.prefix c.back))).1 in
+        let spans : spans_before p blocks live_first b.first (spans_of blocks outer.from) ≡ c.prefix =
+        ap (spans_before p blocks live_first b.first) split ∙ spans-is c.prefix b c.back rises (subst InOrder split (order outer.from)) in
+        let procs : procs_before p blocks live_first outer.from (code_order p) ≡ outer.prefix =
+        ap (procs_before p blocks live_first outer.from) outer.split ∙ before-is outer.prefix outer.from outer.back (order-once outer.prefix outer.from outer.back outer.split) in
         let entry = ap (λ l. length (flat_map (proc_parts p blocks live_first) l)) procs in
         let inside = ap (λ l. length (flat_map (span_parts p) l)) spans in
         let owner = ap (λ o. number_of p blocks live_first o b.first) mine in
         omega (arith, outer.place, at, c.place, first.0, entry, inside, owner) where
-          in-end : (front back : List Span) → In b (front ++ b ∷ back)
+          in-end : (prefix back : List Span) → In b (prefix ++ b ∷ back)
           in-end [] back = inl refl
-          in-end (y ∷ front) back = inr (in-end front back)
+          in-end (y ∷ prefix) back = inr (in-end prefix back)
 
     by : (outer.at < length (entry_parts p blocks live_first outer.from)) ⊎ (length (entry_parts p blocks live_first outer.from) ≤ outer.at) → k ≡ number_of p blocks live_first b.owner b.first
     by (inl lt) =
@@ -185,8 +185,8 @@ module _ (p : Program) (blocks : List Span) (live_first : (owner x : ℕ) → Bo
         let entries = entry_parts p blocks live_first outer.from in
         let here = entry-at (has_entry p blocks live_first outer.from) outer.from outer.at
         (sym (slice_get-front entries (flat_map (span_parts p) (spans_of blocks outer.from)) outer.at lt) ∙ outer.there) in
-        let procs : procs_before p blocks live_first outer.from (code_order p) ≡ outer.front =
-        ap (procs_before p blocks live_first outer.from) outer.split ∙ before-is outer.front outer.from outer.back (order-once outer.front outer.from outer.back outer.split) in
+        let procs : procs_before p blocks live_first outer.from (code_order p) ≡ outer.prefix =
+        ap (procs_before p blocks live_first outer.from) outer.split ∙ before-is outer.prefix outer.from outer.back (order-once outer.prefix outer.from outer.back outer.split) in
         let entry = ap (λ l. length (flat_map (proc_parts p blocks live_first) l)) procs in
         let owner = ap (λ a. entry_number p blocks live_first a) here.1 in
         omega (arith, outer.place, here.0, entry, owner)

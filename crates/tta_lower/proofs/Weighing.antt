@@ -21,14 +21,14 @@ use Rattle.tta_rcode.specs.declared.code.RBlock.{RBlock}
 use Rattle.tta_lower.specs.Liveness.{Span, Has, Homes, IsFlow}
 use Rattle.tta_lower.specs.Layout
 use Rattle.tta_lower.specs.Layout.{vars_of, params_of, place, source, passes, gives, steps_for, exit_for, keeps_ra, first_value, sets, sets_from}
-use Rattle.tta_lower.specs.Lower.{code_order, spans_of, Part, Entry, Steps, behind_step, span_parts, has_entry, entry_parts, proc_parts, parts, number_of, entry_number, block_of, lowered, EndsBefore, InOrder, Answers}
+use Rattle.tta_lower.specs.Lower.{code_order, spans_of, Part, Entry, Steps, return_after, span_parts, has_entry, entry_parts, proc_parts, parts, number_of, entry_number, block_of, lowered, EndsBefore, InOrder, Answers}
 use Rattle.tta_lower.specs.Counts.{over_steps, over_live}
 use Rattle.tta_rcode.specs.Counts.{weight_step, weight_exit, weight_block, weight}
 use Rattle.tta_program.specs.Sizes.{args_in, arg_count, var_count}
 use Rattle.tta_lower.proofs.Lists.{In, in-has, filter-in}
 use Rattle.tta_lower.proofs.Sums.{sum-flat_map, code-order-sum}
 use Rattle.tta_lower.proofs.Placed.{main-below, span-rises, span-below, steps_of_proc}
-use Rattle.tta_lower.proofs.Counting.{over-more, block-sum, entry-sum}
+use Rattle.tta_lower.proofs.StepSums.{over-more, block-sum, entry-sum}
 
 -- a sum over a list that was mapped
 sum-mapped : {A B : Type 0} (f : B → ℕ) (g : A → B) (xs : List A) → sum_by f (map g xs) ≡ sum_by (λ x. f (g x)) xs
@@ -55,15 +55,15 @@ module _ (p : Program) (home : Homes) (g : Step → ℕ) where
       ap (λ k. over_steps p home g owner at k) e ∙ omega (arith, rest, moved)
 
   -- all steps of a procedure
-  over-list : (owner : ℕ) (q : Proc) → slice_get p.procs owner ≡ Some q → (front rest : List Step) → q.steps ≡ front ++ rest
-      → over_steps p home g owner (length front) (length rest) ≡ sum_by g rest
-  over-list owner q is front [] split = refl
-  over-list owner q is front (s ∷ rest) split =
-      let at : step_at p owner (length front) ≡ Some s =
-      (rw is refl) ∙ ap (λ l. slice_get l (length front)) split
-      ∙ ap (slice_get (front ++ s ∷ rest)) (sym (add-zero (length front))) ∙ slice_get-back front (s ∷ rest) 0 in
-      let longer : length (front ++ s ∷ []) ≡ length front + 1 = length-append front (s ∷ []) in
-      let more = over-list owner q is (front ++ s ∷ []) rest (split ∙ sym (append_assoc front (s ∷ []) rest)) in
+  over-list : (owner : ℕ) (q : Proc) → slice_get p.procs owner ≡ Some q → (prefix rest : List Step) → q.steps ≡ prefix ++ rest
+      → over_steps p home g owner (length prefix) (length rest) ≡ sum_by g rest
+  over-list owner q is prefix [] split = refl
+  over-list owner q is prefix (s ∷ rest) split =
+      let at : step_at p owner (length prefix) ≡ Some s =
+      (rw is refl) ∙ ap (λ l. slice_get l (length prefix)) split
+      ∙ ap (slice_get (prefix ++ s ∷ rest)) (sym (add-zero (length prefix))) ∙ slice_get-back prefix (s ∷ rest) 0 in
+      let longer : length (prefix ++ s ∷ []) ≡ length prefix + 1 = length-append prefix (s ∷ []) in
+      let more = over-list owner q is (prefix ++ s ∷ []) rest (split ∙ sym (append_assoc prefix (s ∷ []) rest)) in
       let moved = ap (λ k. over_steps p home g owner k (length rest)) longer in
       rw (at, sum_by-cons g s rest) (omega (arith, more, moved))
 
@@ -82,9 +82,9 @@ module _ (p : Program) (home : Homes) (g : Step → ℕ) where
       let first = over-add owner low gap (size + tail) in
       let second = over-add owner (low + gap) size tail in
       let here : low + gap ≡ b.first = omega (arith, above b (inl refl)) in
-      let behind : b.first + size ≡ b.last + 1 = omega (arith, rises b (inl refl)) in
+      let after_it : b.first + size ≡ b.last + 1 = omega (arith, rises b (inl refl)) in
       let moved = ap (λ k. over_steps p home g owner k size) here in
-      let moved_on = ap (λ k. over_steps p home g owner (k + size) tail) here ∙ ap (λ k. over_steps p home g owner k tail) behind in
+      let moved_on = ap (λ k. over_steps p home g owner (k + size) tail) here ∙ ap (λ k. over_steps p home g owner k tail) after_it in
       let all = ap (λ k. over_steps p home g owner low k) whole in
       rw (sum_by-cons f b bs) (omega (arith, rest, one, first, second, moved, moved_on, all)) where
         later : (b : Span) (bs : List Span) (c : Span) → EndsBefore b bs → In c bs → b.last + 1 ≤ c.first
@@ -143,7 +143,7 @@ module _ (p : Program) (blocks : List Span) (home : Homes) (live_first : (owner 
   -- a block becomes at most two parts
   span-length : (b : Span) → length (span_parts p b) ≤ 2
   span-length b = by (step_at p b.owner b.last) where
-    by : (o : Option Step) → suc (length (behind_step b o)) ≤ 2
+    by : (o : Option Step) → suc (length (return_after b o)) ≤ 2
     by (Some (Invoke (Some d) callee args)) = omega arith
     by (Some (Invoke None callee args)) = omega arith
     by o = omega arith
@@ -208,13 +208,13 @@ module _ (p : Program) (blocks : List Span) (home : Homes) (live_first : (owner 
     by false is = rw is (omega arith)
 
   -- the weight of a return block
-  behind-weight : (b : Span) (o : Option Step) → sum_by (λ x. weight_block (block x)) (behind_step b o) ≤ 8
-  behind-weight b (Some (Invoke (Some d) callee args)) = omega arith
-  behind-weight b (Some (Invoke None callee args)) = omega arith
-  behind-weight b o = omega arith
+  return-weight : (b : Span) (o : Option Step) → sum_by (λ x. weight_block (block x)) (return_after b o) ≤ 8
+  return-weight b (Some (Invoke (Some d) callee args)) = omega arith
+  return-weight b (Some (Invoke None callee args)) = omega arith
+  return-weight b o = omega arith
 
   -- a block's last step with its exit, and what stands after it
-  step-fits : (b : Span) (owner : ℕ) (st : Step) → sum_by weight_step (steps_for p home owner st) + (weight_exit (exit_for p home number entry owner st) + sum_by (λ x. weight_block (block x)) (behind_step b (Some st))) ≤ step_weight st
+  step-fits : (b : Span) (owner : ℕ) (st : Step) → sum_by weight_step (steps_for p home owner st) + (weight_exit (exit_for p home number entry owner st) + sum_by (λ x. weight_block (block x)) (return_after b (Some st))) ≤ step_weight st
   step-fits b owner (Copy d s) = omega arith
   step-fits b owner (Apply d op a c) = omega arith
   step-fits b owner (Load d a) = omega arith
@@ -282,18 +282,18 @@ module _ (p : Program) (blocks : List Span) (home : Homes) (live_first : (owner 
       (λ b has.
       let last = flow.last b has in
       let st = last.st in
-      let behind = sum_by (λ x. weight_block (block x)) (behind_step b (Some st)) in
-      let fits = block-sum p home weight_step step_weight (weight_exit (exit_for p home number entry b.owner st) + behind) b st (flow.rises b has) last.there
+      let after_it = sum_by (λ x. weight_block (block x)) (return_after b (Some st)) in
+      let fits = block-sum p home weight_step step_weight (weight_exit (exit_for p home number entry b.owner st) + after_it) b st (flow.rises b has) last.there
       (λ s. let one = step-fits b b.owner s in omega (arith, one)) (step-fits b b.owner st) in
-      let cut = sum_by-cons (λ x. weight_block (block x)) (Steps b) (behind_step b (step_at p b.owner b.last)) in
-      let same = ap (λ o. sum_by (λ x. weight_block (block x)) (behind_step b o)) last.there in
-      let whole = steps-weight b st last.there behind fits in
+      let cut = sum_by-cons (λ x. weight_block (block x)) (Steps b) (return_after b (step_at p b.owner b.last)) in
+      let same = ap (λ o. sum_by (λ x. weight_block (block x)) (return_after b o)) last.there in
+      let whole = steps-weight b st last.there after_it fits in
       omega (arith, cut, same, whole))
       (λ q. omega arith) in
       let mapped = sum-mapped weight_block block (parts p blocks live_first) in
       let procs = procs-weight p.procs in
       omega (arith, all, mapped, procs) where
-        steps-weight : (b : Span) (st : Step) → step_at p b.owner b.last ≡ Some st → (behind : ℕ)
-            → sum_by weight_step (Layout.code_from p home b.owner b.first (b.last + 1 - b.first)) + (weight_exit (exit_for p home number entry b.owner st) + behind) ≤ over_steps p home step_weight b.owner b.first (b.last + 1 - b.first)
-            → weight_block (block (Steps b)) + behind ≤ over_steps p home step_weight b.owner b.first (b.last + 1 - b.first)
-        steps-weight b st there behind le = rw there (omega (arith, le))
+        steps-weight : (b : Span) (st : Step) → step_at p b.owner b.last ≡ Some st → (after_it : ℕ)
+            → sum_by weight_step (Layout.code_from p home b.owner b.first (b.last + 1 - b.first)) + (weight_exit (exit_for p home number entry b.owner st) + after_it) ≤ over_steps p home step_weight b.owner b.first (b.last + 1 - b.first)
+            → weight_block (block (Steps b)) + after_it ≤ over_steps p home step_weight b.owner b.first (b.last + 1 - b.first)
+        steps-weight b st there after_it le = rw there (omega (arith, le))

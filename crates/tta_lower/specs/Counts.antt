@@ -12,7 +12,7 @@ use Rattle.tta_program.specs.Sequential.{step_at}
 use Rattle.tta_rcode.specs.Counts.{Need, Loads, Stores, Puts, Takes, Named, counts_need, counts_test}
 use Rattle.tta_lower.specs.Liveness.{Homes}
 use Rattle.tta_lower.specs.Layout.{params_of, vars_of}
-use Rattle.tta_lower.specs.Lower.{Part, Entry, Steps, Behind}
+use Rattle.tta_lower.specs.Lower.{Part, Entry, Steps, Returned}
 
 -- ---- the frame traffic of parts
 
@@ -66,7 +66,7 @@ module _ (p : Program) (home : Homes) where
     abbrev pub traffic : Part → ℕ
     traffic (Entry owner) = (if owner == p.main then 0 else 1) + over_live (live_first owner) (fetched owner) 0 (vars_of p owner)
     traffic (Steps b) = over_steps (traffic_step b.owner) b.owner b.first (b.last + 1 - b.first)
-    traffic (Behind b d callee) = 2
+    traffic (Returned b d callee) = 2
 
 -- ---- operations
 
@@ -102,4 +102,4 @@ assigns_step step = 0
 abbrev pub assigns_part : Program → Homes → (live_first : (owner x : ℕ) → Bool) → Part → ℕ
 assigns_part p home live_first (Entry owner) = over_live p home (live_first owner) (λ x. 1) 0 (vars_of p owner)
 assigns_part p home live_first (Steps b) = over_steps p home assigns_step b.owner b.first (b.last + 1 - b.first)
-assigns_part p home live_first (Behind b d callee) = 1
+assigns_part p home live_first (Returned b d callee) = 1

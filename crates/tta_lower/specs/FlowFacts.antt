@@ -21,7 +21,7 @@ names_step step to = false
 pub data IsFirst (p : Program) (owner : ℕ) : ℕ → Type 0 where
   AtBegin : (at : ℕ) → at ≡ 0 → IsFirst p owner at
   Named : (from to : ℕ) (st : Step) → Reached p owner from → step_at p owner from ≡ Some st → names_step st to ≡ true → IsFirst p owner to
-  Behind : (i at : ℕ) (st : Step) → step_at p owner i ≡ Some st → is_plain st ≡ false → at ≡ i + 1 → IsFirst p owner at
+  AfterStep : (i at : ℕ) (st : Step) → step_at p owner i ≡ Some st → is_plain st ≡ false → at ≡ i + 1 → IsFirst p owner at
 
 -- a block is a maximal run of steps that paths come to, in which only the first is one with which a block begins
 pub record IsRun (p : Program) (owner first last : ℕ) : Type 0 where

@@ -8,8 +8,8 @@ use Rattle.tta_rcode.specs.declared.code.Rir.{Rir}
 use Rattle.tta_rcode.specs.Meaning.{State, is_running, rrun}
 
 -- a list begins another
-abbrev pub IsPrefixOf : (front whole : List ℕ) → Type 0
-IsPrefixOf front whole = (rest : List ℕ) × (whole ≡ front ++ rest)
+abbrev pub IsPrefixOf : (prefix whole : List ℕ) → Type 0
+IsPrefixOf prefix whole = (rest : List ℕ) × (whole ≡ prefix ++ rest)
 
 -- two runs have the same outcome, data, output and rest of the input
 pub record EndAlike (s : program.State) (t : State) : Type 0 where

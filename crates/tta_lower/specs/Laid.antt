@@ -3,7 +3,7 @@ use Rattle.std.specs.Prelude.{◌≡◌, ◌≢◌, ◌≤◌, ◌<◌, ◌+◌,
 use Rattle.std.specs.Option.{option_map_or}
 use Rattle.std.specs.List.{list_any}
 use Rattle.tta_lower.specs.Liveness.{Homes, Span}
-use Rattle.tta_lower.specs.Lower.{numbers, Part, Entry, Steps, Behind}
+use Rattle.tta_lower.specs.Lower.{numbers, Part, Entry, Steps, Returned}
 use Rattle.tta_program.specs.declared.step.Step.{Step}
 use Rattle.tta_program.specs.declared.step.Step.TheVariants.{Invoke}
 use Rattle.tta_program.specs.Sequential.{step_at}
@@ -35,9 +35,9 @@ abbrev pub kept_by : Homes → (vars homes owner : ℕ) → (test : ℕ → Bool
 kept_by home vars homes owner test = filter (kept_one home vars owner test) (numbers 0 homes)
 
 -- the home registers that keep their words after a last step; none does after a call
-abbrev pub stays_behind : Homes → (vars homes owner : ℕ) → (test : ℕ → Bool) → Step → List ℕ
-stays_behind home vars homes owner test (Invoke d callee args) = []
-stays_behind home vars homes owner test step = kept_by home vars homes owner test
+abbrev pub stays_after : Homes → (vars homes owner : ℕ) → (test : ℕ → Bool) → Step → List ℕ
+stays_after home vars homes owner test (Invoke d callee args) = []
+stays_after home vars homes owner test step = kept_by home vars homes owner test
 
 -- the block of a part, with the numbers of blocks as they are held, and a test for the variables that are live where the
 -- part ends
@@ -50,9 +50,9 @@ block_by p home number entry homes test (Entry owner) = record {
 block_by p home number entry homes test (Steps b) = record {
   steps = code_from p home b.owner b.first (b.last + 1 - b.first);
   exit = option_map_or (exit_for p home number entry b.owner) (step_at p b.owner b.last) exit.Halt;
-  live_out = option_map_or (stays_behind home (vars_of p b.owner) homes b.owner test) (step_at p b.owner b.last) [];
+  live_out = option_map_or (stays_after home (vars_of p b.owner) homes b.owner test) (step_at p b.owner b.last) [];
 }
-block_by p home number entry homes test (Behind b d callee) = record {
+block_by p home number entry homes test (Returned b d callee) = record {
   steps = rstep.Copy (place p home b.owner d) (rsrc.At (Frame (value_slot p callee))) ∷ [];
   exit = exit.Next;
   live_out = kept_by home (vars_of p b.owner) homes b.owner test;
@@ -62,7 +62,7 @@ block_by p home number entry homes test (Behind b d callee) = record {
 abbrev pub test_of : (live_first : (owner x : ℕ) → Bool) (live_after : (owner at x : ℕ) → Bool) → Part → ℕ → Bool
 test_of live_first live_after (Entry owner) = live_first owner
 test_of live_first live_after (Steps b) = live_after b.owner b.last
-test_of live_first live_after (Behind b d callee) = live_after b.owner b.last
+test_of live_first live_after (Returned b d callee) = live_after b.owner b.last
 
 -- the steps of a block are there
 pub record IsSpan (p : Program) (b : Span) : Type 0 where
@@ -81,7 +81,7 @@ pub record IsBack (p : Program) (b : Span) (d callee : ℕ) : Type 0 where
 abbrev pub IsPart : Program → Part → Type 0
 IsPart p (Entry owner) = owner < length p.procs
 IsPart p (Steps b) = IsSpan p b
-IsPart p (Behind b d callee) = IsBack p b d callee
+IsPart p (Returned b d callee) = IsBack p b d callee
 
 -- what some parts name is there
 abbrev pub AreParts : Program → List Part → Type 0

@@ -14,14 +14,14 @@ use Rattle.tta_rcode.specs.declared.code.RBlock.{RBlock}
 use Rattle.tta_rcode.specs.declared.code.Rir.{Rir}
 use Rattle.tta_lower.specs.Liveness.{Span, Has, Homes, LiveBefore, LiveAfter}
 pub use Rattle.tta_lower.specs.declared.part.Part.{Part}
-pub use Rattle.tta_lower.specs.declared.part.Part.TheVariants.{Entry, Steps, Behind}
+pub use Rattle.tta_lower.specs.declared.part.Part.TheVariants.{Entry, Steps, Returned}
 use Rattle.tta_lower.specs.Layout.{vars_of, value_slot, place, code_from, exit_for, keeps_ra, sets_from}
 
 -- the procedure of a part
 abbrev pub owner_of : Part → ℕ
 owner_of (Entry owner) = owner
 owner_of (Steps b) = b.owner
-owner_of (Behind b d callee) = b.owner
+owner_of (Returned b d callee) = b.owner
 
 -- ---- numbers
 
@@ -41,13 +41,13 @@ spans_of blocks owner = filter (λ b. b.owner == owner) blocks
 -- ---- parts
 
 -- the part after a step, where that is a call with a destination
-abbrev pub behind_step : Span → Option Step → List Part
-behind_step b (Some (Invoke (Some d) callee args)) = Behind b d callee ∷ []
-behind_step b step = []
+abbrev pub return_after : Span → Option Step → List Part
+return_after b (Some (Invoke (Some d) callee args)) = Returned b d callee ∷ []
+return_after b step = []
 
 -- the parts of a block
 abbrev pub span_parts : Program → Span → List Part
-span_parts p b = Steps b ∷ behind_step b (step_at p b.owner b.last)
+span_parts p b = Steps b ∷ return_after b (step_at p b.owner b.last)
 
 module _ (p : Program) (blocks : List Span) (live_first : (owner x : ℕ) → Bool) where
   -- whether a procedure has an entry block: main has one only where a variable is live there
@@ -98,9 +98,9 @@ module _ (p : Program) (blocks : List Span) (live_first : (owner x : ℕ) → Bo
     homes_of owner test = filter (λ k. list_any (is_home_of owner test k) (numbers 0 (vars_of p owner))) (numbers 0 homes)
 
     -- the home registers that stay after some steps; none stays after a call
-    abbrev pub live_behind : Span → Step → List ℕ
-    live_behind b (Invoke d callee args) = []
-    live_behind b step = homes_of b.owner (live_after b.owner b.last)
+    abbrev pub live_past : Span → Step → List ℕ
+    live_past b (Invoke d callee args) = []
+    live_past b step = homes_of b.owner (live_after b.owner b.last)
 
     -- the block of a part
     abbrev pub block_of : Part → RBlock
@@ -112,9 +112,9 @@ module _ (p : Program) (blocks : List Span) (live_first : (owner x : ℕ) → Bo
     block_of (Steps b) = record {
       steps = code_from p home b.owner b.first (b.last + 1 - b.first);
       exit = option_map_or (exit_for p home number_of entry_number b.owner) (step_at p b.owner b.last) exit.Halt;
-      live_out = option_map_or (live_behind b) (step_at p b.owner b.last) [];
+      live_out = option_map_or (live_past b) (step_at p b.owner b.last) [];
     }
-    block_of (Behind b d callee) = record {
+    block_of (Returned b d callee) = record {
       steps = rstep.Copy (place p home b.owner d) (rsrc.At (Frame (value_slot p callee))) ∷ [];
       exit = exit.Next;
       live_out = homes_of b.owner (live_after b.owner b.last);

@@ -76,18 +76,18 @@ module _ (p : Program) (blocks : List Span) (number : ℕ → ℕ → ℕ) where
     pub saved : Saved p f frame f.at d
 
   -- the number of the block after a call
-  abbrev pub behind : Frame → ℕ
-  behind f = number f.proc f.at + 1
+  abbrev pub next_block : Frame → ℕ
+  next_block f = number f.proc f.at + 1
 
   -- the slot for the return address of a procedure keeps the block after its caller's call; main has none
   abbrev pub KeepsBack : List (ℕ × Kept) → ℕ → List Frame → Type 0
   KeepsBack frame owner [] = ⊤
-  KeepsBack frame owner (f ∷ rest) = found (back_slot p owner) frame ≡ Some (Return (behind f))
+  KeepsBack frame owner (f ∷ rest) = found (back_slot p owner) frame ≡ Some (Return (next_block f))
 
   -- the same for the return address itself
   abbrev pub HasBack : Option ℕ → List Frame → Type 0
   HasBack ra [] = ⊤
-  HasBack ra (f ∷ rest) = ra ≡ Some (behind f)
+  HasBack ra (f ∷ rest) = ra ≡ Some (next_block f)
 
   -- the calls below a procedure: each called the one above it, and the last is main's
   abbrev pub Callers : List (ℕ × Kept) → ℕ → List Frame → Type 0

@@ -22,7 +22,7 @@ use Rattle.tta_alloc.specs.Homes.{count_of}
 use Rattle.tta_lower.specs.declared.error.LowerError.{LowerError}
 use Rattle.tta_lower.specs.declared.error.LowerError.TheVariants.{FrameFull, NoMemory}
 use Rattle.tta_lower.specs.Liveness.{LiveBefore, LiveAfter, Homes as HomesType}
-use Rattle.tta_lower.specs.Lower.{Part, Entry, Steps, Behind, owner_of, parts, lowered}
+use Rattle.tta_lower.specs.Lower.{Part, Entry, Steps, Returned, owner_of, parts, lowered}
 use Rattle.tta_lower.specs.Counts.{traffic, asks_part, assigns_part}
 use Rattle.tta_lower.specs.Keeps.{KeepsMeaning}
 use Rattle.tta_lower.specs.Members.{In, Rises}
@@ -40,7 +40,7 @@ IsCall step = ⊥
 abbrev pub IsLiveAt : Program → Part → (x : ℕ) → Type 0
 IsLiveAt p (Entry owner) x = LiveBefore p owner x 0
 IsLiveAt p (Steps b) x = LiveAfter p b.owner x b.last × (IsCall (step_at p b.owner b.last) → ⊥)
-IsLiveAt p (Behind b d callee) x = LiveAfter p b.owner x b.last
+IsLiveAt p (Returned b d callee) x = LiveAfter p b.owner x b.last
 
 -- ---- a block and the part that it stands for
 

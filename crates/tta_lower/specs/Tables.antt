@@ -11,7 +11,7 @@ use Rattle.tta_program.specs.Program.{Program}
 use Rattle.tta_lower.specs.declared.numbers.Numbers.{Numbers}
 use Rattle.tta_lower.specs.Layout.{vars_of, base, own}
 use Rattle.tta_lower.specs.Liveness.{Span}
-use Rattle.tta_lower.specs.Lower.{Part, Entry, Steps, Behind, spans_of}
+use Rattle.tta_lower.specs.Lower.{Part, Entry, Steps, Returned, spans_of}
 
 -- ---- frames
 
@@ -86,7 +86,7 @@ IsWritten (Entry o) number old new = (new.rows ≡ old.rows) × (new.entries.ite
 IsWritten (Steps b) number old new =
     (new.entries ≡ old.entries) × (length new.rows.items ≡ length old.rows.items)
     × ((o : ℕ) → row_of new.rows.items o ≡ (if b.owner == o then slice_set (row_of old.rows.items o) b.first number else row_of old.rows.items o))
-IsWritten (Behind b d callee) number old new = new ≡ old
+IsWritten (Returned b d callee) number old new = new ≡ old
 
 -- the numbers of the first parts are written
 pub record HasNumbers (p : Program) (parts : List Part) (n : Numbers) (count : ℕ) : Type 0 where

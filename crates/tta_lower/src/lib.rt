@@ -22,3 +22,5 @@ pub use error::LowerError;
 pub use law::{answers_know, lowers_well};
 pub use part::{Part, Span};
 pub use register_code::lower;
+/// The types of the register code that `lower` makes.
+pub use tta_rcode::{Exit, Place, RBlock, RSrc, RStep, Rir};

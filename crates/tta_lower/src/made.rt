@@ -8,8 +8,8 @@ ghost use Rattle.tta_alloc.specs.Homes.{count_of};
 ghost use Rattle.tta_lower.specs.Tables.{fits};
 ghost use Rattle.tta_lower.specs.Plan.{IsLaid, homes_in, live_in, block_in};
 ghost use Rattle.tta_lower.specs.Layout.{vars_of, keeps_ra};
-ghost use Rattle.tta_lower.specs.Lower.{Entry, Steps, Behind};
-ghost use Rattle.tta_lower.specs.Laid.{stays_behind, IsPart, AreParts};
+ghost use Rattle.tta_lower.specs.Lower.{Entry, Steps, Returned};
+ghost use Rattle.tta_lower.specs.Laid.{stays_after, IsPart, AreParts};
 
 use crate::ends::exit_of;
 use crate::entry::set_live;
@@ -75,13 +75,13 @@ fn return_block(
     requires called { callee < length plan.now.p.now.procs }
     requires other { callee ≢ plan.now.p.now.main }
     requires within { d < vars_of plan.now.p.now b.owner }
-    ensures { IfOk result (λ r. r ≡ block_in plan.now numbers.now (Behind b d callee)) }
+    ensures { IfOk result (λ r. r ≡ block_in plan.now numbers.now (Returned b d callee)) }
 {
     let place = place_of(plan, b.owner, d);
     let s = RSrc::At(Place::Frame(plan.firsts[callee as usize] - 1));
     let mut steps = Vec::new(alloc);
     steps.push(RStep::Copy { d: place, s })?;
-    let live_out = kept_homes(alloc, plan, Part::Behind(b, d, callee))?;
+    let live_out = kept_homes(alloc, plan, Part::Returned(b, d, callee))?;
     Ok(RBlock {
         steps: Items::of(steps),
         exit: Exit::Next,
@@ -93,7 +93,7 @@ fn return_block(
 fn kept_after(alloc: Global, plan: &Plan<'_>, b: Span, step: &Step) -> Result<Vec<u32>, AllocError>
     requires there { b.owner < length plan.now.p.now.procs }
     ensures { IfOk result (λ kept. kept.items
-        ≡ stays_behind (homes_in plan.now) (vars_of plan.now.p.now b.owner)
+        ≡ stays_after (homes_in plan.now) (vars_of plan.now.p.now b.owner)
         (count_of plan.now.homes.now) b.owner (live_in plan.now (Steps b)) step.now) }
 {
     match step {
@@ -148,7 +148,7 @@ fn block_for(
     match part {
         Part::Entry(owner) => entry_block(alloc, plan, numbers, owner),
         Part::Steps(b) => steps_block(alloc, plan, numbers, b),
-        Part::Behind(b, d, callee) => return_block(alloc, plan, numbers, b, d, callee),
+        Part::Returned(b, d, callee) => return_block(alloc, plan, numbers, b, d, callee),
     }
 }
 

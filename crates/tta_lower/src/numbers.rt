@@ -63,7 +63,7 @@ fn write_number(numbers: &mut Numbers, part: Part, number: u32)
     match part {
         Part::Entry(owner) => write(&mut numbers.entries, owner, number),
         Part::Steps(b) => write_row(&mut numbers.rows, b, number),
-        Part::Behind(_, _, _) => {}
+        Part::Returned(_, _, _) => {}
     }
 }
 

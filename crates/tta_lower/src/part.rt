@@ -17,7 +17,7 @@ pub struct Span {
 pub enum Part {
     Entry(u32),
     Steps(Span),
-    Behind(Span, u32, u32),
+    Returned(Span, u32, u32),
 }
 
 /// The procedure of a part.
@@ -26,6 +26,6 @@ pub fn owner_of(part: Part) -> u32
 {
     match part {
         Part::Entry(owner) => owner,
-        Part::Steps(b) | Part::Behind(b, _, _) => b.owner,
+        Part::Steps(b) | Part::Returned(b, _, _) => b.owner,
     }
 }

@@ -8,7 +8,7 @@ ghost use Rattle.tta_lower.specs.Liveness.{Span as SpanType, Has};
 ghost use Rattle.tta_lower.specs.Laid.{IsSpan};
 ghost use Rattle.tta_lower.specs.Known.{spans, first_by};
 ghost use Rattle.tta_lower.specs.Layout.{vars_of};
-ghost use Rattle.tta_lower.specs.Lower.{numbers, behind_step, span_parts, entry_parts, parts, spans_of};
+ghost use Rattle.tta_lower.specs.Lower.{numbers, return_after, span_parts, entry_parts, parts, spans_of};
 ghost use Rattle.tta_lower.specs.Tables.{Added, IsSplit};
 
 use crate::part::{Part, Span};
@@ -62,7 +62,7 @@ fn spans_by_owner(
 
 /// The part after a block's last step, where that is a call with a destination.
 fn push_return(into: &mut Vec<Part>, b: Span, last: &Step) -> Result<(), AllocError>
-    ensures { OnOk result (into.new.items ≡ into.old.items ++ behind_step b (Some last.now)) }
+    ensures { OnOk result (into.new.items ≡ into.old.items ++ return_after b (Some last.now)) }
 {
     if let Step::Invoke {
         d: Some(d),
@@ -70,7 +70,7 @@ fn push_return(into: &mut Vec<Part>, b: Span, last: &Step) -> Result<(), AllocEr
         ..
     } = last
     {
-        into.push(Part::Behind(b, *d, *callee))?;
+        into.push(Part::Returned(b, *d, *callee))?;
     }
     Ok(())
 }

@@ -79,7 +79,7 @@ pub fn is_live(plan: &Plan<'_>, part: Part, x: u32) -> bool
 {
     match part {
         Part::Entry(owner) => plan.live.before(owner, 0, x),
-        Part::Steps(b) | Part::Behind(b, _, _) => plan.live.after(b.owner, b.last, x),
+        Part::Steps(b) | Part::Returned(b, _, _) => plan.live.after(b.owner, b.last, x),
     }
 }
 
