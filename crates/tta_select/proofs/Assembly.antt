@@ -1,61 +1,56 @@
--- The lists of register code: for the machine, straight, and within their block's counts.
-use Rattle.std.proofs.Common.{◌≡◌, ◌<◌, ◌≤◌, ◌+◌, ◌-◌, ◌^◌, ℕ, zero, suc, Bool, true, false, List, [], ◌∷◌, ◌++◌, Option, Some, None, refl, sym, ap, subst, arith, ◌∙◌, length, map, slice_get, is_some}
-use Rattle.std.specs.Prelude.{if◌then◌else◌, ◌==◌, ◌&&◌, ◌||◌, nat_lt, nat_le, option_map}
+-- The list of a block: for the machine, straight, and within the block's counts.
+use Rattle.std.proofs.Common.{◌≡◌, ◌<◌, ◌≤◌, ◌+◌, ◌-◌, ◌^◌, ℕ, Bool, true, false, List, [], ◌∷◌, ◌++◌, Option, Some, None, refl, sym, ap, subst, arith, ◌∙◌, length, is_some}
+use Rattle.std.specs.Prelude.{if◌then◌else◌, ◌==◌, ◌&&◌, nat_le}
 use Rattle.std.specs.List.{flat_map, list_all}
 use Rattle.std.proofs.lemmas.Bool.{and_parts}
 use Rattle.std.proofs.lemmas.Bool.Decides.{nat_tests}
-use Rattle.std.proofs.lemmas.List.{length-map}
 use Rattle.std.proofs.lemmas.List.Folds.{list_all-append}
-use Rattle.std.proofs.lemmas.Option.{slice_get-map}
 use Rattle.std.proofs.Math.Nat.{pow-le-pow_right}
-use Rattle.tta_list.proofs.Lists.{list_all_one}
 use Rattle.tta_ops.specs.Units.{Units}
 use Rattle.tta_arch.specs.declared.ends.GuardRef.{GuardRef}
 use Rattle.tta_arch.specs.declared.ends.Dest.{Dest}
-use Rattle.tta_arch.specs.declared.parts.UnitOp.{UnitOp}
 use Rattle.tta_arch.specs.declared.parts.Op.{Op}
 use Rattle.tta_arch.specs.declared.parts.Op.TheVariants.{Stw, Ldf, Stf}
 use Rattle.tta_arch.specs.Machine.{Machine}
-use Rattle.tta_arch.specs.Rules.{IsMachine, is_control, is_from_to}
+use Rattle.tta_arch.specs.Rules.{IsMachine, is_control}
 use Rattle.tta_connect.specs.declared.choice.Choice.{Choice}
-use Rattle.tta_connect.specs.Coverage.{offered, IsChoice}
+use Rattle.tta_connect.specs.Coverage.{hub_of, offered, IsChoice}
 use Rattle.tta_moves.specs.declared.items.ItemSource.{ItemSource}
-use Rattle.tta_moves.specs.declared.items.ItemSource.TheVariants.{Port, Address}
+use Rattle.tta_moves.specs.declared.items.ItemSource.TheVariants.{Address}
 use Rattle.tta_moves.specs.declared.items.LongValue.{LongValue}
 use Rattle.tta_moves.specs.declared.items.LongValue.TheVariants as long
 use Rattle.tta_moves.specs.declared.items.Item.{Item}
-use Rattle.tta_moves.specs.declared.items.Item.TheVariants.{Move, Long}
+use Rattle.tta_moves.specs.declared.items.Item.TheVariants.{Move}
 use Rattle.tta_moves.specs.Touches.{source_of, source_of_long}
-use Rattle.tta_moves.specs.Slots.{joined, has_slot, is_list}
+use Rattle.tta_moves.specs.Slots.{joined, is_list}
 use Rattle.tta_moves.specs.Forms.{is_straight}
 use Rattle.tta_rcode.specs.declared.code.Place.{Place as RPlace}
 use Rattle.tta_rcode.specs.declared.code.Place.TheVariants.{Reg, Frame}
-use Rattle.tta_rcode.specs.declared.code.RSrc.{RSrc}
 use Rattle.tta_rcode.specs.declared.code.RStep.{RStep}
 use Rattle.tta_rcode.specs.declared.code.RBlock.{RBlock}
-use Rattle.tta_rcode.specs.declared.code.Rir.{Rir}
-use Rattle.tta_select.specs.Select.{call_of, hub_at, through_hub, constant, carry, value, merged, brings_old, address_slot, items_of_step, items_of_exit, items_of_block, list_of, selected}
+use Rattle.tta_select.specs.Select.{call_of, hub_at, through_hub, constant, carry, value, merged, brings_old, address_slot, items_of_step, items_of_exit, items_of_block, list_of}
 use Rattle.tta_arch.specs.Over.{StandsOver}
 use Rattle.tta_select.specs.Ground.{IsServed}
-use Rattle.tta_select.specs.Relation.{is_place_of, is_src_of}
-use Rattle.tta_select.specs.Needs.{op_of_step, op_of_exit, is_offered, is_step_of, is_exit_of, fits_step, fits_exit, fits_block, word_src, word_step, word_exit, word_block}
-use Rattle.tta_select.specs.Keeps.{IsFit}
-use Rattle.tta_select.specs.Counts.{IsSpare}
-use Rattle.tta_select.specs.Lists.{is_closed, IsListFor, IsSelected}
+use Rattle.tta_select.specs.Relation.{is_place_of}
+use Rattle.tta_select.specs.Needs.{op_of_step, op_of_exit, is_offered, is_step_of, is_exit_of, fits_step, fits_exit, fits_block, word_step, word_exit, word_block}
+use Rattle.tta_rcode.specs.Counts.{names, assigns_block}
+use Rattle.tta_select.specs.Counts.{targets, is_frame_trigger, is_home}
+use Rattle.tta_select.specs.Lists.{is_closed}
+use Rattle.tta_select.specs.Statement.{TriggersNoMore}
 use Rattle.tta_select.specs.Reaches.{guard_by, HasJoins}
-use Rattle.tta_select.proofs.Covering.{serves, grounds}
+use Rattle.tta_select.proofs.Offers.{serves}
+use Rattle.tta_select.proofs.Covering.{grounds}
 use Rattle.tta_select.proofs.Joins.{has_joins}
-use Rattle.tta_select.proofs.Everywhere.{IsValue, IsCarried, has_constant, has_carry, IsWays, Merging, fetch_all, value_to, address_all, or_second, steps_all, exit_all}
+use Rattle.tta_select.proofs.Everywhere.{IsValue, IsCarried, IsWays, Merging, fetch_all, value_to, address_all, or_second, steps_all, exit_all}
 use Rattle.tta_select.proofs.Slotted.{Route, At_once, By_hub, By_long, By_long_hub, route, Slotted, slotted_ways, slotted_merging}
 use Rattle.tta_select.proofs.Straight.{Neat, neat_ways, neat_merging}
 use Rattle.tta_select.proofs.Control.{block_last, block_short}
-use Rattle.tta_select.proofs.Sizes.{items_size}
 use Rattle.tta_select.proofs.Counted.{homes_counted}
 use Rattle.tta_select.proofs.Triggers.{frame_counted, op_counted}
 
 -- ---- addresses
 
-abbrev Closed : ℕ → List Item → Type 0
+abbrev pub Closed : ℕ → List Item → Type 0
 Closed blocks xs = list_all (λ x. is_closed blocks (source_of x)) xs ≡ true
 
 module _ (m : Machine) (c : Choice) (j : HasJoins m c) (address : 2 ^ m.control.address - 1 < 2 ^ 32) (blocks : ℕ) where
@@ -155,14 +150,21 @@ module _ (u : Units) (m : Machine) (c : Choice) (rules : IsMachine m) (over : St
   short : (b : RBlock) → word_block b ≡ true → length b.steps ≤ 262144
   short b words = let w = parts (list_all word_step b.steps) (word_exit b.exit) (nat_le (length b.steps) 262144) words in let e : nat_le (length b.steps) 262144 ≡ true = w.2 in grind (arith, nat_tests)
 
-  one_list : (blocks : ℕ) (b : RBlock) → fits_block u m c blocks b ≡ true → word_block b ≡ true → IsListFor m blocks (items_of_block m c u b)
-  one_list blocks b fits words = record {
-    list = (let few = block_short m c u b (short b words) in let slots = whole blocks (Slotted m c joins address blocks) (slotted_ways m c joins address blocks) (slotted_merging m c joins address blocks u small loads store storing) b fits words in
-        let last = block_last m c u b in rw (few, slots, last) refl);
-    straight = subst (λ o. is_straight m o (items_of_block m c u b) ≡ true) (sym choice.hub)
-        (whole blocks (Neat m c) (neat_ways m c joins address blocks) (neat_merging m c joins address blocks u small loads store storing) b fits words []);
-    closed = whole blocks (Closed blocks) (closed_ways m c joins address blocks) (closed_merging m c joins address blocks u small loads store storing) b fits words;
-  }
+  module _ (blocks : ℕ) (b : RBlock) (fits : fits_block u m c blocks b ≡ true) (words : word_block b ≡ true) where
+    pub can_list : is_list m (items_of_block m c u b) ≡ true
+    can_list =
+        let few = block_short m c u b (short b words) in
+        let slots = whole blocks (Slotted m c joins address blocks) (slotted_ways m c joins address blocks) (slotted_merging m c joins address blocks u small loads store storing) b fits words in
+        let last = block_last m c u b in
+        rw (few, slots, last) refl
+
+    pub goes_straight : is_straight m (hub_of m) (items_of_block m c u b) ≡ true
+    goes_straight =
+        subst (λ o. is_straight m o (items_of_block m c u b) ≡ true) (sym choice.hub)
+        (whole blocks (Neat m c) (neat_ways m c joins address blocks) (neat_merging m c joins address blocks u small loads store storing) b fits words [])
+
+    pub is_closed_in : Closed blocks (items_of_block m c u b)
+    is_closed_in = whole blocks (Closed blocks) (closed_ways m c joins address blocks) (closed_merging m c joins address blocks u small loads store storing) b fits words
 
   -- ---- counts
 
@@ -177,24 +179,18 @@ module _ (u : Units) (m : Machine) (c : Choice) (rules : IsMachine m) (over : St
       let d = offered_steps rs a.1 in
       rw (b, d) refl
 
-  one_spare : (blocks : ℕ) (b : RBlock) → fits_block u m c blocks b ≡ true → IsSpare u m c b (items_of_block m c u b)
-  one_spare blocks b fits =
-      let f = and_parts (list_all (fits_step u m c) b.steps) (fits_exit u m c blocks b.exit) fits in
-      let s = offered_steps b.steps f.0 in
-      let e = (and_parts (is_exit_of m c blocks b.exit) (is_offered m c (op_of_exit u b.exit)) f.1).1 in
-      record {
-        triggers = λ unit k o there other. op_counted u m c serve over (serve Ldf loads) (serve Stf store) unit k o there other b s e;
-        frame = frame_counted u m c serve b s e;
-        homes = homes_counted u m c (grounds m c choice) b;
-      }
+  module _ (blocks : ℕ) (b : RBlock) (fits : fits_block u m c blocks b ≡ true) where
+    abbrev fit : (list_all (fits_step u m c) b.steps ≡ true) × (fits_exit u m c blocks b.exit ≡ true)
+    fit = and_parts (list_all (fits_step u m c) b.steps) (fits_exit u m c blocks b.exit) fits
 
--- all lists
-pub all_selected : (u : Units) (m : Machine) (c : Choice) (r : Rir) → IsMachine m → StandsOver u m → IsChoice m c → IsFit u m c r → IsSelected u m c r (selected m c u r)
-all_selected u m c r rules over choice fit = record {
-  blocks = length-map r.blocks (list_of m c u);
-  items = items_size m c u r;
-  each = λ k b is. slice_get-map (list_of m c u) r.blocks k ∙ ap (λ o. option_map (list_of m c u) o) is;
-  fit = λ k b is. one_list u m c rules over choice (length r.blocks) b (list_all_one (fits_block u m c (length r.blocks)) r.blocks k b fit.blocks is) (list_all_one word_block r.blocks k b fit.words is);
-  live = λ k b is. refl;
-  spare = λ k b is. one_spare u m c rules over choice (length r.blocks) b (list_all_one (fits_block u m c (length r.blocks)) r.blocks k b fit.blocks is);
-}
+    exit_offered : is_offered m c (op_of_exit u b.exit) ≡ true
+    exit_offered = (and_parts (is_exit_of m c blocks b.exit) (is_offered m c (op_of_exit u b.exit)) fit.1).1
+
+    pub triggers_no_more : TriggersNoMore u m b (list_of m c u b)
+    triggers_no_more unit k o there other = op_counted u m c serve over (serve Ldf loads) (serve Stf store) unit k o there other b (offered_steps b.steps fit.0) exit_offered
+
+    pub frames_no_more : targets (is_frame_trigger m) (items_of_block m c u b) ≤ names b
+    frames_no_more = frame_counted u m c serve b (offered_steps b.steps fit.0) exit_offered
+
+    pub writes_no_more : targets (is_home c) (items_of_block m c u b) ≤ assigns_block b
+    writes_no_more = homes_counted u m c (grounds m c choice) b

@@ -127,7 +127,7 @@ module _ (u : Units) (m : Machine) (c : Choice) (addr : List ℕ) (g : IsGround 
 
   -- ---- a block
 
-  -- what comes behind a block that was left so, in a state
+  -- what comes after a block that was left so, in a state
   abbrev left_so : (k : ℕ) → List BlockList → (h : Held) → Held × Leave → Run Held
   left_so k lists h left =
       legs.after_block k h left.0 left.1 (λ t. legs.leg (go_list u m addr) (suc k) lists t)
@@ -175,7 +175,7 @@ module _ (u : Units) (m : Machine) (c : Choice) (addr : List ℕ) (g : IsGround 
     other : Waiting ≡ Running → ⊥
     other e = cc
 
-  -- what is left of a block behind its steps
+  -- what is left of a block after its steps
   leaves_stopped : (b : RBlock) (t behind : State) → goes_on t ≡ false → leaves u b t behind ≡ t
   leaves_stopped b t behind e = rw e refl
 
@@ -246,7 +246,7 @@ module _ (u : Units) (m : Machine) (c : Choice) (addr : List ℕ) (g : IsGround 
     can : can_leave t b.exit ≡ true → Walked (leaves u b t behind) list
     can e = on e (exits u m c addr back g loads store over up total t end b.exit match e fit.0 (served (op_of_exit u b.exit) fit.1) (ap (λ i. slice_index addr (i + 1)) (sym at)))
 
-  -- one block, where the blocks behind it are alike
+  -- one block, where the blocks after it are alike
   one_block : (total k : ℕ) (b : RBlock) (lists : List BlockList) (s : State) (h : Held) (behind : State) → s.at ≡ k → s.outcome ≡ Running → s.sound ≡ true → Matches m c addr Next s h
       → fits_block u m c total b ≡ true
       → ((l : Held) → (steps_of u b.steps s).sound ≡ true → (steps_of u b.steps s).outcome ≡ Running → (steps_of u b.steps s).at ≡ k → Matches m c addr Next (falls b (steps_of u b.steps s)) l

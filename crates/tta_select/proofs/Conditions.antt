@@ -60,7 +60,7 @@ module _ (u : Units) (m : Machine) (c : Choice) (addr : List ℕ) (back : ℕ) (
   abbrev test_id : Rel → OpId
   test_id rel = record { 0 = option_map_or (λ id. id) (named u (test_name rel)) 65536 }
 
-  -- where it is offered, the units have its name, and its low bit tells
+  -- where it is offered, the units have its name, and its low bit decides
   tells : (rel : Rel) (v w : ℕ) → IsServed m c (test_op u rel) → is_odd u (test_name rel) v w ≡ (u.value (test_id rel).0 v w % 2 == 1)
   tells rel v w served = on (named u (test_name rel)) (over.arities _ _ (does_of m c (test_op u rel)) (test_id rel) served.there refl) where
     on : (o : Option ℕ) → slice_get u.arities (option_map_or (λ id. id) o 65536) ≡ Some (does_of m c (test_op u rel)).arity
@@ -72,7 +72,7 @@ module _ (u : Units) (m : Machine) (c : Choice) (addr : List ℕ) (back : ℕ) (
         let few : length u.names < 65537 = u.few in
         absurd (omega (arith, low, same, few))
 
-  -- the guard register tells whether a condition holds
+  -- the guard register says whether a condition holds
   pub record Tested (s : State) (h : Held) (items : List Item) (rel : Rel) (b : Bool) : Type 0 where
     pub mid : Held
     pub match : Matches m c addr Next s mid

@@ -31,13 +31,15 @@ use Rattle.tta_moves.proofs.Places.{either}
 use Rattle.tta_select.specs.Select.{filled, call_of, operand_at, trigger_at, shown_at, hub_at, from_hub, home_pair, home_at, from_home, guard_at, long_for}
 use Rattle.tta_select.specs.Reaches.{guard_by, HasJoins}
 use Rattle.tta_select.proofs.Everywhere.{or_second}
-use Rattle.tta_select.proofs.Covering.{Offered, offered_there, three, Hub, hub_there, Guarding, guard_there, Each, each_append, register_at, registers_size}
+use Rattle.tta_select.proofs.Offers.{Offered, offered_there, three}
+use Rattle.tta_select.proofs.HomeLists.{Each, each_append, register_at, registers_size}
+use Rattle.tta_select.proofs.Covering.{Hub, hub_there, Guarding, guard_there}
 
 any_weaker : (p q : ℕ → Bool) (xs : List ℕ) → ((x : ℕ) → p x ≡ true → q x ≡ true) → list_any p xs ≡ true → list_any q xs ≡ true
 any_weaker p q [] weaker e = absurd cc
 any_weaker p q (x ∷ xs) weaker e = either (p x) (λ a. let b = weaker x a in rw b refl) (λ a. or_second (q x) _ (any_weaker p q xs weaker (rw a at e)))
 
--- the registers of a file stand behind the same sockets
+-- the registers of a file share the same sockets
 into_socket : (m : Machine) (f i : ℕ) (file : File) → slice_get m.files f ≡ Some file → nat_lt i file.size ≡ true → dest_socket m (dest.Reg f i) ≡ Some file.into
 into_socket m f i file there low = rw (there, low) refl
 

@@ -11,6 +11,9 @@ pub mod Exits
 pub mod Restart
 pub mod Blocks
 pub mod Whole
+pub mod Firsts
+pub mod Offers
+pub mod HomeLists
 pub mod Covering
 pub mod Counting
 pub mod Counted
@@ -25,4 +28,7 @@ pub mod Assembly
 mod Samples
 pub mod Walks
 pub mod Constants
-pub mod Lawful
+pub mod Selecting
+pub mod OutputJoins
+pub mod OneList
+pub mod DirectLists

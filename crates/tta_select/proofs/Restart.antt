@@ -22,7 +22,7 @@ clash b p q = let e : true ≡ false = sym p ∙ q in cc
 abbrev pub stays_in : List ℕ → ℕ → Bool
 stays_in live k = list_any (λ j. j == k) live
 
--- a register that is set behind a block was set before, and stays
+-- a register that is set after a block was set before, and stays
 pub found_stay : (live : List ℕ) (es : List (ℕ × ℕ)) (k w : ℕ) → found k (stay live es) ≡ Some w → (stays_in live k ≡ true) × (found k es ≡ Some w)
 found_stay live [] k w e = absurd cc
 found_stay live (x ∷ es) k w e = either (stays_in live x.0) (λ a. kept_one (found_stay live es k w) a (rw a at e)) (λ a. gone (found_stay live es k w) a (rw a at e)) where
@@ -68,7 +68,7 @@ module _ (m : Machine) (c : Choice) (addr : List ℕ) where
         here same = subst (λ i. lives (map (home_pair m c) (j ∷ live)) (home_place m c i) ≡ true) same
             (let a = self (home_pair m c j).0 in let b = self (home_pair m c j).1 in rw (a, b) refl)
 
-  -- behind a block the states match again
+  -- after a block the states match again
   pub restarts : (x : Exit) (b : RBlock) (s : State) (h : Held) → Matches m c addr x s h → Matches m c addr Next (unset b s) (restart (map (home_pair m c) b.live_out) h)
   restarts x b s h a = record {
     memory = a.memory;

@@ -256,7 +256,7 @@ module _ (m : Machine) (c : Choice) where
       ends_value guard (rsrc.At (Reg k)) dst i word e = ends_carry guard (from_home m c k) dst
       ends_value guard (rsrc.At (Frame f)) dst i word e = ends_behind (constant m c None (long.Word f) (trigger_at (call_of m c Ldf))) _ guard dst (ends_carry guard (shown_at (call_of m c Ldf)) dst)
 
-      -- behind a guarded move into the hub's register 1
+      -- after a guarded move into the hub's register 1
       neat_merged : (d : RPlace) (g : GuardRef) (src : ItemSource) (before : List Item) → is_place_of m c d ≡ true → none_after (is_detour m (Some c.hub)) (Move (Some g) src (hub_at m c 1) ∷ before) (merged m c d) ≡ true
       neat_merged (Reg k) g src before i = one_move (home_at m c k) (Move (Some g) src (hub_at m c 1) ∷ before) (trail_guarded g src before)
       neat_merged (Frame f) g src before i =

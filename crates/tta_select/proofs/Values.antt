@@ -36,7 +36,7 @@ abbrev pub does_of : Machine → Choice → Op → UnitOp
 does_of m c op = record (call_of m c op).does { op = op }
 
 module _ (u : Units) (m : Machine) (c : Choice) (addr : List ℕ) (back : ℕ) (g : IsGround m c) where
-  -- a way behind other items
+  -- a way after other items
   pub behind : (loads : Bool) (h k : Held) (xs ys : List Item) (guard : Option GuardRef) (dst : Dest) (w : ℕ) → Goes u m addr back h xs k → Calm c.hub true h k
       → Way u m c addr back loads k ys guard dst w → Way u m c addr back true h (xs ++ ys) guard dst w
   behind loads h k xs ys guard dst w leads calm y = record {

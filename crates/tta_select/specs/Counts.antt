@@ -1,11 +1,9 @@
 -- How much lists do: items, triggers of operations, and writes of home registers.
-use Rattle.std.specs.Prelude.{◌≡◌, ℕ, ◌+◌, ◌≤◌, ◌==◌, Bool, true, false, ◌&&◌, if◌then◌else◌, List, length, Option, Some, None}
+use Rattle.std.specs.Prelude.{ℕ, ◌==◌, Bool, true, false, ◌&&◌, if◌then◌else◌, List, length}
 use Rattle.std.specs.Option.{option_map_or}
-use Rattle.std.specs.List.{list_all, list_any, sum_by}
-use Rattle.tta_ops.specs.Units.{Units}
-use Rattle.tta_arch.specs.declared.parts.UnitOp.{UnitOp}
+use Rattle.std.specs.List.{list_any, sum_by}
 use Rattle.tta_arch.specs.declared.parts.Op.{Op}
-use Rattle.tta_arch.specs.declared.parts.Op.TheVariants.{Ldw, Stw, Ldf, Stf, Out, Take, Set}
+use Rattle.tta_arch.specs.declared.parts.Op.TheVariants.{Ldw, Stw, Out, Take, Set}
 use Rattle.tta_arch.specs.Machine.{Machine}
 use Rattle.tta_arch.specs.Effects.{Target, Reg, Imm, Operand, Trigger, Control, op_at}
 use Rattle.tta_arch.specs.Rules.{is_frame_op}
@@ -13,10 +11,7 @@ use Rattle.tta_connect.specs.declared.choice.Choice.{Choice}
 use Rattle.tta_moves.specs.declared.items.Item.{Item}
 use Rattle.tta_moves.specs.declared.items.BlockList.{BlockList}
 use Rattle.tta_moves.specs.Touches.{target_of_item}
-use Rattle.tta_rcode.specs.declared.code.RBlock.{RBlock}
-use Rattle.tta_rcode.specs.declared.code.Rir.{Rir}
-use Rattle.tta_rcode.specs.Counts.{Need, Loads, Stores, Puts, Takes, Named, asks, names, assigns_block, weight}
-use Rattle.tta_select.specs.Select.{items_of_block, selected}
+use Rattle.tta_rcode.specs.Counts.{Need, Loads, Stores, Puts, Takes, Named}
 
 -- one for each item whose target passes a test
 abbrev pub targets : (Target → Bool) → List Item → ℕ
@@ -54,14 +49,6 @@ is_need Out Puts = true
 is_need Take Takes = true
 is_need (Set id) (Named op) = id.0 == op
 is_need o need = false
-
--- A list of a block triggers each operation of a unit but those on the frame at most as often as the block asks for it,
--- those on the frame together at most as often as the block names slots, and writes home registers at most as often as
--- the block assigns.
-pub record IsSpare (u : Units) (m : Machine) (c : Choice) (b : RBlock) (items : List Item) : Type 0 where
-  pub triggers : (unit k : ℕ) (o : UnitOp) → op_at m unit k ≡ Some o → is_frame_op o.op ≡ false → targets (is_trigger_of unit k) items ≤ asks u (is_need o.op) b
-  pub frame : targets (is_frame_trigger m) items ≤ names b
-  pub homes : targets (is_home c) items ≤ assigns_block b
 
 -- how many items some lists have
 abbrev pub items_in : List BlockList → ℕ

@@ -1,5 +1,5 @@
 -- The list of a program of constants on a machine that brings constants to an output unit.
-use Rattle.std.specs.Prelude.{ℕ, List, [], ◌∷◌, ◌++◌, map}
+use Rattle.std.specs.Prelude.{ℕ, Bool, List, [], ◌∷◌, ◌++◌, map, None}
 use Rattle.std.specs.Option.{unwrap_or}
 use Rattle.std.specs.List.{flat_map}
 use Rattle.tta_arch.specs.declared.parts.Op.TheVariants.{Out}
@@ -11,6 +11,7 @@ use Rattle.tta_connect.specs.Coverage.{anywhere}
 use Rattle.tta_moves.specs.declared.items.ItemSource.TheVariants.{Port}
 use Rattle.tta_moves.specs.declared.items.Item.{Item}
 use Rattle.tta_moves.specs.declared.items.BlockList.{BlockList}
+use Rattle.tta_moves.specs.Slots.{joined}
 use Rattle.tta_rcode.specs.declared.code.RSrc.TheVariants as rsrc
 use Rattle.tta_rcode.specs.declared.code.RStep.{RStep}
 use Rattle.tta_rcode.specs.declared.code.RStep.TheVariants.{Put}
@@ -21,6 +22,10 @@ use Rattle.tta_select.specs.Select.{goes, trigger_at, no_call}
 -- the operation that outputs words
 abbrev pub out_of : Machine → Call
 out_of m = unwrap_or (anywhere m Out) (no_call Out)
+
+-- whether some bus joins a word, as an immediate, to the trigger port of the unit that offers `out`
+abbrev pub brings : Machine → ℕ → Bool
+brings m w = joined m (Port (source.Value w)) (trigger_at (out_of m)) None
 
 -- a constant goes to the output's trigger
 abbrev pub direct_step : Call → RStep → List Item

@@ -4,8 +4,9 @@ ghost use Rattle.std.specs.Prelude.{◌≡◌, ◌++◌, ◌∷◌, [], IfOk};
 ghost use Rattle.std.specs.Prelude.{ℕ, List, map};
 ghost use Rattle.std.specs.List.{flat_map};
 ghost use Rattle.tta_rcode.specs.Direct.{one_block};
-ghost use Rattle.tta_select.specs.Direct.{out_of, direct_step, direct_items};
+ghost use Rattle.tta_select.specs.Direct.{out_of, direct_step};
 ghost use Rattle.tta_select.specs.Direct.{direct_block, direct_lists, direct_list};
+ghost use Rattle.tta_select.specs.Statement.{IsDirect, IsDirectSelection};
 
 use crate::calling::no_call;
 use crate::operands::trigger_at;
@@ -83,8 +84,12 @@ fn direct_blocks(alloc: Global, f: Call, blocks: &[RBlock]) -> Result<Vec<BlockL
     Ok(lists)
 }
 
-/// The list of a program of constants: one item a step, and one for the exit.
+/// The lists of register code that outputs constants. For a direct pair it is one list, with one item
+/// for each step and one for the exit. It does what the code does, and the machine can carry it out.
+/// The only error is out of memory.
 pub fn select_direct(alloc: Global, r: &Rir, m: &Machine) -> Result<Vec<BlockList>, AllocError>
+    ensures selection { IfOk result (λ lists. (words : List ℕ) → IsDirect m.now words r.now
+        → IsDirectSelection m.now r.now lists.items) }
     ensures all { IfOk result (λ lists. lists.items ≡ direct_lists m.now r.now) }
     ensures one { IfOk result (λ lists. (words : List ℕ) → r.now.blocks ≡ one_block words ∷ []
         → lists.items ≡ direct_list (out_of m.now) words ∷ []) }

@@ -12,8 +12,9 @@ mod operands;
 mod operating;
 mod putting;
 mod stepping;
+mod target;
 
 pub use block_lists::select;
 pub use calling::test_op;
 pub use direct_lists::select_direct;
-pub use laws::{gives_lists, keeps_meaning};
+pub use laws::{selects, selects_direct};

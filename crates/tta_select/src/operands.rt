@@ -1,17 +1,16 @@
 //! The ways of operands and results.
 
-ghost use Rattle.std.specs.Prelude.{◌≡◌, ◌<◌, true, None, ◌∷◌, ◌++◌, [], IfOk, get_or, length};
-ghost use Rattle.tta_arch.specs.declared.parts.Op.TheVariants.{Ldf, Stf};
-ghost use Rattle.tta_connect.specs.Net.{IsNetOf};
-ghost use Rattle.tta_select.specs.Select.{call_of, home_pair, home_at, from_home, operand_at};
-ghost use Rattle.tta_select.specs.Select.{trigger_at, shown_at, fetch, value, operate, address_slot};
-ghost use Rattle.tta_select.specs.Select.{result as result_items};
-ghost use Rattle.tta_select.specs.Relation.{is_place_of, is_src_of};
+ghost use Rattle.std.specs.Prelude.{◌≡◌, ◌<◌, true, None, ◌++◌, IfOk, get_or, length};
+ghost use Rattle.tta_select.specs.Target.{IsTarget};
+ghost use Rattle.tta_select.specs.Select.{home_pair, home_at, operand_at};
+ghost use Rattle.tta_select.specs.Select.{trigger_at, shown_at, fetch, value};
+ghost use Rattle.tta_select.specs.Relation.{is_src_of};
 
 use crate::putting::{carry, constant};
+use crate::target::Target;
 use std::alloc::AllocError;
-use tta_arch::{Dest, GuardRef, Machine, Source};
-use tta_connect::{Call, Choice, Net};
+use tta_arch::{Dest, GuardRef, Source};
+use tta_connect::{Call, Choice};
 use tta_list::Items;
 use tta_moves::{Item, ItemSource, LongValue};
 use tta_rcode::{Place, RSrc};
@@ -57,53 +56,39 @@ pub fn home_at(c: &Choice, k: u32) -> Dest
 /// Puts the load of a slot and the way of its word at the end.
 pub fn fetch(
     items: &mut Items<Item>,
-    m: &Machine,
-    net: &Net,
-    c: &Choice,
-    ldf: Call,
+    on: &Target<'_>,
     guard: Option<GuardRef>,
     slot: u32,
     dst: Dest,
 ) -> Result<(), AllocError>
-    requires net { IsNetOf net.now m.now }
-    requires loads { ldf ≡ call_of m.now c.now Ldf }
-    ensures { IfOk result (λ x. items.new ≡ items.old ++ fetch m.now c.now guard slot dst) }
+    requires given { IsTarget on.now }
+    ensures { IfOk result (λ x. items.new ≡ items.old
+        ++ fetch on.now.m.now on.now.c.now guard slot dst) }
 {
-    constant(
-        items,
-        m,
-        net,
-        c,
-        None,
-        LongValue::Word(slot),
-        trigger_at(ldf),
-    )?;
-    carry(items, m, net, c, guard, shown_at(ldf), dst)
+    constant(items, on, None, LongValue::Word(slot), trigger_at(on.ldf))?;
+    carry(items, on, guard, shown_at(on.ldf), dst)
 }
 
 /// Puts the way of an operand to a place at the end.
 pub fn value(
     items: &mut Items<Item>,
-    m: &Machine,
-    net: &Net,
-    c: &Choice,
-    ldf: Call,
+    on: &Target<'_>,
     guard: Option<GuardRef>,
     o: RSrc,
     dst: Dest,
 ) -> Result<(), AllocError>
-    requires net { IsNetOf net.now m.now }
-    requires loads { ldf ≡ call_of m.now c.now Ldf }
-    requires inside { is_src_of m.now c.now o ≡ true }
-    ensures { IfOk result (λ x. items.new ≡ items.old ++ value m.now c.now guard o dst) }
+    requires given { IsTarget on.now }
+    requires inside { is_src_of on.now.m.now on.now.c.now o ≡ true }
+    ensures { IfOk result (λ x. items.new ≡ items.old
+        ++ value on.now.m.now on.now.c.now guard o dst) }
 {
     match o {
-        RSrc::Word(w) => constant(items, m, net, c, guard, LongValue::Word(w), dst),
+        RSrc::Word(w) => constant(items, on, guard, LongValue::Word(w), dst),
         RSrc::At(Place::Reg(k)) => {
-            let (file, index) = home_pair(c, k);
+            let (file, index) = home_pair(on.c, k);
             let src = ItemSource::Port(Source::Reg { file, index });
-            carry(items, m, net, c, guard, src, dst)
+            carry(items, on, guard, src, dst)
         }
-        RSrc::At(Place::Frame(slot)) => fetch(items, m, net, c, ldf, guard, slot, dst),
+        RSrc::At(Place::Frame(slot)) => fetch(items, on, guard, slot, dst),
     }
 }

@@ -1,17 +1,17 @@
 //! Ways: the moves that bring a word to a place.
 
-ghost use Rattle.std.specs.Prelude.{◌≡◌, true, None, ◌∷◌, ◌++◌, [], IfOk, option_map, find};
+ghost use Rattle.std.specs.Prelude.{◌≡◌, None, ◌∷◌, ◌++◌, [], IfOk, option_map, find};
 ghost use Rattle.tta_connect.specs.Net.{IsNetOf};
+ghost use Rattle.tta_select.specs.Target.{IsTarget};
 ghost use Rattle.tta_moves.specs.Touches.{source_of_long};
 ghost use Rattle.tta_moves.specs.Slots.{joined};
 ghost use Rattle.tta_select.specs.Select.{filled, through_hub, long_hub, long_way, constant, carry};
-ghost use Rattle.tta_select.specs.Select.{call_of, home_pair, fetch, value, operate, address_slot};
-ghost use Rattle.tta_select.specs.Select.{result as result_items};
-ghost use Rattle.tta_select.specs.Relation.{is_place_of, is_src_of};
+ghost use Rattle.tta_select.specs.Select.{value};
 
+use crate::target::Target;
 use std::alloc::AllocError;
 use tta_arch::{Dest, GuardRef, Machine, Source, Template};
-use tta_connect::{Call, Choice, Net};
+use tta_connect::{Choice, Net};
 use tta_list::Items;
 use tta_moves::{Item, ItemSource, LongValue, is_joined};
 
@@ -55,35 +55,34 @@ pub fn put_move(
 /// Puts the two moves of a way through the hub at the end.
 fn put_through_hub(
     items: &mut Items<Item>,
-    m: &Machine,
-    c: &Choice,
+    on: &Target<'_>,
     guard: Option<GuardRef>,
     src: ItemSource,
     dst: Dest,
 ) -> Result<(), AllocError>
-    ensures { IfOk result (λ x. items.new ≡ items.old ++ through_hub m.now c.now guard src dst) }
+    ensures { IfOk result (λ x. items.new ≡ items.old
+        ++ through_hub on.now.m.now on.now.c.now guard src dst) }
 {
-    put_move(items, None, src, hub_at(c, PASSING))?;
-    put_move(items, guard, from_hub(c, PASSING), dst)
+    put_move(items, None, src, hub_at(on.c, PASSING))?;
+    put_move(items, guard, from_hub(on.c, PASSING), dst)
 }
 
 /// Puts the way of a register, a result or the return address at the end.
 pub fn carry(
     items: &mut Items<Item>,
-    m: &Machine,
-    net: &Net,
-    c: &Choice,
+    on: &Target<'_>,
     guard: Option<GuardRef>,
     src: ItemSource,
     dst: Dest,
 ) -> Result<(), AllocError>
-    requires { IsNetOf net.now m.now }
-    ensures { IfOk result (λ x. items.new ≡ items.old ++ carry m.now c.now guard src dst) }
+    requires { IsTarget on.now }
+    ensures { IfOk result (λ x. items.new ≡ items.old
+        ++ carry on.now.m.now on.now.c.now guard src dst) }
 {
-    if is_joined(m, net, src, dst, guard) {
+    if is_joined(on.m, on.net, src, dst, guard) {
         return put_move(items, guard, src, dst);
     }
-    put_through_hub(items, m, c, guard, src, dst)
+    put_through_hub(items, on, guard, src, dst)
 }
 
 fn filled(t: &Template) -> ItemSource
@@ -128,22 +127,22 @@ fn put_long(items: &mut Items<Item>, t: &Template, value: LongValue) -> Result<(
 /// Puts the way of a constant by an immediate register and the hub at the end.
 fn put_long_hub(
     items: &mut Items<Item>,
-    m: &Machine,
-    net: &Net,
-    c: &Choice,
+    on: &Target<'_>,
     guard: Option<GuardRef>,
     v: LongValue,
     dst: Dest,
 ) -> Result<(), AllocError>
-    requires { IsNetOf net.now m.now }
-    ensures { IfOk result (λ x. items.new ≡ items.old ++ long_hub m.now c.now guard v dst
-        (find (λ t. joined m.now (filled t) (Dest.Reg c.now.hub 0) None) m.now.templates)) }
+    requires { IsTarget on.now }
+    ensures { IfOk result (λ x. items.new ≡ items.old
+        ++ long_hub on.now.m.now on.now.c.now guard v dst
+        (find (λ t. joined on.now.m.now (filled t) (Dest.Reg on.now.c.now.hub 0) None)
+        on.now.m.now.templates)) }
 {
-    match long_for(m, net, hub_at(c, PASSING), None) {
+    match long_for(on.m, on.net, hub_at(on.c, PASSING), None) {
         None => put_move(items, guard, source_of_long(v), dst),
         Some(t) => {
             put_long(items, t, v)?;
-            put_through_hub(items, m, c, guard, filled(t), dst)
+            put_through_hub(items, on, guard, filled(t), dst)
         }
     }
 }
@@ -151,19 +150,18 @@ fn put_long_hub(
 /// Puts the way of a constant by an immediate register at the end.
 fn put_long_way(
     items: &mut Items<Item>,
-    m: &Machine,
-    net: &Net,
-    c: &Choice,
+    on: &Target<'_>,
     guard: Option<GuardRef>,
     v: LongValue,
     dst: Dest,
 ) -> Result<(), AllocError>
-    requires { IsNetOf net.now m.now }
-    ensures { IfOk result (λ x. items.new ≡ items.old ++ long_way m.now c.now guard v dst
-        (find (λ t. joined m.now (filled t) dst guard) m.now.templates)) }
+    requires { IsTarget on.now }
+    ensures { IfOk result (λ x. items.new ≡ items.old
+        ++ long_way on.now.m.now on.now.c.now guard v dst
+        (find (λ t. joined on.now.m.now (filled t) dst guard) on.now.m.now.templates)) }
 {
-    match long_for(m, net, dst, guard) {
-        None => put_long_hub(items, m, net, c, guard, v, dst),
+    match long_for(on.m, on.net, dst, guard) {
+        None => put_long_hub(items, on, guard, v, dst),
         Some(t) => {
             put_long(items, t, v)?;
             put_move(items, guard, filled(t), dst)
@@ -174,24 +172,23 @@ fn put_long_way(
 /// Puts the way of a word or an address at the end.
 pub fn constant(
     items: &mut Items<Item>,
-    m: &Machine,
-    net: &Net,
-    c: &Choice,
+    on: &Target<'_>,
     guard: Option<GuardRef>,
     v: LongValue,
     dst: Dest,
 ) -> Result<(), AllocError>
-    requires { IsNetOf net.now m.now }
-    ensures { IfOk result (λ x. items.new ≡ items.old ++ constant m.now c.now guard v dst) }
+    requires { IsTarget on.now }
+    ensures { IfOk result (λ x. items.new ≡ items.old
+        ++ constant on.now.m.now on.now.c.now guard v dst) }
 {
     let src = source_of_long(v);
-    if is_joined(m, net, src, dst, guard) {
+    if is_joined(on.m, on.net, src, dst, guard) {
         return put_move(items, guard, src, dst);
     }
-    if is_joined(m, net, from_hub(c, PASSING), dst, guard)
-        && is_joined(m, net, src, hub_at(c, PASSING), None)
+    if is_joined(on.m, on.net, from_hub(on.c, PASSING), dst, guard)
+        && is_joined(on.m, on.net, src, hub_at(on.c, PASSING), None)
     {
-        return put_through_hub(items, m, c, guard, src, dst);
+        return put_through_hub(items, on, guard, src, dst);
     }
-    put_long_way(items, m, net, c, guard, v, dst)
+    put_long_way(items, on, guard, v, dst)
 }

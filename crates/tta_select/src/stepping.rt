@@ -1,26 +1,27 @@
 //! The items of a step.
 
-ghost use Rattle.std.specs.Prelude.{◌≡◌, true, Some, ◌++◌, IfOk, if◌then◌else◌};
+ghost use Rattle.std.specs.Prelude.{◌≡◌, true, ◌++◌, IfOk};
 ghost use Rattle.tta_ops.specs.Set.{stated};
-ghost use Rattle.tta_arch.specs.declared.parts.Op.TheVariants.{Ldw, Stw, Ldf, Stf, Out};
-ghost use Rattle.tta_arch.specs.declared.parts.Op.TheVariants.{Take as TakeIn, Set};
-ghost use Rattle.tta_connect.specs.Net.{IsNetOf};
-ghost use Rattle.tta_select.specs.Select.{call_of, is_inverted, test_op, condition, items_of_step};
-ghost use Rattle.tta_select.specs.Needs.{is_step_of};
+ghost use Rattle.tta_arch.specs.declared.parts.Op.TheVariants.{Stf};
+ghost use Rattle.tta_select.specs.Select.{call_of, operand_at, trigger_at, is_inverted};
+ghost use Rattle.tta_select.specs.Select.{constant, carry, value, operate, address_slot, condition};
+ghost use Rattle.tta_select.specs.Select.{result as result_items};
 ghost use Rattle.tta_select.specs.Relation.{is_place_of, is_src_of};
+ghost use Rattle.tta_select.specs.Target.{IsTarget};
 
-use crate::merging::choose;
-use crate::operands::{home_at, operand_at, shown_at, trigger_at, value};
+use crate::calling::{call_of, test_op};
+use crate::operands::{operand_at, shown_at, trigger_at, value};
 use crate::operating::{address_slot, operate, put_result};
 use crate::putting::{carry, constant};
+use crate::target::Target;
 use std::alloc::AllocError;
-use tta_arch::{Dest, GuardRef, Machine, Source};
-use tta_connect::{Call, Choice, Net};
+use tta_arch::{Dest, GuardRef, Source};
+use tta_connect::{Call, Choice};
 use tta_list::Items;
 use tta_moves::{Item, ItemSource, LongValue};
-use tta_ops::{OpId, UnitSet};
+use tta_ops::UnitSet;
 use tta_program::Rel;
-use tta_rcode::{Place, RSrc, RStep};
+use tta_rcode::{Place, RSrc};
 
 /// Whether a condition holds where its operation does not.
 fn is_inverted(rel: Rel) -> bool
@@ -50,243 +51,124 @@ pub fn guard_of(c: &Choice, rel: Rel) -> GuardRef
 /// Puts a condition's way to the guard register at the end.
 pub fn condition(
     items: &mut Items<Item>,
-    m: &Machine,
-    net: &Net,
-    c: &Choice,
+    on: &Target<'_>,
     units: &UnitSet,
-    ldf: Call,
-    f: Call,
     rel: Rel,
     a: RSrc,
     b: RSrc,
 ) -> Result<(), AllocError>
-    requires net { IsNetOf net.now m.now }
-    requires loads { ldf ≡ call_of m.now c.now Ldf }
-    requires call { f ≡ call_of m.now c.now (test_op (stated unit_meaning units.now) rel) }
-    requires first { is_src_of m.now c.now a ≡ true }
-    requires second { is_src_of m.now c.now b ≡ true }
-    ensures { IfOk result (λ x. items.new
-        ≡ items.old ++ condition m.now c.now (stated unit_meaning units.now) rel a b) }
+    requires given { IsTarget on.now }
+    requires first { is_src_of on.now.m.now on.now.c.now a ≡ true }
+    requires second { is_src_of on.now.m.now on.now.c.now b ≡ true }
+    ensures { IfOk result (λ x. items.new ≡ items.old
+        ++ condition on.now.m.now on.now.c.now (stated unit_meaning units.now) rel a b) }
 {
-    operate(items, m, net, c, ldf, f, a, b)?;
+    let f = call_of(on.m, on.c, test_op(units, rel));
+    operate(items, on, f, a, b)?;
     let dst = Dest::Reg {
-        file: c.guard_file,
-        index: c.guard_index,
+        file: on.c.guard_file,
+        index: on.c.guard_index,
     };
-    carry(items, m, net, c, None, shown_at(f), dst)
+    carry(items, on, None, shown_at(f), dst)
 }
 
-/// Puts the items of a copy at the end.
-pub fn copy(
+/// Puts the items of a copy to a slot at the end.
+pub fn copy_to_slot(
     items: &mut Items<Item>,
-    m: &Machine,
-    net: &Net,
-    c: &Choice,
-    units: &UnitSet,
-    ldf: Call,
-    stf: Call,
-    d: Place,
+    on: &Target<'_>,
+    slot: u32,
     s: RSrc,
 ) -> Result<(), AllocError>
-    requires net { IsNetOf net.now m.now }
-    requires loads { ldf ≡ call_of m.now c.now Ldf }
-    requires stores { stf ≡ call_of m.now c.now Stf }
-    requires place { is_place_of m.now c.now d ≡ true }
-    requires source { is_src_of m.now c.now s ≡ true }
+    requires given { IsTarget on.now }
+    requires source { is_src_of on.now.m.now on.now.c.now s ≡ true }
     ensures { IfOk result (λ x. items.new ≡ items.old
-        ++ items_of_step m.now c.now (stated unit_meaning units.now) (RStep.Copy d s)) }
+        ++ (address_slot on.now.m.now on.now.c.now slot
+        ++ value on.now.m.now on.now.c.now None s
+        (trigger_at (call_of on.now.m.now on.now.c.now Stf)))) }
 {
-    match d {
-        Place::Reg(k) => value(items, m, net, c, ldf, None, s, home_at(c, k)),
-        Place::Frame(slot) => {
-            address_slot(items, m, net, c, stf, slot)?;
-            value(items, m, net, c, ldf, None, s, trigger_at(stf))
-        }
-    }
+    address_slot(items, on, slot)?;
+    value(items, on, None, s, trigger_at(on.stf))
 }
 
 /// Puts the items of a step that saves the return address at the end.
-pub fn save_ra(
-    items: &mut Items<Item>,
-    m: &Machine,
-    net: &Net,
-    c: &Choice,
-    units: &UnitSet,
-    stf: Call,
-    slot: u32,
-) -> Result<(), AllocError>
-    requires net { IsNetOf net.now m.now }
-    requires stores { stf ≡ call_of m.now c.now Stf }
+pub fn save_ra(items: &mut Items<Item>, on: &Target<'_>, slot: u32) -> Result<(), AllocError>
+    requires given { IsTarget on.now }
     ensures { IfOk result (λ x. items.new ≡ items.old
-        ++ items_of_step m.now c.now (stated unit_meaning units.now) (RStep.SaveRa slot)) }
+        ++ (address_slot on.now.m.now on.now.c.now slot
+        ++ carry on.now.m.now on.now.c.now None (ItemSource.Port Source.Ra)
+        (trigger_at (call_of on.now.m.now on.now.c.now Stf)))) }
 {
-    address_slot(items, m, net, c, stf, slot)?;
-    carry(
-        items,
-        m,
-        net,
-        c,
-        None,
-        ItemSource::Port(Source::Ra),
-        trigger_at(stf),
-    )
+    address_slot(items, on, slot)?;
+    let src = ItemSource::Port(Source::Ra);
+    carry(items, on, None, src, trigger_at(on.stf))
 }
 
 /// Puts the items of an operation of the set of units at the end.
 pub fn apply(
     items: &mut Items<Item>,
-    m: &Machine,
-    net: &Net,
-    c: &Choice,
-    units: &UnitSet,
-    ldf: Call,
-    stf: Call,
+    on: &Target<'_>,
     f: Call,
     d: Place,
-    op: OpId,
     a: RSrc,
     b: RSrc,
 ) -> Result<(), AllocError>
-    requires net { IsNetOf net.now m.now }
-    requires loads { ldf ≡ call_of m.now c.now Ldf }
-    requires stores { stf ≡ call_of m.now c.now Stf }
-    requires call { f ≡ call_of m.now c.now (Set op) }
-    requires place { is_place_of m.now c.now d ≡ true }
-    requires first { is_src_of m.now c.now a ≡ true }
-    requires second { is_src_of m.now c.now b ≡ true }
-    ensures { IfOk result (λ x. items.new ≡ items.old
-        ++ items_of_step m.now c.now (stated unit_meaning units.now) (RStep.Apply d op a b)) }
+    requires given { IsTarget on.now }
+    requires place { is_place_of on.now.m.now on.now.c.now d ≡ true }
+    requires first { is_src_of on.now.m.now on.now.c.now a ≡ true }
+    requires second { is_src_of on.now.m.now on.now.c.now b ≡ true }
+    ensures { IfOk result (λ x. items.new ≡ items.old ++ (operate on.now.m.now on.now.c.now f a b
+        ++ result_items on.now.m.now on.now.c.now f d)) }
 {
-    operate(items, m, net, c, ldf, f, a, b)?;
-    put_result(items, m, net, c, stf, f, d)
+    operate(items, on, f, a, b)?;
+    put_result(items, on, f, d)
 }
 
 /// Puts the items of a load at the end.
 pub fn load(
     items: &mut Items<Item>,
-    m: &Machine,
-    net: &Net,
-    c: &Choice,
-    units: &UnitSet,
-    ldf: Call,
-    stf: Call,
+    on: &Target<'_>,
     f: Call,
     d: Place,
     a: RSrc,
 ) -> Result<(), AllocError>
-    requires net { IsNetOf net.now m.now }
-    requires loads { ldf ≡ call_of m.now c.now Ldf }
-    requires stores { stf ≡ call_of m.now c.now Stf }
-    requires call { f ≡ call_of m.now c.now Ldw }
-    requires place { is_place_of m.now c.now d ≡ true }
-    requires address { is_src_of m.now c.now a ≡ true }
+    requires given { IsTarget on.now }
+    requires place { is_place_of on.now.m.now on.now.c.now d ≡ true }
+    requires address { is_src_of on.now.m.now on.now.c.now a ≡ true }
     ensures { IfOk result (λ x. items.new ≡ items.old
-        ++ items_of_step m.now c.now (stated unit_meaning units.now) (RStep.Load d a)) }
+        ++ (value on.now.m.now on.now.c.now None a (trigger_at f)
+        ++ result_items on.now.m.now on.now.c.now f d)) }
 {
-    value(items, m, net, c, ldf, None, a, trigger_at(f))?;
-    put_result(items, m, net, c, stf, f, d)
+    value(items, on, None, a, trigger_at(f))?;
+    put_result(items, on, f, d)
 }
 
 /// Puts the items of a step that takes a word of the input at the end.
-pub fn take(
-    items: &mut Items<Item>,
-    m: &Machine,
-    net: &Net,
-    c: &Choice,
-    units: &UnitSet,
-    ldf: Call,
-    stf: Call,
-    f: Call,
-    d: Place,
-) -> Result<(), AllocError>
-    requires net { IsNetOf net.now m.now }
-    requires loads { ldf ≡ call_of m.now c.now Ldf }
-    requires stores { stf ≡ call_of m.now c.now Stf }
-    requires call { f ≡ call_of m.now c.now TakeIn }
-    requires place { is_place_of m.now c.now d ≡ true }
+pub fn take(items: &mut Items<Item>, on: &Target<'_>, f: Call, d: Place) -> Result<(), AllocError>
+    requires given { IsTarget on.now }
+    requires place { is_place_of on.now.m.now on.now.c.now d ≡ true }
     ensures { IfOk result (λ x. items.new ≡ items.old
-        ++ items_of_step m.now c.now (stated unit_meaning units.now) (RStep.Take d)) }
+        ++ (constant on.now.m.now on.now.c.now None (LongValue.Word 0) (trigger_at f)
+        ++ result_items on.now.m.now on.now.c.now f d)) }
 {
-    constant(items, m, net, c, None, LongValue::Word(0), trigger_at(f))?;
-    put_result(items, m, net, c, stf, f, d)
+    constant(items, on, None, LongValue::Word(0), trigger_at(f))?;
+    put_result(items, on, f, d)
 }
 
 /// Puts the items of a store at the end.
 pub fn store(
     items: &mut Items<Item>,
-    m: &Machine,
-    net: &Net,
-    c: &Choice,
-    units: &UnitSet,
-    ldf: Call,
-    stf: Call,
+    on: &Target<'_>,
     f: Call,
     a: RSrc,
     v: RSrc,
 ) -> Result<(), AllocError>
-    requires net { IsNetOf net.now m.now }
-    requires loads { ldf ≡ call_of m.now c.now Ldf }
-    requires stores { stf ≡ call_of m.now c.now Stf }
-    requires call { f ≡ call_of m.now c.now Stw }
-    requires address { is_src_of m.now c.now a ≡ true }
-    requires word { is_src_of m.now c.now v ≡ true }
+    requires given { IsTarget on.now }
+    requires address { is_src_of on.now.m.now on.now.c.now a ≡ true }
+    requires word { is_src_of on.now.m.now on.now.c.now v ≡ true }
     ensures { IfOk result (λ x. items.new ≡ items.old
-        ++ items_of_step m.now c.now (stated unit_meaning units.now) (RStep.Store a v)) }
+        ++ (value on.now.m.now on.now.c.now None a (operand_at f)
+        ++ value on.now.m.now on.now.c.now None v (trigger_at f))) }
 {
-    value(items, m, net, c, ldf, None, a, operand_at(f))?;
-    value(items, m, net, c, ldf, None, v, trigger_at(f))
-}
-
-/// Puts the items of a step that puts a word out at the end.
-pub fn put_out(
-    items: &mut Items<Item>,
-    m: &Machine,
-    net: &Net,
-    c: &Choice,
-    units: &UnitSet,
-    ldf: Call,
-    stf: Call,
-    f: Call,
-    v: RSrc,
-) -> Result<(), AllocError>
-    requires net { IsNetOf net.now m.now }
-    requires loads { ldf ≡ call_of m.now c.now Ldf }
-    requires stores { stf ≡ call_of m.now c.now Stf }
-    requires call { f ≡ call_of m.now c.now Out }
-    requires word { is_src_of m.now c.now v ≡ true }
-    ensures { IfOk result (λ x. items.new ≡ items.old
-        ++ items_of_step m.now c.now (stated unit_meaning units.now) (RStep.Put v)) }
-{
-    value(items, m, net, c, ldf, None, v, trigger_at(f))
-}
-
-/// Puts the items of a conditional copy at the end.
-pub fn when(
-    items: &mut Items<Item>,
-    m: &Machine,
-    net: &Net,
-    c: &Choice,
-    units: &UnitSet,
-    ldf: Call,
-    stf: Call,
-    f: Call,
-    rel: Rel,
-    a: RSrc,
-    b: RSrc,
-    d: Place,
-    s: RSrc,
-) -> Result<(), AllocError>
-    requires net { IsNetOf net.now m.now }
-    requires loads { ldf ≡ call_of m.now c.now Ldf }
-    requires stores { stf ≡ call_of m.now c.now Stf }
-    requires call { f ≡ call_of m.now c.now (test_op (stated unit_meaning units.now) rel) }
-    requires place { is_place_of m.now c.now d ≡ true }
-    requires first { is_src_of m.now c.now a ≡ true }
-    requires second { is_src_of m.now c.now b ≡ true }
-    requires source { is_src_of m.now c.now s ≡ true }
-    ensures { IfOk result (λ x. items.new ≡ items.old
-        ++ items_of_step m.now c.now (stated unit_meaning units.now) (RStep.When rel a b d s)) }
-{
-    condition(items, m, net, c, units, ldf, f, rel, a, b)?;
-    choose(items, m, net, c, ldf, stf, guard_of(c, rel), s, d)
+    value(items, on, None, a, operand_at(f))?;
+    value(items, on, None, v, trigger_at(f))
 }
