@@ -113,7 +113,7 @@ some_socket : (m : Machine) (input : Bool) (o : Option ℕ) (bus : ℕ) → has_
 some_socket m input None bus h = absurd cc
 some_socket m input (Some k) bus h = (k, refl)
 
--- what stands behind an index that is within
+-- what stands after an index that is within
 within_is : {A : Type 0} (o : Option A) (size socket : A → ℕ) (index k : ℕ) → option_and_then (λ q. within index (size q) (socket q)) o ≡ Some k → (q : A) × (o ≡ Some q) × (index < size q)
 within_is None size socket index k e = absurd cc
 within_is (Some q) size socket index k e = on (nat_lt index (size q)) refl e where

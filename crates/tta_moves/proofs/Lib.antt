@@ -9,3 +9,4 @@ pub mod FirstFitLaws
 pub mod Addresses
 pub mod Rows
 pub mod Gaps
+pub mod Numbered

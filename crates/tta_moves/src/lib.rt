@@ -5,7 +5,8 @@
 mod items;
 mod laws;
 mod lists;
+pub mod numbers;
 
 pub use items::{BlockList, Item, ItemSource, LongValue, Placed, PlacedItem, Slot};
 pub use laws::{first_fit_respects, holds_each_address};
-pub use lists::{is_joined, is_list};
+pub use lists::{carried, is_joined, is_list, keeps_rules};

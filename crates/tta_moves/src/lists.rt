@@ -14,6 +14,13 @@ use tta_connect::Net;
 /// How many items a list has at most.
 const MAX_ITEMS: usize = 1 << 24;
 
+/// That a machine keeps the rules of machines, for whoever has to say so. It does nothing.
+pub fn keeps_rules(m: &Machine)
+    ensures { IsMachine m.now }
+{
+    let _delay = m.control.delay;
+}
+
 /// The greatest address of a machine.
 fn greatest_address(m: &Machine) -> u32
     ensures value { Source.Value result ≡ carried m.now (ItemSource.Address 0) }
@@ -23,7 +30,7 @@ fn greatest_address(m: &Machine) -> u32
 }
 
 /// A source as a bus has to carry it: an address as the greatest that there is.
-fn carried(m: &Machine, src: ItemSource) -> Source
+pub fn carried(m: &Machine, src: ItemSource) -> Source
     ensures value { result ≡ carried m.now src }
     ensures rules { IsMachine m.now }
 {
