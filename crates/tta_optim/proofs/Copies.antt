@@ -27,14 +27,14 @@ is_whole m (KeptOperand unit) = true
 is_whole m KeptRa = false
 is_whole m (KeptPort unit) = false
 
--- each place that still has the word of a source, behind these items, has what the source has now
+-- each place that still has the word of a source, after these items, has what the source has now
 pub record Copies (m : Machine) (addr : List ℕ) (before : List Item) (ws : Written) : Type 0 where
   pub same : (p : Place) (s : ItemSource) → is_whole m p ≡ true → copied m p before ≡ Some s → kept ws p ≡ read_held ws (linked addr s)
 
 pub none_yet : (m : Machine) (addr : List ℕ) (ws : Written) → Copies m addr [] ws
 none_yet m addr ws = record { same = λ p s whole e. cc }
 
--- ---- what a source has behind an effect
+-- ---- what a source has after an effect
 
 pub read_other : (u : Units) (m : Machine) (back : ℕ) (h : Held) (e : Effect) (src : Source)
     → option_map_or (λ q. is_at q (place_written m e.target)) (place_of src) false ≡ false → read_held (does u m back h e).written src ≡ read_held h.written src
@@ -168,7 +168,7 @@ unfolding does
 stuck_all u m back h [] waits = refl
 stuck_all u m back h (e ∷ es) waits = rw waits (stuck_all u m back h es waits)
 
--- a list with a meaning that does not wait: its first effect lacks nothing, and the others have a meaning behind it
+-- a list with a meaning that does not wait: its first effect lacks nothing, and the others have a meaning after it
 pub first_means : (u : Units) (m : Machine) (back : ℕ) (h : Held) (e : Effect) (es : List Effect) → is_waiting h.exit ≡ false → means u m back h (e ∷ es) ≡ true
     → (lacks m h e ≡ false) × (means u m back (does u m back h e) es ≡ true)
 first_means u m back h e es runs ok =

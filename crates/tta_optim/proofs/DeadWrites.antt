@@ -106,7 +106,7 @@ guard_of_sure x e = on (guard_of x) e where
   on None e = refl
   on (Some g) e = absurd cc
 
--- what has to agree behind an item that stays
+-- what has to agree after an item that stays
 agree_after : (u : Units) (m : Machine) (live : List (ℕ × ℕ)) (addr : List ℕ) (back : ℕ) (x : Item) (behind : List Item) (h : Held) (ws : Written) → is_waiting h.exit ≡ false
     → lacks m h (effect_of addr x) ≡ false → Agree m live (x ∷ behind) ws h.written
     → Agree m live behind (option_to_list (step_write u m back h (effect_of addr x)) ++ ws) (does u m back h (effect_of addr x)).written
@@ -158,7 +158,7 @@ dead_is m live x behind e = on (register_of (target_of_item x)) refl e where
   on None r e = absurd cc
   on (Some p) r e = (p, r, not-true (is_wanted m live p behind) e)
 
--- what has to agree behind an item that goes
+-- what has to agree after an item that goes
 agree_without : (u : Units) (m : Machine) (live : List (ℕ × ℕ)) (addr : List ℕ) (back : ℕ) (x : Item) (behind : List Item) (h : Held) (ws : Written) → is_dead m live x behind ≡ true
     → Agree m live behind ws h.written → Agree m live behind ws (does u m back h (effect_of addr x)).written
 agree_without u m live addr back x behind h ws dead agree =
@@ -175,7 +175,7 @@ agree_without u m live addr back x behind h ws dead agree =
 
 -- ---- the list
 
--- behind the list, unless it waits, the registers that are read later agree, and all other places
+-- after the list, unless it waits, the registers that are read later agree, and all other places
 pub record AgreeAtEnd (live : List (ℕ × ℕ)) (a : Held) (vs : Written) : Type 0 where
   pub other : is_waiting a.exit ≡ false → (p : Place) → is_other p ≡ true → kept vs p ≡ kept a.written p
   pub later : is_waiting a.exit ≡ false → (p : Place) → lives live p ≡ true → kept vs p ≡ kept a.written p

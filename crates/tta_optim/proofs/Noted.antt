@@ -1,4 +1,4 @@
--- The notes on the way down a list tell which source's word a place still has.
+-- The notes on the way down a list say which source's word a place still has.
 use Rattle.std.proofs.Common.{◌≡◌, ◌≢◌, ℕ, zero, suc, ◌<◌, ◌≤◌, Bool, true, false, List, [], ◌∷◌, length, replicate, Option, Some, None, refl, sym, ap, arith, ◌∙◌}
 use Rattle.std.specs.Prelude.{if◌then◌else◌, nat_le, is_none, option_map, option_and_then, slice_get, slice_set}
 use Rattle.std.specs.Option.{option_map_or}
@@ -69,7 +69,7 @@ still_now m x before s =
     let yes_le = le-leb (source_written m (x ∷ before) (place_of_source s)) (suc (length before)) le in
     rw yes_le refl
 
--- what a place still has is told by these
+-- what a place still has follows from these
 pub copied_is : (m : Machine) (p : Place) (before : List Item)
     → copied m p before ≡ option_and_then (λ s. if_still (source_written m before (place_of_source s)) (last_write m p before) s) (last_source m p before)
 copied_is m p [] = refl
@@ -109,7 +109,7 @@ copied_is m p (x ∷ before) = on (writes m p x) refl (copied_is m p before) whe
 
 -- ---- the notes
 
--- what is noted of a place behind these items, the newest first
+-- what is noted of a place after these items, the newest first
 abbrev pub note_of : Machine → List Item → Place → Note
 note_of m before p = record { at = last_write m p before; from = last_source m p before }
 
@@ -168,7 +168,7 @@ since_is : (m : Machine) (notes : List Note) (before : List Item) (o : Option Pl
 since_is m notes before None n range = refl
 since_is m notes before (Some q) n range = ap (λ (o : Option Note). option_map_or (λ k. k.at) o 0) (n.each q (range q refl))
 
--- the notes tell what a place still has
+-- the notes say what a place still has
 pub copied_noted : (m : Machine) (notes : List Note) (before : List Item) (p : Place) → Noted m notes before → is_place p ≡ true → copied_by notes (place_number p) ≡ copied m p before
 copied_noted m notes before p n is =
     ap (λ (o : Option Note). option_and_then (λ k. option_and_then (still notes k.at) k.from) o) (n.each p is)

@@ -9,14 +9,14 @@ use Rattle.tta_optim.specs.declared.notes.Note.{Note}
 use Rattle.tta_optim.specs.declared.notes.Entry.{Entry}
 use Rattle.tta_optim.specs.Notes.{blank, note_in, AreStamps}
 
--- ---- what the entries tell
+-- ---- what the entries say
 
 pub map_set : {A B : Type 0} (f : A → B) (xs : List A) (k : ℕ) (x : A) → map f (slice_set xs k x) ≡ slice_set (map f xs) k (f x)
 map_set f [] k x = refl
 map_set f (y ∷ ys) zero x = refl
 map_set f (y ∷ ys) (suc k) x = ap (λ l. f y ∷ l) (map_set f ys k x)
 
--- where all stamps are of earlier lists, no entry tells anything
+-- where all stamps are of earlier lists, no entry says anything
 pub none_noted : (list : ℕ) (entries : List Entry) → list_all (λ s. nat_le s list) (map (λ (e : Entry). e.list) entries) ≡ true
     → map (note_in (list + 1)) entries ≡ replicate (length entries) blank
 none_noted list [] all = refl

@@ -45,7 +45,7 @@ pub record IsWanted (m : Machine) (live : List (ℕ × ℕ)) (wanted : List Bool
   pub size : length wanted ≡ 641
   pub each : (p : Place) → is_place p ≡ true → slice_get wanted (place_number p) ≡ Some (is_wanted m live p behind)
 
--- ---- behind the list
+-- ---- after the list
 
 live_place : (ℕ × ℕ) → Option Place
 live_place r = if nat_lt r.0 8 && nat_lt r.1 64 then Some (KeptReg r.0 r.1) else None
@@ -259,7 +259,7 @@ dead_done m live items wanted done result first none t e =
     let zero_first : first ≡ 0 = omega arith in
     e ∙ ap (λ l. reverse l) t.so_far ∙ reverse-reverse (dead_items m live (drop first items)) ∙ ap (λ k. dead_items m live (drop k items)) zero_first
 
--- ---- the table behind the list
+-- ---- the table after the list
 
 pub live_more : (live : List (ℕ × ℕ)) (first : ℕ) (d : ℕ × ℕ) (blank : List Bool) → 0 < first → first ≤ length live
     → set_wanted (wanted_behind (drop first live) blank) (let r = get_or live (first - 1) d in if nat_lt r.0 8 && nat_lt r.1 64 then Some (place_number (KeptReg r.0 r.1)) else None) true ≡ wanted_behind (drop (first - 1) live) blank

@@ -16,7 +16,7 @@ use Rattle.tta_moves.specs.Runs.{lives, lrun}
 use Rattle.tta_moves.specs.Slots.{is_list}
 use Rattle.tta_moves.specs.Forms.{is_straight}
 
--- Two states are alike for what comes behind a list: the spaces, the rest of the input, what was put out and how the list
+-- Two states are alike for what comes after a list: the spaces, the rest of the input, what was output and how the list
 -- goes on are equal, and so are, unless it waits, the return address and the registers that are read after it.
 pub record Alike (live : List (ℕ × ℕ)) (h k : Held) : Type 0 where
   pub memory : k.memory ≡ h.memory

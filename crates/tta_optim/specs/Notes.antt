@@ -23,7 +23,7 @@ use Rattle.tta_optim.specs.declared.notes.Entry.{Entry}
 abbrev pub blank : Note
 blank = record { at = 0; from = None }
 
--- what an entry tells on the way down a list: nothing, where it is of another
+-- what an entry says on the way down a list: nothing, where it is of another
 abbrev pub note_in : (list : ℕ) → Entry → Note
 note_in list e = if e.list == list then e.note else blank
 
@@ -101,7 +101,7 @@ wanted_before m wanted x =
     (option_map (λ g. place_number (guard_place g)) (guard_of x)) true)
     (option_map place_number (place_of_source (source_of x))) true
 
--- behind a list: the registers that are read after it, and the return address
+-- after a list: the registers that are read after it, and the return address
 abbrev pub wanted_behind : List (ℕ × ℕ) → List Bool → List Bool
 wanted_behind [] wanted = slice_set wanted 640 true
 wanted_behind (r ∷ live) wanted = set_wanted (wanted_behind live wanted) (if nat_lt r.0 8 && nat_lt r.1 64 then Some (place_number (KeptReg r.0 r.1)) else None) true

@@ -12,7 +12,7 @@ abbrev pub with_source : Item → ItemSource → Item
 with_source (Move guard src dst) other = Move guard other dst
 with_source (Long unit index value) other = Long unit index value
 
--- an item behind others, the newest first, which reads the result port that it could read
+-- an item after others, the newest first, which reads the result port that it could read
 abbrev pub bypassed : Machine → (before : List Item) → Item → Item
 bypassed m before x = option_map_or (with_source x) (port_for m before x) x
 

@@ -9,12 +9,12 @@ ghost use Rattle.tta_optim.specs.Notes.{shown_by, port_by, bypassed_by};
 ghost use Rattle.tta_optim.specs.Passes.{bypass_items};
 
 use crate::notes::Notes;
-use crate::places::{keeps_rules, register};
 use std::alloc::{AllocError, Global};
 use tta_arch::{Dest, GuardRef, Machine, Source};
 use tta_connect::Net;
 use tta_list::entry_at;
-use tta_moves::{Item, ItemSource, is_joined};
+use tta_moves::numbers::register;
+use tta_moves::{Item, ItemSource, is_joined, keeps_rules};
 
 fn is_wide_file(m: &Machine, file: u8) -> bool
     ensures { result ≡ is_wide_file m.now file }

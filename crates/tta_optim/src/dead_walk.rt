@@ -5,11 +5,10 @@ ghost use Rattle.std.specs.List.{list_all};
 ghost use Rattle.tta_moves.specs.Slots.{has_slot};
 ghost use Rattle.tta_optim.specs.Passes.{dead_items};
 
-use crate::places::keeps_rules;
 use crate::wanted::Wanted;
 use std::alloc::{AllocError, Global};
 use tta_arch::Machine;
-use tta_moves::Item;
+use tta_moves::{Item, keeps_rules};
 
 /// The items but those whose write nothing of what stays reads, in one walk up.
 pub fn dead_items(

@@ -5,10 +5,11 @@ ghost use Rattle.tta_moves.specs.Touches.{source_of_long, source_of};
 ghost use Rattle.tta_moves.specs.Forms.{sure_source};
 ghost use Rattle.tta_optim.specs.Notes.{note_in, since, copied_by, noted};
 
-use crate::places::{PLACES, read_place, written_place};
+use crate::places::written_place;
 use std::alloc::{AllocError, Global};
 use std::marker::Model;
 use tta_arch::{Machine, Source};
+use tta_moves::numbers::{PLACES, read_place};
 use tta_moves::{Item, ItemSource, LongValue};
 
 /// What the last item was that wrote a place.
@@ -36,7 +37,7 @@ const UNUSED: Entry = Entry {
     note: BLANK,
 };
 
-/// What an entry tells on the way down a list: nothing, where it is of another.
+/// What an entry says on the way down a list: nothing, where it is of another.
 fn note_in(list: u64, e: Entry) -> Note
     ensures { result ≡ note_in list e }
 {

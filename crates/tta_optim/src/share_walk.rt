@@ -8,10 +8,10 @@ ghost use Rattle.tta_optim.specs.Notes.{redundant_by};
 ghost use Rattle.tta_optim.specs.Passes.{share_items};
 
 use crate::notes::Notes;
-use crate::places::{keeps_rules, operand};
 use std::alloc::{AllocError, Global};
 use tta_arch::{Dest, Machine, Source};
-use tta_moves::{Item, ItemSource};
+use tta_moves::numbers::operand;
+use tta_moves::{Item, ItemSource, keeps_rules};
 
 fn same_end(a: Source, b: Source) -> bool
     ensures { result ≡ same_end a b }

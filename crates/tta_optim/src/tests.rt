@@ -48,7 +48,7 @@ fn list(alloc: Global, live: bool) -> Result<BlockList, AllocError> {
     })
 }
 
-/// How many items the list has behind all three passes, 0 where it is no list of the machine.
+/// How many items the list has after all three passes, 0 where it is no list of the machine.
 fn left(alloc: Global, m: &Machine, live: bool) -> Result<usize, AllocError> {
     let net = Net::of(alloc, m)?;
     let b = list(alloc, live)?;

@@ -9,11 +9,12 @@ ghost use Rattle.tta_moves.specs.Forms.{register_of};
 ghost use Rattle.tta_optim.specs.Notes.{wanted_at};
 
 use crate::notes::source_of;
-use crate::places::{PLACES, immediate, read_place, register, written_place};
+use crate::places::written_place;
 use std::alloc::{AllocError, Global};
 use std::marker::Model;
 use tta_arch::{Dest, Machine};
 use tta_moves::Item;
+use tta_moves::numbers::{PLACES, immediate, read_place, register};
 
 /// Whether the word of each place is read later, on the way up a list, which contracts see as a list
 /// by the numbers of places. The table serves one list after another and is not cleared between
