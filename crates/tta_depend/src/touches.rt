@@ -10,10 +10,11 @@ ghost use Rattle.tta_moves.specs.Bounds.{due_after, At, operand_read, written_at
 ghost use Rattle.tta_moves.specs.Bounds.{reads_by, writes_by, lasts};
 ghost use Rattle.tta_depend.specs.Touched.{touched, is_soon};
 
-use crate::places::{immediate, operand, port, read_place, register, return_address, trigger};
+use crate::places::trigger;
 use arrayvec::ArrayVec;
 use tta_arch::{Dest, GuardRef, Machine, Op};
 use tta_list::entry_at;
+use tta_moves::numbers::{immediate, operand, port, read_place, register, return_address};
 use tta_moves::{Item, ItemSource};
 
 /// A spot by its number, and how many cycles after the item's own it is touched.
