@@ -47,7 +47,7 @@ abbrev pub into : ℕ → Dest
 into file = dest.Reg file 0
 
 -- Whether a file can be the hub: it keeps words, has three registers that can be scratch, and is joined to itself. All
--- registers of a file stand behind the same sockets, so its first one tells for all.
+-- registers of a file share the same sockets, so its first one stands for all.
 abbrev pub is_hub : Machine → (file : ℕ) → File → Bool
 is_hub m file f = f.width == 32 && nat_le 3 f.size && some_bus m (from file) (into file) None
 
@@ -178,7 +178,7 @@ pub record IsChoice (m : Machine) (c : Choice) : Type 0 where
   pub frame : (is_some (offered m c.usable Ldf) && is_some (offered m c.usable Stf)) ≡ true
   pub homes : c.homes ≡ homes_of m c.hub
 
--- a refusal tells the first rule that fails; one for lack of memory tells nothing
+-- a refusal names the first rule that fails; one for lack of memory names none
 abbrev pub TellsRule : Machine → CoverError → Type 0
 TellsRule m (Rule rule) = failed_rule m ≡ Some rule
 TellsRule m NoMemory = true ≡ true

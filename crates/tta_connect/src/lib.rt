@@ -19,4 +19,5 @@ mod way;
 pub use calls::{Call, anywhere, offered};
 pub use choice::{Choice, CoverError, cover};
 pub use net::Net;
+pub use sets::least_bus;
 pub use way::Way;
