@@ -11,4 +11,5 @@ pub mod OneRow
 pub mod OneBooked
 pub mod Kept
 pub mod Apart
+pub mod OpenBuses
 pub mod LeastSlot

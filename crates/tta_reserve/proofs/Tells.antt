@@ -1,10 +1,10 @@
 -- An item fits beside the items of a cycle exactly where their row takes it.
-use Rattle.std.proofs.Common.{◌≡◌, inl, inr, ℕ, ◌^◌, ◌<◌, ◌≤◌, Bool, true, false, List, [], ◌∷◌, ◌++◌, Option, Some, None, refl, sym, ap, ◌∙◌, arith, length}
+use Rattle.std.proofs.Common.{◌≡◌, inl, inr, ℕ, ◌^◌, ◌<◌, Bool, true, false, List, [], ◌∷◌, ◌++◌, Option, Some, None, refl, sym, ap, ◌∙◌, arith, length}
 use Rattle.std.specs.Prelude.{slice_get, not, ◌&&◌, ◌||◌, ◌==◌, nat_lt, is_none, is_some, bit_and, ◌%◌}
 use Rattle.std.specs.Int.{w16, trailing_zeros}
 use Rattle.std.specs.Option.{option_map_or}
 use Rattle.std.proofs.Math.Bool.{not-not}
-use Rattle.std.proofs.lemmas.Bool.{and_parts, and_from, and_right, false_from_ne_true, cases_lt, eq-eqb, eqb-true, not-true, not_from_false}
+use Rattle.std.proofs.lemmas.Bool.{and_parts, and_from, and_right, cases_lt, eq-eqb, eqb-true, not-true, not_from_false}
 use Rattle.std.proofs.lemmas.Nat.{and_le_r}
 use Rattle.tta_list.proofs.Lists.{all_one}
 use Rattle.tta_arch.specs.declared.parts.Template.{Template as Field}
@@ -20,7 +20,6 @@ use Rattle.tta_arch.specs.Legal.{Ends, keeps_taken}
 use Rattle.tta_arch.specs.Effects.{first_some}
 use Rattle.tta_arch.proofs.Widths.{no_high, pow_le}
 use Rattle.tta_connect.proofs.SetLemmas.{has_bit-and, has_bit-empty, trailing-has}
-use Rattle.tta_moves.proofs.Buses.{joins_below}
 use Rattle.tta_moves.specs.declared.items.ItemSource.{ItemSource}
 use Rattle.tta_moves.specs.declared.items.LongValue.{LongValue}
 use Rattle.tta_moves.specs.declared.items.Item.TheVariants as item
@@ -85,19 +84,6 @@ takes_from : (m : Machine) (r : Row) (bus : ℕ) (s : Source) (d : Dest) (g : Op
 takes_from m r bus s d g t =
     and_from (joins m bus s d g && is_open r bus && row_reads m r s) (row_writes m r d)
     (and_from (joins m bus s d g && is_open r bus) (row_reads m r s) (and_from (joins m bus s d g) (is_open r bus) t.join t.free) t.read) t.write
-
--- a row does not take a move that lacks a part
-pub not_taken : (m : Machine) (r : Row) (bus : ℕ) (s : Source) (d : Dest) (g : Option GuardRef) → (Takes m r bus s d g → ⊥) → row_takes m r bus s d g ≡ false
-not_taken m r bus s d g lacks = false_from_ne_true (row_takes m r bus s d g) (λ e. lacks (takes_parts m r bus s d g e))
-
--- a row takes no move on a bus that the machine does not have
-pub none_past : (m : Machine) → IsMachine m → (r : Row) (s : Source) (d : Dest) (g : Option GuardRef) (n : ℕ) → length m.buses ≤ n
-    → ((k : ℕ) → k < n → row_takes m r k s d g ≡ false) → (k : ℕ) → row_takes m r k s d g ≡ false
-none_past m rules r s d g n all before k = not_taken m r k s d g (λ t.
-    let lt = joins_below m rules k s d g t.join in
-    let no = before k (omega arith) in
-    let yes = takes_from m r k s d g t in
-    cc)
 
 pub row_tells_of_moves : (m : Machine) → IsMachine m → (xs : List PlacedItem) (bus c : ℕ) (g : Option GuardRef) (s : ItemSource) (d : Dest) (r : Row) → IsRow m xs r
     → fits_cycle m xs ≡ true → is_apart (item.Move g s d) xs ≡ true

@@ -1,30 +1,16 @@
 //! What a row leaves for one item more.
 
-ghost use Rattle.std.specs.Prelude.{◌≡◌, ℕ, ◌<◌, ◌≤◌, true, false, length, slice_index};
+ghost use Rattle.std.specs.Prelude.{◌≡◌, ℕ, ◌<◌, ◌≤◌, ◌&&◌, not, true, false, length, slice_index};
 ghost use Rattle.std.specs.Prelude.{IfSome, IfNone};
-ghost use Rattle.tta_arch.specs.Rules.{IsMachine};
-ghost use Rattle.tta_moves.specs.Slots.{carried};
+ghost use Rattle.tta_arch.specs.Joins.{has_bit};
 ghost use Rattle.tta_connect.specs.Net.{IsNetOf};
-ghost use Rattle.tta_reserve.specs.Leaving.{row_reads, row_writes, is_open, row_takes};
+ghost use Rattle.tta_reserve.specs.Leaving.{row_reads, row_writes, row_takes};
 ghost use Rattle.tta_reserve.specs.Leaving.{fills_beside, row_fills};
 
 use crate::row::Row;
 use tta_arch::{Dest, GuardRef, Machine, Source, Template, has_bus};
-use tta_connect::Net;
+use tta_connect::{Net, least_bus};
 use tta_list::entry_at;
-use tta_moves::ItemSource;
-
-/// A source as a bus has to carry it: an address as the greatest that there is.
-pub fn carried(m: &Machine, src: ItemSource) -> Source
-    ensures value { result ≡ carried m.now src }
-    ensures rules { IsMachine m.now }
-{
-    let greatest = m.addresses() - 1;
-    match src {
-        ItemSource::Port(port) => port,
-        ItemSource::Address(_) => Source::Value(greatest),
-    }
-}
 
 /// A count, 0 past the end.
 fn count_at(counts: &[u8], at: u8) -> u8
@@ -64,15 +50,15 @@ fn row_writes(r: &Row, m: &Machine, dst: Dest) -> bool
     }
 }
 
-/// Whether a bus has neither a move nor a template.
-fn is_open(r: &Row, bus: u8) -> bool
-    ensures { result ≡ is_open r.now bus }
+/// Those of some buses that are not among others.
+fn without(buses: u16, others: u16) -> u16
+    ensures { (bus : ℕ) → has_bit result bus ≡ (has_bit buses bus && not (has_bit others bus)) }
 {
-    !has_bus(r.moves, usize::from(bus)) && !has_bus(r.taken, usize::from(bus))
+    buses & !others
 }
 
 /// The least bus on which a row takes a move. It is None exactly where there is none.
-pub fn least_bus(
+pub fn bus_for(
     r: &Row,
     m: &Machine,
     net: &Net,
@@ -89,16 +75,8 @@ pub fn least_bus(
     if !row_reads(r, m, src) || !row_writes(r, m, dst) {
         return None;
     }
-    let first = net.bus_for(m, &src, &dst, &guard)?;
-    if is_open(r, first) {
-        return Some(first);
-    }
-    for bus in first..m.buses.len() as u8 {
-        if is_open(r, bus) && net.joins(m, bus, &src, &dst, &guard) {
-            return Some(bus);
-        }
-    }
-    None
+    let free = without(without(net.joining(m, src, dst, guard), r.moves), r.taken);
+    least_bus(free)
 }
 
 /// Whether a template writes an immediate register and takes no bus that has a move.

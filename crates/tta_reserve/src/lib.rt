@@ -1,5 +1,5 @@
 //! The table of cycles: what the items of a block take while they are placed, so that a few masks
-//! and counts tell whether one item more fits.
+//! and counts say whether one item more fits.
 #![tactic(auto)]
 
 mod adding;

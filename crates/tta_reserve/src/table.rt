@@ -1,13 +1,13 @@
 //! The table of cycles.
 
 use crate::adding::with_item;
-use crate::leaving::{carried, least_bus, least_template};
+use crate::leaving::{bus_for, least_template};
 use crate::row::Row;
 use std::alloc::{AllocError, Global};
 use std::marker::Model;
 use tta_arch::Machine as Target;
 use tta_connect::Net;
-use tta_moves::{Item, Slot};
+use tta_moves::{Item, Slot, carried};
 
 /// What the placed items of a block take, a row for each cycle.
 #[derive(Drop)]
@@ -100,7 +100,7 @@ impl Table {
         let r = row_at(self.rows.as_slice(), cycle as usize);
         match *item {
             Item::Move { guard, src, dst } => {
-                let bus = least_bus(&r, m, net, carried(m, src), dst, guard)?;
+                let bus = bus_for(&r, m, net, carried(m, src), dst, guard)?;
                 Some(Slot::Bus(bus))
             }
             Item::Long { imm, reg, .. } => {
