@@ -16,6 +16,7 @@ use Rattle.tta_moves.specs.declared.items.PlacedItem.{PlacedItem}
 use Rattle.tta_moves.specs.declared.items.Placed.{Placed}
 use Rattle.tta_moves.specs.Meaning.{linked}
 use Rattle.tta_moves.specs.Bounds.{in_cycle}
+use Rattle.tta_moves.proofs.Numbered.{set_alike}
 use Rattle.tta_link.specs.Linked.{move_on, long_on, instruction_of, starts_from}
 use Rattle.tta_link.specs.Blocks.{total_length, slot_within}
 use Rattle.tta_link.specs.Put.{with_item}
@@ -40,23 +41,6 @@ replicate_push xs n a = rw (add-one, snoc n) (sym (append_assoc xs (replicate n 
   snoc (suc n) = ap (λ l. a ∷ l) (snoc n)
 
 -- ---- lists by numbers
-
-pub map_alike : {A : Type 0} (f g : ℕ → A) (a n : ℕ) → ((k : ℕ) → a ≤ k → f k ≡ g k) → map f (range_with_len a n) ≡ map g (range_with_len a n)
-map_alike f g a zero h = refl
-map_alike f g a (suc n) h = rw (h a (omega arith), map_alike f g (a + 1) n (λ k l. h k (omega arith))) refl
-
--- a list by numbers that is changed at one of them
-pub set_alike : {A : Type 0} (f g : ℕ → A) (a n c j : ℕ) (v : A) → c < n → j ≡ a + c → g j ≡ v → ((k : ℕ) → k ≢ j → f k ≡ g k) → set (map f (range_with_len a n)) c v ≡ map g (range_with_len a n)
-set_alike f g a zero c j v lt is here others = absurd (omega arith)
-set_alike f g a (suc n) zero j v lt is here others =
-    let at : j ≡ a = omega arith in
-    let e : g a ≡ v = subst (λ k. g k ≡ v) at here in
-    rw (e, map_alike f g (a + 1) n (λ k l. others k (omega arith))) refl
-set_alike f g a (suc n) (suc c) j v lt is here others =
-    let first : f a ≡ g a = others a (omega arith) in
-    let rest : set (map f (range_with_len (a + 1) n)) c v ≡ map g (range_with_len (a + 1) n)
-    = set_alike f g (a + 1) n c j v (omega arith) (omega arith) here others in
-    rw (first, rest) refl
 
 pub map_replicate : {A : Type 0} (v : A) (a n : ℕ) → map (λ (k : ℕ). v) (range_with_len a n) ≡ replicate n v
 map_replicate v a zero = refl
