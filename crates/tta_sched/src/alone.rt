@@ -3,25 +3,12 @@
 ghost use Rattle.std.specs.Prelude.{◌≡◌, ◌≤◌, true, false, length, slice_get};
 ghost use Rattle.std.specs.Option.{option_map_or};
 ghost use Rattle.std.specs.List.{list_any};
-ghost use Rattle.tta_arch.specs.Rules.{IsMachine};
 ghost use Rattle.tta_connect.specs.Net.{IsNetOf};
-ghost use Rattle.tta_moves.specs.Slots.{carried, carries, fills, has_slot};
+ghost use Rattle.tta_moves.specs.Slots.{carries, fills, has_slot};
 
-use tta_arch::{Machine, Source, Template};
+use tta_arch::{Machine, Template};
 use tta_connect::Net;
-use tta_moves::{Item, ItemSource, Slot};
-
-/// A source as a bus has to carry it: an address as the greatest that there is.
-pub fn carried(m: &Machine, src: ItemSource) -> Source
-    ensures value { result ≡ carried m.now src }
-    ensures rules { IsMachine m.now }
-{
-    let greatest = m.addresses() - 1;
-    match src {
-        ItemSource::Port(port) => port,
-        ItemSource::Address(_) => Source::Value(greatest),
-    }
-}
+use tta_moves::{Item, Slot, carried};
 
 /// Whether a template writes an immediate register.
 fn fills(t: &Template, imm: u8, reg: u8) -> bool

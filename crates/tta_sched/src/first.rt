@@ -15,15 +15,8 @@ use tta_arch::Machine;
 use tta_connect::Net;
 use tta_depend::Bounds;
 use tta_list::Items;
-use tta_moves::{BlockList, Item, Placed, PlacedItem};
+use tta_moves::{BlockList, Item, Placed, PlacedItem, keeps_rules};
 use tta_reserve::Table;
-
-/// That a machine keeps the rules of machines, for whoever has to say so. It does nothing.
-fn keeps_rules(m: &Machine)
-    ensures { IsMachine m.now }
-{
-    let _delay = m.control.delay;
-}
 
 /// Where an item fits first beside the booked items, in the cycles from its bound up to an end. It
 /// is None exactly where it fits in none of them.
@@ -62,7 +55,6 @@ pub struct Placer {
 
 impl Placer {
     ghost use Rattle.std.specs.Prelude.{◌≡◌, ◌<◌, true, OnOk, IfOk};
-    ghost use Rattle.tta_arch.specs.Rules.{IsMachine};
     ghost use Rattle.tta_connect.specs.Net.{IsNetOf};
     ghost use Rattle.tta_moves.specs.Slots.{has_slot, is_list};
     ghost use Rattle.tta_moves.specs.Bounds.{Respects};
