@@ -1,11 +1,10 @@
 -- What the parts prove of their own, one after another.
-use Rattle.std.proofs.Common.{◌≡◌, ◌≢◌, ◌<◌, ◌^◌, ℕ, suc, ◌+◌, Bool, true, List, [], ◌∷◌, ◌++◌, refl, sym, ap, subst, arith, ◌∙◌, length, map, is_some}
+use Rattle.std.proofs.Common.{◌≡◌, ◌≢◌, ◌<◌, ◌^◌, ℕ, suc, ◌+◌, Bool, true, List, [], ◌∷◌, ◌++◌, refl, sym, ap, subst, arith, ◌∙◌, length, map}
 use Rattle.std.specs.Prelude.{nat_lt}
 use Rattle.std.specs.List.{list_all, AllByRecursion}
 use Rattle.std.proofs.lemmas.Bool.{and_parts}
 use Rattle.std.proofs.lemmas.Bool.Decides.{nat_tests}
 use Rattle.tta_ops.specs.Units.{Units}
-use Rattle.tta_arch.specs.declared.parts.Op.TheVariants.{Ldf, Stf}
 use Rattle.tta_arch.specs.Machine.{Machine}
 use Rattle.tta_connect.specs.declared.choice.Choice.{Choice}
 use Rattle.tta_connect.specs.Coverage.{offered}
@@ -13,11 +12,11 @@ use Rattle.tta_program.specs.declared.program.DataLine.{DataLine}
 use Rattle.tta_program.specs.Program.{Program, datum_of}
 use Rattle.tta_program.specs.Rules.{is_datum}
 use Rattle.tta_program.specs.Sequential as program
-use Rattle.tta_program.specs.Sequential.{Outcome, seq}
+use Rattle.tta_program.specs.Sequential.{Outcome}
 use Rattle.tta_moves.specs.declared.items.BlockList.{BlockList}
 use Rattle.tta_moves.specs.declared.items.Item.{Item}
 use Rattle.tta_list.specs.Legs as legs
-use Rattle.tta_list.specs.Legs.{Run, AllPairs}
+use Rattle.tta_list.specs.Legs.{AllPairs}
 use Rattle.tta_moves.specs.Runs.{AreAddresses, lrun}
 use Rattle.tta_optim.specs.Kept.{StandsFor}
 use Rattle.tta_optim.proofs.Meanings.{optimise_meaning}
@@ -38,9 +37,8 @@ use Rattle.tta_lower.proofs.Lowering.{lowers_well}
 use Rattle.tta_select.specs.Needs.{fits_block, word_block}
 use Rattle.tta_select.specs.Keeps as select
 use Rattle.tta_select.specs.Keeps.{as_legs, IsFit}
-use Rattle.tta_select.specs.Laws.{SelectedKeeps}
-use Rattle.tta_select.proofs.Covering.{serves, grounds}
-use Rattle.tta_select.proofs.Whole as select_whole
+use Rattle.tta_select.specs.Statement.{IsGiven}
+use Rattle.tta_select.proofs.Selecting.{selects}
 use Rattle.tta_overlap.specs.Means.{MeanAt}
 use Rattle.tta_lower.specs.Law.{IsKnown}
 use Rattle.tta_compose.specs.Compiler.{IsPair, AreStandIns, optimised, raw}
@@ -48,13 +46,6 @@ use Rattle.tta_compose.specs.Laws.{ListsMean, SelectedStand, CompiledStand}
 use Rattle.tta_compose.proofs.Offered.{part_steps, part_exit}
 use Rattle.tta_compose.proofs.Fitting.{block_fits, block_short}
 use Rattle.tta_compose.proofs.Words.{steps_words, exit_words}
-
--- ---- selection
-
-select_keeps : SelectedKeeps
-select_keeps u m choice r rules over chosen fit =
-    let frame = and_parts (is_some (offered m choice.usable Ldf)) (is_some (offered m choice.usable Stf)) chosen.frame in
-    select_whole.keeps_meaning u m choice (grounds m choice chosen) (serves m choice rules Ldf frame.0) (serves m choice rules Stf frame.1) over (serves m choice rules) r fit
 
 -- ---- the passes
 
@@ -197,9 +188,13 @@ module _ (u : Units) (m : Machine) (c : Choice) (p : Program) (blocks : List Spa
     sound = law.keeps.meaning;
   }
 
+  -- selection is given what it asks for
+  pub given : IsGiven u m c code
+  given = record { machine = pair.machine; over = pair.over; choice = pair.choice; code = fit }
+
   -- the selected lists run as the register code
   pub raw_keeps : select.KeepsMeaning u m code (raw u m c p blocks home live_first live_after)
-  raw_keeps = select_keeps u m c code pair.machine pair.over pair.choice fit
+  raw_keeps = (selects u m c code given).keeps
 
   module _ (lists : List BlockList) (stand : AllPairs (StandsFor m) (raw u m c p blocks home live_first live_after) lists)
       (addr memory input : List ℕ) (are : AreAddresses addr (length lists)) where

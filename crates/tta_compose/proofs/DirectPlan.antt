@@ -1,32 +1,21 @@
 -- The list of a direct pair is planned for its program.
-use Rattle.std.proofs.Common.{◌≡◌, ◌≤◌, ℕ, Bool, true, false, List, [], ◌∷◌, Some, refl, sym, ap, subst, ◌∙◌, arith, length, map, slice_get}
-use Rattle.std.specs.Prelude.{◌==◌, ◌&&◌, if◌then◌else◌, option_map}
-use Rattle.std.specs.Option.{option_map_or}
-use Rattle.std.specs.List.{sum_by}
-use Rattle.std.proofs.lemmas.Bool.{and_parts}
+use Rattle.std.proofs.Common.{◌≡◌, ℕ, true, List, [], ◌∷◌, Some, refl, sym, ap, subst, ◌∙◌, arith, length, map, slice_get}
+use Rattle.std.specs.Prelude.{◌==◌, option_map}
 use Rattle.std.proofs.lemmas.Bool.Decides.{nat_tests}
 use Rattle.std.proofs.lemmas.List.{length-map}
-use Rattle.std.proofs.lemmas.List.Sums.{sum_by-cons}
 use Rattle.std.proofs.lemmas.Option.{slice_get-map}
 use Rattle.tta_ops.specs.Units.{Units}
-use Rattle.tta_arch.specs.declared.parts.UnitOp.{UnitOp}
-use Rattle.tta_arch.specs.declared.parts.Op.TheVariants.{Out}
-use Rattle.tta_arch.specs.declared.ends.Source.TheVariants as source
 use Rattle.tta_arch.specs.Machine.{Machine}
-use Rattle.tta_arch.specs.Effects.{op_at}
-use Rattle.tta_arch.specs.Rules.{IsMachine, is_frame_op}
+use Rattle.tta_arch.specs.Rules.{IsMachine}
 use Rattle.tta_connect.specs.declared.choice.Choice.{Choice}
 use Rattle.tta_connect.specs.declared.calls.Call.{Call}
-use Rattle.tta_connect.specs.Coverage.{hub_of}
 use Rattle.tta_program.specs.declared.program.Proc.{Proc}
 use Rattle.tta_program.specs.Program.{Program}
 use Rattle.tta_program.specs.Rules.{IsProgram}
 use Rattle.tta_program.specs.Direct.{puts}
-use Rattle.tta_rcode.specs.declared.code.RSrc.TheVariants as rsrc
-use Rattle.tta_rcode.specs.declared.code.RStep.TheVariants as rstep
 use Rattle.tta_rcode.specs.declared.code.RBlock.{RBlock}
 use Rattle.tta_rcode.specs.declared.code.Rir.{Rir}
-use Rattle.tta_rcode.specs.Counts.{asks, asks_rstep}
+use Rattle.tta_rcode.specs.Counts.{asks}
 use Rattle.tta_rcode.specs.Direct.{one_block}
 use Rattle.tta_flow.specs.declared.flow.Block.{Block}
 use Rattle.tta_flow.specs.declared.live.Live.{Live}
@@ -40,19 +29,18 @@ use Rattle.tta_lower.specs.Lower.{parts, block_of}
 use Rattle.tta_lower.specs.Known.{spans, home_by, first_by, after_by}
 use Rattle.tta_lower.proofs.Lowering.{lowers_well}
 use Rattle.tta_lower.proofs.SameHomes.{answers_know}
-use Rattle.tta_moves.specs.declared.items.ItemSource.TheVariants.{Port}
 use Rattle.tta_moves.specs.declared.items.Item.{Item}
 use Rattle.tta_moves.specs.declared.items.BlockList.{BlockList}
-use Rattle.tta_moves.specs.Touches.{target_of_item}
-use Rattle.tta_moves.specs.Forms.{none_after, is_bypassable, is_redundant, is_detour, is_lively}
-use Rattle.tta_select.specs.Counts.{targets, is_trigger_of, is_frame_trigger, is_home, is_need}
-use Rattle.tta_select.specs.Select.{goes, trigger_at, home_pair}
+use Rattle.tta_moves.specs.Forms.{none_after, is_bypassable, is_redundant, is_lively}
+use Rattle.tta_select.specs.Counts.{is_need}
+use Rattle.tta_select.specs.Select.{home_pair}
 use Rattle.tta_select.specs.Direct.{out_of, constants_out}
+use Rattle.tta_select.proofs.OutputJoins.{CanOutput, can}
+use Rattle.tta_select.proofs.DirectLists.{no_address, straight, triggers, frames, homes}
 use Rattle.tta_compose.specs.Direct.{constants_of, list_of_direct, is_direct}
 use Rattle.tta_compose.specs.Planned.{IsListOf, ArePlanned, HasForms}
 use Rattle.tta_compose.specs.Packed.{homes_on, IsPlan}
-use Rattle.tta_compose.proofs.Directly.{direct_lowers, direct_is_list, direct_means, no_address, can, only_one}
-use Rattle.tta_compose.proofs.OneList.{CanOutput, can_output}
+use Rattle.tta_compose.proofs.Directly.{direct_lowers, direct_is_list, direct_means, only_one}
 use Rattle.tta_compose.proofs.Pairs.{is_alone}
 use Rattle.tta_compose.proofs.Planning.{in_get}
 use Rattle.tta_compose.proofs.NoVariables.{any_scan}
@@ -70,52 +58,6 @@ shared m f (w ∷ words) before = shared m f words _
 lively : (m : Machine) (f : Call) (words : List ℕ) → is_lively m [] (constants_out f words) ≡ true
 lively m f [] = refl
 lively m f (w ∷ words) = lively m f words
-
-straight : (m : Machine) (f : Call) (words : List ℕ) (before : List Item) → none_after (is_detour m (hub_of m)) before (constants_out f words) ≡ true
-straight m f [] before = refl
-straight m f (w ∷ words) before = straight m f words _
-
--- ---- the counts
-
--- each constant triggers the output once, for which the block asks
-triggers : (u : Units) (m : Machine) (f : Call) (words : List ℕ) → CanOutput m f words → (unit k : ℕ) (o : UnitOp) → op_at m unit k ≡ Some o
-    → targets (is_trigger_of unit k) (constants_out f words) ≤ sum_by (asks_rstep u (is_need o.op)) (map (λ w. rstep.Put (rsrc.Word w)) words)
-triggers u m f [] can unit k o there = omega arith
-triggers u m f (w ∷ words) can unit k o there =
-    let more = triggers u m f words (can_output m f words can) unit k o there in
-    let one = here (f.unit == unit && f.op == k) refl in
-    let a = sum_by-cons (λ (x : Item). if is_trigger_of unit k (target_of_item x) then 1 else 0) (goes (Port (source.Value w)) (trigger_at f)) (constants_out f words) in
-    let b = sum_by-cons (asks_rstep u (is_need o.op)) (rstep.Put (rsrc.Word w)) (map (λ w. rstep.Put (rsrc.Word w)) words) in
-    omega (arith, more, one, a, b) where
-      here : (b : Bool) → (f.unit == unit && f.op == k) ≡ b → (if b then 1 else 0) ≤ asks_rstep u (is_need o.op) (rstep.Put (rsrc.Word w))
-      here false e = omega arith
-      here true e =
-          let both = and_parts (f.unit == unit) (f.op == k) e in
-          let same_unit : f.unit ≡ unit = grind (arith, nat_tests, both.0) in
-          let same_op : f.op ≡ k = grind (arith, nat_tests, both.1) in
-          let is : op_at m unit k ≡ Some (record { op = Out; arity = 1; latency = can.0 }) =
-          subst (λ (n : ℕ). op_at m n k ≡ Some (record { op = Out; arity = 1; latency = can.0 })) same_unit
-          (subst (λ (n : ℕ). op_at m f.unit n ≡ Some (record { op = Out; arity = 1; latency = can.0 })) same_op can.1) in
-          let one : o ≡ record { op = Out; arity = 1; latency = can.0 } = cc in
-          rw one (omega arith)
-
--- none is on the frame
-frames : (m : Machine) (f : Call) (words : List ℕ) → CanOutput m f words → targets (is_frame_trigger m) (constants_out f words) ≡ 0
-frames m f [] can = refl
-frames m f (w ∷ words) can =
-    let more = frames m f words (can_output m f words can) in
-    let here : option_map_or (λ (o : UnitOp). is_frame_op o.op) (op_at m f.unit f.op) false ≡ false = rw can.1 refl in
-    let a = sum_by-cons (λ (x : Item). if is_frame_trigger m (target_of_item x) then 1 else 0) (goes (Port (source.Value w)) (trigger_at f)) (constants_out f words) in
-    let b : ◌≡◌ {A = ℕ} (if option_map_or (λ (o : UnitOp). is_frame_op o.op) (op_at m f.unit f.op) false then 1 else 0) 0 = rw here refl in
-    omega (arith, more, a, b)
-
--- and no home register is written
-homes : (c : Choice) (f : Call) (words : List ℕ) → targets (is_home c) (constants_out f words) ≡ 0
-homes c f [] = refl
-homes c f (w ∷ words) =
-    let more = homes c f words in
-    let a = sum_by-cons (λ (x : Item). if is_home c (target_of_item x) then 1 else 0) (goes (Port (source.Value w)) (trigger_at f)) (constants_out f words) in
-    omega (arith, more, a)
 
 -- ---- the plan
 

@@ -1,12 +1,6 @@
 -- A direct pair: its list, and what the code of its list does.
-use Rattle.std.proofs.Common.{◌≡◌, ◌+◌, ℕ, zero, suc, true, List, [], ◌∷◌, Some, refl, sym, subst, arith, length, slice_get}
-use Rattle.std.specs.Prelude.{nat_le}
-use Rattle.std.specs.List.{list_all}
-use Rattle.std.proofs.lemmas.Bool.{and_parts}
-use Rattle.std.proofs.lemmas.Bool.Decides.{nat_tests}
+use Rattle.std.proofs.Common.{◌≡◌, ℕ, zero, suc, true, List, [], ◌∷◌, Some, refl, sym, subst, arith, length, slice_get}
 use Rattle.tta_arch.specs.Machine.{Machine}
-use Rattle.tta_arch.specs.Rules.{IsMachine}
-use Rattle.tta_connect.specs.declared.calls.Call.{Call}
 use Rattle.tta_program.specs.declared.program.Proc.{Proc}
 use Rattle.tta_program.specs.declared.program.DataLine.{DataLine}
 use Rattle.tta_program.specs.Program.{Program}
@@ -27,20 +21,19 @@ use Rattle.tta_lower.proofs.Lowering.{lowers_well}
 use Rattle.tta_lower.proofs.OneBlock.{one-block}
 use Rattle.tta_lower.proofs.SameBlocks.{are_blocks}
 use Rattle.tta_lower.proofs.SameHomes.{answers_know}
-use Rattle.tta_moves.specs.declared.items.Item.{Item}
 use Rattle.tta_moves.specs.declared.items.BlockList.{BlockList}
 use Rattle.tta_moves.specs.declared.items.Placed.{Placed}
-use Rattle.tta_moves.specs.Touches.{source_of}
-use Rattle.tta_moves.specs.Slots.{has_slot, control_is_last, is_list}
-use Rattle.tta_select.specs.Lists.{is_closed}
+use Rattle.tta_moves.specs.Slots.{control_is_last, is_list}
 use Rattle.tta_select.specs.Direct.{out_of, constants_out}
+use Rattle.tta_select.proofs.OutputJoins.{CanOutput, can}
+use Rattle.tta_select.proofs.OneList.{alike}
+use Rattle.tta_select.proofs.DirectLists.{control_last, no_address, can_direct}
 use Rattle.tta_link.specs.Blocks.{IsBlock}
 use Rattle.tta_overlap.proofs.Built.{built_agrees}
-use Rattle.tta_compose.specs.Direct.{brings, constants_of, list_of_direct, DirectLowers, DirectIsList, DirectMeans, DirectLinks, DirectAgrees}
+use Rattle.tta_compose.specs.Direct.{constants_of, list_of_direct, DirectLowers, DirectIsList, DirectMeans, DirectLinks, DirectAgrees}
 use Rattle.tta_compose.proofs.Composed.{mean_of, data_words}
 use Rattle.tta_compose.proofs.Linking.{is_block}
-use Rattle.tta_compose.proofs.OneList.{CanOutput, alike}
-use Rattle.tta_compose.proofs.Pairs.{IsAlone, is_alone, outputs, halt_joined}
+use Rattle.tta_compose.proofs.Pairs.{IsAlone, is_alone}
 
 -- ---- the register code
 
@@ -58,40 +51,14 @@ direct_lowers m p rules direct homes blocks l h flow live scan =
 
 -- ---- the list
 
--- the list ends with its only control item
-pub control_last : (f : Call) (words : List ℕ) → control_is_last (constants_out f words) ≡ true
-control_last f [] = refl
-control_last f (w ∷ words) = control_last f words
-
-slots : (m : Machine) → IsMachine m → (words : List ℕ) → list_all (brings m) words ≡ true → list_all (has_slot m) (constants_out (out_of m) words) ≡ true
-slots m rules [] all = rw (halt_joined m rules) refl
-slots m rules (w ∷ words) all =
-    let two = and_parts (brings m w) (list_all (brings m) words) all in
-    rw (two.0, slots m rules words two.1) refl
-
-size : (f : Call) (words : List ℕ) → length (constants_out f words) ≡ length words + 1
-size f [] = refl
-size f (w ∷ words) = let e = size f words in omega (arith, e)
-
--- no item moves an address
-pub no_address : (blocks : ℕ) (f : Call) (words : List ℕ) → list_all (λ (x : Item). is_closed blocks (source_of x)) (constants_out f words) ≡ true
-no_address blocks f [] = refl
-no_address blocks f (w ∷ words) = no_address blocks f words
-
 pub direct_is_list : DirectIsList
 direct_is_list m p machine rules direct =
     let a = is_alone m p rules direct in
     let few = a.steps in
-    let n = size (out_of m) (puts (a.proc).steps) in
-    let count : nat_le (length (constants_out (out_of m) (puts (a.proc).steps))) 16777216 ≡ true = grind (arith, nat_tests) in
     subst (λ (words : List ℕ). is_list m (constants_out (out_of m) words) ≡ true) (sym a.constants)
-    (rw (count, slots m machine (puts (a.proc).steps) a.brought.all, control_last (out_of m) (puts (a.proc).steps)) refl)
+    (can_direct m (puts (a.proc).steps) machine (omega (arith, few)) a.brought.all)
 
 -- ---- its meaning
-
-pub can : (m : Machine) → IsMachine m → (words : List ℕ) → list_all (brings m) words ≡ true → CanOutput m (out_of m) words
-can m rules [] all = tt
-can m rules (w ∷ words) all = outputs m rules w (and_parts (brings m w) (list_all (brings m) words) all).0
 
 pub direct_means : DirectMeans
 direct_means u m p machine rules direct blocks l h flow live scan addr memory input are given =

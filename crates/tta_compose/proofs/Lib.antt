@@ -5,7 +5,6 @@ pub mod Composed
 pub mod Planning
 pub mod Linking
 pub mod Room
-pub mod OneList
 pub mod Pairs
 pub mod Directly
 pub mod Sorted

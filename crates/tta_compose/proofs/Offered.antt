@@ -19,7 +19,7 @@ use Rattle.tta_rcode.specs.declared.code.RStep.{RStep}
 use Rattle.tta_lower.specs.declared.part.Span.{Span}
 use Rattle.tta_lower.specs.Liveness.{Homes}
 use Rattle.tta_lower.specs.declared.part.Part.{Part}
-use Rattle.tta_lower.specs.declared.part.Part.TheVariants.{Entry, Steps, Behind}
+use Rattle.tta_lower.specs.declared.part.Part.TheVariants.{Entry, Steps, Returned}
 use Rattle.tta_lower.specs.Lower.{block_of, number_of, entry_number}
 use Rattle.tta_rcode.specs.declared.code.RStep.TheVariants as rstep
 use Rattle.tta_rcode.specs.declared.code.Exit.TheVariants as exit
@@ -101,7 +101,7 @@ module _ (u : Units) (m : Machine) (c : Choice) (p : Program) (home : Homes) whe
     part_steps all (Entry owner) =
         both offers (keeps_ra p home owner) (sets_from p home (live_first owner) owner 0 (vars_of p owner)) (of_ra owner) (of_sets (live_first owner) owner 0 (vars_of p owner))
     part_steps all (Steps b) = of_code all b.owner b.first (b.last + 1 - b.first)
-    part_steps all (Behind b d callee) = refl
+    part_steps all (Returned b d callee) = refl
 
     back_needs : (owner : ℕ) → is_offered m c (op_of_exit u (back p home (number_of p blocks live_first) (entry_number p blocks live_first) owner)) ≡ true
     back_needs owner = on (owner == p.main) refl where
@@ -127,7 +127,7 @@ module _ (u : Units) (m : Machine) (c : Choice) (p : Program) (home : Homes) whe
 
     pub part_exit : are_offered u m c p ≡ true → (x : Part) → is_offered m c (op_of_exit u (block_of p blocks live_first home live_after homes x).exit) ≡ true
     part_exit all (Entry owner) = refl
-    part_exit all (Behind b d callee) = refl
+    part_exit all (Returned b d callee) = refl
     part_exit all (Steps b) = on (step_at p b.owner b.last) refl where
       on : (o : Option Step) → step_at p b.owner b.last ≡ o
           → is_offered m c (op_of_exit u (option_map_or (exit_for p home (number_of p blocks live_first) (entry_number p blocks live_first) b.owner) o exit.Halt)) ≡ true

@@ -1,5 +1,5 @@
 -- Lists that may be placed for the selected ones are planned.
-use Rattle.std.proofs.Common.{◌≡◌, inl, inr, ℕ, zero, suc, Bool, true, false, List, [], ◌∷◌, Some, refl, ap, subst, ◌∙◌, arith, length, map, slice_get}
+use Rattle.std.proofs.Common.{◌≡◌, ◌≤◌, inl, inr, ℕ, zero, suc, Bool, true, false, List, [], ◌∷◌, Some, refl, ap, subst, ◌∙◌, arith, length, map, slice_get}
 use Rattle.std.specs.Prelude.{◌==◌, ◌||◌, nat_lt, option_map}
 use Rattle.std.specs.List.{list_all, list_any}
 use Rattle.std.proofs.lemmas.Bool.{and_parts, or_cases}
@@ -16,8 +16,11 @@ use Rattle.tta_moves.specs.declared.items.Item.{Item}
 use Rattle.tta_moves.specs.declared.items.ItemSource.{ItemSource}
 use Rattle.tta_moves.specs.declared.items.ItemSource.TheVariants.{Port, Address}
 use Rattle.tta_moves.specs.Touches.{source_of}
+use Rattle.tta_moves.specs.Forms.{is_straight}
 use Rattle.tta_list.specs.Legs.{AllPairs}
-use Rattle.tta_optim.specs.Kept.{names, is_address}
+use Rattle.tta_list.proofs.Lists.{list_all_one}
+use Rattle.tta_optim.specs.Kept.{is_address}
+use Rattle.tta_optim.specs.Kept as kept
 use Rattle.tta_optim.proofs.NoMore.{optimise_bypassed, optimise_shared, optimise_lively}
 use Rattle.tta_lower.specs.declared.part.Span.{Span}
 use Rattle.tta_lower.specs.declared.part.Part.{Part}
@@ -26,13 +29,15 @@ use Rattle.tta_lower.specs.Members.{In}
 use Rattle.tta_lower.specs.Liveness.{Homes}
 use Rattle.tta_lower.specs.Lower.{parts, block_of}
 use Rattle.tta_select.specs.Select.{list_of}
-use Rattle.tta_select.specs.Counts.{is_trigger_of, is_frame_trigger, is_home, is_need}
-use Rattle.tta_select.specs.Lists.{is_closed, IsSelected}
-use Rattle.tta_select.proofs.Assembly.{all_selected}
+use Rattle.tta_rcode.specs.Counts.{names, assigns_block}
+use Rattle.tta_select.specs.Counts.{targets, is_trigger_of, is_frame_trigger, is_home, is_need}
+use Rattle.tta_select.specs.Lists.{is_closed}
+use Rattle.tta_select.specs.Statement.{IsListFor, TriggersNoMore, IsSelection}
+use Rattle.tta_select.proofs.Selecting.{selects}
 use Rattle.tta_lower.specs.Law.{IsKnown}
 use Rattle.tta_compose.specs.Compiler.{IsPair, IsStandIn, AreStandIns, optimised, raw}
 use Rattle.tta_compose.specs.Planned.{IsListOf, ArePlanned, HasForms, ListsPlanned, CompiledForms}
-use Rattle.tta_compose.proofs.Composed.{code, law, fit, pairs_length}
+use Rattle.tta_compose.proofs.Composed.{code, law, given, pairs_length}
 
 pub in_get : {A : Type 0} (xs : List A) (k : ℕ) (x : A) → slice_get xs k ≡ Some x → In x xs
 in_get [] k x e = absurd cc
@@ -41,11 +46,11 @@ in_get (y ∷ xs) (suc k) x e = inr (in_get xs k x e)
 
 -- ---- addresses
 
-named_within : (blocks b : ℕ) (items : List Item) → list_all (λ y. is_closed blocks (source_of y)) items ≡ true → list_any (names b) items ≡ true → nat_lt b blocks ≡ true
+named_within : (blocks b : ℕ) (items : List Item) → list_all (λ y. is_closed blocks (source_of y)) items ≡ true → list_any (kept.names b) items ≡ true → nat_lt b blocks ≡ true
 named_within blocks b [] all any = absurd cc
 named_within blocks b (y ∷ items) all any =
     let s = and_parts (is_closed blocks (source_of y)) (list_all (λ y. is_closed blocks (source_of y)) items) all in
-    elim (or_cases (names b y) (list_any (names b) items) any) as (λ c. nat_lt b blocks ≡ true) [
+    elim (or_cases (kept.names b y) (list_any (kept.names b) items) any) as (λ c. nat_lt b blocks ≡ true) [
       | inl e ↦ here (source_of y) s.0 e
       | inr e ↦ named_within blocks b items s.1 e
     ] where
@@ -54,10 +59,10 @@ named_within blocks b (y ∷ items) all any =
       here (Address a) closed e = let same : a ≡ b = grind (arith, nat_tests) in subst (λ (n : ℕ). nat_lt n blocks ≡ true) same closed
 
 all_closed : (blocks : ℕ) (items ys : List Item) → list_all (λ y. is_closed blocks (source_of y)) items ≡ true
-    → ((b : ℕ) → list_any (names b) ys ≡ true → list_any (names b) items ≡ true) → list_all (λ y. is_closed blocks (source_of y)) ys ≡ true
+    → ((b : ℕ) → list_any (kept.names b) ys ≡ true → list_any (kept.names b) items ≡ true) → list_all (λ y. is_closed blocks (source_of y)) ys ≡ true
 all_closed blocks items [] all from = refl
 all_closed blocks items (y ∷ ys) all from =
-    rw (here (source_of y) refl, all_closed blocks items ys all (λ b e. from b (more (names b y) (list_any (names b) ys) e))) refl where
+    rw (here (source_of y) refl, all_closed blocks items ys all (λ b e. from b (more (kept.names b y) (list_any (kept.names b) ys) e))) refl where
       more : (a b : Bool) → b ≡ true → (a || b) ≡ true
       more true b e = refl
       more false b e = e
@@ -69,8 +74,8 @@ all_closed blocks items (y ∷ ys) all from =
       here (Port src) e = rw e refl
       here (Address b) e =
           let same : (b == b) ≡ true = grind (arith, nat_tests) in
-          let named : names b y ≡ true = ap (is_address b) e ∙ same in
-          ap (is_closed blocks) e ∙ named_within blocks b items all (from b (first (names b y) (list_any (names b) ys) named))
+          let named : kept.names b y ≡ true = ap (is_address b) e ∙ same in
+          ap (is_closed blocks) e ∙ named_within blocks b items all (from b (first (kept.names b y) (list_any (kept.names b) ys) named))
 
 -- ---- pairs of lists
 
@@ -92,38 +97,52 @@ module _ (u : Units) (m : Machine) (c : Choice) (p : Program) (blocks : List Spa
   abbrev block : Part → RBlock
   block x = block_of p blocks live_first home live_after (length c.homes) x
 
-  picked : IsSelected u m c (code u m c p blocks home live_first live_after pair known) (raw u m c p blocks home live_first live_after)
-  picked = all_selected u m c (code u m c p blocks home live_first live_after pair known) pair.machine pair.over pair.choice (fit u m c p blocks home live_first live_after pair known)
+  picked : IsSelection u m c (code u m c p blocks home live_first live_after pair known) (raw u m c p blocks home live_first live_after)
+  picked = selects u m c (code u m c p blocks home live_first live_after pair known) (given u m c p blocks home live_first live_after pair known)
+
+  -- how many lists there are
+  count : length (raw u m c p blocks home live_first live_after) ≡ length (parts p blocks live_first)
+  count = picked.size.count ∙ length-map (parts p blocks live_first) block
 
   block_there : (k : ℕ) (x : Part) → slice_get (parts p blocks live_first) k ≡ Some x → slice_get (code u m c p blocks home live_first live_after pair known).blocks k ≡ Some (block x)
   block_there k x e = slice_get-map (block_of p blocks live_first home live_after (length c.homes)) (parts p blocks live_first) k ∙ ap (option_map (block_of p blocks live_first home live_after (length c.homes))) e
+
+  list_there : (k : ℕ) (x : Part) → slice_get (parts p blocks live_first) k ≡ Some x → slice_get (raw u m c p blocks home live_first live_after) k ≡ Some (list_of m c u (block x))
+  list_there k x e =
+      slice_get-map (list_of m c u) (code u m c p blocks home live_first live_after pair known).blocks k ∙ ap (option_map (list_of m c u)) (block_there k x e)
 
   one : (k : ℕ) (x : Part) (o : BlockList) → slice_get (parts p blocks live_first) k ≡ Some x → slice_get lists k ≡ Some o
       → IsListOf u m c p blocks home live_first live_after x o
   one k x o e at =
       let l : BlockList = list_of m c u (block x) in
+      let lists_raw = raw u m c p blocks home live_first live_after in
+      let rs = (code u m c p blocks home live_first live_after pair known).blocks in
       let b = block_there k x e in
-      let f = picked.fit k (block x) b in
-      let s = picked.spare k (block x) b in
-      let t = pair_at (IsStandIn m) (raw u m c p blocks home live_first live_after) lists stand k l o (picked.each k (block x) b) at in
+      let there = list_there k x e in
+      let f = pair_at (IsListFor m c) rs lists_raw picked.each k (block x) l b there in
+      let straight = list_all_one (λ (l : BlockList). is_straight m (hub_of m) l.items) lists_raw k l picked.straight there in
+      let closed = list_all_one (λ (l : BlockList). list_all (λ y. is_closed (length lists_raw) (source_of y)) l.items) lists_raw k l picked.size.addresses there in
+      let triggers = pair_at (TriggersNoMore u m) rs lists_raw picked.triggers k (block x) l b there in
+      let frame = pair_at (λ (b : RBlock) (l : BlockList). targets (is_frame_trigger m) l.items ≤ names b) rs lists_raw picked.frame k (block x) l b there in
+      let homes = pair_at (λ (b : RBlock) (l : BlockList). targets (is_home c) l.items ≤ assigns_block b) rs lists_raw picked.homes k (block x) l b there in
+      let t = pair_at (IsStandIn m) lists_raw lists stand k l o there at in
       let n = t.spare in
       let w = law u m c p blocks home live_first live_after pair known in
       let i = in_get (parts p blocks live_first) k x e in
       record {
-        live = t.stands.live ∙ picked.live k (block x) b;
+        live = t.stands.live ∙ f.live_out;
         list = n.list f.list;
         addresses = all_closed (length (parts p blocks live_first)) l.items o.items
-            (subst (λ (t : ℕ). list_all (λ y. is_closed t (source_of y)) l.items ≡ true) (length-map (parts p blocks live_first) (block_of p blocks live_first home live_after (length c.homes))) f.closed) n.addresses;
-        straight = n.straight (hub_of m) f.straight;
-        triggers = λ unit k o there plain. let a = n.targets (is_trigger_of unit k) in let t = s.triggers unit k o there plain in let q = w.asked (is_need o.op) x i in omega (arith, a, t, q);
-        frame = let a = n.targets (is_frame_trigger m) in let t = s.frame in let q = w.slots x i in omega (arith, a, t, q);
-        homes = let a = n.targets (is_home c) in let t = s.homes in let q = w.assigned x i in omega (arith, a, t, q);
+            (subst (λ (t : ℕ). list_all (λ y. is_closed t (source_of y)) l.items ≡ true) count closed) n.addresses;
+        straight = n.straight (hub_of m) straight;
+        triggers = λ unit k o there plain. let a = n.targets (is_trigger_of unit k) in let t = triggers unit k o there plain in let q = w.asked (is_need o.op) x i in omega (arith, a, t, q);
+        frame = let a = n.targets (is_frame_trigger m) in let q = w.slots x i in omega (arith, a, frame, q);
+        homes = let a = n.targets (is_home c) in let q = w.assigned x i in omega (arith, a, homes, q);
       }
 
   pub planned : ArePlanned u m c p blocks home live_first live_after lists
   planned = record {
-    count = pairs_length (IsStandIn m) (raw u m c p blocks home live_first live_after) lists stand ∙ picked.blocks
-        ∙ length-map (parts p blocks live_first) (block_of p blocks live_first home live_after (length c.homes));
+    count = pairs_length (IsStandIn m) (raw u m c p blocks home live_first live_after) lists stand ∙ count;
     each = λ k x l e f. one k x l e f;
   }
 

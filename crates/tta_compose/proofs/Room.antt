@@ -9,11 +9,11 @@ use Rattle.tta_moves.specs.declared.items.Placed.{Placed}
 use Rattle.tta_sched.specs.Room.{longest, HasRoom}
 use Rattle.tta_program.specs.Sizes.{arg_count, var_count}
 use Rattle.tta_select.specs.Counts.{items_in}
-use Rattle.tta_select.proofs.Assembly.{all_selected}
+use Rattle.tta_select.proofs.Selecting.{selects}
 use Rattle.tta_link.specs.Blocks.{total_length}
 use Rattle.tta_compose.specs.Compiler.{AreStandIns, raw}
 use Rattle.tta_compose.specs.Room.{ListsFit}
-use Rattle.tta_compose.proofs.Composed.{code, law, fit}
+use Rattle.tta_compose.proofs.Composed.{code, law, given}
 use Rattle.tta_compose.proofs.Planning.{lists_planned}
 
 -- placed lists with room take at most a number for each item and one for each list
@@ -51,8 +51,7 @@ pub lists_fit : ListsFit
 lists_fit u m c p blocks home live_first live_after lists ps pair known stand are =
     let total = total_fits m lists ps are.respected.count are.room in
     let less = no_more_items m (raw u m c p blocks home live_first live_after) lists stand in
-    let picked = all_selected u m c (code u m c p blocks home live_first live_after pair known) pair.machine pair.over pair.choice (fit u m c p blocks home live_first live_after pair known) in
-    let light = picked.items in
+    let light = (selects u m c (code u m c p blocks home live_first live_after pair known) (given u m c p blocks home live_first live_after pair known)).size.items in
     let w = (law u m c p blocks home live_first live_after pair known).light in
     let few = (law u m c p blocks home live_first live_after pair known).few in
     let q = (lists_planned u m c p blocks home live_first live_after lists pair known stand).count in

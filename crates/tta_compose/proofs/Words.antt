@@ -15,7 +15,7 @@ use Rattle.tta_program.specs.Rules.{IsProgram, is_src, is_step, is_call}
 use Rattle.tta_program.specs.Sequential.{step_at}
 use Rattle.tta_lower.specs.declared.part.Span.{Span}
 use Rattle.tta_lower.specs.declared.part.Part.{Part}
-use Rattle.tta_lower.specs.declared.part.Part.TheVariants.{Entry, Steps, Behind}
+use Rattle.tta_lower.specs.declared.part.Part.TheVariants.{Entry, Steps, Returned}
 use Rattle.tta_rcode.specs.declared.code.RSrc.{RSrc}
 use Rattle.tta_rcode.specs.declared.code.RSrc.TheVariants as rsrc
 use Rattle.tta_rcode.specs.declared.code.RStep.TheVariants as rstep
@@ -114,7 +114,7 @@ module _ (p : Program) (home : Homes) where
       pub steps_words : (x : Part) → list_all word_step (block_of p blocks live_first home live_after homes x).steps ≡ true
       steps_words (Entry owner) = both word_step (keeps_ra p home owner) (sets_from p home (live_first owner) owner 0 (vars_of p owner)) (of_ra owner) (of_sets (live_first owner) owner 0 (vars_of p owner))
       steps_words (Steps b) = of_code b.owner b.first (b.last + 1 - b.first)
-      steps_words (Behind b d callee) = refl
+      steps_words (Returned b d callee) = refl
 
       back_words : (owner : ℕ) → word_exit (back p home (number_of p blocks live_first) (entry_number p blocks live_first) owner) ≡ true
       back_words owner = on (owner == p.main) refl where
@@ -142,7 +142,7 @@ module _ (p : Program) (home : Homes) where
 
       pub exit_words : (x : Part) → word_exit (block_of p blocks live_first home live_after homes x).exit ≡ true
       exit_words (Entry owner) = refl
-      exit_words (Behind b d callee) = refl
+      exit_words (Returned b d callee) = refl
       exit_words (Steps b) = on (step_at p b.owner b.last) refl where
         on : (o : Option Step) → step_at p b.owner b.last ≡ o
             → word_exit (option_map_or (exit_for p home (number_of p blocks live_first) (entry_number p blocks live_first) b.owner) o exit.Halt) ≡ true

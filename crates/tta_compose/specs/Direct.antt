@@ -3,7 +3,6 @@ use Rattle.std.specs.Prelude.{◌≡◌, ℕ, ◌==◌, Bool, true, false, ◌&&
 use Rattle.std.specs.Option.{option_map_or}
 use Rattle.std.specs.List.{list_all}
 use Rattle.tta_ops.specs.Units.{Units}
-use Rattle.tta_arch.specs.declared.ends.Source.TheVariants as source
 use Rattle.tta_arch.specs.Machine.{Machine}
 use Rattle.tta_arch.specs.Rules.{IsMachine}
 use Rattle.tta_program.specs.declared.operand.Src.TheVariants.{Word}
@@ -19,8 +18,7 @@ use Rattle.tta_code.specs.Whole.{Whole, data_in}
 use Rattle.tta_code.specs.Agrees.{Agrees}
 use Rattle.tta_moves.specs.declared.items.Placed.{Placed}
 use Rattle.tta_moves.specs.declared.items.BlockList.{BlockList}
-use Rattle.tta_moves.specs.declared.items.ItemSource.TheVariants.{Port}
-use Rattle.tta_moves.specs.Slots.{joined, is_list}
+use Rattle.tta_moves.specs.Slots.{is_list}
 use Rattle.tta_flow.specs.declared.flow.Block.{Block}
 use Rattle.tta_flow.specs.declared.live.Live.{Live}
 use Rattle.tta_flow.specs.Blocks.{IsFlow}
@@ -29,18 +27,13 @@ use Rattle.tta_alloc.specs.declared.homes.Homes.{Homes}
 use Rattle.tta_alloc.specs.Homes.{IsScan}
 use Rattle.tta_lower.specs.Lower.{lowered}
 use Rattle.tta_lower.specs.Known.{spans, home_by, first_by, after_by}
-use Rattle.tta_select.specs.Select.{trigger_at}
-use Rattle.tta_select.specs.Direct.{out_of, direct_list}
+use Rattle.tta_select.specs.Direct.{out_of, brings, direct_list}
 use Rattle.tta_link.specs.Linked.{IsLinked}
 use Rattle.tta_link.specs.Blocks.{AreBlocks}
 use Rattle.tta_overlap.specs.Means.{Means}
 use Rattle.tta_compose.specs.Linking.{AreRespected}
 
 -- ---- the test
-
--- whether some bus joins a word, as an immediate, to the trigger port of the unit that offers `out`
-abbrev pub brings : Machine → ℕ → Bool
-brings m w = joined m (Port (source.Value w)) (trigger_at (out_of m)) None
 
 -- the constant that a step outputs, if it outputs one
 abbrev pub constant_of : Step → Option ℕ
