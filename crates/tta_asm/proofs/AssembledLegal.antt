@@ -35,7 +35,7 @@ front_legal m ps init code read legal =
       fits = subst (λ (ds : List Datum). fits m.data_words ds ≡ true) same f.fits;
     }
 
--- the pieces behind data that were read
+-- the pieces after data that were read
 pub front_behind : (m : Machine) (ps : List Piece) (init : List Datum) → data_from m.data_words 0 [] ps ≡ Ok init → drop (length init) ps ≡ behind_data ps
 front_behind m ps init read =
     let f = data_front m.data_words 0 [] ps init read in

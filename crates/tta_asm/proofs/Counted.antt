@@ -18,7 +18,7 @@ module _ (text : List ℕ) (line : ℕ) (t : Token) (ts : List Token) (before : 
   counted false (Some close) is closes ended closed more = rw (is, closes) (omega (arith, closed))
   counted false None is closes ended closed more = rw (is, closes) (omega (arith, more))
 
--- tokens make at most one piece each, and one behind the last
+-- tokens make at most one piece each, and one after the last
 length-pieces_from : (text : List ℕ) (line : ℕ) (before : List Placed) (ts : List Token) → length (pieces_from text line before ts) ≤ length ts + 1
 length-pieces_from text line before [] = omega arith
 length-pieces_from text line before (t ∷ ts) =

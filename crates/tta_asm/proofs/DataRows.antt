@@ -36,7 +36,7 @@ moves_to dst word = record { moves = Some (record { guard = None; src = source.V
 abbrev datum : (address value : ℕ) → Datum
 datum address value = record { address = address; value = value }
 
--- the code that puts out a word and halts
+-- the code that outputs a word and halts
 abbrev put_code : Code
 put_code = record { words = moves_to (dest.Trigger 0 0) 7 ∷ moves_to dest.Halt 0 ∷ [] }
 
@@ -89,12 +89,12 @@ data-lower : (u : Units) → assembled u four_words (codes "data 2 9 ;\ndata\n1 
 unfolding tokens_of tokens_from piece_at number_piece negative_piece mark_piece number_of negative_of digits_of value_below pieces_of source_form dest_form guard_form move_form slot_form long_form piece_form labels_of parts_of ops_of move_of long_of instruction_of take_piece datum_form datum_of assembled is_legal can_move
 data-lower u = refl
 
--- before what comes behind it
+-- before what comes after it
 data-first : (u : Units) → assembled u four_words (codes "data 9 9 ; $") ≡ Err (1, Data)
 unfolding tokens_of tokens_from piece_at number_piece negative_piece mark_piece number_of negative_of digits_of value_below pieces_of source_form dest_form guard_form move_form slot_form long_form piece_form labels_of parts_of ops_of move_of long_of instruction_of take_piece datum_form datum_of assembled is_legal can_move
 data-first u = refl
 
--- behind its own syntax
+-- after its own syntax
 data-syntax : (u : Units) → assembled u four_words (codes "data 9\n; data 9 9 ;") ≡ Err (2, Syntax)
 unfolding tokens_of tokens_from piece_at number_piece negative_piece mark_piece number_of negative_of digits_of value_below pieces_of source_form dest_form guard_form move_form slot_form long_form piece_form labels_of parts_of ops_of move_of long_of instruction_of take_piece datum_form datum_of assembled is_legal can_move
 data-syntax u = refl
@@ -114,12 +114,12 @@ data-open : (u : Units) → assembled u four_words (codes "data 1 2\n") ≡ Err 
 unfolding tokens_of tokens_from piece_at number_piece negative_piece mark_piece number_of negative_of digits_of value_below pieces_of source_form dest_form guard_form move_form slot_form long_form piece_form labels_of parts_of ops_of move_of long_of instruction_of take_piece datum_form datum_of assembled is_legal can_move
 data-open u = refl
 
--- behind an instruction
+-- after an instruction
 data-behind : (u : Units) → assembled u four_words (codes "7 -> OUT.t.out ; data\n2 9 ;") ≡ Err (2, Syntax)
 unfolding tokens_of tokens_from piece_at number_piece negative_piece mark_piece number_of negative_of digits_of value_below pieces_of source_form dest_form guard_form move_form slot_form long_form piece_form labels_of parts_of ops_of move_of long_of instruction_of take_piece datum_form datum_of assembled is_legal can_move
 data-behind u = refl
 
--- behind a label
+-- after a label
 data-late : (u : Units) → assembled u four_words (codes "a: data\n2 9 ;") ≡ Err (2, Syntax)
 unfolding tokens_of tokens_from piece_at number_piece negative_piece mark_piece number_of negative_of digits_of value_below pieces_of source_form dest_form guard_form move_form slot_form long_form piece_form labels_of parts_of ops_of move_of long_of instruction_of take_piece datum_form datum_of assembled is_legal can_move
 data-late u = refl

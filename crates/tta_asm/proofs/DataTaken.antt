@@ -1,4 +1,4 @@
--- What the data are that a text begins with: their addresses ascend in the data space, and the pieces behind them are left.
+-- What the data are that a text begins with: their addresses ascend in the data space, and the pieces after them are left.
 use Rattle.std.proofs.Common.{◌≡◌, ℕ, ◌+◌, ◌^◌, Bool, true, false, if◌then◌else◌, nat_le, List, [], ◌∷◌, ◌++◌, length, drop, Result, Ok, Err, refl, sym, ◌∙◌, subst}
 use Rattle.std.specs.Prelude.{◌&&◌, ◌||◌, nat_lt}
 use Rattle.std.proofs.lemmas.Bool.{and_from, or_parts, le-leb, lt-ltb, leb-false, ltb-false}
@@ -84,7 +84,7 @@ pub record Front (words least : ℕ) (before : List Datum) (ps : List Piece) (al
 no_more : (words least : ℕ) (before : List Datum) (ps : List Piece) (all : List Datum) → ps ≡ behind_data ps → before ≡ all → Front words least before ps all
 no_more words least before ps all rest same = record { more = []; whole = sym same ∙ sym (append-nil before); rises = refl; fits = refl; behind = rest }
 
--- one datum, and more behind it
+-- one datum, and more after it
 one_more : (words least : ℕ) (before : List Datum) (p : Piece) (ps : List Piece) (d : Datum) (all : List Datum) → is_declaration p ≡ true → IsTaken words least d
     → Front words (d.address + 1) (before ++ d ∷ []) ps all → Front words least before (p ∷ ps) all
 one_more words least before p ps d all is t f = record {

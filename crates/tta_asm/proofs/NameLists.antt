@@ -1,4 +1,4 @@
--- Lists of names, and names that go behind others unless they are there.
+-- Lists of names, and names that go after others unless they are there.
 use Rattle.std.proofs.Common.{◌≡◌, ℕ, ◌+◌, ◌<◌, Bool, true, false, if◌then◌else◌, List, [], ◌∷◌, ◌++◌, length, map, drop, get_or, Option, Some, None, is_some, refl, sym, ap, ◌∙◌}
 use Rattle.std.specs.Str.{bytes_eq}
 use Rattle.std.proofs.lemmas.Slice.Eq.{bytes_eq-Decides}
@@ -21,7 +21,7 @@ named_in-append {P = P} (d ∷ xs) ys name = by (bytes_eq d.0 name) (named_in-ap
   by true rest = refl
   by false rest = rest
 
--- lists that name the same do so with more behind them
+-- lists that name the same do so with more after them
 pub same_front : {P : Type 0} (xs ys more : Declared P) → NameTheSame xs ys → NameTheSame (xs ++ more) (ys ++ more)
 same_front {P = P} xs ys more same name =
     named_in-append xs more name ∙ ap (λ (o : Option P). either o (named_in more name)) (same name) ∙ sym (named_in-append ys more name)
@@ -65,7 +65,7 @@ pub found_name : {P : Type 0} (xs : Declared P) (name : List ℕ) (place : P) (f
 found_name xs name place None is e = cc
 found_name xs name place (Some was) is e = known_name xs name place was (sym is)
 
--- four lists behind another, one after another
+-- four lists after a list, each after the one before
 pub four_lists : {P : Type 0} (old one two three four a b c d : Declared P) → NameTheSame one (old ++ a) → NameTheSame two (one ++ b)
     → NameTheSame three (two ++ c) → NameTheSame four (three ++ d) → NameTheSame four (old ++ (a ++ (b ++ (c ++ d))))
 four_lists {P = P} old one two three four a b c d first second third fourth other =

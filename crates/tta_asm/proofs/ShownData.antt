@@ -35,7 +35,7 @@ datum_piece d = record {
   last = true;
 }
 
--- data, and the pieces behind them
+-- data, and the pieces after them
 abbrev pub with_data : List Datum → List PieceText → List PieceText
 with_data [] ps = ps
 with_data (d ∷ ds) ps = datum_piece d ∷ with_data ds ps
@@ -120,7 +120,7 @@ other_word kind text line start more h = by (placed_at line (start + length text
   by [] = refl
   by (w ∷ ws) = rw h refl
 
--- nor does a name with a mark behind it
+-- nor does a name with a mark after it
 name_of_part : (name mark : List ℕ) (line start : ℕ) (more : List Item) → begins_datum (placed_at line start (Word Name name ∷ Word Mark mark ∷ more)) ≡ false
 name_of_part name mark line start more = elim (is_keyword (codes "data") (record { kind = Name; text = name })) as (λ b. (b && false) ≡ false) [
   | true ↦ refl
@@ -168,14 +168,14 @@ code_no_data u m (i ∷ is) line start = by i.moves (code_no_data u m is line st
   by (slot ∷ []) more = first_no_data _ _ (slot_no_datum u m slot line start (long_items m i.long ++ Blank ∷ []))
   by (slot ∷ next ∷ moves) more = first_no_data _ _ (slot_no_datum u m slot line start (Blank ∷ []))
 
--- ---- data and what comes behind them
+-- ---- data and what comes after them
 
--- the line behind data
+-- the line after data
 abbrev pub line_past : (line : ℕ) → List Datum → ℕ
 line_past line [] = line
 line_past line (d ∷ ds) = line_past (line + 1) ds
 
--- the place behind them
+-- the place after them
 abbrev pub start_past : (start : ℕ) → List Datum → ℕ
 start_past start [] = start
 start_past start (d ∷ ds) = start_past (behind start (datum_piece d).items + 2) ds

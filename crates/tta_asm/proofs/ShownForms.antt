@@ -66,7 +66,7 @@ long_said m line (Some l) = Some (record { line = line; template = template_name
 
 -- ---- readings
 
--- a source is read, whatever comes behind it
+-- a source is read, whatever comes after it
 source_read : (m : Machine) (src : Source) (end line start : ℕ) (more : List Item) → SourceFits m src
     → source_form end (placed_at line start (source_items m src ++ more))
     ≡ read (source_said m src) (placed_at line (behind start (source_items m src)) more)
@@ -106,7 +106,7 @@ guard_read m None source.Ra end line start more f = refl
 guard_read m None (source.Value word) end line start more f = refl
 guard_read m (Some g) src end line start more f = rw (sense_read g.inverted, number_of-decimal g.index f.1) refl
 
--- the place behind the items of a move
+-- the place after the items of a move
 abbrev pub behind_move : Units → Machine → Move → (start : ℕ) → ℕ
 behind_move u m v start =
     behind (behind (behind start (guard_items m v.guard)) (source_items m v.src) + 1 + 2 + 1) (dest_items u m v.dst)
@@ -150,7 +150,7 @@ move_line m None source.Ra end line start more = refl
 move_line m None (source.Value word) end line start more = refl
 move_line m (Some g) src end line start more = refl
 
--- the place behind a slot
+-- the place after a slot
 abbrev pub behind_slot : Units → Machine → Option Move → (start : ℕ) → ℕ
 behind_slot u m None start = start + 3
 behind_slot u m (Some v) start = behind_move u m v start

@@ -28,7 +28,7 @@ placed_at line start (Word kind text ∷ is) =
     record { line = line; start = start; word = record { kind = kind; text = text } }
     ∷ placed_at line (start + length text) is
 
--- the place behind items, the first of them at this place
+-- the place after items, the first of them at this place
 abbrev pub behind : (start : ℕ) → List Item → ℕ
 behind start [] = start
 behind start (Blank ∷ is) = behind (start + 1) is
@@ -40,7 +40,7 @@ items_text-append [] js = refl
 items_text-append (i ∷ is) js =
     ap (λ t. item_text i ++ t) (items_text-append is js) ∙ sym (append_assoc (item_text i) (items_text is) (items_text js))
 
--- the place behind items is as far on as their text is long
+-- the place after items is as far on as their text is long
 pub behind-length : (is : List Item) (start : ℕ) → behind start is ≡ start + length (items_text is)
 behind-length [] start = omega arith
 behind-length (Blank ∷ is) start = let more = behind-length is (start + 1) in rw more (omega arith)

@@ -56,14 +56,14 @@ held_word_small b word rule h =
 
 -- ---- ends
 
--- what stands behind a socket is there
+-- what stands after a socket is there
 pub there : {P : Type 0} (m : Machine) (input : Bool) (bus : ℕ) (o : Option P) (f : P → Option ℕ)
     → has_socket m input (option_and_then f o) bus ≡ true
     → (x : P) × (is : o ≡ Some x) × (has_socket m input (f x) bus ≡ true)
 there m input bus None f h = absurd (false≢true h)
 there m input bus (Some x) f h = (x, refl, h)
 
--- a register behind a socket is within its file
+-- a register after a socket is within its file
 pub below : (m : Machine) (input : Bool) (bus i size socket : ℕ) → has_socket m input (within i size socket) bus ≡ true
     → nat_lt i size ≡ true
 below m input bus i size socket h = by (nat_lt i size) refl h where
@@ -71,7 +71,7 @@ below m input bus i size socket h = by (nat_lt i size) refl h where
   by true is k = is
   by false is k = absurd (false≢true k)
 
--- a port behind a socket is there
+-- a port after a socket is there
 pub port_there : (m : Machine) (input : Bool) (bus : ℕ) (o : Option ℕ) → has_socket m input o bus ≡ true → is_some o ≡ true
 port_there m input bus None h = absurd (false≢true h)
 port_there m input bus (Some s) h = refl

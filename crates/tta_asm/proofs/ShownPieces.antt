@@ -19,7 +19,7 @@ abbrev pub opened : Bool → List Item → Bool
 opened is_open [] = is_open
 opened is_open (i ∷ is) = true
 
--- an open line stays open behind items
+-- an open line stays open after items
 opened-open : (is : List Item) → opened true is ≡ true
 opened-open [] = refl
 opened-open (i ∷ is) = refl
@@ -72,7 +72,7 @@ pieces_shown is_open line start (p ∷ ps) =
     record { words = placed_at line start p.items; close = close_of p.last; line = line }
     ∷ pieces_shown (not p.last) (line_behind p.last line) (behind start p.items + 2) ps
 
--- two bytes stand behind each piece
+-- two bytes stand after each piece
 length-close_text : (last : Bool) → length (close_text last) ≡ 2
 length-close_text true = refl
 length-close_text false = refl

@@ -13,7 +13,7 @@ use Rattle.tta_asm.specs.declared.pieces.Close.{Close}
 use Rattle.tta_asm.specs.declared.pieces.Close.TheVariants.{Comma, Semicolon}
 use Rattle.tta_asm.specs.Pieces.{Placed, Piece, closing, pieces_from}
 
--- the pieces of what is left of a text behind these bytes, the first of them with these words
+-- the pieces of what is left of a text after these bytes, the first of them with these words
 abbrev pub pieces_at : (before : List ℕ) (is_open : Bool) (line : ℕ) → List Placed → (rest : List ℕ) → List Piece
 pieces_at before is_open line words rest =
     pieces_from (before ++ rest) line words (tokens_from 0 is_open line (length before) rest)
@@ -61,7 +61,7 @@ word-step before is_open line words kind byte others after newline piece stays i
     (words ++ record { line = line; start = length before; word = record { kind = kind; text = byte ∷ others } } ∷ []) in
     rw (front, inside, cut, stays, newline) next
 
--- a word is put behind the words before it
+-- a word is put after the words before it
 pub pieces_at-word : (before : List ℕ) (is_open : Bool) (line : ℕ) (words : List Placed) (kind : Kind) (text after : List ℕ)
     → IsScanned kind text after
     → pieces_at before is_open line words (text ++ after)
@@ -101,7 +101,7 @@ pieces_at-close before is_open line words byte after close newline piece closes 
 
 -- ---- pieces
 
--- the text behind a piece: of the last of an instruction, and of any other
+-- the text after a piece: of the last of an instruction, and of any other
 abbrev pub close_text : (last : Bool) → List ℕ
 close_text true = codes ";\n"
 close_text false = codes ", "
@@ -111,7 +111,7 @@ abbrev pub close_of : (last : Bool) → Close
 close_of true = Semicolon
 close_of false = Comma
 
--- the line behind a piece
+-- the line after a piece
 abbrev pub line_behind : (last : Bool) (line : ℕ) → ℕ
 line_behind true line = line + 1
 line_behind false line = line

@@ -159,7 +159,7 @@ toward_scanned : (u : Units) (m : Machine) (dst : Dest) (after : List ℕ) → D
 toward_scanned u m dst after f stop =
     (arrow_scanned (32 ∷ (items_text (dest_items u m dst) ++ after)), dest_scanned u m dst after f stop)
 
--- a slot with a blank behind it
+-- a slot with a blank after it
 slot_scanned : (u : Units) (m : Machine) (slot : Option Move) (after : List ℕ) → SlotFits u m slot
     → AreScanned (slot_items u m slot) (32 ∷ after)
 slot_scanned u m None after f = (dots_scanned (32 ∷ after), tt)
@@ -171,7 +171,7 @@ slot_scanned u m (Some v) after f =
     AreScanned-append (guard_items m v.guard) (source ++ toward) (32 ∷ after)
     (guard_scanned m v.guard (items_text (source ++ toward) ++ 32 ∷ after) f.0) ends
 
--- a long immediate with a blank behind it
+-- a long immediate with a blank after it
 long_scanned : (m : Machine) (long : Option Long) (after : List ℕ) → LongFits m long
     → AreScanned (long_items m long) (32 ∷ after)
 long_scanned m None after f = tt
@@ -195,7 +195,7 @@ inner_scanned : (u : Units) (m : Machine) (slot : Option Move) (after : List ℕ
     → AreScanned (slot_items u m slot ++ Blank ∷ []) after
 inner_scanned u m slot after f = AreScanned-append (slot_items u m slot) (Blank ∷ []) after (slot_scanned u m slot after f) tt
 
--- and so is the last, with the long immediate behind it
+-- and so is the last, with the long immediate after it
 last_scanned : (u : Units) (m : Machine) (slot : Option Move) (long : Option Long) (after : List ℕ)
     → SlotFits u m slot → LongFits m long
     → AreScanned (slot_items u m slot ++ (long_items m long ++ Blank ∷ [])) after
@@ -205,7 +205,7 @@ last_scanned u m slot (Some l) after f g =
     let end = AreScanned-append long (Blank ∷ []) after (long_scanned m (Some l) after g) tt in
     AreScanned-append (slot_items u m slot) (long ++ Blank ∷ []) after (slot_scanned u m slot _ f) end
 
--- the pieces of an instruction are scanned as they were printed, where those behind them are
+-- the pieces of an instruction are scanned as they were printed, where those after them are
 pub slot_pieces-scanned : (u : Units) (m : Machine) (slots : List (Option Move)) (long : Option Long) (ps : List PieceText)
     → SlotsFit u m slots → LongFits m long → ArePieces ps → ArePieces (slot_pieces u m slots long ++ ps)
 slot_pieces-scanned u m [] long ps f g s = s

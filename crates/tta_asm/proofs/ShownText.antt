@@ -62,7 +62,7 @@ no_begun : (slots : List SlotForm) (words : List Instruction) (line start : ℕ)
 no_begun [] words line start p = no_label p.last line start p
 no_begun (s ∷ ss) words line start p = refl
 
--- a slot that is not the last stands behind those before it
+-- a slot that is not the last stands after those before it
 take_inner : (u : Units) (m : Machine) (slots : List SlotForm) (words : List Instruction) (slot : Option Move) (line start : ℕ)
     → SlotFits u m slot
     → take_piece u m [] (draft slots words) (shown_piece line start (inner_piece u m slot))
@@ -83,7 +83,7 @@ take_last u m slots words slot long line start i f g found =
 
 -- ---- one instruction
 
--- the place behind pieces
+-- the place after pieces
 abbrev behind_pieces : (start : ℕ) → List PieceText → ℕ
 behind_pieces start [] = start
 behind_pieces start (p ∷ ps) = behind_pieces (behind start p.items + 2) ps

@@ -38,7 +38,7 @@ letter-blank byte h = grind (arith, nat_tests)
 letter-comment : (byte : ℕ) → is_letter byte ≡ true → (byte == 35) ≡ false
 letter-comment byte h = grind (arith, nat_tests)
 
--- a name and nothing more is the piece at the front
+-- a name and nothing more is the piece at the start
 name_piece : (byte : ℕ) (others after : List ℕ) → is_name (byte ∷ others) ≡ true → first_is is_word_byte after ≡ false
     → piece_at byte (others ++ after) ≡ token Name (length (byte ∷ others))
 unfolding piece_at
@@ -141,7 +141,7 @@ digits-run (c ∷ cs) h =
     let parts = and_parts (is_ascii_digit c) (list_all is_ascii_digit cs) h in
     and_from (is_word_byte c) (list_all is_word_byte cs) (digit_is_run_byte c parts.0) (digits-run cs parts.1)
 
--- digits with a value are the piece at the front, as a number
+-- digits with a value are the piece at the start, as a number
 digits_piece : (byte : ℕ) (others after : List ℕ) (n : ℕ) → list_all is_ascii_digit (byte ∷ others) ≡ true
     → number_of (byte ∷ others) ≡ Some n → first_is is_word_byte after ≡ false
     → piece_at byte (others ++ after) ≡ token Number (length (byte ∷ others))
@@ -210,12 +210,12 @@ pub dots_scanned : (after : List ℕ) → IsScanned Mark (codes "...") after
 unfolding piece_at mark_piece
 dots_scanned after = record { byte = 46; others = 46 ∷ 46 ∷ []; whole = refl; line = refl; piece = refl; stays = refl; inside = refl }
 
--- an arrow with a blank behind it
+-- an arrow with a blank after it
 pub arrow_scanned : (after : List ℕ) → IsScanned Mark (codes "->") after
 unfolding piece_at mark_piece
 arrow_scanned after = record { byte = 45; others = 62 ∷ []; whole = refl; line = refl; piece = refl; stays = refl; inside = refl }
 
--- a dot with a letter or a digit behind it
+-- a dot with a letter or a digit after it
 dot_piece : (byte : ℕ) (after : List ℕ) → is_word_byte byte ≡ true → piece_at 46 (byte ∷ after) ≡ token Mark 1
 unfolding piece_at mark_piece
 dot_piece byte after h =

@@ -19,11 +19,11 @@ slots_by_comma u m slot (next ∷ slots) =
     ap (λ t. slot_text u m slot ++ (comma ++ t)) (slots_by_comma u m next slots)
     ∙ ap (λ t. slot_text u m slot ++ t) (sym (append_assoc comma (slot_text u m next) (flat_map (later_slot_text u m) slots)))
 
--- the slots that are left behind the first
+-- the slots that are left after the first
 rest_of : {A : Type 0} (x : A) (xs : List A) → take (length (x ∷ xs) - 1) xs ≡ xs
 rest_of x xs = let n : length (x ∷ xs) - 1 ≡ length xs = omega arith in rw n (take_all (length xs) xs (le_refl (length xs)))
 
--- slots stand behind a text once the first does, and then the others
+-- slots stand after a text once the first does, and then the others
 pub slots_done : (u : Units) (m : Machine) (slots : List (Option Move)) (old first all : List ℕ) → 1 ≤ length slots
     → first ≡ old ++ slot_text u m (get_or slots 0 None)
     → all ≡ first ++ flat_map (later_slot_text u m) (take (length slots - 1) (drop 1 slots))
@@ -34,7 +34,7 @@ slots_done u m (slot ∷ slots) old first all some one more =
     let text = slots_by_comma u m slot slots in
     rw (text, ← append_assoc old (slot_text u m slot) (flat_map (later_slot_text u m) slots), ← one) end
 
--- one item more stands behind a text
+-- one item more stands after a text
 pub text_more : {X : Type 0} (text : X → List ℕ) (xs : List X) (i : ℕ) (d x : X) (start old new : List ℕ) → i < length xs → x ≡ get_or xs i d
     → new ≡ old ++ text x → old ≡ start ++ flat_map text (take i xs) → new ≡ start ++ flat_map text (take (i + 1) xs)
 text_more {X = X} text xs i d x start old new inside is more was =

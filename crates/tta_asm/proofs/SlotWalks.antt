@@ -15,7 +15,7 @@ use Rattle.tta_asm.specs.Refusals.{Refusal, Answers}
 use Rattle.tta_asm.specs.Resolving.{action_of}
 use Rattle.tta_asm.specs.Seen.{move_seen, slot_seen}
 
--- what is made of the rest, with what is there already in front
+-- what is made of the rest, with what is there already before it
 abbrev pub with_front : {A : Type 0} → List A → Result (List A) Refusal → Result (List A) Refusal
 with_front front r = r >>= λ xs. Ok (front ++ xs)
 
@@ -23,7 +23,7 @@ with_front front r = r >>= λ xs. Ok (front ++ xs)
 abbrev pub with_item : {A : Type 0} → Result A Refusal → Result (List A) Refusal → Result (List A) Refusal
 with_item item rest = item >>= λ x. rest >>= λ xs. Ok (x ∷ xs)
 
--- one item more in front
+-- one item more before it
 pub front_more : {A : Type 0} (front more : List A) (x : A) (item : Result A Refusal) (rest all : Result (List A) Refusal) → item ≡ Ok x
     → more ≡ front ++ x ∷ [] → with_front front (with_item item rest) ≡ all → with_front more rest ≡ all
 front_more {A = A} front more x item rest all is pushed was =

@@ -44,7 +44,7 @@ abbrev pub longs_of : Machine → Declared Label → Option LongForm → Result 
 longs_of m labels None = Ok None
 longs_of m labels (Some l) = at_line l.line (long_of m labels l) >>= λ long. Ok (Some long)
 
--- An instruction of these slots, which ends on this line, behind so many others. It is refused by the number of its slots,
+-- An instruction of these slots, which ends on this line, after so many others. It is refused by the number of its slots,
 -- then slot by slot, then by its long immediate, then as a whole, and at last where no address is left for it.
 unfoldable pub instruction_of : Units → Machine → Declared Label → (line : ℕ) → (before : ℕ) → List SlotForm → Option LongForm → Result Instruction Refusal
 instruction_of u m labels line before slots long =
@@ -103,7 +103,7 @@ is_over d p = of p.close where
   of End = length p.words == 0 && length d.slots == 0
   of close = false
 
--- pieces one after another; the first that is refused is told
+-- pieces one after another; the first that is refused is reported
 abbrev pub take_pieces : Units → Machine → Declared Label → Draft → List Piece → Result Draft Refusal
 take_pieces u m labels d [] = Ok d
 take_pieces u m labels d (p ∷ ps) =
@@ -113,7 +113,7 @@ take_pieces u m labels d (p ∷ ps) =
 abbrev pub assembled_code : Units → Machine → List Piece → Result Code Refusal
 assembled_code u m ps = take_pieces u m (labels_of ps) nothing ps >>= λ d. Ok (record { words = d.words })
 
--- The whole of a text, or its first refusal: its data first, and the code of the pieces behind them. So what declares data
+-- The whole of a text, or its first refusal: its data first, and the code of the pieces after them. So what declares data
 -- counts for no label.
 unfoldable pub assembled : Units → Machine → List ℕ → Result Whole Refusal
 assembled u m text =

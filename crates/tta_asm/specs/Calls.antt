@@ -4,7 +4,7 @@ use Rattle.tta_asm.specs.declared.pieces.Close.{Close}
 use Rattle.tta_asm.specs.declared.pieces.Close.TheVariants.{End}
 use Rattle.tta_asm.specs.Pieces.{Piece}
 
--- the reader's text is the scanner's, and its line is one of the text's, or the one behind the last
+-- the reader's text is the scanner's, and its line is one of the text's, or the one after the last
 pub record IsAtLine (scanned text : List ℕ) (line : ℕ) : Type 0 where
   pub same : scanned ≡ text
   pub few : line ≤ 2 ^ 24 + 2

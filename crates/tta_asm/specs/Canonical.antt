@@ -45,7 +45,7 @@ op_name_at u m unit op =
 abbrev pub place_text : (name : List ℕ) (index : ℕ) → List ℕ
 place_text name index = name ++ (codes "." ++ decimal index)
 
--- a guard with the blank behind it, if there is one
+-- a guard with the blank after it, if there is one
 abbrev pub guard_text : Machine → Option GuardRef → List ℕ
 guard_text m None = []
 guard_text m (Some g) =
@@ -68,10 +68,14 @@ dest_text u m dest.Jump = codes "gcu.t.jump"
 dest_text u m dest.Call = codes "gcu.t.call"
 dest_text u m dest.Halt = codes "gcu.t.halt"
 
+-- a move: its guard if it has one, its source and its destination
+abbrev pub move_text : Units → Machine → Move → List ℕ
+move_text u m v = guard_text m v.guard ++ (source_text m v.src ++ (codes " -> " ++ dest_text u m v.dst))
+
 -- a slot: a move, or "..."
 abbrev pub slot_text : Units → Machine → Option Move → List ℕ
 slot_text u m None = codes "..."
-slot_text u m (Some v) = guard_text m v.guard ++ (source_text m v.src ++ (codes " -> " ++ dest_text u m v.dst))
+slot_text u m (Some v) = move_text u m v
 
 -- ---- instructions
 

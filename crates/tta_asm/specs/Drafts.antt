@@ -20,6 +20,6 @@ draft_seen d = record { slots = map slot_seen d.slots.items; words = d.words }
 abbrev pub end_instruction : Units → Machine → Declared Label → Draft → (line : ℕ) → Option LongForm → Result Draft Refusal
 end_instruction u m labels d line long = instruction_of u m labels line (length d.words) d.slots long >>= λ i. Ok (with_instruction d i)
 
--- a piece made of the draft what the definition says, or its refusal is told, or there was no memory
+-- a piece made of the draft what the definition says, or its refusal is reported, or there was no memory
 abbrev pub Takes : {A : Type 0} → Draft → Result A AsmError → Result Draft Refusal → Type 0
 Takes new = AnswersAs (λ _. new)

@@ -42,7 +42,7 @@ pub record LongForm : Type 0 where
   pub template : List ℕ
   pub value : ValueForm
 
--- a slot, and the long immediate behind it, if any
+-- a slot, and the long immediate after it, if any
 pub record PieceForm : Type 0 where
   pub slot : SlotForm
   pub long : Option LongForm

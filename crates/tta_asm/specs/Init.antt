@@ -9,7 +9,7 @@ use Rattle.tta_asm.specs.Pieces.{Placed, Piece}
 use Rattle.tta_asm.specs.Labels.{is_semicolon}
 use Rattle.tta_asm.specs.Syntax.{next_word, line_of}
 
--- whether words begin a declaration of data: the word 'data', and directly behind it a number
+-- whether words begin a declaration of data: the word 'data', and directly after it a number
 abbrev pub begins_datum : List Placed → Bool
 begins_datum (first ∷ second ∷ ws) = is_keyword (codes "data") first.word && is_some (value_of second.word)
 begins_datum ws = false
@@ -18,12 +18,12 @@ begins_datum ws = false
 abbrev pub is_declaration : Piece → Bool
 is_declaration p = begins_datum p.words
 
--- a datum behind which no word is left, and which a semicolon closes
+-- a datum after which no word is left, and which a semicolon closes
 abbrev pub closed_datum : Piece → List Placed → Datum → Result Datum ℕ
 closed_datum p [] d = if is_semicolon p.close then Ok d else Err p.line
 closed_datum p (w ∷ ws) d = Err w.line
 
--- the datum of a declaration: behind its first word an address and a constant, and nothing more
+-- the datum of a declaration: after its first word an address and a constant, and nothing more
 unfoldable pub datum_form : Piece → Result Datum ℕ
 datum_form p =
     next_word value_of p.line (drop 1 p.words) >>= λ address.
@@ -37,8 +37,8 @@ datum_of words least p =
     fitting (datum_form p) >>= λ d.
     refuse_if (nat_lt d.address least || nat_le words d.address) (line_of p.line p.words, refusal.Data) (Ok d)
 
--- The data that pieces begin with, behind those before, each address above the one before it. The first declaration that
--- is refused is told.
+-- The data that pieces begin with, after those before, each address above the one before it. The first declaration that
+-- is refused is reported.
 abbrev pub data_from : (words least : ℕ) → (before : List Datum) → List Piece → Result (List Datum) Refusal
 data_from words least before [] = Ok before
 data_from words least before (p ∷ ps) =
@@ -46,7 +46,7 @@ data_from words least before (p ∷ ps) =
     then (datum_of words least p >>= λ d. data_from words (d.address + 1) (before ++ d ∷ []) ps)
     else Ok before
 
--- the pieces behind the declarations of data
+-- the pieces after the declarations of data
 abbrev pub behind_data : List Piece → List Piece
 behind_data [] = []
 behind_data (p ∷ ps) = if is_declaration p then behind_data ps else p ∷ ps

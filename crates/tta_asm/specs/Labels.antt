@@ -43,7 +43,7 @@ is_semicolon Semicolon = true
 is_semicolon close = false
 
 -- The labels of pieces, where so many instructions stand before them. A piece can be a label where a statement can begin:
--- at the text's begin, behind an instruction, and behind another label.
+-- at the text's begin, after an instruction, and after another label.
 abbrev pub labels_from : (begins : Bool) (address : ℕ) → Declared Label → List Piece → Declared Label
 labels_from begins address labels [] = labels
 labels_from begins address labels (p ∷ ps) =

@@ -25,16 +25,16 @@ abbrev pub fitting : {A : Type 0} → Result A ℕ → Result A Refusal
 fitting (Ok x) = Ok x
 fitting (Err line) = Err (line, Syntax)
 
--- a refusal as it is told
+-- a refusal as it is reported
 abbrev pub told : Refusal → AsmError
 told r = Refused r.0 (code_of r.1)
 
--- an answer that is seen as another is what the definition makes, or its refusal is told, or there was no memory
+-- an answer that is seen as another is what the definition makes, or its refusal is reported, or there was no memory
 abbrev pub AnswersAs : {A B : Type 0} → (A → B) → Result A AsmError → Result B Refusal → Type 0
 AnswersAs seen (Ok x) made = made ≡ Ok (seen x)
 AnswersAs seen (Err NoMemory) made = Unit {0}
 AnswersAs seen (Err e) made = (r : Refusal) × (e ≡ told r) × (made ≡ Err r)
 
--- the answer itself is what the definition makes, or its refusal is told, or there was no memory
+-- the answer itself is what the definition makes, or its refusal is reported, or there was no memory
 abbrev pub Answers : {A : Type 0} → Result A AsmError → Result A Refusal → Type 0
 Answers = AnswersAs (λ x. x)

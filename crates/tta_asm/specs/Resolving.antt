@@ -71,7 +71,7 @@ trigger_of u m op (part.Unit k) =
     slice_get m.units k >>? λ unit. named_in (ops_of u unit) op >>? λ index. Some (dest.Trigger k index)
 trigger_of u m op other = None
 
--- what control can be told
+-- what control can be asked to do
 abbrev pub control_of : (op : List ℕ) → Option Dest
 control_of op =
     if bytes_eq op (codes "jump") then Some dest.Jump

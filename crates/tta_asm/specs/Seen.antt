@@ -65,6 +65,6 @@ slot_seen s = record { line = s.line; action = option_map move_seen s.action }
 abbrev pub long_seen : LongWords → LongForm
 long_seen l = record { line = l.line; template = l.template.now; value = value_seen l.value }
 
--- a slot, with the long immediate that stands behind it if one does
+-- a slot, with the long immediate that stands after it if one does
 abbrev pub form_seen : PieceWords → PieceForm
 form_seen f = record { slot = slot_seen f.slot; long = option_map long_seen f.long }

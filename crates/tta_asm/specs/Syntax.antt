@@ -1,4 +1,4 @@
--- The form of a piece. Where its words do not fit, the line of the first that does not is told, or that of what closes
+-- The form of a piece. Where its words do not fit, the line of the first that does not is reported, or that of what closes
 -- the piece where a word is missing.
 use Rattle.std.specs.Prelude.{ℕ, Bool, true, false, ◌&&◌, if◌then◌else◌, List, [], ◌∷◌, drop, Option, Some, None, option_map, is_none, Result, Ok, Err, codes}
 use Rattle.std.specs.Str.{bytes_eq}
@@ -14,7 +14,7 @@ use Rattle.tta_asm.specs.Forms.{DestForm as dest}
 
 -- ---- words
 
--- what was read, with the words behind it
+-- what was read, with the words after it
 pub record Read (A : Type 0) : Type 0 where
   pub value : A
   pub rest : List Placed
@@ -32,7 +32,7 @@ abbrev pub next_word : {A : Type 0} → (meaning : Lexeme → Option A) → (end
 next_word meaning end [] = Err end
 next_word meaning end (w ∷ ws) = or_refuse w.line (meaning w.word) >>= λ x. read x ws
 
--- the words behind a certain mark
+-- the words after a certain mark
 abbrev pub behind_mark : (mark : List ℕ) → (end : ℕ) → List Placed → Result (List Placed) ℕ
 behind_mark mark end [] = Err end
 behind_mark mark end (w ∷ ws) = if is_mark mark w.word then Ok ws else Err w.line
@@ -56,7 +56,7 @@ value_form w = of (name_of w) where
   of (Some name) = Some (LabelName name)
   of None = option_map (λ n. Constant n) (constant_of w)
 
--- what may stand behind the '.' of a source: an index, 'r', or 'ra' of control
+-- what may stand after the '.' of a source: an index, 'r', or 'ra' of control
 abbrev pub source_end : (name : List ℕ) → Lexeme → Option SourceForm
 source_end name w =
     if is_keyword (codes "r") w then Some (Shown name)
@@ -69,19 +69,19 @@ source_behind (LabelName name) end ws =
     if begins_with (codes ".") ws then next_word (source_end name) end (drop 1 ws) else read (Value (LabelName name)) ws
 source_behind (Constant n) end ws = read (Value (Constant n)) ws
 
--- a source: a value or the name of a part first, and what stands behind it
+-- a source: a value or the name of a part first, and what stands after it
 unfoldable pub source_form : (end : ℕ) → List Placed → Reading SourceForm
 source_form end ws = next_word value_form end ws >>= λ first. source_behind first.value end first.rest
 
 -- ---- destinations
 
--- an operation behind UNIT.t
+-- an operation after UNIT.t
 abbrev pub trigger_form : (unit : List ℕ) → (end : ℕ) → List Placed → Reading DestForm
 trigger_form unit end ws =
     behind_mark (codes ".") end ws >>= λ rest.
     next_word name_of end rest >>= λ op. read (Trigger unit op.value) op.rest
 
--- what may stand behind the '.' of a destination, and is its last word: an index, or 'o'
+-- what may stand after the '.' of a destination, and is its last word: an index, or 'o'
 abbrev pub dest_end : (name : List ℕ) → Lexeme → Option DestForm
 dest_end name w =
     if is_keyword (codes "o") w then Some (Operand name) else option_map (λ index. dest.Place name index) (value_of w)
@@ -106,7 +106,7 @@ dest_form end ws =
 abbrev pub sense_of : Lexeme → Option Bool
 sense_of w = if is_mark (codes "?") w then Some false else if is_mark (codes "!") w then Some true else None
 
--- a guard behind its first mark
+-- a guard after its first mark
 abbrev pub guard_register : (inverted : Bool) → (end : ℕ) → List Placed → Reading (Option GuardForm)
 guard_register inverted end ws =
     next_word name_of end ws >>= λ file.
@@ -139,7 +139,7 @@ slot_form end ws =
     then read (record { line = line_of end ws; action = None }) (drop 1 ws)
     else move_form end ws >>= λ v. read (record { line = line_of end ws; action = Some v.value }) v.rest
 
--- a long immediate behind its '['
+-- a long immediate after its '['
 abbrev pub long_behind : (line end : ℕ) → List Placed → Reading (Option LongForm)
 long_behind line end ws =
     next_word name_of end ws >>= λ template.

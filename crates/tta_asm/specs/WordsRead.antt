@@ -17,6 +17,6 @@ abbrev pub result_seen : {T A E : Type 0} → (T → A) → Result T E → Resul
 result_seen seen (Ok x) = Ok (seen x)
 result_seen seen (Err e) = Err e
 
--- the next word, where it is a name, with the words behind the mark that follows it
+-- the next word, where it is a name, with the words after the mark that follows it
 abbrev pub name_before : (mark : List ℕ) → (end : ℕ) → List Placed → Reading (List ℕ)
 name_before mark end ws = next_word name_of end ws >>= λ name. behind_mark mark end name.rest >>= λ rest. read name.value rest

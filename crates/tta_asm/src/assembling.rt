@@ -27,8 +27,8 @@ use tta_list::Items;
 use tta_ops::UnitSet;
 use tta_reading::Names;
 
-/// Takes the pieces that are left, until a text is over. The first that is refused is told. After
-/// an `Err` the draft is of no more use.
+/// Takes the pieces that are left, until a text is over. The first that is refused is reported.
+/// After an `Err` the draft is of no more use.
 fn take_rest<'t>(
     alloc: Global,
     units: &UnitSet,
@@ -68,7 +68,7 @@ fn take_rest<'t>(
     }
 }
 
-/// The code of a text behind so many pieces, which has these labels, or its first refusal.
+/// The code of a text after so many pieces, which has these labels, or its first refusal.
 fn code_over(
     alloc: Global,
     text: &[u8],
@@ -110,7 +110,7 @@ fn code_over(
     }
 }
 
-/// The code of a text behind so many pieces, or its first refusal.
+/// The code of a text after so many pieces, or its first refusal.
 fn code_of(
     alloc: Global,
     text: &[u8],
@@ -180,9 +180,9 @@ fn whole_of(
 /// The code of an assembly text of at most 2^24 bytes with its data, over these operation units.
 /// The machine can carry it out.
 ///
-/// `Refused` tells the first refusal of the text: datum by datum, then piece by piece, and for each
+/// `Refused` says the first refusal of the text: datum by datum, then piece by piece, and for each
 /// instruction by the number of its slots, then slot by slot, then by its long immediate, then as a
-/// whole. Labels are collected before the pieces are taken, so a label may stand behind its use.
+/// whole. Labels are collected before the pieces are taken, so a label may stand after its use.
 pub fn assemble(alloc: Global, text: &[u8], m: &Machine, units: &UnitSet) -> Result<Whole, AsmError>
     requires { length text.now ≤ 2 ^ 24 }
     ensures answers { Answers result (assembled (stated unit_meaning units.now) m.now text.now) }
@@ -192,7 +192,7 @@ pub fn assemble(alloc: Global, text: &[u8], m: &Machine, units: &UnitSet) -> Res
     match Table::of(alloc, m, units) {
         Ok(table) => {
             let whole = whole_of(alloc, text, m, units, &net, &table);
-            // The whole stands for itself, so both are given back before it is told.
+            // The whole stands for itself, so both are given back before it is reported.
             drop(table);
             drop(net);
             whole

@@ -62,7 +62,7 @@ pub struct LongForm<'t> {
     pub value: ValueForm<'t>,
 }
 
-/// A slot, and the long immediate behind it, if any.
+/// A slot, and the long immediate after it, if any.
 #[derive(Clone, Copy)]
 pub struct PieceForm<'t> {
     pub slot: SlotForm<'t>,

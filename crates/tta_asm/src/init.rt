@@ -37,8 +37,8 @@ fn datum_of(space: u32, least: u64, words: &[PlacedWord], closed: Closed) -> Res
     Ok(datum)
 }
 
-/// Takes the declarations of data that pieces begin with, and the piece behind them. The first that
-/// is refused is told. After an `Err` what was taken is of no more use.
+/// Takes the declarations of data that pieces begin with, and the piece after them. The first that
+/// is refused is reported. After an `Err` what was taken is of no more use.
 pub fn take_data<'t>(
     space: u32,
     pieces: &mut Pieces<'t>,

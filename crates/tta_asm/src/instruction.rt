@@ -28,7 +28,7 @@ use tta_list::Items;
 use tta_ops::UnitSet;
 use tta_reading::Names;
 
-/// The move of a slot on this bus, if it has one. A refusal is told at the slot's line.
+/// The move of a slot on this bus, if it has one. A refusal is reported at the slot's line.
 fn slot_move(
     units: &UnitSet,
     m: &Machine,
@@ -49,7 +49,7 @@ fn slot_move(
     }
 }
 
-/// The moves of slots, the first of them on bus 0. The first slot that is refused is told.
+/// The moves of slots, the first of them on bus 0. The first slot that is refused is reported.
 fn moves_of(
     alloc: Global,
     units: &UnitSet,
@@ -105,7 +105,7 @@ fn all_moves(
     moves_of(alloc, units, m, net, table, labels, slots)
 }
 
-/// The long immediate of a form, if there is one. A refusal is told at its line.
+/// The long immediate of a form, if there is one. A refusal is reported at its line.
 fn longs_of(
     m: &Machine,
     table: &Table,
@@ -126,7 +126,7 @@ fn longs_of(
 }
 
 /// An instruction, unless the machine cannot carry it out, which is refused as `Illegal`, or no
-/// address is left for it behind so many others, which is refused as `Range`.
+/// address is left for it after so many others, which is refused as `Range`.
 fn checked(
     m: &Machine,
     net: &Net,
@@ -149,7 +149,7 @@ fn checked(
     Ok(i)
 }
 
-/// The instruction of slots and a long immediate that ends on this line, behind so many others.
+/// The instruction of slots and a long immediate that ends on this line, after so many others.
 ///
 /// It is refused as `Slots` where the slots are not as many as the buses; then slot by slot, and by
 /// its long immediate, each at its own line, as `action_of` and `long_of` refuse; then as `Illegal`

@@ -73,7 +73,7 @@ fn add_label(
 }
 
 /// Adds the labels of the pieces that are left, the first of them at the begin of a text. An `Err`
-/// is want of memory.
+/// means out of memory.
 fn add_labels<'t>(
     alloc: Global,
     labels: &mut Names<Label>,
@@ -100,8 +100,8 @@ fn add_labels<'t>(
     }
 }
 
-/// The labels of a text of at most 2^24 bytes behind so many pieces, each with its address, which
-/// counts from there. Of two with one name the first stands. An `Err` is want of memory.
+/// The labels of a text of at most 2^24 bytes after so many pieces, each with its address, which
+/// counts from there. Of two with one name the first stands. An `Err` means out of memory.
 #[tactic(auto, unfolding(crate::specs::Labels::labels_of))]
 pub fn collect_labels(alloc: Global, text: &[u8], count: usize) -> Result<Names<Label>, AllocError>
     requires small { length text.now ≤ 2 ^ 24 }

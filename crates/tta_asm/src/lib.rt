@@ -3,7 +3,7 @@
 //!
 //! A text is a list of labels and instructions, and before them of the data that the code begins
 //! with. An instruction has one slot for each bus, a move or nothing, and at most one long immediate
-//! behind them.
+//! after them.
 #![tactic(auto)]
 
 mod assembling;
@@ -26,5 +26,6 @@ mod table;
 
 pub use assembling::assemble;
 pub use laws::{assembles_legal, reads_back};
-pub use print::disassemble;
+pub use named::{imm_name, op_name, template_name};
+pub use print::{disassemble, push_move, push_place};
 pub use refusal::{AsmError, AsmRefusal};

@@ -79,7 +79,7 @@ impl Named for Template {
     }
 }
 
-/// Declares a name behind the others, unless it is declared already: the first stands.
+/// Declares a name after the others, unless it is declared already: the first stands.
 fn add_first<P: Copy>(
     alloc: Global,
     names: &mut Names<P>,
@@ -112,7 +112,7 @@ fn add_parts<T: Named>(
     Ok(())
 }
 
-/// Declares the names of all parts of a machine behind the others.
+/// Declares the names of all parts of a machine after the others.
 #[tactic(auto, unfolding(crate::specs::Parts::parts_of))]
 fn add_all_parts(alloc: Global, names: &mut Names<Part>, m: &Machine) -> Result<(), AllocError>
     ensures { OnOk result (NameTheSame names.new (names.old ++ parts_of m.now)) }
@@ -138,7 +138,7 @@ pub fn all_parts(alloc: Global, m: &Machine) -> Result<Names<Part>, AllocError>
     }
 }
 
-/// Declares the names of all operations of a unit behind the others.
+/// Declares the names of all operations of a unit after the others.
 #[tactic(auto, unfolding(crate::specs::Parts::ops_of))]
 fn add_ops(
     alloc: Global,

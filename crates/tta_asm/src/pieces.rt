@@ -23,11 +23,11 @@ pub struct PlacedWord<'t> {
 /// What closes a piece.
 #[derive(Clone, Copy)]
 pub enum Close {
-    /// `,`, behind a slot that is not the last.
+    /// `,`, after a slot that is not the last.
     Comma,
-    /// `:`, behind a label.
+    /// `:`, after a label.
     Colon,
-    /// `;`, behind an instruction.
+    /// `;`, after an instruction.
     Semicolon,
     /// The end of the text.
     End,
@@ -46,7 +46,7 @@ pub struct Closed {
 pub struct Pieces<'t> {
     text: &'t [u8],
     scanner: Scanner<'t>,
-    /// The line behind the last that has ended.
+    /// The line after the last that has ended.
     line: u32,
 }
 
@@ -78,7 +78,7 @@ impl<'t> Pieces<'t> {
     }
 
     /// Passes over so many pieces, of which none is the last. The words that the last of them had
-    /// are left. An `Err` is want of memory.
+    /// are left. An `Err` means out of memory.
     fn skip(&mut self, count: usize, words: &mut Vec<PlacedWord<'t>>) -> Result<(), AllocError>
         requires { count < length self.old }
         ensures { OnOk result (self.new ≡ drop count self.old) }
@@ -89,8 +89,8 @@ impl<'t> Pieces<'t> {
         Ok(())
     }
 
-    /// A reader of a text of at most 2^24 bytes that stands behind so many pieces, of which none is
-    /// the last. An `Err` is want of memory.
+    /// A reader of a text of at most 2^24 bytes that stands after so many pieces, of which none is
+    /// the last. An `Err` means out of memory.
     pub fn behind(
         text: &'t [u8],
         count: usize,

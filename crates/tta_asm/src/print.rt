@@ -4,7 +4,7 @@ ghost use Rattle.std.specs.Prelude.{◌≡◌, ◌++◌, codes, decimal, IfOk, O
 ghost use Rattle.std.specs.List.{flat_map};
 ghost use Rattle.tta_ops.specs.Set.{stated};
 ghost use Rattle.tta_asm.specs.Canonical.{unit_name, place_text, guard_text, source_text};
-ghost use Rattle.tta_asm.specs.Canonical.{dest_text, slot_text};
+ghost use Rattle.tta_asm.specs.Canonical.{dest_text, move_text, slot_text};
 ghost use Rattle.tta_arch.specs.declared.ends.Dest.TheVariants.{Trigger};
 ghost use Rattle.tta_asm.specs.Printing.{later_slot_text};
 ghost use Rattle.tta_asm.specs.Canonical.{slots_text, long_text, instruction_text, datum_text};
@@ -25,8 +25,9 @@ fn push_number(out: &mut Vec<u8>, n: u32) -> Result<(), AllocError>
     out.extend_from_slice(buffer.format(n).as_bytes())
 }
 
-/// Puts a register at the end, by its file's name and its index.
-fn push_place(out: &mut Vec<u8>, name: &[u8], index: u8) -> Result<(), AllocError>
+/// Appends a register, by the name of its file or immediate unit and by its index. It fails only
+/// where there is no memory.
+pub fn push_place(out: &mut Vec<u8>, name: &[u8], index: u8) -> Result<(), AllocError>
     ensures { OnOk result (out.new.items ≡ out.old.items ++ place_text name.now index) }
 {
     out.extend_from_slice(name)?;
@@ -34,7 +35,7 @@ fn push_place(out: &mut Vec<u8>, name: &[u8], index: u8) -> Result<(), AllocErro
     push_number(out, u32::from(index))
 }
 
-/// Puts a port of a unit at the end: the unit's name, and what tells the port.
+/// Puts a port of a unit at the end: the unit's name, and what names the port.
 fn push_port(out: &mut Vec<u8>, m: &Machine, unit: u8, port: &[u8]) -> Result<(), AllocError>
     ensures { OnOk result (out.new.items ≡ out.old.items ++ (unit_name m.now unit ++ port.now)) }
 {
@@ -98,6 +99,18 @@ fn push_dest(out: &mut Vec<u8>, units: &UnitSet, m: &Machine, dst: Dest) -> Resu
     }
 }
 
+/// Appends a move: its guard if it has one, its source and its destination. It fails only where there
+/// is no memory.
+pub fn push_move(out: &mut Vec<u8>, units: &UnitSet, m: &Machine, v: Move) -> Result<(), AllocError>
+    ensures { OnOk result (out.new.items ≡ out.old.items
+        ++ move_text (stated unit_meaning units.now) m.now v) }
+{
+    push_guard(out, m, v.guard)?;
+    push_source(out, m, v.src)?;
+    out.extend_from_slice(b" -> ")?;
+    push_dest(out, units, m, v.dst)
+}
+
 /// Puts a slot at the end: a move, or "...".
 fn push_slot(
     out: &mut Vec<u8>,
@@ -108,13 +121,10 @@ fn push_slot(
     ensures { OnOk result (out.new.items ≡ out.old.items
         ++ slot_text (stated unit_meaning units.now) m.now slot) }
 {
-    let Some(v) = slot else {
-        return out.extend_from_slice(b"...");
-    };
-    push_guard(out, m, v.guard)?;
-    push_source(out, m, v.src)?;
-    out.extend_from_slice(b" -> ")?;
-    push_dest(out, units, m, v.dst)
+    match slot {
+        None => out.extend_from_slice(b"..."),
+        Some(v) => push_move(out, units, m, v),
+    }
 }
 
 /// Puts a slot at the end, with a comma before it.

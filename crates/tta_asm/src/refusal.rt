@@ -37,7 +37,7 @@ pub enum AsmError {
 }
 
 impl AsmRefusal {
-    /// The number under which a user is told.
+    /// The number that a user is given.
     pub fn code(self) -> u8
         ensures { result ≡ code_of self }
     {
@@ -53,7 +53,7 @@ impl AsmRefusal {
         }
     }
 
-    /// The refusal at this line, as it is told.
+    /// The refusal at this line, as it is reported.
     pub fn at(self, line: u32) -> AsmError
         ensures { result ≡ told (line, self) }
     {

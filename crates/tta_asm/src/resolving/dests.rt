@@ -56,7 +56,7 @@ fn trigger_of(units: &UnitSet, m: &Machine, table: &Table, name: &[u8], part: Pa
     Some(Dest::Trigger { unit, op })
 }
 
-/// What control can be told.
+/// What control can be asked to do.
 fn control_of(op: &[u8]) -> Option<Dest>
     ensures { result ≡ control_of op.now }
 {

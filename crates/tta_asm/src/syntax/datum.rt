@@ -10,7 +10,7 @@ use super::read::{behind_first, next_constant, next_number};
 use crate::pieces::{Close, Closed, PlacedWord};
 use tta_code::Datum;
 
-/// Whether words begin a declaration of data: the word `data`, and directly behind it a number.
+/// Whether words begin a declaration of data: the word `data`, and directly after it a number.
 pub fn begins_datum(words: &[PlacedWord]) -> bool
     ensures { result ≡ spec.begins_datum (map placed_seen words.now) }
 {

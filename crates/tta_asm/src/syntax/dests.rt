@@ -11,7 +11,7 @@ use crate::forms::DestForm;
 use crate::pieces::PlacedWord;
 use tta_reading::Word;
 
-/// An operation behind `UNIT.t`.
+/// An operation after `UNIT.t`.
 fn trigger_form<'w, 't>(
     unit: &'t [u8],
     end: u32,
@@ -30,7 +30,7 @@ fn trigger_form<'w, 't>(
     }
 }
 
-/// What may stand behind the `.` of a destination, and is its last word: an index, or `o`.
+/// What may stand after the `.` of a destination, and is its last word: an index, or `o`.
 fn dest_end<'t>(name: &'t [u8], word: &Word) -> Option<DestForm<'t>>
     ensures { option_map dest_seen result ≡ spec.dest_end name.now (plain word.now) }
 {
@@ -44,7 +44,7 @@ fn dest_end<'t>(name: &'t [u8], word: &Word) -> Option<DestForm<'t>>
     }
 }
 
-/// The last word of a destination, behind its `.`.
+/// The last word of a destination, after its `.`.
 fn next_dest_end<'w, 't>(
     name: &'t [u8],
     end: u32,

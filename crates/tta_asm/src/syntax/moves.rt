@@ -26,7 +26,7 @@ fn sense_of(word: &Word) -> Option<bool>
     }
 }
 
-/// A guard behind its first mark.
+/// A guard after its first mark.
 fn guard_register<'w, 't>(
     inverted: bool,
     end: u32,

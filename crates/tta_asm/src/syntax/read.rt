@@ -11,7 +11,7 @@ use crate::forms::ValueForm;
 use crate::pieces::PlacedWord;
 use tta_reading::Word;
 
-/// What was read, with the words behind it.
+/// What was read, with the words after it.
 #[derive(Clone, Copy)]
 pub struct Read<'w, 't, T> {
     pub value: T,
@@ -35,7 +35,7 @@ pub fn next_name<'w, 't>(
     }
 }
 
-/// The next word, where it is a name, with the words behind the mark that has to follow it.
+/// The next word, where it is a name, with the words after the mark that has to follow it.
 pub fn name_before<'w, 't>(
     mark: &[u8],
     end: u32,
@@ -115,7 +115,7 @@ pub fn next_value<'w, 't>(
     }
 }
 
-/// The words behind a certain mark.
+/// The words after a certain mark.
 pub fn behind_mark<'w, 't>(
     mark: &[u8],
     end: u32,
@@ -166,7 +166,7 @@ pub fn line_of(end: u32, words: &[PlacedWord]) -> u32
     }
 }
 
-/// The words behind the first, and none where there is none.
+/// The words after the first, and none where there is none.
 pub fn behind_first<'w, 't>(words: &'w [PlacedWord<'t>]) -> &'w [PlacedWord<'t>]
     ensures { map placed_seen result.now ≡ drop 1 (map placed_seen words.now) }
 {

@@ -11,7 +11,7 @@ use crate::forms::{SourceForm, ValueForm};
 use crate::pieces::PlacedWord;
 use tta_reading::Word;
 
-/// What may stand behind the `.` of a source: an index, `r`, or `ra` of control.
+/// What may stand after the `.` of a source: an index, `r`, or `ra` of control.
 fn source_end<'t>(name: &'t [u8], word: &Word) -> Option<SourceForm<'t>>
     ensures { option_map source_seen result ≡ spec.source_end name.now (plain word.now) }
 {
@@ -27,7 +27,7 @@ fn source_end<'t>(name: &'t [u8], word: &Word) -> Option<SourceForm<'t>>
     }
 }
 
-/// The last word of a source, behind its `.`.
+/// The last word of a source, after its `.`.
 fn next_source_end<'w, 't>(
     name: &'t [u8],
     end: u32,

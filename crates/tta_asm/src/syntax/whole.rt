@@ -1,4 +1,4 @@
-//! Whole pieces: a slot, and a long immediate behind it.
+//! Whole pieces: a slot, and a long immediate after it.
 
 ghost use Rattle.std.specs.Prelude.{◌≡◌, map, option_map};
 ghost use Rattle.tta_asm.specs.Seen.{placed_seen, slot_seen, long_seen, form_seen, piece_seen};
@@ -37,7 +37,7 @@ fn slot_form<'w, 't>(
     }
 }
 
-/// A long immediate behind its `[`, which stands on this line.
+/// A long immediate after its `[`, which stands on this line.
 fn long_behind<'w, 't>(
     line: u32,
     end: u32,
