@@ -1,0 +1,15 @@
+-- What the picture of code writes into its cells.
+use Rattle.std.specs.Prelude.{List, ℕ, ◌++◌, codes, decimal}
+use Rattle.tta_ops.specs.Units.{Units}
+use Rattle.tta_arch.specs.Machine.{Machine}
+use Rattle.tta_code.specs.declared.code.Move.{Move}
+use Rattle.tta_code.specs.declared.code.Long.{Long}
+use Rattle.tta_asm.specs.Canonical.{move_text, template_name}
+
+-- a move, as assembly has it
+unfoldable pub written_move : Units → Machine → Move → List ℕ
+written_move u m v = move_text u m v
+
+-- a long immediate: its template and its word
+unfoldable pub written_long : Machine → Long → List ℕ
+written_long m l = template_name m l.template ++ (codes "=" ++ decimal l.value)
