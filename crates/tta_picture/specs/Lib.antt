@@ -1,0 +1,4 @@
+pub mod Picture
+pub mod World
+pub mod Files
+pub mod Status

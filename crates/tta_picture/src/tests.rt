@@ -1,0 +1,127 @@
+//! Pictures of files in memory.
+
+use crate::run;
+use crate::status::Status;
+use std::alloc::{AllocError, Global};
+use std::test::Fail;
+use tta_ports::{MemFiles, MemSink};
+
+/// The smallest machine.
+const MACHINE: &str =
+    "bus B short 8 unsigned\nsocket I in B\nunit OUT t I\nop OUT out\ncontrol delay 0 address 8 t I\n";
+
+/// The image of code for it: 7 is output, and then the code halts.
+const IMAGE: [u8; 51] = [
+    0x54, 0x54, 0x41, 0x49, 0x00, 0x00, 0x00, 0x01, 0x00, 0x00, 0x00, 0x0c, 0x00, 0x00, 0x00, 0x02,
+    0xdd, 0x2d, 0x15, 0x36, 0xdb, 0xef, 0xeb, 0x9a, 0xe5, 0x12, 0x01, 0x14, 0x1b, 0x35, 0xf9, 0x72,
+    0x03, 0xc0, 0xf9, 0xb3, 0xa4, 0x09, 0xc3, 0x4d, 0x84, 0xce, 0x75, 0x0d, 0xf1, 0xf1, 0x0c, 0x77,
+    0x83, 0x98, 0x04,
+];
+
+/// How the picture of its code ends.
+const ROWS: &str = "<rect class=\"row\" x=\"4\" y=\"80\" width=\"476\" height=\"1\"/>
+<svg x=\"4\" y=\"82\" width=\"44\" height=\"20\"><text class=\"note\" x=\"4\" y=\"15\">0</text></svg>
+<rect class=\"u0\" x=\"48\" y=\"82\" width=\"180\" height=\"20\"/>
+<svg x=\"48\" y=\"82\" width=\"180\" height=\"20\"><text class=\"line\" x=\"4\" y=\"15\">7 -> OUT.t.out</text></svg>
+<rect class=\"row\" x=\"4\" y=\"104\" width=\"476\" height=\"1\"/>
+<svg x=\"4\" y=\"106\" width=\"44\" height=\"20\"><text class=\"note\" x=\"4\" y=\"15\">1</text></svg>
+<rect class=\"control\" x=\"48\" y=\"106\" width=\"180\" height=\"20\"/>
+<svg x=\"48\" y=\"106\" width=\"180\" height=\"20\"><text class=\"line\" x=\"4\" y=\"15\">0 -> gcu.t.halt</text></svg>
+</svg>
+";
+
+/// The words of a command line, how it ends, and how what it outputs ends. Without the latter it
+/// outputs nothing.
+type Case = (&'static [&'static str], Status, &'static str);
+
+const NO_IMAGE: Status = Status::BadImage {
+    code: 40,
+    word: 0,
+    bus: 0,
+};
+
+const CASES: [Case; 7] = [
+    (&["M"], Status::Ok, "</svg>\n"),
+    (&["M", "IMG"], Status::Ok, ROWS),
+    (&[], Status::Usage, ""),
+    (&["IMG"], Status::BadMachine { line: 1, code: 10 }, ""),
+    (&["M", "M"], NO_IMAGE, ""),
+    (&["X", "IMG"], Status::ReadFault { word: 1 }, ""),
+    (&["M", "X"], Status::ReadFault { word: 2 }, ""),
+];
+
+// Puts the words at the end.
+fn add_words(alloc: Global, strings: &mut Vec<String>, words: &[&str]) -> Result<(), AllocError> {
+    for word in words {
+        let string = String::from_str(alloc, word)?;
+        if strings.push(string).is_err() {
+            return Err(AllocError);
+        }
+    }
+    Ok(())
+}
+
+// Draws what these words ask for.
+fn carry_out(
+    alloc: Global,
+    words: &[&str],
+    files: &mut MemFiles,
+    sink: &mut MemSink,
+) -> Result<Status, AllocError> {
+    let mut strings = Vec::new(alloc);
+    if let Err(e) = add_words(alloc, &mut strings, words) {
+        drop(strings);
+        return Err(e);
+    }
+    let status = run(alloc, &strings, files, sink);
+    drop(strings);
+    status
+}
+
+// Gives the files the machine and the image.
+fn add_files(files: &mut MemFiles) -> Result<(), AllocError> {
+    files.add("M", MACHINE.as_bytes())?;
+    files.add("IMG", &IMAGE)
+}
+
+// Whether words end so over these files, and what they output ends so.
+fn ends_over(
+    alloc: Global,
+    files: &mut MemFiles,
+    words: &[&str],
+    ending: Status,
+    output: &str,
+) -> Result<bool, AllocError> {
+    let Ok(mut sink) = MemSink::new(alloc, 10_000, Vec::new(alloc)) else {
+        return Err(AllocError);
+    };
+    let ended = carry_out(alloc, words, files, &mut sink);
+    let is_put = sink.bytes().ends_with(output.as_bytes())
+        && sink.bytes().is_empty() == output.is_empty();
+    drop(sink);
+    match ended {
+        Ok(status) => Ok(is_put && status == ending),
+        Err(e) => Err(e),
+    }
+}
+
+// Whether a case ends as it should.
+fn passes(alloc: Global, case: &Case) -> Result<bool, AllocError> {
+    let (words, ending, output) = case;
+    let mut files = MemFiles::new(alloc, Vec::new(alloc));
+    if let Err(e) = add_files(&mut files) {
+        drop(files);
+        return Err(e);
+    }
+    let passed = ends_over(alloc, &mut files, words, *ending, output);
+    drop(files);
+    passed
+}
+
+#[test]
+fn pictures_and_refusals(rt: HostRuntime) -> Result<(), Fail> {
+    for case in &CASES {
+        assert!(rt; passes(rt.alloc(), case)?);
+    }
+    Ok(())
+}
