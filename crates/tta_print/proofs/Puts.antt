@@ -17,7 +17,7 @@ pub append_known-nil : (known : Option (List ℕ)) → append_known known [] ≡
 append_known-nil None = refl
 append_known-nil (Some xs) = ap Some (append-nil xs)
 
--- one text is appended behind another
+-- one text is appended after another
 pub append_known-twice : (known : Option (List ℕ)) (xs ys : List ℕ) → append_known (append_known known xs) ys ≡ append_known known (xs ++ ys)
 append_known-twice None xs ys = refl
 append_known-twice (Some zs) xs ys = ap Some (append_assoc zs xs ys)
@@ -35,28 +35,28 @@ put_more old new newer whole piece left has more = record {
   parts = has.parts ∙ sym (append_assoc has.done piece left);
 }
 
--- a front of the next piece was put, and so was a front of the whole
+-- a prefix of the next piece was put, and so was a prefix of the whole
 pub put_part : (old new newer : Option (List ℕ)) (whole piece left : List ℕ) (count : ℕ)
     → HasPut old new whole (piece ++ left) → newer ≡ append_known new (take count piece)
     → (n : ℕ) × (newer ≡ append_known old (take n whole))
 put_part old new newer whole piece left count has part =
-    let front = take count piece in
+    let prefix = take count piece in
     let rest = drop count piece ++ left in
-    let again : whole ≡ (has.done ++ front) ++ rest =
+    let again : whole ≡ (has.done ++ prefix) ++ rest =
     has.parts ∙ ap (λ l. has.done ++ (l ++ left)) (sym (take-append-drop count piece))
-    ∙ ap (λ l. has.done ++ l) (append_assoc front (drop count piece) left) ∙ sym (append_assoc has.done front rest) in (
-      length (has.done ++ front),
-      part ∙ ap (λ t. append_known t front) has.taken ∙ append_known-twice old has.done front
-          ∙ ap (append_known old) (sym (ap (take (length (has.done ++ front))) again ∙ take-append_seam (has.done ++ front) rest)),
+    ∙ ap (λ l. has.done ++ l) (append_assoc prefix (drop count piece) left) ∙ sym (append_assoc has.done prefix rest) in (
+      length (has.done ++ prefix),
+      part ∙ ap (λ t. append_known t prefix) has.taken ∙ append_known-twice old has.done prefix
+          ∙ ap (append_known old) (sym (ap (take (length (has.done ++ prefix))) again ∙ take-append_seam (has.done ++ prefix) rest)),
     )
 
--- the answer of a put that failed says that a front was put
+-- the answer of a put that failed says that a prefix was put
 pub part_is_put : {T E : Type 0} → (whole : List ℕ) (old new : Option (List ℕ)) (result : Result T E) → IsErr result
     → (n : ℕ) × (new ≡ append_known old (take n whole)) → PutsBytes whole old new result
 part_is_put whole old new (Ok v) is part = absurd (true≢false (sym is))
 part_is_put whole old new (Err e) is part = part
 
--- two texts one after the other: the first was put, and the second, or a front of it
+-- two texts one after the other: the first was put, and the second, or a prefix of it
 pub puts_both : {T E : Type 0} → (first second : List ℕ) (old new newer : Option (List ℕ)) (result : Result T E)
     → new ≡ append_known old first → PutsBytes second new newer result → PutsBytes (first ++ second) old newer result
 puts_both first second old new newer (Ok v) one two =
@@ -65,7 +65,7 @@ puts_both first second old new newer (Err e) one two =
     let start : HasPut old new (first ++ second) second = record { done = first; taken = one; parts = refl } in
     put_part old new newer (first ++ second) second [] two.0 (subst (HasPut old new (first ++ second)) (sym (append-nil second)) start) two.1
 
--- a front of the first of two texts is a front of both
+-- a prefix of the first of two texts is a prefix of both
 pub puts_first : {T E T' E' : Type 0} → (first second : List ℕ) (old new : Option (List ℕ)) (result : Result T E) (result' : Result T' E')
     → IsErr result → IsErr result' → PutsBytes first old new result → PutsBytes (first ++ second) old new result'
 puts_first first second old new (Ok v) result' is is' puts = absurd (true≢false (sym is))

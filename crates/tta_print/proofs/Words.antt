@@ -1,5 +1,5 @@
--- The lines of a memory, word by word.
-use Rattle.std.proofs.Common.{◌≡◌, ◌<◌, ℕ, ◌+◌, ◌==◌, Bool, true, false, if◌then◌else◌, List, [], ◌∷◌, ◌++◌, length, drop, slice_index, refl, sym, ap, ◌∙◌, append-nil}
+-- Lines one by one, and those of a memory word by word.
+use Rattle.std.proofs.Common.{◌≡◌, ◌<◌, ℕ, ◌+◌, ◌==◌, Bool, true, false, if◌then◌else◌, List, [], ◌∷◌, ◌++◌, length, drop, slice_index, slice_index_or, refl, sym, ap, ◌∙◌, append-nil}
 use Rattle.std.proofs.lemmas.List.{drop_more}
 use Rattle.tta_print.specs.declared.line.Line.TheVariants as line
 use Rattle.tta_print.specs.declared.line.Line.{Line}
@@ -25,3 +25,8 @@ pub word_at : (words : List ℕ) (address k : ℕ) → k < length words
     ≡ lines_text (memory_lines address (slice_index words k ∷ [])) ++ lines_text (memory_lines (address + 1) (drop (k + 1) words))
 word_at words address k below =
     ap (λ l. lines_text (memory_lines address l)) (drop_more words k 0 below) ∙ first_word address (slice_index words k) (drop (k + 1) words)
+
+-- the text of the lines from one on: its own, and that of the others
+pub line_at : (lines : List Line) (other : Line) (k : ℕ) → k < length lines
+    → lines_text (drop k lines) ≡ line_text (slice_index_or lines k other) ++ lines_text (drop (k + 1) lines)
+line_at lines other k below = ap lines_text (drop_more lines k other below)

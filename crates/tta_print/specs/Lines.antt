@@ -1,5 +1,5 @@
--- What the lines of a run say.
-use Rattle.std.specs.Prelude.{ℕ, ◌+◌, ◌==◌, if◌then◌else◌, List, [], ◌∷◌, ◌++◌, map, codes, decimal}
+-- What lines say.
+use Rattle.std.specs.Prelude.{ℕ, true, false, ◌+◌, ◌==◌, if◌then◌else◌, List, [], ◌∷◌, ◌++◌, map, codes, decimal}
 use Rattle.std.specs.List.{flat_map}
 use Rattle.tta_print.specs.declared.line.Line.{Line}
 use Rattle.tta_print.specs.declared.line.Line.TheVariants as line
@@ -14,6 +14,11 @@ line_text (line.Fault code cycle) = codes "fault " ++ decimal code ++ codes " " 
 line_text (line.Memory address word) = codes "mem " ++ decimal address ++ codes " " ++ decimal word ++ codes "\n"
 line_text (line.Steps count) = codes "steps " ++ decimal count ++ codes "\n"
 line_text (line.Cycles count) = codes "cycles " ++ decimal count ++ codes "\n"
+line_text (line.Lines count) = codes "lines " ++ decimal count ++ codes "\n"
+line_text (line.Words count) = codes "words " ++ decimal count ++ codes "\n"
+line_text (line.Outputs count) = codes "outputs " ++ decimal count ++ codes "\n"
+line_text (line.Equal true) = codes "equal yes\n"
+line_text (line.Equal false) = codes "equal no\n"
 
 -- lines one after another
 abbrev pub lines_text : List Line → List ℕ
@@ -25,7 +30,7 @@ memory_lines address [] = []
 memory_lines address (word ∷ words) =
     if word == 0 then memory_lines (address + 1) words else line.Memory address word ∷ memory_lines (address + 1) words
 
--- a line for each word that was put out
+-- a line for each word that was output
 abbrev pub word_lines : List ℕ → List Line
 word_lines words = map line.Word words
 

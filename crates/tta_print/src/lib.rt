@@ -10,6 +10,6 @@ mod report;
 mod text;
 
 pub use line::Line;
-pub use put::put_line;
+pub use put::{put_line, put_lines};
 pub use reply::{Reply, put_due, put_reply};
 pub use report::put_report;

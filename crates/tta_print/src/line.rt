@@ -1,9 +1,9 @@
-//! What a line tells.
+//! What a line says.
 
-/// A line of what a run prints. Every number is printed in decimal.
+/// A line of what a command prints. Every number is printed in decimal.
 #[derive(Clone, Copy, Debug, PartialEq, Eq)]
 pub enum Line {
-    /// A word that the run put out: `W`.
+    /// A word that the run output: `W`.
     Word(u32),
     /// The run has halted: `halted`.
     Halted,
@@ -19,4 +19,13 @@ pub enum Line {
     Steps(u64),
     /// How many cycles were carried out: `cycles K`.
     Cycles(u64),
+    /// How many steps a program has: `lines P`.
+    Lines(u64),
+    /// How many instructions a code has: `words W`.
+    Words(u64),
+    /// How many words were output: `outputs K`.
+    Outputs(u64),
+    /// Whether two runs have output the same and left the same data words: `equal yes` or
+    /// `equal no`.
+    Equal(bool),
 }

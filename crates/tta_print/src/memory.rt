@@ -23,7 +23,7 @@ fn put_word<S: Sink>(sink: &mut S, address: u32, word: u32) -> Result<(), Failed
 
 /// Puts a line for each word that is not 0, by its address from 0 on. It takes no memory.
 ///
-/// It answers `Failed` at the first line at which the sink does, which has then taken the front of
+/// It answers `Failed` at the first line at which the sink does, which has then taken a prefix of
 /// all these lines.
 pub fn put_memory<S: Sink>(sink: &mut S, words: &[u32]) -> Result<(), Failed>
     requires { length words.now < 2 ^ 32 }

@@ -56,7 +56,7 @@ fn push_place(text: &mut ArrayString<ROOM>, pc: u32, cycle: u64)
     push_cycle(text, cycle);
 }
 
-// Puts what a reply tells of a run into an empty text.
+// Puts what a reply says of a run into an empty text.
 fn push_reply(text: &mut ArrayString<ROOM>, reply: &Reply)
     requires { array_string_len text.old ≡ 0 }
     ensures bytes { text.new.bytes ++ codes "\n" ≡ reply_text reply.now }
@@ -106,7 +106,7 @@ fn text_of_reply(reply: &Reply) -> ArrayString<ROOM>
 
 /// Puts a reply, which ends with a newline, in one piece. It takes no memory.
 ///
-/// It answers `Failed` where the sink does, which has then taken the front of the line.
+/// It answers `Failed` where the sink does, which has then taken a prefix of the line.
 pub fn put_reply<S: Sink>(sink: &mut S, reply: &Reply) -> Result<(), Failed>
     ensures grows { PutsBytes (reply_text reply.now) (S.taken sink.old) (S.taken sink.new) result }
     ensures cause { CountsFault (is_err result) (S.faults sink.old) (S.faults sink.new) }
@@ -132,7 +132,7 @@ fn due_end(cycle: u64, value: u32) -> ArrayString<ROOM>
 /// Puts the line of a result that is due, with the name of its unit, in one piece. It takes no
 /// memory.
 ///
-/// It answers `Failed` where the sink does, which has then taken the front of the line.
+/// It answers `Failed` where the sink does, which has then taken a prefix of the line.
 pub fn put_due<S: Sink>(sink: &mut S, unit: &[u8], cycle: u64, value: u32) -> Result<(), Failed>
     requires { length unit.now ≤ 64 }
     ensures grows { PutsBytes (due_text unit.now cycle value)

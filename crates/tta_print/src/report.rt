@@ -13,7 +13,7 @@ use tta_ports::{Failed, Sink};
 /// Puts what follows the words of a run: how it ended, a line for each data word that is not 0, and
 /// how long it was. It takes no memory.
 ///
-/// It answers `Failed` at the first line at which the sink does, which has then taken the front of
+/// It answers `Failed` at the first line at which the sink does, which has then taken a prefix of
 /// all these lines.
 pub fn put_report<S: Sink>(
     sink: &mut S,

@@ -1,0 +1,10 @@
+use Rattle.std.proofs.Common.{◌≡◌, drop}
+use Rattle.tta_print.specs.Lines.{lines_text}
+use Rattle.tta_print.proofs.Puts.{HasPut}
+use Rattle.tta_print.proofs.put.put_lines.Given as goal
+
+abbrev pub invariant-lines : goal.invariant-lines
+invariant-lines g l = record {
+  put : HasPut (g.S.Sink.taken l.initial.sink) (g.S.Sink.taken l.sink) (lines_text l.lines) (lines_text (drop l.line-index l.lines));
+  faults : g.S.Sink.faults l.sink ≡ g.S.Sink.faults l.initial.sink;
+}
