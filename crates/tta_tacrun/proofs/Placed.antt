@@ -142,7 +142,7 @@ path_of p Runs c calls = calls.path
 path_of p Stopped c calls = calls.path
 path_of p Returned c calls = refl
 
--- what a step made of the calls, the data words and the phase, whatever was put out and is left of the input
+-- what a step made of the calls, the data words and the phase, whatever was output and is left of the input
 abbrev pub Carries : Units → Program → (before after : Calls) (memory new_memory : List ℕ) → Phase → (word : Option ℕ) → Step → (next : ℕ) → Type 0
 Carries u p c after memory new_memory phase word step next =
     (rest output : List ℕ) (n : ℕ) → slice_index rest 0 ≡ next

@@ -24,12 +24,12 @@ begun args size = args ++ replicate (size - length args) 0
 
 -- ---- how calls are kept
 
--- The variables of all procedures stand side by side, since each is under way at most once. An entry tells where a call
+-- The variables of all procedures stand side by side, since each is under way at most once. An entry says where a call
 -- is, and its variables are those of its procedure.
 abbrev pub frame_of : (variables : List (List ℕ)) → Entry → Frame
 frame_of variables e = record { proc = e.proc; at = e.at; vars = slice_index_or variables e.proc [] }
 
--- the calls of an entry and of the callers behind it, which are kept the outermost first
+-- the calls of an entry and of the callers after it, which are kept the outermost first
 abbrev pub calls_of : (variables : List (List ℕ)) → Entry → List Entry → Calls
 calls_of variables top callers = record {
   sizes = map length variables;
@@ -37,7 +37,7 @@ calls_of variables top callers = record {
   below = map (frame_of variables) (reverse callers);
 }
 
--- the procedures of an entry and of the callers behind it, which are kept the outermost first
+-- the procedures of an entry and of the callers after it, which are kept the outermost first
 abbrev pub kept_procs : Entry → List Entry → List ℕ
 kept_procs top callers = map (λ e. e.proc) (top ∷ reverse callers)
 

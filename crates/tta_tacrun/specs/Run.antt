@@ -31,7 +31,7 @@ pub record Stands (r : Run) (s : State) : Type 0 where
   pub outcome : r.outcome ≡ s.outcome
 
 -- The answer of a step from a state: Halted where the state has halted, Waiting where the step makes it wait, and else the
--- word that the step puts out, if any, and whether it takes a word of the input.
+-- word that the step outputs, if any, and whether it takes a word of the input.
 abbrev pub IsAnswer : Units → Program → State → SeqStep → Type 0
 IsAnswer u p s DoesNotRun = s.outcome ≡ Halted
 IsAnswer u p s Waits = (s.outcome ≡ Running) × (next u p s ≡ record s { outcome = Waiting })
@@ -62,7 +62,7 @@ abbrev pub is_called : Program → (callee : ℕ) → List Frame → Bool
 is_called p callee [] = true
 is_called p callee (caller ∷ rest) = option_map_or (calls_proc callee) (step_at p caller.proc caller.at) false
 
--- each call was made by the one behind it
+-- each call was made by the one after it
 abbrev pub is_path : Program → List Frame → Bool
 is_path p [] = true
 is_path p (f ∷ rest) = is_called p f.proc rest && is_path p rest
@@ -108,7 +108,7 @@ pub record AreCallsOf (p : Program) (c : Calls) : Type 0 where
   pub sizes : c.sizes ≡ map (λ q. q.vars) p.procs
   pub path : is_path p (c.top ∷ c.below) ≡ true
 
--- the output with a word behind it, if there is one
+-- the output with a word after it, if there is one
 abbrev pub put : List ℕ → Option ℕ → List ℕ
 put output None = output
 put output (Some word) = output ++ word ∷ []

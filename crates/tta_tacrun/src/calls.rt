@@ -136,7 +136,7 @@ impl Calls {
         };
     }
 
-    /// The innermost call ends. It answers whether there is a call behind it; where there is none,
+    /// The innermost call ends. It answers whether there is a call after it; where there is none,
     /// nothing changes.
     pub fn leave(&mut self) -> bool
         ensures sizes { self.new.sizes ≡ self.old.sizes }

@@ -160,7 +160,8 @@ fn store(calls: &Calls, memory: &mut Words, a: Src, v: Src)
 }
 
 /// Carries out a step, where `next` is the next word of the input. It answers whether the run goes
-/// on, and the word put out, if any.
+/// on, and the word that is output, if any.
+#[inline(always)]
 pub fn carry(
     calls: &mut Calls,
     memory: &mut Words,

@@ -21,7 +21,7 @@ use tta_ops::UnitSet;
 use tta_program::Program;
 
 /// The run of a program by its sequential meaning: the calls that are under way, the data words
-/// and the number of steps. The input and what was put out are not kept.
+/// and the number of steps. The input and what was output are not kept.
 #[derive(Drop)]
 pub struct Seq {
     calls: Calls,
@@ -66,10 +66,11 @@ impl Seq {
     }
 
     /// Carries out one step of the program that was loaded, where `next` is the next word of the
-    /// input, `None` where none is left. It answers `Ran` with the word that it put out, if any. It
+    /// input, `None` where none is left. It answers `Ran` with the word that it outputs, if any. It
     /// answers `Halted` exactly where the run has halted before, and `Waiting` exactly where the
     /// step takes a word of the input and there is none; then it changes nothing. It takes no
     /// memory.
+    #[inline(always)]
     pub fn step(&mut self, p: &Program, units: &UnitSet, next: Option<u32>) -> SeqStep
         requires loaded { IsRunOf p.now self.old }
         requires few { self.old.steps < 2 ^ 62 }
