@@ -1,83 +1,18 @@
--- The output of code grows with each cycle, and code that has halted or faulted stays.
-use Rattle.std.proofs.Common.{◌≡◌, ℕ, ◌+◌, ◌==◌, Bool, true, false, if◌then◌else◌, List, [], ◌∷◌, ◌++◌, fold, Option, Some, None, refl, sym, ap, ◌∙◌, append_assoc, slice_get, true≢false}
+-- Code that has halted or faulted stays, and a cycle that faults outputs nothing.
+use Rattle.std.proofs.Common.{◌≡◌, ℕ, ◌+◌, ◌==◌, Bool, true, false, if◌then◌else◌, List, ◌++◌, Option, Some, None, refl, sym, ap, ◌∙◌, slice_get, true≢false}
 use Rattle.std.specs.List.{filter_map}
-use Rattle.tta_print.specs.declared.line.Line.{Line}
-use Rattle.tta_print.specs.declared.line.Line.TheVariants as line
-use Rattle.tta_print.specs.Lines.{lines_text, report_lines}
 use Rattle.tta_ops.specs.Units.{Units}
-use Rattle.tta_arch.specs.declared.parts.Op.{Op}
-use Rattle.tta_arch.specs.declared.parts.Op.TheVariants.{Out}
 use Rattle.tta_arch.specs.Machine.{Machine}
-use Rattle.tta_arch.specs.Effects.{Kind, Jumps, Calls, Halts, Brought, Start, Written, put_out, control_of, first_some, bring, write_of, start_of}
+use Rattle.tta_arch.specs.Effects.{Kind, Jumps, Calls, Halts, control_of, first_some, bring, write_of, start_of}
 use Rattle.tta_code.specs.declared.code.Code.{Code}
 use Rattle.tta_code.specs.declared.code.Instruction.{Instruction}
 use Rattle.tta_code.specs.Cycle.{State, Outcome, Running, Halted, Waiting, Fault, Pending, next, next_of, carry_out, or_fault, or_wait, waits, acts, lands, takes_effect, pending_after, effects_of, read_source, fault_of}
-use Rattle.tta_sim.specs.Held.{Held, Stands, is_fault}
-use Rattle.tta_tool.specs.Cycles.{ComesTo}
+use Rattle.tta_sim.specs.Held.{Held, is_fault}
+use Rattle.tta_print.specs.declared.line.Line.{Line}
+use Rattle.tta_print.specs.declared.line.Line.TheVariants as line
+use Rattle.tta_print.specs.Lines.{lines_text, report_lines}
 use Rattle.tta_tool.specs.Run.{outcome_line}
-use Rattle.tta_tool.proofs.Runs.{Grows, same}
-
--- one list begins another
-abbrev Begins : List ℕ → List ℕ → Type 0
-Begins xs ys = (more : List ℕ) × (ys ≡ xs ++ more)
-
-put : (words : List ℕ) (t : Start) → Begins words (put_out words t)
-put words t = of t.does.op where
-  of : (op : Op) → Begins words (put_out words (record t { does = record t.does { op = op } }))
-  of Out = (t.word ∷ [], refl)
-  of op = same words words refl
-
-all_put : (words : List ℕ) (ts : List Start) → Begins words (fold put_out words ts)
-all_put words [] = same words words refl
-all_put words (t ∷ ts) =
-    let first = put words t in
-    let rest = all_put (put_out words t) ts in
-    (first.0 ++ rest.0, rest.1 ∙ ap (λ l. l ++ rest.0) first.1 ∙ append_assoc words first.0 rest.0)
-
-landed : (s : State) (o : Option Pending) → (lands s o).output ≡ s.output
-landed s None = refl
-landed s (Some p) = chosen (p.time == s.cycle) where
-  took : (k : Kind) → (takes_effect s (record p { kind = k })).output ≡ s.output
-  took Jumps = refl
-  took Calls = refl
-  took Halts = refl
-
-  chosen : (b : Bool) → (if b then takes_effect s p else s).output ≡ s.output
-  chosen true = took p.kind
-  chosen false = refl
-
-acted : (u : Units) (m : Machine) (s : State) (bs : List Brought) (ts : List Start) (written : Written)
-    → Begins s.output (acts u m s bs ts written).output
-acted u m s bs ts written =
-    let words = all_put s.output ts in
-    (words.0, landed _ (pending_after m s (first_some control_of bs)) ∙ words.1)
-
-or_faulted : (s t : State) (o : Option ℕ) → Begins s.output t.output → Begins s.output (or_fault s o t).output
-or_faulted s t None is = is
-or_faulted s t (Some number) is = same s.output s.output refl
-
-or_waited : (s t : State) (must : Bool) → Begins s.output t.output → Begins s.output (or_wait s must t).output
-or_waited s t false is = is
-or_waited s t true is = same s.output s.output refl
-
-carried : (u : Units) (m : Machine) (s : State) (o : Option Instruction) → Begins s.output (carry_out u m s o).output
-carried u m s None = same s.output s.output refl
-carried u m s (Some i) =
-    let effects = effects_of m i in
-    let bs = filter_map (bring (read_source s)) effects in
-    let written = filter_map (write_of m (s.pc + 1 + m.control.delay)) bs ++ s.written in
-    let ts = filter_map (start_of m written) bs in
-    or_faulted s _ (fault_of s effects bs ts) (or_waited s _ (waits s ts) (acted u m s bs ts written))
-
--- a cycle puts words after the output
-pub cycle_grows : (u : Units) (m : Machine) (code : Code) → Grows (λ s. s.output) (next u m code)
-unfolding next
-cycle_grows u m code = λ s. of s s.outcome where
-  of : (s : State) (o : Outcome) → Begins s.output (next_of u m code s o).output
-  of s Running = carried u m s (slice_get code.words s.pc)
-  of s Halted = same s.output s.output refl
-  of s Waiting = same s.output s.output refl
-  of s (Fault number at) = same s.output s.output refl
+use Rattle.tta_tool.specs.Cycles.{ComesTo}
 
 -- a state that has halted stays
 pub halted_stays : (u : Units) (m : Machine) (code : Code) (s : State) → s.outcome ≡ Halted → next u m code s ≡ s
@@ -88,11 +23,6 @@ halted_stays u m code s is = ap (next_of u m code s) is
 pub fault_stays : (u : Units) (m : Machine) (code : Code) (s : State) (number at : ℕ) → s.outcome ≡ Fault number at → next u m code s ≡ s
 unfolding next
 fault_stays u m code s number at is = ap (next_of u m code s) is
-
--- a state that waits stays
-pub waiting_stays : (u : Units) (m : Machine) (code : Code) (s : State) → next u m code (record s { outcome = Waiting }) ≡ record s { outcome = Waiting }
-unfolding next
-waiting_stays u m code s = refl
 
 -- ---- a cycle that faults
 
@@ -137,6 +67,8 @@ fault_is_quiet u m code s number at is = of s s.outcome (ap is_fault is) where
   of s Halted faulty = refl
   of s Waiting faulty = refl
   of s (Fault n c) faulty = refl
+
+-- ---- reporting
 
 -- how a run ended that waits, or does not, with its data words and the number of its cycles
 pub told_of : (waits : Bool) (h : Held) (t : State) (ended : Outcome) → ComesTo waits h t → (waits ≡ true → ended ≡ Waiting)

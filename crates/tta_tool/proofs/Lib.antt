@@ -5,11 +5,11 @@ pub mod Readings
 pub mod Endings
 pub mod Assemblies
 pub mod Showings
-pub mod Runs
 pub mod ProgramSteps
 pub mod CodeCycles
 pub mod Beginnings
 pub mod Runnings
 pub mod Debuggings
+pub mod Samplings
 pub mod OneProgram
 pub mod Completing

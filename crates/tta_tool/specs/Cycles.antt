@@ -1,21 +1,26 @@
--- How a cycle leaves a run that is fed with an input.
-use Rattle.std.specs.Prelude.{◌≡◌, Bool, true, false}
+-- The run of code, move by move.
+use Rattle.std.specs.Prelude.{Bool}
 use Rattle.tta_ops.specs.Units.{Units}
 use Rattle.tta_arch.specs.Machine.{Machine}
 use Rattle.tta_code.specs.declared.code.Code.{Code}
 use Rattle.tta_code.specs.Cycle.{State, Waiting, next}
-use Rattle.tta_list.specs.Input.{left}
+use Rattle.tta_run.specs.Meaning.{Meaning}
+use Rattle.tta_run.specs.Loops as loops
 use Rattle.tta_sim.specs.Held.{Held, Stands}
-use Rattle.tta_tool.specs.declared.steps.Went.{Went}
-use Rattle.tta_tool.specs.declared.steps.Went.TheVariants.{On, Over, Waits}
 
--- a cycle was made, or no later cycle changes the run, or it has to wait
-abbrev pub Leaves : Units → Machine → Code → Held → State → Went → Type 0
-Leaves u m code h s (On took) = Stands h (next u m code s) × ((next u m code s).rest ≡ left took s.rest)
-Leaves u m code h s Over = Stands h (next u m code s) × (next u m code (next u m code s) ≡ next u m code s)
-Leaves u m code h s Waits = Stands h s × (next u m code s ≡ record s { outcome = Waiting })
+-- a machine, and the code that it runs
+pub record Course : Type 0 where
+  pub machine : Machine
+  pub code : Code
+
+-- the same state, where it waits
+abbrev pub waiting : State → State
+waiting s = record s { outcome = Waiting }
+
+-- a move of code is a cycle of the machine
+abbrev pub meaning_of : Units → Machine → Code → Meaning State
+meaning_of u m code = record { next = next u m code; waiting = waiting; output = λ s. s.output; rest = λ s. s.rest }
 
 -- the run stands for this state, or the state waits and is else one for which the run stands
 abbrev pub ComesTo : (waits : Bool) → Held → State → Type 0
-ComesTo true h t = (s : State) × Stands h s × (t ≡ record s { outcome = Waiting })
-ComesTo false h t = Stands h t
+ComesTo waits h t = loops.ComesTo waiting (Stands h) waits t

@@ -7,12 +7,15 @@ pub mod Writing
 pub mod Build
 pub mod Asm
 pub mod Dis
-pub mod Bound
+pub mod Numbers
 pub mod Steps
+pub mod StepLaws
 pub mod Cycles
+pub mod CycleLaws
 pub mod Running
 pub mod Exec
 pub mod Run
 pub mod Debug
+pub mod Sample
 pub mod Command
 pub mod Completes

@@ -1,5 +1,5 @@
 -- How the stages of a command end.
-use Rattle.std.specs.Prelude.{◌≡◌, ◌≤◌, ℕ, nat_lt, if◌then◌else◌, List, [], ◌∷◌, length, Option, Some, None, Result, Ok, Err}
+use Rattle.std.specs.Prelude.{◌≡◌, ◌≤◌, ℕ, List, length, Some, None, Result, Ok, Err}
 use Rattle.tta_ports.specs.Files.{Holds}
 use Rattle.tta_input.specs.Input.{input_of, stream_of}
 use Rattle.tta_ops.specs.Units.{Units}

@@ -21,8 +21,8 @@ use tta_ops::UnitSet;
 use tta_ports::Files;
 use tta_tac::Program;
 
-// The ending that says why no code is built.
-fn ending_of(error: BuildError, units: &UnitSet, machine: &Machine, program: &Program) -> Status
+/// The ending that says why no code is built.
+pub fn ending_of(error: BuildError, units: &UnitSet, machine: &Machine, program: &Program) -> Status
     requires { HasCause (stated unit_meaning units.now) machine.now program.now error }
     ensures { IsCauseOf (stated unit_meaning units.now) machine.now program.now result }
 {

@@ -5,17 +5,19 @@ ghost use Rattle.std.specs.String.{string_bytes};
 ghost use Rattle.tta_ops.specs.Set.{stated};
 ghost use Rattle.tta_tool.specs.World.{world};
 ghost use Rattle.tta_tool.specs.Output.{output};
-ghost use Rattle.tta_tool.specs.Bound as spec;
+ghost use Rattle.tta_tool.specs.Numbers as spec;
 ghost use Rattle.tta_tool.specs.Command.{Ends, bounded_request, running_request};
-ghost use Rattle.tta_tool.specs.Command.{writing_request, request_of};
+ghost use Rattle.tta_tool.specs.Command.{writing_request, sample_request, short_request};
+ghost use Rattle.tta_tool.specs.Command.{request_of};
 
 use crate::asm::assemble_image;
-use crate::bound::bound_of;
 use crate::build::build_image;
 use crate::debugging::debug_image;
 use crate::dis::show_image;
 use crate::exec::exec_program;
+use crate::numbers::{bound_of, lines_of, seed_of};
 use crate::running::run_image;
+use crate::sampling::sample_on;
 use crate::status::Status;
 use std::alloc::Global;
 use tta_ops::UnitSet;
@@ -51,6 +53,59 @@ fn run_writing<F: Files, S: Sink>(
         return show_image(alloc, units, files, machine, second, out);
     }
     Status::Usage
+}
+
+// Makes a sample by its seed and its number of body lines, for the machine of a file, and compares
+// it with its code.
+fn run_sample<F: Files, S: Sink>(
+    alloc: Global,
+    units: &UnitSet,
+    files: &mut F,
+    sink: &mut S,
+    seed: &str,
+    lines: &str,
+    machine: &str,
+) -> Status
+    ensures { Ends (stated unit_meaning units.now)
+        (sample_request seed.now lines.now machine.now)
+        (world (F.contents files.old) (F.faults files.old) (F.latest files.old))
+        (world (F.contents files.new) (F.faults files.new) (F.latest files.new))
+        (output (S.taken sink.old) (S.faults sink.old))
+        (output (S.taken sink.new) (S.faults sink.new))
+        result }
+{
+    match seed_of(seed.as_bytes()) {
+        Some(seed) => match lines_of(lines.as_bytes()) {
+            Some(lines) => sample_on(alloc, units, files, sink, seed, lines, machine),
+            None => Status::Usage,
+        },
+        None => Status::Usage,
+    }
+}
+
+// Carries out the command of this name with three words.
+fn run_short<F: Files, S: Sink>(
+    alloc: Global,
+    units: &UnitSet,
+    files: &mut F,
+    sink: &mut S,
+    word: &str,
+    first: &str,
+    second: &str,
+    third: &str,
+) -> Status
+    ensures { Ends (stated unit_meaning units.now)
+        (short_request word.now first.now second.now third.now)
+        (world (F.contents files.old) (F.faults files.old) (F.latest files.old))
+        (world (F.contents files.new) (F.faults files.new) (F.latest files.new))
+        (output (S.taken sink.old) (S.faults sink.old))
+        (output (S.taken sink.new) (S.faults sink.new))
+        result }
+{
+    if word == "sample" {
+        return run_sample(alloc, units, files, sink, first, second, third);
+    }
+    run_writing(alloc, units, files, &*sink, word, first, second, third)
 }
 
 // Carries out the command of this name with a bound, after which the file of an input may be
@@ -181,10 +236,13 @@ fn run_running<F: Files, S: Sink>(
 /// most N cycles, and is otherwise as `exec`, with the number of cycles in place of that of steps.
 ///
 /// `debug M IMG IN SCRIPT` carries out the commands of the file SCRIPT over the run of such code, and
-/// puts their replies. It changes no file.
+/// outputs their replies. It changes no file.
 ///
-/// These three may have one more word, the file of the input, which is read last. Where a run takes
-/// a word of the input and none is left, it waits.
+/// `sample SEED LINES M` makes the program of a seed with so many body lines, compiles it for the
+/// machine of the file M, runs both from data words of 0, and outputs a summary. It changes no file.
+///
+/// `exec`, `run` and `debug` may have one more word, the file of the input, which is read last. Where
+/// a run takes a word of the input and none is left, it waits.
 pub fn tool<F: Files, S: Sink>(
     alloc: Global,
     words: &Vec<String>,
@@ -201,15 +259,15 @@ pub fn tool<F: Files, S: Sink>(
         result }
 {
     match words.as_slice() {
-        [word, machine, second, out] => run_writing(
+        [word, first, second, third] => run_short(
             alloc,
             units,
             files,
-            &*sink,
+            sink,
             word.as_str(),
-            machine.as_str(),
+            first.as_str(),
             second.as_str(),
-            out.as_str(),
+            third.as_str(),
         ),
         [word, machine, second, input, last] => run_running(
             alloc,

@@ -63,8 +63,13 @@ fn first_outside(init: &[DataLine], words: u32) -> Option<u32>
     None
 }
 
-// The program of a text, whose data lie in a space of so many words.
-fn program_of(alloc: Global, text: &[u8], units: &UnitSet, space: u32) -> Result<Program, Status>
+/// The program of a text, whose data lie in a space of so many words.
+pub fn program_of(
+    alloc: Global,
+    text: &[u8],
+    units: &UnitSet,
+    space: u32,
+) -> Result<Program, Status>
     requires { length text.now ≤ 2 ^ 24 }
     ensures { ProgramEnds (stated unit_meaning units.now) space text.now result }
 {
@@ -122,8 +127,8 @@ pub struct MachineFile {
     pub machine: Machine,
 }
 
-// The machine of a text, with the text.
-fn described(alloc: Global, units: &UnitSet, text: Vec<u8>) -> Result<MachineFile, Status>
+/// The machine of a text, with the text.
+pub fn described(alloc: Global, units: &UnitSet, text: Vec<u8>) -> Result<MachineFile, Status>
     requires { length text.items ≤ 2 ^ 24 }
     ensures { DescribedEnds (stated unit_meaning units.now) text.items
         (λ f. f.text.items) (λ f. f.machine) result }

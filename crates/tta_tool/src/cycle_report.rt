@@ -10,13 +10,12 @@ ghost use Rattle.tta_sim.specs.Held.{Stands, IsRunOf};
 ghost use Rattle.tta_tool.specs.Output.{output};
 ghost use Rattle.tta_tool.specs.Run.{outcome_line, end_told, run_text, RunEnds};
 
-use crate::cycles::run_cycles;
+use crate::code_run::CodeRun;
 use crate::status::Status;
-use tta_code::Code;
-use tta_machine::Machine;
 use tta_ops::UnitSet;
 use tta_ports::{Failed, Sink};
 use tta_print::{Line, put_report};
+use tta_run::put_run;
 use tta_sim::{Ending, Sim};
 
 /// How a run ended.
@@ -60,28 +59,28 @@ fn line_of(end: &CodeEnd) -> Line
 // It answers `Failed` at the first line at which the sink does.
 fn run<S: Sink>(
     sink: &mut S,
-    machine: &Machine,
-    code: &Code,
+    ran: &mut CodeRun<'_>,
     units: &UnitSet,
-    sim: &mut Sim,
     input: &[u32],
     bound: u64,
 ) -> Result<CodeEnd, Failed>
-    requires loaded { IsRunOf machine.now code.now sim.old }
-    requires few { sim.old.cycle + bound < 2 ^ 62 }
-    requires short { machine.now.data_words < 2 ^ 32 }
-    ensures ended { let step = next (stated unit_meaning units.now) machine.now code.now in
-        (s : State) → Stands sim.old s → s.rest ≡ input.now
+    requires loaded { IsRunOf ran.old.machine.now ran.old.code.now ran.old.sim }
+    requires few { ran.old.sim.cycle + bound < 2 ^ 62 }
+    requires short { ran.old.machine.now.data_words < 2 ^ 32 }
+    ensures ended { let U = stated unit_meaning units.now in
+        let step = next U ran.old.machine.now ran.old.code.now in
+        (s : State) → Stands ran.old.sim s → s.rest ≡ input.now
         → IfOk result (λ e. end_told e ≡ (iterate bound step s).outcome) }
-    ensures puts { let step = next (stated unit_meaning units.now) machine.now code.now in
-        (s : State) → Stands sim.old s → s.rest ≡ input.now → s.output ≡ []
+    ensures puts { let U = stated unit_meaning units.now in
+        let step = next U ran.old.machine.now ran.old.code.now in
+        (s : State) → Stands ran.old.sim s → s.rest ≡ input.now → s.output ≡ []
         → PutsBytes (run_text (iterate bound step s)) (S.taken sink.old) (S.taken sink.new) result }
     ensures cause { CountsFault (is_err result) (S.faults sink.old) (S.faults sink.new) }
 {
-    let waits = run_cycles(sink, machine, code, units, sim, input, bound)?;
-    let end = end_of(sim, waits);
-    let count = Line::Cycles(sim.cycles());
-    put_report(sink, &line_of(&end), sim.memory(), &count)?;
+    let waits = put_run(sink, ran, units, input, bound)?;
+    let end = end_of(&ran.sim, waits);
+    let count = Line::Cycles(ran.sim.cycles());
+    put_report(sink, &line_of(&end), ran.sim.memory(), &count)?;
     Ok(end)
 }
 
@@ -89,23 +88,22 @@ fn run<S: Sink>(
 /// takes no memory.
 pub fn code_to_status<S: Sink>(
     sink: &mut S,
-    machine: &Machine,
-    code: &Code,
+    ran: &mut CodeRun<'_>,
     units: &UnitSet,
-    sim: &mut Sim,
     input: &[u32],
     bound: u64,
 ) -> Status
-    requires loaded { IsRunOf machine.now code.now sim.old }
-    requires few { sim.old.cycle + bound < 2 ^ 62 }
-    requires short { machine.now.data_words < 2 ^ 32 }
-    ensures { let step = next (stated unit_meaning units.now) machine.now code.now in
-        (s : State) → Stands sim.old s → s.rest ≡ input.now → s.output ≡ []
+    requires loaded { IsRunOf ran.old.machine.now ran.old.code.now ran.old.sim }
+    requires few { ran.old.sim.cycle + bound < 2 ^ 62 }
+    requires short { ran.old.machine.now.data_words < 2 ^ 32 }
+    ensures { let U = stated unit_meaning units.now in
+        let step = next U ran.old.machine.now ran.old.code.now in
+        (s : State) → Stands ran.old.sim s → s.rest ≡ input.now → s.output ≡ []
         → RunEnds (iterate bound step s)
         (output (S.taken sink.old) (S.faults sink.old))
         (output (S.taken sink.new) (S.faults sink.new)) result }
 {
-    match run(sink, machine, code, units, sim, input, bound) {
+    match run(sink, ran, units, input, bound) {
         Ok(CodeEnd::Waiting) => Status::Waiting,
         Ok(CodeEnd::Other(Ending::Halted)) => Status::Ok,
         Ok(CodeEnd::Other(Ending::Running)) => Status::Running,

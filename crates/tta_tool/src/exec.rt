@@ -9,6 +9,7 @@ ghost use Rattle.tta_tool.specs.Exec.{BeginEnds, BeginWithEnds, RunEnds, Execs};
 
 use crate::contents::{data_words, machine_file, program_file};
 use crate::given::{Given, given_files};
+use crate::program_run::ProgramRun;
 use crate::report::run_to_status;
 use crate::status::Status;
 use std::alloc::Global;
@@ -110,10 +111,11 @@ fn run_program<S: Sink>(
     let mut laid = memory;
     lay_lines(program, &mut laid);
     match Seq::load(alloc, program, laid) {
-        Ok(mut seq) => {
-            let status = run_to_status(sink, program, units, &mut seq, words, bound);
+        Ok(seq) => {
+            let mut ran = ProgramRun { program, seq };
+            let status = run_to_status(sink, &mut ran, units, words, bound);
             // Dropped here as a whole, so that no part of it is left to drop at the end.
-            drop(seq);
+            drop(ran);
             status
         }
         Err(_) => Status::NoMemory,

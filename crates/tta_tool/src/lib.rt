@@ -2,21 +2,23 @@
 #![tactic(auto)]
 
 mod asm;
-mod bound;
 mod build;
+mod code_run;
 mod command;
+mod comparing;
 mod contents;
 mod cycle_report;
-mod cycles;
 mod debugging;
 mod dis;
 mod exec;
 mod given;
 mod laws;
+mod numbers;
+mod program_run;
 mod report;
 mod running;
+mod sampling;
 mod status;
-mod steps;
 mod write;
 
 pub use command::tool;

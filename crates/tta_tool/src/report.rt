@@ -10,12 +10,12 @@ ghost use Rattle.tta_tacrun.specs.Run.{Stands, IsRunOf};
 ghost use Rattle.tta_tool.specs.Output.{output};
 ghost use Rattle.tta_tool.specs.Exec.{ended_as, outcome_line, run_text, RunEnds};
 
+use crate::program_run::ProgramRun;
 use crate::status::Status;
-use crate::steps::run_steps;
 use tta_ops::UnitSet;
 use tta_ports::{Failed, Sink};
 use tta_print::{Line, put_report};
-use tta_tac::Program;
+use tta_run::put_run;
 use tta_tacrun::Seq;
 
 /// How a run ended.
@@ -58,27 +58,26 @@ fn line_of(ended: Ended) -> Line
 // It answers `Failed` at the first line at which the sink does.
 fn run<S: Sink>(
     sink: &mut S,
-    program: &Program,
+    ran: &mut ProgramRun<'_>,
     units: &UnitSet,
-    seq: &mut Seq,
     input: &[u32],
     bound: u64,
 ) -> Result<Ended, Failed>
-    requires loaded { IsRunOf program.now seq.old }
-    requires few { seq.old.steps + bound < 2 ^ 62 }
-    requires short { length seq.old.memory < 2 ^ 32 }
-    ensures ended { let step = next (stated unit_meaning units.now) program.now in
-        (s : State) → Stands seq.old s → s.rest ≡ input.now
+    requires loaded { IsRunOf ran.old.program.now ran.old.seq }
+    requires few { ran.old.seq.steps + bound < 2 ^ 62 }
+    requires short { length ran.old.seq.memory < 2 ^ 32 }
+    ensures ended { let step = next (stated unit_meaning units.now) ran.old.program.now in
+        (s : State) → Stands ran.old.seq s → s.rest ≡ input.now
         → IfOk result (λ e. ended_as e ≡ (iterate bound step s).outcome) }
-    ensures puts { let step = next (stated unit_meaning units.now) program.now in
-        (s : State) → Stands seq.old s → s.rest ≡ input.now → s.output ≡ []
+    ensures puts { let step = next (stated unit_meaning units.now) ran.old.program.now in
+        (s : State) → Stands ran.old.seq s → s.rest ≡ input.now → s.output ≡ []
         → PutsBytes (run_text (iterate bound step s)) (S.taken sink.old) (S.taken sink.new) result }
     ensures cause { CountsFault (is_err result) (S.faults sink.old) (S.faults sink.new) }
 {
-    let waits = run_steps(sink, program, units, seq, input, bound)?;
-    let count = Line::Steps(seq.steps());
-    let ended = ended_of(seq, waits);
-    put_report(sink, &line_of(ended), seq.memory(), &count)?;
+    let waits = put_run(sink, ran, units, input, bound)?;
+    let count = Line::Steps(ran.seq.steps());
+    let ended = ended_of(&ran.seq, waits);
+    put_report(sink, &line_of(ended), ran.seq.memory(), &count)?;
     Ok(ended)
 }
 
@@ -86,22 +85,21 @@ fn run<S: Sink>(
 /// It takes no memory.
 pub fn run_to_status<S: Sink>(
     sink: &mut S,
-    program: &Program,
+    ran: &mut ProgramRun<'_>,
     units: &UnitSet,
-    seq: &mut Seq,
     input: &[u32],
     bound: u64,
 ) -> Status
-    requires loaded { IsRunOf program.now seq.old }
-    requires few { seq.old.steps + bound < 2 ^ 62 }
-    requires short { length seq.old.memory < 2 ^ 32 }
-    ensures { let step = next (stated unit_meaning units.now) program.now in
-        (s : State) → Stands seq.old s → s.rest ≡ input.now → s.output ≡ []
+    requires loaded { IsRunOf ran.old.program.now ran.old.seq }
+    requires few { ran.old.seq.steps + bound < 2 ^ 62 }
+    requires short { length ran.old.seq.memory < 2 ^ 32 }
+    ensures { let step = next (stated unit_meaning units.now) ran.old.program.now in
+        (s : State) → Stands ran.old.seq s → s.rest ≡ input.now → s.output ≡ []
         → RunEnds (iterate bound step s)
         (output (S.taken sink.old) (S.faults sink.old))
         (output (S.taken sink.new) (S.faults sink.new)) result }
 {
-    match run(sink, program, units, seq, input, bound) {
+    match run(sink, ran, units, input, bound) {
         Ok(Ended::Halted) => Status::Ok,
         Ok(Ended::Waiting) => Status::Waiting,
         Ok(Ended::Running) => Status::Running,

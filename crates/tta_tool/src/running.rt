@@ -13,6 +13,7 @@ ghost use Rattle.tta_tool.specs.World.{world};
 ghost use Rattle.tta_tool.specs.Output.{output};
 ghost use Rattle.tta_tool.specs.Run.{BeginWithEnds, RunEnds, RunFileEnds, Runs};
 
+use crate::code_run::CodeRun;
 use crate::contents::{MachineFile, data_words, machine_file, whole_file};
 use crate::cycle_report::code_to_status;
 use crate::given::{Given, given_files};
@@ -113,11 +114,12 @@ fn run_code<S: Sink>(
         result }
 {
     match load_laid(alloc, machine, whole, memory) {
-        Ok(mut sim) => {
+        Ok(sim) => {
             let code = &whole.code;
-            let status = code_to_status(sink, machine, code, units, &mut sim, words, bound);
+            let mut ran = CodeRun { machine, code, sim };
+            let status = code_to_status(sink, &mut ran, units, words, bound);
             // Dropped here as a whole, so that no part of it is left to drop at the end.
-            drop(sim);
+            drop(ran);
             status
         }
         Err(_) => Status::NoMemory,

@@ -14,20 +14,20 @@ use Rattle.tta_tool.proofs.report.run.Goals as goal
 pub returns-in_err-waits-clause-puts : goal.returns-in_err-waits-clause-puts
 returns-in_err-waits-clause-puts g c = λ s stands given none.
     let U = stated (λ v. (goal.OpUnit-dyn g v).unit_meaning v.1) c.args.units.now in
-    let t = iterate c.args.bound (next U c.args.program.now) s in
+    let t = iterate c.args.bound (next U c.args.ran.now.program.now) s in
     puts_first (lines_text (word_lines t.output)) (lines_text (report_lines (outcome_line t.outcome) t.memory (line.Steps t.steps))) _ _
-    c.run_steps.result c.from_residual.result (is_err_of c.in_err-waits.was) c.from_residual.ensures.0
-    (c.run_steps.ensures.puts s stands given none)
+    c.put_run.result c.from_residual.result (is_err_of c.in_err-waits.was) c.from_residual.ensures.0
+    (c.put_run.ensures.puts s stands given none)
 
 pub returns-in_err-put_report-clause-puts : goal.returns-in_err-put_report-clause-puts
 returns-in_err-put_report-clause-puts g c = λ s stands given none.
     let U = stated (λ v. (goal.OpUnit-dyn g v).unit_meaning v.1) c.args.units.now in
-    let t = iterate c.args.bound (next U c.args.program.now) s in
-    let mid = g.S.Sink.taken c.run_steps.new.sink in
+    let t = iterate c.args.bound (next U c.args.ran.now.program.now) s in
+    let mid = g.S.Sink.taken c.put_run.new.sink in
     let new = g.S.Sink.taken c.put_report.new.sink in
     let second = lines_text (report_lines (outcome_line t.outcome) t.memory (line.Steps t.steps)) in
     let told = subst (λ w. PutsBytes w mid new c.put_report.result)
-    (reported c.in_ok-waits.waits c.run_steps.new.seq t (c.in_ok-waits.ensures.run s stands given) (ended_as c.ended_of-ended.result) c.line_of.result c.memory.result.now c.steps.result
+    (reported c.in_ok-waits.waits c.put_run.new.run.seq t (c.in_ok-waits.ensures.run s stands given) (ended_as c.ended_of-ended.result) c.line_of.result c.memory.result.now c.steps.result
     c.ended_of-ended.ensures.waiting c.ended_of-ended.ensures.other c.line_of.ensures c.memory.ensures c.steps.ensures) c.put_report.ensures.grows in
     puts_both (lines_text (word_lines t.output)) second (g.S.Sink.taken c.args.sink.now) mid new c.from_residual-in_err-put_report.result
     (c.in_ok-waits.ensures.puts s stands given none)
@@ -36,18 +36,18 @@ returns-in_err-put_report-clause-puts g c = λ s stands given none.
 
 pub returns-clause-ended : goal.returns-clause-ended
 returns-clause-ended g c = λ s stands given.
-    (told_of c.in_ok-waits.waits c.run_steps.new.seq _ (ended_as c.ended_of-ended.result) (c.in_ok-waits.ensures.run s stands given) c.ended_of-ended.ensures.waiting c.ended_of-ended.ensures.other).0
+    (told_of c.in_ok-waits.waits c.put_run.new.run.seq _ (ended_as c.ended_of-ended.result) (c.in_ok-waits.ensures.run s stands given) c.ended_of-ended.ensures.waiting c.ended_of-ended.ensures.other).0
 
 pub returns-clause-puts : goal.returns-clause-puts
 returns-clause-puts g c = λ s stands given none.
     let U = stated (λ v. (goal.OpUnit-dyn g v).unit_meaning v.1) c.args.units.now in
-    let t = iterate c.args.bound (next U c.args.program.now) s in
+    let t = iterate c.args.bound (next U c.args.ran.now.program.now) s in
     let old = g.S.Sink.taken c.args.sink.now in
-    let mid = g.S.Sink.taken c.run_steps.new.sink in
+    let mid = g.S.Sink.taken c.put_run.new.sink in
     let first = lines_text (word_lines t.output) in
     let second = lines_text (report_lines (outcome_line t.outcome) t.memory (line.Steps t.steps)) in
     c.in_ok-put_report.ensures.grows
-    ∙ ap (append_known mid) (reported c.in_ok-waits.waits c.run_steps.new.seq t (c.in_ok-waits.ensures.run s stands given) (ended_as c.ended_of-ended.result) c.line_of.result c.memory.result.now c.steps.result
+    ∙ ap (append_known mid) (reported c.in_ok-waits.waits c.put_run.new.run.seq t (c.in_ok-waits.ensures.run s stands given) (ended_as c.ended_of-ended.result) c.line_of.result c.memory.result.now c.steps.result
     c.ended_of-ended.ensures.waiting c.ended_of-ended.ensures.other c.line_of.ensures c.memory.ensures c.steps.ensures)
     ∙ ap (λ l. append_known l second) (c.in_ok-waits.ensures.puts s stands given none)
     ∙ append_known-twice old first second

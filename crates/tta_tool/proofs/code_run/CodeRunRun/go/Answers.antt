@@ -1,0 +1,25 @@
+use Rattle.std.proofs.Common.{ap}
+use Rattle.tta_ops.specs.Set.{stated}
+use Rattle.tta_code.specs.Cycle.{State, next}
+use Rattle.tta_tool.proofs.CodeCycles.{halted_stays, fault_stays, fault_is_quiet}
+use Rattle.tta_tool.proofs.code_run.CodeRunRun.go.Goals as goal
+
+pub returns-in-Halted-clause-leaves : goal.returns-in-Halted-clause-leaves
+returns-in-Halted-clause-leaves g c = λ s stands fed.
+    let U = stated (λ v. (goal.OpUnit-dyn g v).unit_meaning v.1) c.args.units.now in
+    let m = c.args.self.now.machine.now in
+    let code = c.args.self.now.code.now in
+    let is = halted_stays U m code s (c.in-Halted.ensures.answer s stands fed) in
+    record { stands = c.in-Halted.ensures.next s stands fed; output = ap (λ (x : State). x.output) is; stays = ap (next U m code) is }
+
+pub returns-in-Fault-clause-leaves : goal.returns-in-Fault-clause-leaves
+returns-in-Fault-clause-leaves g c = λ s stands fed.
+    let U = stated (λ v. (goal.OpUnit-dyn g v).unit_meaning v.1) c.args.units.now in
+    let m = c.args.self.now.machine.now in
+    let code = c.args.self.now.code.now in
+    let fault = c.in-Fault.ensures.answer s stands fed in
+    record {
+      stands = c.in-Fault.ensures.next s stands fed;
+      output = fault_is_quiet U m code s _ _ fault;
+      stays = fault_stays U m code (next U m code s) _ _ fault;
+    }

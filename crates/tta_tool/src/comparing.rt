@@ -1,0 +1,223 @@
+//! A program and its code are run without an input, and the runs are compared.
+
+ghost use Rattle.std.specs.Prelude.{◌≡◌, ℕ, ◌<◌, ◌≤◌, ◌^◌, true, false, length, IfOk};
+ghost use Rattle.tta_ops.specs.Set.{stated};
+ghost use Rattle.tta_print.specs.Lines.{lines_text};
+ghost use Rattle.tta_program.specs.Program.{step_count};
+ghost use Rattle.tta_program.specs.Sequential as sequential;
+ghost use Rattle.tta_code.specs.Cycle as cycles;
+ghost use Rattle.tta_code.specs.Legal.{IsLegalCode};
+ghost use Rattle.tta_build.specs.Statement.{IsBuilt};
+ghost use Rattle.tta_tool.specs.Output.{output};
+ghost use Rattle.tta_tool.specs.Sample.{zeros, summary, HasRun, HasCycled, StandAlike, PutEnds};
+ghost use Rattle.tta_tool.specs.Sample.{CompareEnds};
+
+use crate::code_run::CodeRun;
+use crate::contents::data_words;
+use crate::program_run::ProgramRun;
+use crate::running::load_laid;
+use crate::status::Status;
+use std::alloc::{AllocError, Global};
+use tta_code::Whole;
+use tta_machine::Machine;
+use tta_ops::UnitSet;
+use tta_ports::{Failed, Sink};
+use tta_print::{Line, put_lines};
+use tta_run::{Kept, keep_run};
+use tta_sim::Sim;
+use tta_tac::{Program, lay_lines};
+use tta_tacrun::Seq;
+
+// How many steps a program has.
+fn count_steps(program: &Program) -> u64
+    ensures { result ≡ step_count program.now }
+{
+    let mut count = 0u64;
+    'procs: for proc in program.procs.as_slice() {
+        count += proc.steps.len() as u64;
+    }
+    count
+}
+
+// The words of a data space of this size, each 0.
+fn zeros(alloc: Global, space: u32) -> Result<Vec<u32>, AllocError>
+    ensures zeros { IfOk result (λ v. v.items ≡ zeros space) }
+    ensures size { IfOk result (λ v. length v.items ≡ space) }
+{
+    let words = vec![in alloc; 0; space as usize]?;
+    Ok(words)
+}
+
+/// The run of a program, with the words that it output.
+#[derive(Drop)]
+struct KeptProgram {
+    seq: Seq,
+    kept: Kept,
+}
+
+// Runs a program from data words of 0, with its data laid over them, for at most so many steps.
+fn run_program(
+    alloc: Global,
+    units: &UnitSet,
+    program: &Program,
+    space: u32,
+    bound: u64,
+) -> Result<KeptProgram, AllocError>
+    requires { bound < 2 ^ 48 }
+    ensures { let U = stated unit_meaning units.now in
+        IfOk result (λ r.
+        HasRun U program.now space bound r.seq r.kept.output.items r.kept.waits) }
+{
+    let mut memory = zeros(alloc, space)?;
+    lay_lines(program, &mut memory);
+    let seq = Seq::load(alloc, program, memory)?;
+    let mut ran = ProgramRun { program, seq };
+    let kept = keep_run(alloc, &mut ran, units, bound)?;
+    Ok(KeptProgram { seq: ran.seq, kept })
+}
+
+/// The run of code, with the words that it output.
+#[derive(Drop)]
+struct KeptCode {
+    sim: Sim,
+    kept: Kept,
+}
+
+// Runs code from data words of 0, with its data laid over them, for at most so many cycles.
+fn run_code(
+    alloc: Global,
+    units: &UnitSet,
+    machine: &Machine,
+    whole: &Whole,
+    bound: u64,
+) -> Result<KeptCode, AllocError>
+    requires bound { bound < 2 ^ 48 }
+    requires legal { IsLegalCode machine.now whole.now.code }
+    ensures { let U = stated unit_meaning units.now in
+        IfOk result (λ r.
+        HasCycled U machine.now whole.now bound r.sim r.kept.output.items r.kept.waits) }
+{
+    let memory = zeros(alloc, data_words(machine))?;
+    let sim = load_laid(alloc, machine, whole, memory)?;
+    let code = &whole.code;
+    let mut ran = CodeRun { machine, code, sim };
+    let kept = keep_run(alloc, &mut ran, units, bound)?;
+    Ok(KeptCode { sim: ran.sim, kept })
+}
+
+// Whether both runs output the same and left the same data words.
+fn are_equal(program: &KeptProgram, code: &KeptCode) -> bool
+    ensures { program.now.kept.output.items ≡ code.now.kept.output.items
+        → program.now.seq.memory ≡ code.now.sim.memory → result ≡ true }
+{
+    program.kept.output == code.kept.output && program.seq.memory() == code.sim.memory()
+}
+
+// How many instructions code has, which the machine can carry out.
+fn count_words(machine: &Machine, whole: &Whole) -> u64
+    requires legal { IsLegalCode machine.now whole.now.code }
+    ensures count { result ≡ length whole.now.code.words }
+    ensures few { result ≤ 65536 }
+{
+    // So that the rules of machines are known here, which bound the addresses.
+    let _control = &machine.control;
+    whole.code.words.len() as u64
+}
+
+// Puts the summary of a program and its code that have halted.
+fn put_summary<S: Sink>(
+    sink: &mut S,
+    program: &Program,
+    whole: &Whole,
+    ran: &KeptProgram,
+    cycled: &KeptCode,
+) -> Status
+    ensures { (s : sequential.State) (t : cycles.State)
+        → StandAlike ran.now.seq cycled.now.sim ran.now.kept.output.items
+        cycled.now.kept.output.items s t
+        → PutEnds (lines_text (summary program.now whole.now s t))
+        (output (S.taken sink.old) (S.faults sink.old))
+        (output (S.taken sink.new) (S.faults sink.new))
+        result }
+{
+    let lines = [
+        Line::Lines(count_steps(program)),
+        Line::Words(whole.code.words.len() as u64),
+        Line::Steps(ran.seq.steps()),
+        Line::Cycles(cycled.sim.cycles()),
+        Line::Outputs(ran.kept.output.len() as u64),
+        Line::Equal(are_equal(ran, cycled)),
+    ];
+    match put_lines(sink, &lines) {
+        Ok(()) => Status::Ok,
+        Err(Failed) => Status::WriteFault,
+    }
+}
+
+// Runs the code of a program that has halted, compares the runs and puts the summary.
+fn compare_code<S: Sink>(
+    alloc: Global,
+    units: &UnitSet,
+    sink: &mut S,
+    machine: &Machine,
+    program: &Program,
+    whole: &Whole,
+    ran: &KeptProgram,
+) -> Status
+    requires legal { IsLegalCode machine.now whole.now.code }
+    requires few { ran.now.seq.steps < 2 ^ 24 }
+    ensures { let U = stated unit_meaning units.now in
+        let space = machine.now.data_words in
+        (bound : ℕ) → IsBuilt U machine.now program.now whole.now
+        → HasRun U program.now space bound ran.now.seq ran.now.kept.output.items false
+        → ran.now.seq.outcome ≡ sequential.Halted
+        → CompareEnds U machine.now program.now whole.now bound
+        (output (S.taken sink.old) (S.faults sink.old))
+        (output (S.taken sink.new) (S.faults sink.new))
+        result }
+{
+    let bound = count_words(machine, whole) * (ran.seq.steps() + 1);
+    match run_code(alloc, units, machine, whole, bound) {
+        Ok(cycled) => {
+            let status = put_summary(sink, program, whole, ran, &cycled);
+            drop(cycled);
+            status
+        }
+        Err(_) => Status::NoMemory,
+    }
+}
+
+/// Runs a program for at most so many steps, and where it halts its code, compares them and puts the
+/// summary.
+pub fn compare<S: Sink>(
+    alloc: Global,
+    units: &UnitSet,
+    sink: &mut S,
+    machine: &Machine,
+    program: &Program,
+    whole: &Whole,
+    bound: u64,
+) -> Status
+    requires bound { bound < 2 ^ 24 }
+    requires built { IsBuilt (stated unit_meaning units.now) machine.now program.now whole.now }
+    ensures { let U = stated unit_meaning units.now in
+        CompareEnds U machine.now program.now whole.now bound
+        (output (S.taken sink.old) (S.faults sink.old))
+        (output (S.taken sink.new) (S.faults sink.new))
+        result }
+{
+    match run_program(alloc, units, program, data_words(machine), bound) {
+        Ok(ran) => {
+            let status = if ran.kept.waits {
+                Status::Waiting
+            } else if ran.seq.halted() {
+                compare_code(alloc, units, sink, machine, program, whole, &ran)
+            } else {
+                Status::Running
+            };
+            drop(ran);
+            status
+        }
+        Err(_) => Status::NoMemory,
+    }
+}

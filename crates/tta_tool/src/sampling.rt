@@ -1,0 +1,136 @@
+//! The command `sample`: a program that is made of a number is compiled, and compared with its code.
+
+ghost use Rattle.std.specs.Prelude.{◌≡◌, ◌<◌, ◌≤◌, ◌^◌, None};
+ghost use Rattle.tta_ops.specs.Set.{stated};
+ghost use Rattle.tta_arch.specs.Over as machines;
+ghost use Rattle.tta_program.specs.Over as programs;
+ghost use Rattle.tta_program.specs.Program.{first_outside};
+ghost use Rattle.tta_sample.specs.Sample.{sample_text};
+ghost use Rattle.tta_tool.specs.World.{world};
+ghost use Rattle.tta_tool.specs.Output.{output};
+ghost use Rattle.tta_tool.specs.Stages.{ProgramEnds};
+ghost use Rattle.tta_tool.specs.Sample.{CompileEnds, SampleForEnds, Samples};
+
+use crate::build::ending_of;
+use crate::comparing::compare;
+use crate::contents::{data_words, described, program_of, read_file};
+use crate::status::Status;
+use std::alloc::Global;
+use tta_build::build;
+use tta_machine::Machine;
+use tta_ops::UnitSet;
+use tta_ports::{Files, Sink};
+use tta_sample::sample;
+use tta_tac::Program;
+
+// Compiles a program and compares it with its code.
+fn compile_and_compare<S: Sink>(
+    alloc: Global,
+    units: &UnitSet,
+    sink: &mut S,
+    machine: &Machine,
+    program: &Program,
+    bound: u64,
+) -> Status
+    requires bound { bound < 2 ^ 24 }
+    requires machine { machines.StandsOver (stated unit_meaning units.now) machine.now }
+    requires program { programs.StandsOver (stated unit_meaning units.now) program.now }
+    requires inside { first_outside machine.now.data_words program.now.init ≡ None }
+    ensures { let U = stated unit_meaning units.now in
+        CompileEnds U machine.now program.now bound
+        (output (S.taken sink.old) (S.faults sink.old))
+        (output (S.taken sink.new) (S.faults sink.new))
+        result }
+{
+    match build(alloc, machine, program, units) {
+        Ok(built) => {
+            let status = compare(alloc, units, sink, machine, program, &built.whole, bound);
+            drop(built);
+            status
+        }
+        Err(error) => ending_of(error, units, machine, program),
+    }
+}
+
+// The program of a sample's text, whose data lie in a space of so many words.
+fn sample_program(
+    alloc: Global,
+    units: &UnitSet,
+    seed: u32,
+    lines: u32,
+    space: u32,
+) -> Result<Program, Status>
+    requires some { 1 ≤ lines }
+    requires few { lines ≤ 20000 }
+    ensures { ProgramEnds (stated unit_meaning units.now) space (sample_text seed lines) result }
+{
+    match sample(alloc, seed, lines) {
+        Ok(text) => {
+            let program = program_of(alloc, text.as_slice(), units, space);
+            drop(text);
+            program
+        }
+        Err(_) => Err(Status::NoMemory),
+    }
+}
+
+// Makes a sample and compares it with its code, for a machine that was read.
+fn sample_for<S: Sink>(
+    alloc: Global,
+    units: &UnitSet,
+    sink: &mut S,
+    seed: u32,
+    lines: u32,
+    machine: &Machine,
+) -> Status
+    requires some { 1 ≤ lines }
+    requires few { lines ≤ 20000 }
+    requires machine { machines.StandsOver (stated unit_meaning units.now) machine.now }
+    ensures { SampleForEnds (stated unit_meaning units.now) machine.now seed lines
+        (output (S.taken sink.old) (S.faults sink.old))
+        (output (S.taken sink.new) (S.faults sink.new))
+        result }
+{
+    match sample_program(alloc, units, seed, lines, data_words(machine)) {
+        Ok(program) => {
+            let bound = 32 * u64::from(lines) + 50;
+            let status = compile_and_compare(alloc, units, sink, machine, &program, bound);
+            drop(program);
+            status
+        }
+        Err(status) => status,
+    }
+}
+
+/// Makes the program of a seed with so many body lines, compiles it for the machine of the file that
+/// word 3 names, runs both from data words of 0 and without an input, and puts a summary.
+pub fn sample_on<F: Files, S: Sink>(
+    alloc: Global,
+    units: &UnitSet,
+    files: &mut F,
+    sink: &mut S,
+    seed: u32,
+    lines: u32,
+    machine: &str,
+) -> Status
+    requires some { 1 ≤ lines }
+    requires few { lines ≤ 20000 }
+    ensures { Samples (stated unit_meaning units.now) seed lines machine.now
+        (world (F.contents files.old) (F.faults files.old) (F.latest files.old))
+        (world (F.contents files.new) (F.faults files.new) (F.latest files.new))
+        (output (S.taken sink.old) (S.faults sink.old))
+        (output (S.taken sink.new) (S.faults sink.new))
+        result }
+{
+    match read_file(files, machine, 3) {
+        Ok(text) => match described(alloc, units, text) {
+            Ok(file) => {
+                let status = sample_for(alloc, units, sink, seed, lines, &file.machine);
+                drop(file);
+                status
+            }
+            Err(status) => status,
+        },
+        Err(status) => status,
+    }
+}
