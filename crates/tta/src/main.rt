@@ -14,7 +14,7 @@ use tta_ops::{Arith, Compare, Divide, Logic, OpUnit, Shift, UnitSet};
 use tta_ports::{Files, RealFiles, RealSink, Sink};
 use tta_tool::{Status, tool};
 
-// The words behind the program's name. A word that is not UTF-8 makes no command.
+// The words after the program's name. A word that is not UTF-8 makes no command.
 fn words_of(rt: &(impl Env + AllocGlobal)) -> Result<Vec<String>, Status> {
     let all = match env::args(rt) {
         Ok(all) => all,

@@ -2,6 +2,7 @@
 
 mod assembly;
 mod compiled;
+mod covered;
 mod debug;
 mod dot_product;
 mod exec;
@@ -13,6 +14,7 @@ mod moves;
 mod operations;
 mod programs;
 mod run;
+mod sample;
 mod short;
 mod streams;
 mod texts;

@@ -6,7 +6,7 @@ use std::alloc::{AllocError, Global};
 use std::test::Fail;
 use tta_tool::Status;
 
-/// A loop that puts 7 out for ever, with a label, a comment and a line end within an instruction.
+/// A loop that outputs 7 for ever, with a label, a comment and a line end within an instruction.
 const ASSEMBLY: &str = "# for ever\nagain: 7\n -> OUT.t.out ;\nagain -> gcu.t.jump ;\n";
 
 /// The same as it is shown.

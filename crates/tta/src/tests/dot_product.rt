@@ -40,13 +40,13 @@ fn add_vector(input: &mut String, line: &str) -> Result<(), AllocError> {
     Ok(())
 }
 
-// The line that tells a data word.
+// The line of a data word.
 fn add_word(alloc: Global, output: &mut String, at: usize, word: usize) -> Result<(), AllocError> {
     let line = format!(in alloc; "mem {at} {word}\n")?;
     output.push_str(line.as_str())
 }
 
-// The lines that tell this word of the data words from `from` on, to before `to`.
+// The lines of this word of the data words from `from` on, to before `to`.
 fn add_words(
     alloc: Global,
     output: &mut String,

@@ -1,4 +1,4 @@
-//! A program is run over files in memory, and what it puts out is taken by a sink in memory.
+//! A program is run over files in memory, and what it outputs is taken by a sink in memory.
 
 use super::host::{Case, Host};
 use std::test::Fail;

@@ -1,5 +1,5 @@
-//! Each call of the files and each put of a line fails in turn, for each command. The status tells
-//! the first fault, no file changes but the front of the one that is written, and the output has
+//! Each call of the files and each put of a line fails in turn, for each command. The status gives
+//! the first fault, no file changes but a prefix of the one that is written, and the output has
 //! the lines before the fault and half of the next.
 
 use super::host::{BEFORE, Host, none_other};
@@ -67,7 +67,7 @@ fn fault_at(call: u64, whole: &[u8]) -> (Status, &[u8]) {
     }
 }
 
-// Whether a command that writes tells that this call fails, and leaves the files so.
+// Whether a command that writes reports that this call fails, and leaves the files so.
 fn fails_at_call(
     alloc: Global,
     image: &[u8],
@@ -94,7 +94,7 @@ fn add_taken(taken: &mut Vec<u8>, lines: &[&str], failing: usize) -> Result<(), 
     Ok(())
 }
 
-// Whether a command that prints these five lines tells that this put fails.
+// Whether a command that prints these five lines reports that this put fails.
 fn fails_at_put(
     alloc: Global,
     image: &[u8],
@@ -114,7 +114,7 @@ fn fails_at_put(
     host.leaves(words, ending, BEFORE, taken.as_slice())
 }
 
-// Whether a command that writes tells each of its calls that fails.
+// Whether a command that writes reports each of its calls that fails.
 fn fails_at_each_call(alloc: Global, image: &[u8], words: &[&str]) -> Result<bool, AllocError> {
     for call in 1..5 {
         if !fails_at_call(alloc, image, words, call)? {
@@ -124,7 +124,7 @@ fn fails_at_each_call(alloc: Global, image: &[u8], words: &[&str]) -> Result<boo
     Ok(true)
 }
 
-// Whether a command that prints tells each of its reads that fails.
+// Whether a command that prints reports each of its reads that fails.
 fn fails_at_each_read(alloc: Global, image: &[u8], words: &[&str]) -> Result<bool, AllocError> {
     let mut host = Host::new(alloc, &TEXTS, image);
     for word in 1..4u8 {
@@ -136,7 +136,7 @@ fn fails_at_each_read(alloc: Global, image: &[u8], words: &[&str]) -> Result<boo
     Ok(true)
 }
 
-// Whether a command that prints these five lines tells each of its puts that fails.
+// Whether a command that prints these five lines reports each of its puts that fails.
 fn fails_at_each_put(
     alloc: Global,
     image: &[u8],
@@ -151,7 +151,7 @@ fn fails_at_each_put(
     Ok(true)
 }
 
-// The place of the first command that writes and does not tell its calls so.
+// The place of the first command that writes and does not report its calls so.
 fn first_other_call(alloc: Global, image: &[u8]) -> Result<Option<usize>, AllocError> {
     for (i, words) in WRITING.iter().enumerate() {
         if !fails_at_each_call(alloc, image, words)? {
@@ -161,7 +161,7 @@ fn first_other_call(alloc: Global, image: &[u8]) -> Result<Option<usize>, AllocE
     Ok(None)
 }
 
-// The place of the first command that prints and does not tell its reads so.
+// The place of the first command that prints and does not report its reads so.
 fn first_other_read(alloc: Global, image: &[u8]) -> Result<Option<usize>, AllocError> {
     for (i, (words, _)) in PRINTING.iter().enumerate() {
         if !fails_at_each_read(alloc, image, words)? {
@@ -171,7 +171,7 @@ fn first_other_read(alloc: Global, image: &[u8]) -> Result<Option<usize>, AllocE
     Ok(None)
 }
 
-// The place of the first command that prints and does not tell its puts so.
+// The place of the first command that prints and does not report its puts so.
 fn first_other_put(alloc: Global, image: &[u8]) -> Result<Option<usize>, AllocError> {
     for (i, (words, lines)) in PRINTING.iter().enumerate() {
         if !fails_at_each_put(alloc, image, words, lines)? {

@@ -10,7 +10,7 @@ use tta_tool::{Status, tool};
 /// What `OUT` holds before a command.
 pub const BEFORE: &[u8] = b"before";
 
-/// The words of a command, how it ends, and what it puts out.
+/// The words of a command, how it ends, and what it outputs.
 pub type Case = (&'static [&'static str], Status, &'static str);
 
 /// Files of these texts, `IMG` with this image, and `OUT`, where the call of the files and the put
@@ -28,7 +28,7 @@ pub struct Host<'a> {
     pub prefix: bool,
 }
 
-/// Fails where a case ends otherwise, and tells its place.
+/// Fails where a case ends otherwise, and gives its place.
 pub fn none_other(first_other: Result<Option<usize>, AllocError>) -> Result<(), Fail> {
     match first_other {
         Ok(None) => Ok(()),
@@ -149,7 +149,7 @@ impl<'a> Host<'a> {
         }
     }
 
-    // How a command over these files ends, if this is what it puts out.
+    // How a command over these files ends, if this is what it outputs.
     fn ending_with(
         &self,
         words: &[&str],
@@ -169,7 +169,7 @@ impl<'a> Host<'a> {
         }
     }
 
-    /// Whether a command ends so, leaves `OUT` so, puts this out, and changes no other file.
+    /// Whether a command ends so, leaves `OUT` so, outputs this, and changes no other file.
     pub fn leaves(
         &self,
         words: &[&str],
@@ -189,12 +189,12 @@ impl<'a> Host<'a> {
         }
     }
 
-    /// Whether a command ends so, puts this out, and changes no file.
+    /// Whether a command ends so, outputs this, and changes no file.
     pub fn prints(&self, words: &[&str], ending: Status, output: &str) -> Result<bool, AllocError> {
         self.leaves(words, ending, BEFORE, output.as_bytes())
     }
 
-    // The place of the first case whose command does not end so, does not put this out, or
+    // The place of the first case whose command does not end so, does not output this, or
     // changes a file.
     fn first_other(&self, cases: &[Case]) -> Result<Option<usize>, AllocError> {
         for (i, (words, ending, output)) in cases.iter().enumerate() {
@@ -205,13 +205,13 @@ impl<'a> Host<'a> {
         Ok(None)
     }
 
-    /// Fails where a command does not end so, does not put this out, or changes a file.
+    /// Fails where a command does not end so, does not output this, or changes a file.
     pub fn passes(&self, cases: &[Case]) -> Result<(), Fail> {
         none_other(self.first_other(cases))
     }
 
     /// What a command writes to `OUT`: `before` where it writes nothing, and no bytes where it does
-    /// not end well or puts something out.
+    /// not end well or outputs something.
     pub fn written(&self, words: &[&str]) -> Result<Vec<u8>, AllocError> {
         let Ok(mut files) = self.files() else {
             return Err(AllocError);

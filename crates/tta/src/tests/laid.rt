@@ -76,7 +76,7 @@ const EMPTY: [Case; 1] = [(
 /// The image's bytes before the digest of the machine's text.
 const HEADER: [u8; 16] = [0x54, 0x54, 0x41, 0x49, 0, 0, 0, 2, 0, 0, 0, 12, 0, 0, 0, 2];
 
-/// And those behind it: one pair, and the code.
+/// And those after it: one pair, and the code.
 const BEHIND: [u8; 15] = [0, 0, 0, 1, 0, 0, 0, 2, 0, 0, 0, 9, 0x83, 0x98, 0x04];
 
 // The image of the code with its data.

@@ -67,7 +67,7 @@ const EARLY: &str = "5 -> MUL.o , 6 -> MUL.t.mul , ... ;\n\
      ... , ... , ... ;\n\
      ... , ... , ... ;\n";
 
-/// A guarded jump over a word, behind two words that are put out in any case.
+/// A guarded jump over a word, after two words that are output in any case.
 const JUMP: &str = "1 -> G.0 , ... , ... ;\n\
      ?G.0 8 -> gcu.t.jump , ... , ... ;\n\
      10 -> IO.t.out , ... , ... ;\n\

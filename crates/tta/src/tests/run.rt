@@ -1,4 +1,4 @@
-//! An image is built and run over files in memory, and what it puts out is taken by a sink in
+//! An image is built and run over files in memory, and what it outputs is taken by a sink in
 //! memory.
 
 use super::host::{Case, Host};

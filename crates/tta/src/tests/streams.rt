@@ -5,7 +5,7 @@ use super::texts::THREE_BUSES;
 use std::test::Fail;
 use tta_tool::Status;
 
-/// Takes a word and puts it out.
+/// Takes a word and outputs it.
 const PROGRAM: &str = "proc main\nx = in\nout x\nhalt\nend\n";
 
 /// The same in code.

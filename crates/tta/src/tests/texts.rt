@@ -7,7 +7,7 @@ pub const ONE_BUS: &str = "bus B short 8 unsigned\n\
      op OUT out\n\
      control delay 0 address 8 t I\n";
 
-/// On three buses, two registers change places and are put out.
+/// On three buses, two registers change places and are output.
 pub const SWAP: &str = "1 -> R.1 , ... , ... ;\n\
      2 -> R.2 , ... , ... ;\n\
      R.1 -> R.2 , R.2 -> R.1 , ... ;\n\
