@@ -86,7 +86,7 @@ port : {A : Type 0} (m : Machine) (input : Bool) (bus : ℕ) (q : A → Bool) (o
 port m input bus q None s h pass = absurd (false≢true h)
 port m input bus q (Some r) s h pass = or_left (q s) false pass
 
--- a source that stands behind a socket of the bus
+-- a source that stands after a socket of the bus
 pub source_listed : (m : Machine) (bus : ℕ) (src : Source) → has_source_socket m bus src ≡ true → list_any (same_source src) (all_sources m) ≡ true
 source_listed m bus src h = by src h where
   q : Source → Bool
@@ -130,7 +130,7 @@ source_listed m bus src h = by src h where
       any_right p (files ++ imms ++ results) ra (port m false bus p m.control.ra source.Ra k refl)
   by (source.Value w) k = absurd (false≢true k)
 
--- a destination that stands behind a socket of the bus
+-- a destination that stands after a socket of the bus
 pub dest_listed : (m : Machine) (bus : ℕ) (dst : Dest) → is_dest_on m bus dst ≡ true → list_any (same_dest dst) (all_dests m) ≡ true
 dest_listed m bus dst h = by dst h where
   files : List Dest

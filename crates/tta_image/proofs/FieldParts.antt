@@ -12,7 +12,7 @@ use Rattle.tta_image.proofs.Unique.{length-bits_of, length-bytes}
 use Rattle.tta_image.proofs.Numbers.{number_of-append, number_of-bits_of}
 use Rattle.tta_image.proofs.BitsAt.{field_below}
 
--- ---- a field and the one behind it
+-- ---- a field and the one after it
 
 -- a field that goes on
 pub field_joined : (bits : List Bool) (at a b : ℕ) → at + (a + b) ≤ length bits → field at (a + b) bits ≡ field at a bits * 2 ^ b + field (at + a) b bits

@@ -30,7 +30,7 @@ use Rattle.tta_image.proofs.InstructionDecoded.{fields_from}
 
 -- ---- the buses
 
--- the bits of a bus in front of those of the others
+-- the bits of a bus before those of the others
 abbrev own_bits : Machine → (taken bus : ℕ) → List Bool → Option Move → List Bool
 own_bits m taken bus long slot = if has_bit taken bus then take (bus_width m bus) long else slot_bits m bus slot
 

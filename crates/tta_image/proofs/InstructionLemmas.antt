@@ -1,4 +1,4 @@
--- The bits of an instruction tell it.
+-- The bits of an instruction determine it.
 use Rattle.std.proofs.Common.{◌≡◌, ℕ, suc, ◌+◌, ◌^◌, ◌<◌, ◌≤◌, Bool, true, false, not, ◌||◌, nat_lt, is_none, is_some, IsTrue, List, [], ◌∷◌, ◌++◌, length, map, take, drop, slice_get, Option, Some, None, option_map, refl, sym, ap, ◌∙◌, subst, arith}
 use Rattle.std.specs.Option.{option_map_or}
 use Rattle.std.specs.List.{sum_by, range_with_len, flat_map, AllByRecursion}
@@ -251,7 +251,7 @@ whole_of m i h =
       slots = are_legal m (taken m i) 0 i.moves parts.kept parts.joined;
     }
 
--- the bits of a legal instruction tell it
+-- the bits of a legal instruction determine it
 pub instruction_tells : (m : Machine) (i j : Instruction) → IsMachine m → is_legal m i ≡ true → is_legal m j ≡ true → instruction_bits m i ≡ instruction_bits m j → i ≡ j
 unfolding instruction_bits
 instruction_tells m i j rules hi hj same =
@@ -271,7 +271,7 @@ length-instruction_bits m i h =
     let buses = ap (λ (n : ℕ). sum_by (bus_width m) (range_with_len 0 n)) count in
     omega arith
 
--- instructions are told by their bits, whatever stands after them
+-- instructions are determined by their bits, whatever stands after them
 pub words_tell : (m : Machine) (is js : List Instruction) (r r' : List Bool) → IsMachine m → AllByRecursion (λ i. IsTrue (is_legal m i)) is → AllByRecursion (λ i. IsTrue (is_legal m i)) js
     → length is ≡ length js → flat_map (instruction_bits m) is ++ r ≡ flat_map (instruction_bits m) js ++ r' → is ≡ js
 words_tell m [] [] r r' rules hi hj same bits = refl

@@ -15,7 +15,7 @@ use Rattle.tta_image.proofs.ImageLemmas.{words_fit}
 use Rattle.tta_image.proofs.PairsDecoded.{number_told, sections_tell}
 use Rattle.tta_image.proofs.InstructionLemmas.{words_tell}
 
--- the header tells the version and how many instructions there are, and the rest follows it
+-- the header says the version and how many instructions there are, and the rest follows it
 header_tells : (m : Machine) (digest : List ℕ) (v v' n n' : ℕ) (rest rest' : List ℕ) → v < 2 ^ 32 → v' < 2 ^ 32 → n < 2 ^ 32 → n' < 2 ^ 32
     → header m digest v n ++ rest ≡ header m digest v' n' ++ rest' → (v ≡ v') × (n ≡ n') × (rest ≡ rest')
 header_tells m digest v v' n n' rest rest' small small' few few' same =

@@ -44,7 +44,7 @@ pub length-pairs : (ds : List Datum) → length (flat_map datum_bytes ds) ≡ 8 
 length-pairs [] = refl
 length-pairs (d ∷ ds) = let rest = length-pairs ds in let all = length-append (datum_bytes d) (flat_map datum_bytes ds) in omega arith
 
--- data that were decoded: they are as many as were told, their bytes stand there, and they keep their rules
+-- data that were decoded: they are as many as the header says, their bytes stand there, and they keep their rules
 pub record HavePairs (words least count : ℕ) (bytes : List ℕ) (ds : List Datum) : Type 0 where
   pub many : length ds ≡ count
   pub same : bytes ≡ flat_map datum_bytes ds ++ drop (8 * count) bytes
@@ -139,7 +139,7 @@ few_data words (d ∷ ds) small rise fit = let few = few_pairs words 0 (d ∷ ds
 
 -- ---- the data of an image
 
--- what was decoded of an image: its version is that of the data, their section stands behind the header, and they keep their rules
+-- what was decoded of an image: its version is that of the data, their section stands after the header, and they keep their rules
 pub record HasData (m : Machine) (bytes : List ℕ) (init : List Datum) : Type 0 where
   pub version : version_in bytes ≡ version_of init
   pub section : drop 48 bytes ≡ data_section init ++ drop (48 + section_length bytes) bytes
@@ -324,7 +324,7 @@ pub pairs_end : (words left place least : ℕ) (bytes : List ℕ) (ds : List Dat
 pairs_end words left place least bytes ds all none was =
     sym was ∙ ap (λ (n : ℕ). with_front ds (decoded_pairs words n place least bytes)) none ∙ ap (λ (xs : List Datum). Ok xs) (append-nil ds)
 
--- where there are to be data, and some are told, what is said of the pairs is the answer
+-- where there are to be data, and the header says some, what is said of the pairs is the answer
 pub some_told : (m : Machine) (bytes : List ℕ) (count : ℕ) (pairs : List ℕ) (words : ℕ) (r : Result (List Datum) ImageError) → {b : Bool} → b ≡ has_data bytes → b ≡ true
     → count ≡ data_told bytes → (count == 0) ≡ false → pairs ≡ drop 52 bytes → words ≡ m.data_words
     → Answers r (decoded_pairs words count 0 0 pairs) → Answers r (decoded_data m bytes)

@@ -79,7 +79,7 @@ twice = record {
   long = None;
 }
 
--- a field without a meaning, and an illegal instruction before it, which is told first
+-- a field without a meaning, and an illegal instruction before it, which is reported first
 wrong-field : decoded_words three_buses (layout_of three_buses) 1 0 (replicate 50 true) ≡ Err (of_word 0 Field 0)
 unfolding width_for decoded_instruction is_legal can_move
 wrong-field = refl

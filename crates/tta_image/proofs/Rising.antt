@@ -1,4 +1,4 @@
--- Lists whose items have rising ranks: no item stands twice, so an item's place tells it.
+-- Lists whose items have rising ranks: no item stands twice, so its place determines an item.
 use Rattle.std.proofs.Common.{◌≡◌, ℕ, zero, suc, ◌+◌, ◌*◌, ◌<◌, ◌≤◌, Bool, true, false, List, [], ◌∷◌, ◌++◌, length, map, filter, slice_get, Some, refl, ap, ◌∙◌, subst, arith}
 use Rattle.std.specs.List.{flat_map, enumerate_from, range_with_len, position_or_len, AllByRecursion}
 use Rattle.std.proofs.lemmas.Bool.{false_from_ne_true}

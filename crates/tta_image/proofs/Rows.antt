@@ -19,7 +19,7 @@ wide-bits : code_bits three_buses wide ++ replicate 4 false
 unfolding width_for instruction_bits
 wide-bits = refl
 
--- one word put out, and the end
+-- one word output, and the end
 abbrev pub seven : Code
 seven = record {
   words = record { moves = Some (record { guard = None; src = source.Value 7; dst = dest.Trigger 0 0 }) ∷ []; long = None }

@@ -1,4 +1,4 @@
--- The bits of a slot tell its move.
+-- The bits of a slot determine its move.
 use Rattle.std.proofs.Common.{◌≡◌, ℕ, ◌+◌, ◌%◌, ◌^◌, ◌<◌, ◌≤◌, ◌⊎◌, Bool, true, false, ◌&&◌, List, ◌∷◌, ◌++◌, length, replicate, Option, Some, None, refl, sym, ap, ◌∙◌, inl, inr, arith}
 use Rattle.std.proofs.lemmas.Bool.{false≢true, and_parts}
 use Rattle.std.proofs.lemmas.List.{length-append, length-replicate, replicate-append-replicate, append_assoc}
@@ -20,7 +20,7 @@ use Rattle.tta_image.proofs.ShortWords.{value_tells}
 use Rattle.tta_image.proofs.EndsLemmas.{source_code_inside, source_code_tells, dest_code_inside, dest_code_tells, guard_code_inside, guard_code_tells}
 use Rattle.tta_image.proofs.BitParts.{bits_of-zero}
 
--- codes below a number of codes are told by so many bits
+-- codes below a number of codes are determined by so many bits
 pub code_tells : (codes width a b : ℕ) → a < codes → b < codes → width_for codes ≤ width → bits_of width a ≡ bits_of width b → a ≡ b
 code_tells codes width a b ha hb wide same =
     let enough = width_for-enough codes in

@@ -25,12 +25,12 @@ use Rattle.tta_image.proofs.SlotsDecoded.{bits_of_numbers, empty_bits, Fit, numb
 
 -- ---- the numbers of a slot
 
--- whether a source is a short word, as the tag bit of its field tells
+-- whether a source is a short word, as the tag bit of its field says
 abbrev is_short_source : Source → Bool
 is_short_source (source.Value word) = true
 is_short_source src = false
 
--- the number behind the tag bit of a source field: the low bits of a short word, or the code of the source
+-- the number after the tag bit of a source field: the low bits of a short word, or the code of the source
 abbrev payload_of : Machine → (bus : ℕ) → Source → ℕ
 payload_of m bus (source.Value word) = word % 2 ^ short_width m bus
 payload_of m bus src = source_code m bus src

@@ -49,13 +49,13 @@ width_step fs i f at most h is room =
     let w = ap (λ (x : BusFields). x.width) is in
     omega arith
 
--- the fields that an index gives, in front of the others
+-- the fields that an index gives, before the others
 pub fields_step : (fs : List BusFields) (i : ℕ) (f : BusFields) → i < length fs → f ≡ get_or fs i f → drop i fs ≡ f ∷ drop (i + 1) fs
 fields_step fs i f h is = drop_more fs i f h ∙ ap (λ (x : BusFields). x ∷ drop (i + 1) fs) (sym is)
 
 -- ---- lists that grow at their end
 
--- what is said of the rest, with what is there already in front
+-- what is said of the rest, with what is there already before it
 abbrev pub with_front : {A E : Type 0} → List A → Result (List A) E → Result (List A) E
 with_front front r = r >>= λ xs. Ok (front ++ xs)
 

@@ -127,7 +127,7 @@ decoded_slots m word taken bus (f ∷ fs) bits =
     decoded_slots m word taken (bus + 1) fs (drop f.width bits) >>= λ slots. Ok (slot ∷ slots)
 
 -- The instruction that bits begin with, as a word of an image, or its first field without a meaning: the template's
--- field comes first, for which the number of buses is told, then the long immediate, then the slots.
+-- field comes first, for which the number of buses is reported, then the long immediate, then the slots.
 unfoldable pub decoded_instruction : Machine → Layout → (word : ℕ) → List Bool → Result Instruction ImageError
 decoded_instruction m l word bits =
     or_refuse (of_word word Field (length m.buses)) (decoded_template m (field 0 l.template_width bits)) >>= λ template.

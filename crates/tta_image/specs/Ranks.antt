@@ -8,7 +8,7 @@ use Rattle.tta_arch.specs.declared.ends.Dest.{Dest}
 use Rattle.tta_arch.specs.declared.ends.Dest.TheVariants as dest
 use Rattle.tta_arch.specs.declared.layout.BusFields.{BusFields}
 
--- a number that tells where a source stands: registers by file and index, immediates by unit and index, result ports by unit
+-- a number that says where a source stands: registers by file and index, immediates by unit and index, result ports by unit
 abbrev pub source_rank : Source → ℕ
 source_rank (source.Reg f i) = f * 256 + i
 source_rank (source.Imm u i) = 4096 + u * 256 + i

@@ -30,7 +30,7 @@ has_data bytes = stands_at 4 (to_be_bytes w32 2) bytes
 abbrev pub is_version : List ℕ → Bool
 is_version bytes = stands_at 4 (to_be_bytes w32 1) bytes || has_data bytes
 
--- how many data the bytes behind the header tell
+-- how many data the bytes after the header say
 abbrev pub data_told : List ℕ → ℕ
 data_told bytes = from_be_bytes w32 (take 4 (drop 48 bytes))
 
@@ -42,7 +42,7 @@ section_length bytes = if has_data bytes then 4 + 8 * data_told bytes else 0
 abbrev pub bytes_for : ℕ → ℕ
 bytes_for bits = (bits + 7) / 8
 
--- how many words a header tells
+-- how many words a header says
 abbrev pub word_count : List ℕ → ℕ
 word_count bytes = from_be_bytes w32 (take 4 (drop 12 bytes))
 
@@ -100,7 +100,7 @@ decoded_words m l (suc count) word bits =
 abbrev pub whole_of : List Datum → List Instruction → Whole
 whole_of init words = record { code = record { words = words }; init = init }
 
--- the bytes behind the data, which are those of the words
+-- the bytes after the data, which are those of the words
 abbrev pub body_in : List ℕ → List ℕ
 body_in bytes = drop (48 + section_length bytes) bytes
 

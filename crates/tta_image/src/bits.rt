@@ -13,7 +13,7 @@ fn part_of(byte: u8, after: usize, count: u32) -> u64
     u64::from(shifted % (1 << count))
 }
 
-/// The number with the bits of a part behind those of a number.
+/// The number with the bits of a part after those of a number.
 fn joined(number: u64, part: u64, count: u32) -> u64
     requires fits { number * 2 ^ count + part < 2 ^ 64 }
     requires few { count ≤ 8 }

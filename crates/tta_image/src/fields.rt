@@ -98,7 +98,7 @@ fn push_slot(fields: &BusFields, sink: &mut BitSink, slot: Option<Move>) -> Resu
 }
 
 /// Puts what the bus has in an instruction at the end: its slot, or the highest bits that are
-/// left of the long immediate. Tells how many bits of the long immediate are left after it.
+/// left of the long immediate. Answers how many bits of the long immediate are left after it.
 pub fn push_bus(
     fields: &BusFields,
     sink: &mut BitSink,

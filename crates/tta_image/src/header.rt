@@ -21,7 +21,7 @@ fn stands_at(bytes: &[u8], at: usize, piece: &[u8]) -> bool
     }
 }
 
-/// How many words the header tells.
+/// How many words the header says.
 fn word_count(bytes: &[u8]) -> u32
     requires { 16 ≤ length bytes.now }
     ensures { result ≡ word_count bytes.now }
@@ -43,7 +43,7 @@ fn is_version(bytes: &[u8]) -> bool
     stands_at(bytes, 4, &1u32.to_be_bytes()) || has_data(bytes)
 }
 
-/// How many data the bytes behind the header tell.
+/// How many data the bytes after the header say.
 pub fn data_told(bytes: &[u8]) -> u32
     requires { 52 ≤ length bytes.now }
     ensures { result ≡ data_told bytes.now }

@@ -60,7 +60,7 @@ fn read_pairs(
     Ok(init)
 }
 
-/// The bytes behind the number of data.
+/// The bytes after the number of data.
 fn pairs_in(bytes: &[u8]) -> &[u8]
     requires { 52 ≤ length bytes.now }
     ensures { result.now ≡ drop 52 bytes.now }

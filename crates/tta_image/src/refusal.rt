@@ -6,7 +6,7 @@ ghost use Rattle.tta_image.specs.declared.refusal.ImageError.TheVariants.{NoMemo
 
 use std::alloc::{AllocError, AllocFailed};
 
-/// Why bytes are refused as an image. They are looked for in this order, but `Data` directly behind
+/// Why bytes are refused as an image. They are looked for in this order, but `Data` directly after
 /// `Length`; `Field` and `Illegal` are looked for word by word.
 #[derive(Clone, Copy, Debug, PartialEq, Eq)]
 pub enum ImageRefusal {
@@ -43,7 +43,7 @@ pub enum ImageError {
 }
 
 impl ImageRefusal {
-    /// The number under which a user is told.
+    /// The number that a user is given.
     pub fn code(self) -> u8
         ensures { result ≡ code_of self }
     {

@@ -8,6 +8,18 @@ ghost use Rattle.tta_image.specs.Ranks.{source_rank, dest_rank, Rising, IsPlaceO
 
 use tta_arch::{Dest, Source};
 
+/// How far apart the ranks of two parts stand: more than one part has registers or operations.
+const APART: u32 = 256;
+
+/// The first rank of what comes second: of immediate units, or of the ports of units.
+const SECOND: u32 = 4096;
+
+/// The first rank of result ports.
+const RESULTS: u32 = 8192;
+
+/// The first rank of what comes last: the return address and words, or what control can do.
+const LAST: u32 = 16_384;
+
 /// Whether two sources are one.
 fn same_source(a: Source, b: Source) -> bool
     ensures { result ≡ same_source a b }
@@ -35,30 +47,30 @@ fn same_dest(a: Dest, b: Dest) -> bool
     }
 }
 
-/// A number that tells where a source stands in the order.
+/// A number that says where a source stands in the order.
 fn source_rank(src: Source) -> u32
     ensures { result ≡ source_rank src }
 {
     match src {
-        Source::Reg { file, index } => u32::from(file) * 256 + u32::from(index),
-        Source::Imm { unit, index } => 4096 + u32::from(unit) * 256 + u32::from(index),
-        Source::Shown { unit } => 8192 + u32::from(unit),
-        Source::Ra => 16384,
-        Source::Value(_) => 16385,
+        Source::Reg { file, index } => u32::from(file) * APART + u32::from(index),
+        Source::Imm { unit, index } => SECOND + u32::from(unit) * APART + u32::from(index),
+        Source::Shown { unit } => RESULTS + u32::from(unit),
+        Source::Ra => LAST,
+        Source::Value(_) => LAST + 1,
     }
 }
 
-/// A number that tells where a destination stands in the order.
+/// A number that says where a destination stands in the order.
 fn dest_rank(dst: Dest) -> u32
     ensures { result ≡ dest_rank dst }
 {
     match dst {
-        Dest::Reg { file, index } => u32::from(file) * 256 + u32::from(index),
-        Dest::Operand { unit } => 4096 + u32::from(unit) * 256,
-        Dest::Trigger { unit, op } => 4096 + u32::from(unit) * 256 + 1 + u32::from(op),
-        Dest::Jump => 16384,
-        Dest::Call => 16385,
-        Dest::Halt => 16386,
+        Dest::Reg { file, index } => u32::from(file) * APART + u32::from(index),
+        Dest::Operand { unit } => SECOND + u32::from(unit) * APART,
+        Dest::Trigger { unit, op } => SECOND + u32::from(unit) * APART + 1 + u32::from(op),
+        Dest::Jump => LAST,
+        Dest::Call => LAST + 1,
+        Dest::Halt => LAST + 2,
     }
 }
 

@@ -101,7 +101,7 @@ impl BitSink {
     }
 
     /// Puts the highest of the `left` low bits of a number at the end, as many as the last byte has
-    /// room for. Tells how many are left after them.
+    /// room for. Answers how many are left after them.
     fn push_front(&mut self, number: u64, left: u32) -> Result<u32, AllocError>
         requires { 0 < left }
         ensures less { IfOk result (λ n. n < left) }
