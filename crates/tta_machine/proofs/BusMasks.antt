@@ -57,7 +57,7 @@ has_bus (x ∷ xs) y e =
         ap (λ n. bit_and n (2 ^ y)) (sym joined)
         ∙ and_or_apart (2 ^ y) (bus_set xs) (2 ^ x) (pow_apart x y (λ (e : x ≡ y). eqb-false y x h (sym e))) ∙ others
 
--- a bus behind the others
+-- a bus after the others
 bus_set-push : (xs : List ℕ) (y : ℕ) → bus_set (xs ++ y ∷ []) ≡ bus_set xs + 2 ^ y
 bus_set-push [] y = add_comm (2 ^ y) 0
 bus_set-push (x ∷ xs) y = ap (λ n. 2 ^ x + n) (bus_set-push xs y) ∙ sym (add_assoc (2 ^ x) (bus_set xs) (2 ^ y))

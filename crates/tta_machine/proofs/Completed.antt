@@ -82,7 +82,7 @@ narrow_same m (t ∷ ts) (line ∷ lines) =
 
 -- ---- templates one by one
 
--- what the next template tells, by its width
+-- what the next template gives, by its width
 narrow_at : (m : Machine) (ts : List Template) (lines : List ℕ) (k : ℕ) (t : Template) (width : ℕ) → k < length ts → length lines ≡ length ts → t ≡ get_or ts k t
     → width ≡ taken_width m t.buses
     → narrow_line m (drop k ts) (drop k lines) ≡ (if nat_lt width 32 then Some (get_or lines k 0) else narrow_line m (drop (k + 1) ts) (drop (k + 1) lines))
@@ -125,7 +125,7 @@ is_complete d c is some wide = complete_by d (Some c) is ∙ rw (lt-ltb 0 (lengt
 
 module _ (d : Draft) (c : Control) (m : Machine) (ts : List Template) (lines : List ℕ) (control : d.control ≡ Some c) (bus : 0 < length d.buses)
     (bare : m ≡ without_templates (machine_of d c)) (templates : ts ≡ d.templates) (same_lines : lines ≡ d.template_lines) where
-  -- what the bare machine tells of templates is so of the whole machine
+  -- what the bare machine says of templates is so of the whole machine
   narrow_whole : (o : Option ℕ) → narrow_line m ts lines ≡ o → narrow_line (machine_of d c) d.templates d.template_lines ≡ o
   narrow_whole o is =
       let same : narrow_line m ts lines ≡ narrow_line (without_templates (machine_of d c)) d.templates d.template_lines = rw (bare, templates, same_lines) refl in

@@ -75,7 +75,7 @@ one_line test words = record {
 abbrev pub no_line : OneLine
 no_line = record { bus = None; socket = None; file = None; imm = None; unit = None; op = None; guard = None; template = None; control = None; space = None }
 
--- a line in front of others
+-- a line before others
 abbrev pub in_front : OneLine → ByKind → ByKind
 in_front line rest = record {
   all =
@@ -108,7 +108,7 @@ by_word word key words rest is =
 
 -- ---- lists that grow by what lines make
 
--- the later list has what the forms make behind the earlier one
+-- the later list has what the forms make after the earlier one
 abbrev pub Adds : {A F : Type 0} → (earlier later : List A) → (made : F → A) → List F → Type 0
 Adds earlier later made forms = later ≡ earlier ++ map made forms
 

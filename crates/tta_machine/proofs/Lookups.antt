@@ -1,4 +1,4 @@
--- What it tells that a name was found as what its place asks.
+-- What it means that a name was found as what its place asks.
 use Rattle.std.proofs.Common.{◌≡◌, ◌<◌, ◌∷◌, [], ℕ, Bool, List, Option, Some, None, Ok, true, suc, length, refl, ap, subst, ◌∙◌, option_map}
 use Rattle.std.specs.Prelude.{if◌then◌else◌}
 use Rattle.std.specs.Option.{option_map_or}
@@ -18,7 +18,7 @@ use Rattle.tta_machine.specs.Kept.{NamesAreThere}
 
 -- ---- parts of one name
 
--- a place is of the one kind that tells its number
+-- a place is of the one kind that gives its number
 record OfKind (p : Named) : Type 0 where
   bus : (k : ℕ) → bus_place p ≡ Some k → p ≡ place.Bus k
   socket : (k : ℕ) → socket_place p ≡ Some k → p ≡ place.Socket k

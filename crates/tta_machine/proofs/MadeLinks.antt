@@ -161,7 +161,7 @@ take_template-made line d e f h =
 
 -- ---- control and spaces
 
--- the control unit of a line, behind the sockets of its trigger port and of its return address, if that can be read
+-- the control unit of a line, joined to the sockets of its trigger port and of its return address, if that can be read
 abbrev pub control_of : ControlForm → (trigger : ℕ) → Option ℕ → Control
 control_of f trigger ra = record { delay = f.delay; address = f.address; trigger = trigger; ra = ra }
 

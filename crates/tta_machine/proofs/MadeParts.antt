@@ -113,7 +113,7 @@ take_file-made d e f h =
     let range = refuse_if-ok (file_out_of_range d f) Range _ e free.1 in
     record { out = out.0; into = into.0; found_out = out.1; found_into = into.1; free = free.0; range = range.0; made = same_ok (file_added d f out.0 into.0) e range.1 }
 
--- the immediate unit that a line declares, behind its socket out
+-- the immediate unit that a line declares, with its output socket
 abbrev pub imm_of : ImmForm → (out : ℕ) → ImmUnit
 imm_of f out = record { name = f.name; size = f.size; out = out }
 

@@ -1,4 +1,4 @@
--- Long forms, told by the places of their words.
+-- Long forms, by the places of their words.
 use Rattle.std.proofs.Common.{◌≡◌, ◌≤◌, ℕ, ◌-◌, ◌==◌, false, List, [], ◌∷◌, length, take, drop, get_or, refl, sym, arith}
 use Rattle.std.specs.Prelude.{Option, Some, None, map, codes}
 use Rattle.std.proofs.lemmas.Bool.{true≢false}
@@ -10,7 +10,7 @@ use Rattle.tta_reading.specs.Words.{is_mark, name_of, value_of}
 use Rattle.tta_reading.specs.Steps.{◌>>?◌, only_if}
 use Rattle.tta_machine.specs.Forms.{FileForm, file_form, file_sockets, template_form, keyed_value, names_alone}
 
--- what stands behind the end of a line
+-- what stands after the end of a line
 abbrev pub no_word : Word
 no_word = record { kind = Name; text = record { ref_ptr = (0, 0); now = [] } }
 
@@ -18,7 +18,7 @@ no_word = record { kind = Name; text = record { ref_ptr = (0, 0); now = [] } }
 abbrev pub word_at : List Word → ℕ → Lexeme
 word_at ws k = plain (get_or ws k no_word)
 
--- what is left of a line behind its first words, as the code cuts it
+-- what is left of a line after its first words, as the code cuts it
 abbrev pub words_from : ℕ → List Word → List Word
 words_from k ws = take (length ws - k) (drop k ws)
 

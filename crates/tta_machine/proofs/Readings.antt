@@ -156,7 +156,7 @@ three_buses_front =
     ∷ codes "guard B1 G.0 inverted"
     ∷ []
 
--- its lines behind the template: control and both spaces
+-- its lines after the template: control and both spaces
 abbrev three_buses_back : List (List ℕ)
 three_buses_back =
     codes "control delay 2 address 12 t UI ra UO"
@@ -170,7 +170,7 @@ three_buses-reads = refl
 
 -- ---- refusals of the whole text
 
--- a template whose one bus has too few bits, told by its line
+-- a template whose one bus has too few bits, reported with its line
 three_buses-too_narrow : read (three_buses_front ++ codes "template L I.0 B2" ∷ three_buses_back) ≡ Err (39, TooNarrow)
 unfolding read
 three_buses-too_narrow = refl
@@ -248,7 +248,7 @@ result-is_missing : read (small ++ codes "op U ldw 1" ∷ []) ≡ Err (5, Missin
 unfolding read
 result-is_missing = refl
 
--- of several refusals of a line the first in their order is told
+-- of several refusals of a line the first in their order is reported
 twice_before_range : read (codes "bus B short 8 unsigned" ∷ codes "bus B short 33 unsigned" ∷ []) ≡ Err (2, Twice)
 unfolding read
 twice_before_range = refl

@@ -38,7 +38,7 @@ refused_text : (u : Units) (text : List ℕ) (refused : Refused) → take_lines 
 unfolding machine_of_text
 refused_text u text refused is = ap (λ r. r >>= complete) is
 
--- what is told where the lines were not all taken
+-- what is reported where the lines were not all taken
 pub lines_told : (u : Units) (text : List ℕ) (e : MachineError) → DraftEnds u (lines_of text) (Err e) → HasCause u text e
 lines_told u text (machine_error.Refused line code) h = (h.refusal, h.told, refused_text u text (line, h.refusal) h.refused)
 lines_told u text machine_error.NoMemory h = tt
@@ -61,7 +61,7 @@ pub text_stands : (u : Units) (text : List ℕ) (r : Result Machine MachineError
 text_stands u text (Ok m) h = text_over u text m (machine-said u text m h)
 text_stands u text (Err e) h = tt
 
--- what is told where something is refused of what they declare
+-- what is reported where something is refused of what they declare
 pub text_told : (u : Units) (text : List ℕ) (d : Draft) (r : Result Machine MachineError) → TakesAll u (lines_of text) d → CompleteEnds d r
     → IfErr r (HasCause u text)
 text_told u text d (Ok m) t h = tt

@@ -1,5 +1,5 @@
 -- What each declaration does to a machine that is being read, and when it is refused. Where several refusals of a line
--- hold, the first in their order is told: unknown, twice, range, missing.
+-- hold, the first in their order is reported: unknown, twice, range, missing.
 use Rattle.std.specs.Prelude.{ℕ, ◌+◌, ◌^◌, ◌==◌, Bool, true, false, not, ◌&&◌, ◌||◌, nat_lt, nat_le, if◌then◌else◌, List, [], ◌∷◌, ◌++◌, length, Option, Some, None, is_some, is_none, slice_get, slice_set, Result, Ok, codes, option_map}
 use Rattle.std.specs.Str.{bytes_eq}
 use Rattle.std.specs.Option.{option_map_or}
@@ -70,7 +70,7 @@ take_file d f =
       files = d.files ++ record { name = f.name; width = f.width; size = f.size; read = f.read; write = f.write; out = out; into = into } ∷ [];
     })))
 
--- the draft with an immediate unit more, behind a socket out
+-- the draft with an immediate unit more, with its output socket
 unfoldable pub take_imm : Draft → ImmForm → Result Draft Refusal
 take_imm d f =
     or_refuse Unknown (socket_named d false f.out) >>= λ out.

@@ -1,4 +1,4 @@
--- The forms of a machine text's lines: which words a declaration is made of. Each is told without its first word,
+-- The forms of a machine text's lines: which words a declaration is made of. Each stands without its first word,
 -- which chooses the form.
 use Rattle.std.specs.Prelude.{ℕ, Bool, true, false, if◌then◌else◌, List, [], ◌∷◌, Option, Some, None, codes}
 use Rattle.tta_reading.specs.Lines.{Lexeme, Line}
@@ -22,7 +22,7 @@ pub record BusForm : Type 0 where
   pub short : ℕ
   pub signed : Bool
 
--- the words behind `bus`, where they have this form
+-- the words after `bus`, where they have this form
 unfoldable pub bus_form : Line → Option BusForm
 bus_form (n ∷ short ∷ bits ∷ sign ∷ []) =
     only_if (is_keyword (codes "short") short) (
@@ -38,7 +38,7 @@ pub record SocketForm : Type 0 where
   pub input : Bool
   pub buses : List (List ℕ)
 
--- the words behind `socket`, where they have this form
+-- the words after `socket`, where they have this form
 unfoldable pub socket_form : Line → Option SocketForm
 socket_form (n ∷ direction ∷ bus ∷ buses) =
     name_of n >>? λ name. one_of_two (codes "in") (codes "out") direction >>? λ input. names_alone (bus ∷ buses) >>? λ all.
@@ -72,7 +72,7 @@ file_sockets name w s r t (k1 ∷ out ∷ k2 ∷ into ∷ []) =
     Some (record { name = name; width = w; size = s; read = r; write = t; out = o; into = i })
 file_sockets name w s r t line = None
 
--- the words behind `file`, where they have this form
+-- the words after `file`, where they have this form
 unfoldable pub file_form : Line → Option FileForm
 file_form (n ∷ k1 ∷ width ∷ k2 ∷ size ∷ k3 ∷ read ∷ k4 ∷ write ∷ k5 ∷ out ∷ k6 ∷ into ∷ []) =
     name_of n >>? λ name.
@@ -90,7 +90,7 @@ pub record ImmForm : Type 0 where
   pub size : ℕ
   pub out : List ℕ
 
--- the words behind `imm`, where they have this form
+-- the words after `imm`, where they have this form
 unfoldable pub imm_form : Line → Option ImmForm
 imm_form (n ∷ k1 ∷ size ∷ k2 ∷ out ∷ []) =
     name_of n >>? λ name. keyed_value (codes "size") k1 size >>? λ s. keyed_name (codes "out") k2 out >>? λ o.
@@ -115,7 +115,7 @@ unit_ports name operand (k1 ∷ trigger ∷ k2 ∷ result ∷ []) =
     Some (record { name = name; operand = operand; trigger = t; result = Some r })
 unit_ports name operand line = None
 
--- the words behind `unit`, where they have this form
+-- the words after `unit`, where they have this form
 unfoldable pub unit_form : Line → Option UnitForm
 unit_form (n ∷ k1 ∷ first ∷ rest) =
     name_of n >>? λ name.
@@ -132,7 +132,7 @@ pub record OpForm : Type 0 where
   pub operation : List ℕ
   pub latency : Option ℕ
 
--- the words behind `op`, where they have this form
+-- the words after `op`, where they have this form
 unfoldable pub op_form : Line → Option OpForm
 op_form (u ∷ o ∷ []) =
     name_of u >>? λ unit. name_of o >>? λ operation. Some (record { unit = unit; operation = operation; latency = None })
@@ -150,7 +150,7 @@ pub record GuardForm : Type 0 where
   pub index : ℕ
   pub inverted : Bool
 
--- the words behind `guard`, where they have this form
+-- the words after `guard`, where they have this form
 unfoldable pub guard_form : Line → Option GuardForm
 guard_form (b ∷ f ∷ dot ∷ i ∷ sense ∷ []) =
     only_if (is_mark (codes ".") dot) (
@@ -167,7 +167,7 @@ pub record TemplateForm : Type 0 where
   pub index : ℕ
   pub buses : List (List ℕ)
 
--- the words behind `template`, where they have this form
+-- the words after `template`, where they have this form
 unfoldable pub template_form : Line → Option TemplateForm
 template_form (n ∷ u ∷ dot ∷ i ∷ bus ∷ buses) =
     only_if (is_mark (codes ".") dot) (
@@ -190,7 +190,7 @@ ra_pair [] = Some None
 ra_pair (key ∷ socket ∷ []) = keyed_name (codes "ra") key socket >>? λ name. Some (Some name)
 ra_pair line = None
 
--- the words behind `control`, where they have this form
+-- the words after `control`, where they have this form
 unfoldable pub control_form : Line → Option ControlForm
 control_form (k1 ∷ delay ∷ k2 ∷ address ∷ k3 ∷ trigger ∷ rest) =
     keyed_value (codes "delay") k1 delay >>? λ d. keyed_value (codes "address") k2 address >>? λ a.
@@ -205,7 +205,7 @@ pub record SpaceForm : Type 0 where
   pub is_data : Bool
   pub size : ℕ
 
--- the words behind `space`, where they have this form
+-- the words after `space`, where they have this form
 unfoldable pub space_form : Line → Option SpaceForm
 space_form (which ∷ n ∷ []) =
     one_of_two (codes "data") (codes "frame") which >>? λ is_data. value_of n >>? λ size.

@@ -1,4 +1,4 @@
--- What a machine text says, told from all its lines at once: which lines declare what, each part from its own line with
+-- What a machine text says, read from all its lines at once: which lines declare what, each part from its own line with
 -- names replaced by their places, and a unit with the operations of all lines that name it.
 use Rattle.std.specs.Prelude.{◌≡◌, ℕ, Bool, true, not, ◌&&◌, ◌||◌, List, [], ◌∷◌, map, filter, filter_map, Option, Some, None, is_some, option_map, codes}
 use Rattle.std.specs.Str.{bytes_eq}
@@ -23,7 +23,7 @@ use Rattle.tta_machine.specs.Declarations.{bus_set, op_named, arity_of}
 
 -- ---- lines of a kind
 
--- what a line declares as a line of one kind: it begins with the kind's word, and has its form behind
+-- what a line declares as a line of one kind: it begins with the kind's word, and its form follows
 abbrev pub declared_as : {F : Type 0} → (word : List ℕ) → (form : Line → Option F) → Line → Option F
 declared_as word form [] = None
 declared_as word form (key ∷ words) = only_if (is_keyword word key) (form words)
@@ -132,7 +132,7 @@ file_made sockets f = record {
   into = place_of sockets f.into;
 }
 
--- an immediate unit behind a socket
+-- an immediate unit with its socket
 abbrev pub imm_made : (sockets : List (List ℕ)) → ImmForm → ImmUnit
 imm_made sockets f = record { name = f.name; size = f.size; out = place_of sockets f.out }
 

@@ -20,7 +20,7 @@ use Rattle.tta_machine.specs.Declarations.{take_bus, take_socket, take_file, tak
 
 -- ---- a line
 
--- what a line declares, told by its first word
+-- what a line declares, by its first word
 abbrev pub declare : Units → (line : ℕ) → Draft → Lexeme → Line → Result Draft Refusal
 declare u line d key words =
     if is_keyword (codes "bus") key then or_refuse Syntax (bus_form words) >>= take_bus d
@@ -46,7 +46,7 @@ take_line u line d (key ∷ words) = declare u line d key words
 abbrev pub Refused : Type 0
 Refused = ℕ × Refusal
 
--- the lines from this one on; the first that is refused is told
+-- the lines from this one on; the first that is refused is reported
 abbrev pub take_lines : Units → (line : ℕ) → Draft → List Line → Result Draft Refused
 take_lines u line d [] = Ok d
 take_lines u line d (words ∷ lines) = at_line line (take_line u line d words) >>= λ next. take_lines u (line + 1) next lines
@@ -70,7 +70,7 @@ complete d = of d.control where
 unfoldable pub machine_of_text : Units → List ℕ → Result Machine Refused
 machine_of_text u text = take_lines u 1 nothing (lines_of text) >>= complete
 
--- what is told of a text that describes no machine; want of memory needs no cause
+-- what is reported of a text that describes no machine; lack of memory needs no cause
 abbrev pub HasCause : Units → List ℕ → MachineError → Type 0
 HasCause u text (machine_error.Refused line code) =
     (refusal : Refusal) × (code ≡ code_of refusal) × (machine_of_text u text ≡ Err (line, refusal))

@@ -42,7 +42,7 @@ CompleteEnds d (Ok m) = complete d ≡ Ok m
 CompleteEnds d (Err (machine_error.Refused line code)) = RefusesDraft d line code
 CompleteEnds d (Err machine_error.NoMemory) = Unit {0}
 
--- every template is wide enough, or the first that is not is told, or there was no memory
+-- every template is wide enough, or the first that is not is reported, or there was no memory
 abbrev pub WidthsEnd : Machine → List Template → (lines : List ℕ) → Result (Unit {0}) MachineError → Type 0
 WidthsEnd m templates lines (Ok x) = narrow_line m templates lines ≡ None
 WidthsEnd m templates lines (Err (machine_error.Refused line code)) =

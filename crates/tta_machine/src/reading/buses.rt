@@ -19,7 +19,7 @@ use tta_list::Name;
 use tta_reading::Word;
 
 impl Draft {
-    /// Takes a bus by the words behind `bus`. It is refused as `Syntax` where they have another
+    /// Takes a bus by the words after `bus`. It is refused as `Syntax` where they have another
     /// form, as `Twice` where its name is taken, and else as `Range` where its short field has no
     /// bit or more than 32, its name is too long, or 16 buses are there.
     #[tactic(auto, unfolding(crate::specs::Declarations::take_bus))]
@@ -55,7 +55,7 @@ impl Draft {
         )
     }
 
-    /// Takes a socket by the words behind `socket`. It is refused as `Syntax` where they have
+    /// Takes a socket by the words after `socket`. It is refused as `Syntax` where they have
     /// another form, as `Unknown` where a name of its buses names no bus, as `Twice` where its name
     /// is taken or a bus stands twice, and as `Range` where its name is too long or 128 sockets are
     /// there.

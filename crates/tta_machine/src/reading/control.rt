@@ -16,8 +16,14 @@ use crate::reading::syntax;
 use tta_arch::Control;
 use tta_reading::Word;
 
+/// How many words a data space has at most.
+const MOST_DATA_WORDS: u32 = 1 << 20;
+
+/// How many words a frame space has at most.
+const MOST_FRAME_WORDS: u32 = 65_536;
+
 impl Draft {
-    /// Takes control by the words behind `control`. It is refused as `Syntax` where they have
+    /// Takes control by the words after `control`. It is refused as `Syntax` where they have
     /// another form, as `Unknown` where the socket of one of its ports is not there in the port's
     /// direction, as `Twice` where control is there already, and as `Range` where its delay is over
     /// 4 or an address has no bit or more than 16.
@@ -48,7 +54,7 @@ impl Draft {
         Ok(())
     }
 
-    /// Takes how many words a space has, by the words behind `space`. It is refused as `Syntax`
+    /// Takes how many words a space has, by the words after `space`. It is refused as `Syntax`
     /// where they have another form, as `Twice` where that is declared already, and as `Range`
     /// where the data space has more than 2^20 words or the frame space more than 65,536.
     #[tactic(auto, unfolding(crate::specs::Declarations::take_space))]
@@ -60,9 +66,9 @@ impl Draft {
             return Err(LineError::Refused(Refusal::Syntax));
         };
         if form.is_data {
-            self.data_words = Some(words_once(self.data_words, 1 << 20, form.size)?);
+            self.data_words = Some(words_once(self.data_words, MOST_DATA_WORDS, form.size)?);
         } else {
-            self.frame_words = Some(words_once(self.frame_words, 65536, form.size)?);
+            self.frame_words = Some(words_once(self.frame_words, MOST_FRAME_WORDS, form.size)?);
         }
         Ok(())
     }

@@ -21,7 +21,7 @@ use tta_list::Name;
 use tta_reading::Word;
 
 impl Draft {
-    /// Takes an immediate unit by the words behind `imm`. It is refused as `Syntax` where they
+    /// Takes an immediate unit by the words after `imm`. It is refused as `Syntax` where they
     /// have another form, as `Unknown` where its socket is no output socket, as `Twice` where its
     /// name is taken, and as `Range` where it has no register or more than 16, its name is too
     /// long, or 4 immediate units are there.
@@ -58,7 +58,7 @@ impl Draft {
         )
     }
 
-    /// Takes a file by the words behind `file`. It is refused as `Syntax` where they have
+    /// Takes a file by the words after `file`. It is refused as `Syntax` where they have
     /// another form, as `Unknown` where its sockets are no output and no input socket, as `Twice`
     /// where its name is taken, and as `Range` where a register has other than 1 or 32 bits, it has
     /// no register or more than 64, a cycle has no read or write of it or more than 16, its name is

@@ -21,7 +21,7 @@ use tta_list::entry_at;
 use tta_reading::Word;
 
 impl Draft {
-    /// Takes a guard by the words behind `guard`. It is refused as `Syntax` where they have
+    /// Takes a guard by the words after `guard`. It is refused as `Syntax` where they have
     /// another form, as `Unknown` where its bus or its file is not there, as `Twice` where the same
     /// guard stands on the bus already, and as `Range` where the file's width is not 1, the file
     /// has no such register, or 64 guards are there.
@@ -35,7 +35,7 @@ impl Draft {
         }
     }
 
-    // puts a guard behind the others, where nothing refuses it
+    // puts a guard after the others, where nothing refuses it
     #[tactic(auto, unfolding(crate::specs::Declarations::take_guard))]
     fn add_guard(&mut self, form: &GuardForm) -> Result<(), LineError>
         ensures { Takes self.new result (take_guard self.old (guard_seen form.now)) }

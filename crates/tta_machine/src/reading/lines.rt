@@ -15,7 +15,7 @@ use tta_ops::UnitSet;
 use tta_reading::Word;
 
 impl Draft {
-    // The first word tells the kind of a line.
+    // The first word gives the kind of a line.
     fn declare(
         &mut self,
         alloc: Global,

@@ -113,7 +113,7 @@ impl Draft {
     }
 }
 
-/// Puts a part behind the others of its kind, and declares its name.
+/// Puts a part after the others of its kind, and declares its name.
 pub fn add_part<T: Drop>(
     alloc: Global,
     names: &mut Names<Named>,

@@ -30,7 +30,7 @@ use tta_ops::UnitSet;
 use tta_reading::Word;
 
 impl Draft {
-    /// Adds an operation to a unit by the words behind `op`. It is refused as `Syntax` where they
+    /// Adds an operation to a unit by the words after `op`. It is refused as `Syntax` where they
     /// have another form, as `Unknown` where the unit is not there or nothing offers an operation
     /// of this name in a line of this form, as `Twice` where the unit has it already or another
     /// unit serves the same space or the streams, as `Range` where the latency is not from 1 to 16
@@ -73,7 +73,7 @@ impl Draft {
         }
     }
 
-    // puts an operation behind the others of a unit
+    // puts an operation after the others of a unit
     fn push_op(&mut self, place: usize, added: UnitOp) -> Result<(), AllocError>
         requires { place < length self.old.units }
         ensures ok { (unit : UnitSeen) → slice_get self.old.units place ≡ Some unit

@@ -70,7 +70,7 @@ fn read_lines(
 /// The machine that a text describes. It stands over these operation units. The text has at most
 /// 2^24 bytes.
 ///
-/// `Refused` tells the first refusal of the text with its line, counted from 1 (0 stands for the
+/// `Refused` gives the first refusal of the text with its line, counted from 1 (0 stands for the
 /// whole text).
 pub fn read_machine(alloc: Global, text: &[u8], units: &UnitSet) -> Result<Machine, MachineError>
     requires { length text.now ≤ 2 ^ 24 }

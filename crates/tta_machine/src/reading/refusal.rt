@@ -8,7 +8,7 @@ ghost use Rattle.tta_machine.specs.declared.reading.refusal.MachineError.TheVari
 
 use std::alloc::{AllocError, AllocFailed};
 
-/// Why a line is refused, in the order in which a line's refusals are told.
+/// Why a line is refused, in the order in which a line's refusals are reported.
 #[derive(Clone, Copy, Debug, PartialEq, Eq)]
 pub enum Refusal {
     /// The words are none of the forms.
@@ -26,7 +26,7 @@ pub enum Refusal {
 }
 
 impl Refusal {
-    /// The number under which a user is told.
+    /// The number that a user sees.
     pub fn code(self) -> u8
         ensures { result ≡ code_of self }
     {

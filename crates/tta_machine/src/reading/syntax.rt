@@ -1,6 +1,6 @@
 //! The forms of a machine text's lines: which words a declaration is made of.
 //!
-//! Each function takes the words of a line behind its first, which chooses the form, and gives what
+//! Each function takes the words of a line after its first, which chooses the form, and gives what
 //! they say, or `None` where they are not of the form. No number is compared with its limits here,
 //! and no name is looked up.
 

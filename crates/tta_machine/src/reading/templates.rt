@@ -23,7 +23,7 @@ use tta_list::{Name, entry_at};
 use tta_reading::Word;
 
 impl Draft {
-    /// Takes a template, at this line, by the words behind `template`. It is refused as `Syntax`
+    /// Takes a template, at this line, by the words after `template`. It is refused as `Syntax`
     /// where they have another form, as `Unknown` where its immediate unit or one of its buses is
     /// not there, as `Twice` where its name is taken or a bus stands twice, and as `Range` where
     /// the unit has no such register, its name is too long, or 8 templates are there.
@@ -63,7 +63,7 @@ impl Draft {
         self.add_template(alloc, line, form.name, imm, reg, buses)
     }
 
-    // puts a template behind the others, with its line and its name
+    // puts a template after the others, with its line and its name
     fn add_template(
         &mut self,
         alloc: Global,

@@ -18,7 +18,7 @@ use tta_list::{Items, Name};
 use tta_reading::Word;
 
 impl Draft {
-    /// Takes a unit, without operations, by the words behind `unit`. It is refused as `Syntax`
+    /// Takes a unit, without operations, by the words after `unit`. It is refused as `Syntax`
     /// where they have another form, as `Unknown` where the socket of one of its ports is not there
     /// in the port's direction, as `Twice` where its name is taken, and as `Range` where its name
     /// is too long or 32 units are there.

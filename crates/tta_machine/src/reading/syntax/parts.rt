@@ -9,7 +9,7 @@ use super::pieces::{keyed_name, keyed_value, names_alone, one_of_two};
 use crate::reading::forms::{BusForm, FileForm, ImmForm, SocketForm, UnitForm};
 use tta_reading::Word;
 
-/// What the words behind `bus` declare.
+/// What the words after `bus` declare.
 #[tactic(auto, unfolding(crate::specs::Forms::bus_form))]
 pub fn bus_form<'t>(words: &'t [Word<'t>]) -> Option<BusForm<'t>>
     ensures { option_map bus_seen result ≡ spec.bus_form (map plain words.now) }
@@ -33,7 +33,7 @@ pub fn bus_form<'t>(words: &'t [Word<'t>]) -> Option<BusForm<'t>>
     }
 }
 
-/// What the words behind `socket` declare.
+/// What the words after `socket` declare.
 #[tactic(auto, unfolding(crate::specs::Forms::socket_form))]
 pub fn socket_form<'t>(words: &'t [Word<'t>]) -> Option<SocketForm<'t>>
     ensures { option_map socket_seen result ≡ spec.socket_form (map plain words.now) }
@@ -50,7 +50,7 @@ pub fn socket_form<'t>(words: &'t [Word<'t>]) -> Option<SocketForm<'t>>
     }
 }
 
-/// A file of these numbers, whose sockets these words tell.
+/// A file of these numbers, whose sockets these words name.
 fn file_sockets<'t>(
     name: &'t [u8],
     width: u32,
@@ -82,7 +82,7 @@ fn file_sockets<'t>(
     }
 }
 
-/// What the words behind `file` declare.
+/// What the words after `file` declare.
 #[tactic(auto, using(crate::proofs::Pieces::file_form_of), unfolding(crate::specs::Forms::file_form))]
 pub fn file_form<'t>(words: &'t [Word<'t>]) -> Option<FileForm<'t>>
     ensures { option_map file_seen result ≡ spec.file_form (map plain words.now) }
@@ -115,7 +115,7 @@ pub fn file_form<'t>(words: &'t [Word<'t>]) -> Option<FileForm<'t>>
     }
 }
 
-/// What the words behind `imm` declare.
+/// What the words after `imm` declare.
 #[tactic(auto, unfolding(crate::specs::Forms::imm_form))]
 pub fn imm_form<'t>(words: &'t [Word<'t>]) -> Option<ImmForm<'t>>
     ensures { option_map imm_seen result ≡ spec.imm_form (map plain words.now) }
@@ -133,7 +133,7 @@ pub fn imm_form<'t>(words: &'t [Word<'t>]) -> Option<ImmForm<'t>>
     }
 }
 
-/// The ports of a unit behind its operand port: the trigger port, and then the result port or
+/// The ports of a unit after its operand port: the trigger port, and then the result port or
 /// nothing.
 fn unit_ports<'t>(
     name: &'t [u8],
@@ -171,7 +171,7 @@ fn unit_ports<'t>(
     }
 }
 
-/// What the words behind `unit` declare.
+/// What the words after `unit` declare.
 #[tactic(auto, unfolding(crate::specs::Forms::unit_form))]
 pub fn unit_form<'t>(words: &'t [Word<'t>]) -> Option<UnitForm<'t>>
     ensures { option_map unit_seen result ≡ spec.unit_form (map plain words.now) }

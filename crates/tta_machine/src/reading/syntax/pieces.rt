@@ -22,7 +22,7 @@ pub fn one_of_two(first: &[u8], second: &[u8], word: &Word) -> Option<bool>
     }
 }
 
-/// The number behind a keyword.
+/// The number after a keyword.
 pub fn keyed_value(keyword: &[u8], key: &Word, value: &Word) -> Option<u32>
     ensures { result ≡ spec.keyed_value keyword.now (plain key.now) (plain value.now) }
 {
@@ -33,7 +33,7 @@ pub fn keyed_value(keyword: &[u8], key: &Word, value: &Word) -> Option<u32>
     }
 }
 
-/// The name behind a keyword.
+/// The name after a keyword.
 pub fn keyed_name<'t>(keyword: &[u8], key: &Word<'t>, name: &Word<'t>) -> Option<&'t [u8]>
     ensures { option_map (λ n. n.now) result
         ≡ spec.keyed_name keyword.now (plain key.now) (plain name.now) }

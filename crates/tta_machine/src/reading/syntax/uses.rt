@@ -11,7 +11,7 @@ use super::pieces::{keyed_name, keyed_value, names_alone, one_of_two};
 use crate::reading::forms::{ControlForm, GuardForm, OpForm, SpaceForm, TemplateForm};
 use tta_reading::Word;
 
-/// What the words behind `op` declare.
+/// What the words after `op` declare.
 #[tactic(auto, unfolding(crate::specs::Forms::op_form))]
 pub fn op_form<'t>(words: &'t [Word<'t>]) -> Option<OpForm<'t>>
     ensures { option_map op_seen result ≡ spec.op_form (map plain words.now) }
@@ -41,7 +41,7 @@ pub fn op_form<'t>(words: &'t [Word<'t>]) -> Option<OpForm<'t>>
     }
 }
 
-/// What the words behind `guard` declare.
+/// What the words after `guard` declare.
 #[tactic(auto, unfolding(crate::specs::Forms::guard_form))]
 pub fn guard_form<'t>(words: &'t [Word<'t>]) -> Option<GuardForm<'t>>
     ensures { option_map guard_seen result ≡ spec.guard_form (map plain words.now) }
@@ -66,7 +66,7 @@ pub fn guard_form<'t>(words: &'t [Word<'t>]) -> Option<GuardForm<'t>>
     }
 }
 
-/// What the words behind `template` declare.
+/// What the words after `template` declare.
 #[tactic(auto, unfolding(crate::specs::Forms::template_form))]
 pub fn template_form<'t>(words: &'t [Word<'t>]) -> Option<TemplateForm<'t>>
     ensures { option_map template_seen result ≡ spec.template_form (map plain words.now) }
@@ -90,7 +90,7 @@ pub fn template_form<'t>(words: &'t [Word<'t>]) -> Option<TemplateForm<'t>>
     }
 }
 
-/// The socket of the return address behind its keyword, or nothing where the line has ended.
+/// The socket of the return address after its keyword, or nothing where the line has ended.
 fn ra_pair<'t>(words: &'t [Word<'t>]) -> Option<Option<&'t [u8]>>
     ensures { option_map (λ ra. option_map (λ n. n.now) ra) result
         ≡ spec.ra_pair (map plain words.now) }
@@ -107,7 +107,7 @@ fn ra_pair<'t>(words: &'t [Word<'t>]) -> Option<Option<&'t [u8]>>
     }
 }
 
-/// What the words behind `control` declare.
+/// What the words after `control` declare.
 #[tactic(auto, unfolding(crate::specs::Forms::control_form))]
 pub fn control_form<'t>(words: &'t [Word<'t>]) -> Option<ControlForm<'t>>
     ensures { option_map control_seen result ≡ spec.control_form (map plain words.now) }
@@ -139,7 +139,7 @@ pub fn control_form<'t>(words: &'t [Word<'t>]) -> Option<ControlForm<'t>>
     }
 }
 
-/// What the words behind `space` declare.
+/// What the words after `space` declare.
 #[tactic(auto, unfolding(crate::specs::Forms::space_form))]
 pub fn space_form(words: &[Word]) -> Option<SpaceForm>
     ensures { option_map space_seen result ≡ spec.space_form (map plain words.now) }
