@@ -20,6 +20,9 @@ use crate::reading::steps::{has_many_args, is_end, step_of};
 use std::alloc::{AllocError, Global};
 use tta_ops::UnitSet;
 
+/// A text has at most this many lines that declare something or are a step.
+pub const MOST_LINES: u32 = 65_536;
+
 /// A procedure has at most this many variables, with its parameters.
 const MOST_VARS: usize = 4096;
 
@@ -64,7 +67,7 @@ impl<'t> Draft<'t> {
         if proc.labels.get(name).is_some() {
             return Err(LineError::Refused(Refusal::Twice));
         }
-        if self.lines >= 65536 {
+        if self.lines >= MOST_LINES {
             return Err(LineError::Refused(Refusal::TooMany));
         }
         let step = proc.steps.len() as u32;
@@ -134,7 +137,7 @@ impl<'t> Draft<'t> {
         ensures room { OnOk result (self.now.lines + 1 ≤ 65536) }
     {
         check_op(units, form)?;
-        if self.lines >= 65536 || has_many_args(form) {
+        if self.lines >= MOST_LINES || has_many_args(form) {
             return Err(LineError::Refused(Refusal::TooMany));
         }
         declare_names(alloc, &mut proc.vars, form)?;

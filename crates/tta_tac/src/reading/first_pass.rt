@@ -13,6 +13,7 @@ ghost use Rattle.tta_tac.specs.FirstPass.{has_twice, with_fresh, labelled, stepp
 ghost use Rattle.tta_tac.specs.FirstPass.{take_data};
 ghost use Rattle.tta_tac.specs.Seen.{form_seen};
 
+use crate::reading::begun::MOST_LINES;
 use crate::reading::declarations::declare_names;
 use crate::reading::draft::{Draft, DraftProc};
 use crate::reading::forms::Form;
@@ -113,7 +114,7 @@ impl<'t> Draft<'t> {
         if self.init.has(address) {
             return Err(LineError::Refused(Refusal::Twice));
         }
-        if self.lines >= 65536 {
+        if self.lines >= MOST_LINES {
             return Err(LineError::Refused(Refusal::TooMany));
         }
         self.init.add(address, value, line)?;
@@ -145,7 +146,7 @@ impl<'t> Draft<'t> {
         if self.is_taken(alloc, name, params)? {
             return Err(LineError::Refused(Refusal::Twice));
         }
-        if self.lines >= 65536 || params.len() > MOST_PARAMS {
+        if self.lines >= MOST_LINES || params.len() > MOST_PARAMS {
             return Err(LineError::Refused(Refusal::TooMany));
         }
         self.begin(alloc, line, name, params)?;

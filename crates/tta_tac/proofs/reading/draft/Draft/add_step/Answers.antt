@@ -22,7 +22,7 @@ returns-clause-says g c =
     let q = c.args.proc.now in
     let f = form_seen c.args.form.now in
     let vars = c.declare_names.new.vars in
-    let full : nat_le 65536 d.lines ≡ false = lt-leb 65536 d.lines c.if-self-ge65536.false in
+    let full : nat_le 65536 d.lines ≡ false = lt-leb 65536 d.lines c.if-self-ge-MOST_LINES.false in
     let many : nat_lt 4096 (length vars) ≡ false = le-ltb 4096 (length vars) (rw c.len.ensures at c.if-len-gt-MOST_VARS.false) in
     take_step_taken U d (proc_seen q) c.args.line f _ c.check_op.result c.check_op.ensures
     c.in_ok-check_op.was vars (step_seen c.in-Some.step) c.in_ok-declare_names.ensures full (cc) many c.in-Some.ensures

@@ -11,7 +11,7 @@ pub returns : goal.returns
 returns c =
     let d = draft_seen c.args.self.now in
     let params = texts c.args.params.now in
-    let full : nat_le 65536 c.args.self.now.lines ≡ false = lt-leb 65536 c.args.self.now.lines c.if-self-ge65536.false in
+    let full : nat_le 65536 c.args.self.now.lines ≡ false = lt-leb 65536 c.args.self.now.lines c.if-self-ge-MOST_LINES.false in
     let few = subst (λ n. n ≤ 8) (sym (texts_length c.args.params.now)) c.if-params-gt-MOST_PARAMS.false in
     let many : nat_lt 8 (length params) ≡ false = le-ltb 8 (length params) few in
     let none = none_begun c.args.self.now.begun c.is_some.result c.is_some.ensures c.if-is_some.false in
