@@ -66,7 +66,7 @@ unfolding lines_of
 lines_of-byte byte bytes other more =
     rw (other, more) (no_return (is_return byte) (lines_of bytes) (onto_first byte (lines_of bytes)))
 
--- a line that a newline ends, and the lines behind it
+-- a line that a newline ends, and the lines after it
 pub lines_of-ended : (bytes : List ℕ) (len : ℕ) → line_len bytes ≡ len → len < length bytes
     → lines_of bytes ≡ without_return (take len bytes) ∷ lines_of (drop (suc len) bytes)
 lines_of-ended [] len is some = absurd (omega arith)

@@ -10,7 +10,7 @@ use Rattle.hex.specs.declared.error.FromHexError.{FromHexError}
 use Rattle.hex.specs.declared.error.FromHexError.TheVariants.{OddLength, InvalidStringLength}
 use Rattle.tta_input.specs.Input.{is_word, value_of, word_of}
 
--- the number that bytes write behind those of n, the most significant first
+-- the number that bytes write after those of n, the most significant first
 abbrev pub bytes_value_after : ℕ → List ℕ → ℕ
 bytes_value_after n [] = n
 bytes_value_after n (byte ∷ bytes) = bytes_value_after (n * 256 + byte) bytes

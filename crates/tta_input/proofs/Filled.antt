@@ -3,7 +3,7 @@ use Rattle.std.proofs.Common.{◌≡◌, ℕ, ◌+◌, ◌-◌, ◌≤◌, ◌<�
 use Rattle.std.proofs.lemmas.List.{append_assoc}
 use Rattle.tta_input.specs.Input.{word_of, words_taken, memory_of}
 
--- a memory that goes on behind these words
+-- a memory that goes on after these words
 abbrev pub behind : List ℕ → Result (List ℕ) ℕ → Result (List ℕ) ℕ
 behind words (Ok memory) = Ok (words ++ memory)
 behind words (Err line) = Err (length words + line)
@@ -13,7 +13,7 @@ pub memory_of-end : (space : ℕ) → memory_of space [] ≡ Ok (replicate space
 unfolding memory_of words_taken
 memory_of-end space = grind (arith)
 
--- a word goes to the front
+-- a word goes to the start
 pub memory_of-word : (space word : ℕ) (line : List ℕ) (lines : List (List ℕ)) → 0 < space → word_of line ≡ Some word
     → memory_of space (line ∷ lines) ≡ behind (word ∷ []) (memory_of (space - 1) lines)
 unfolding memory_of words_taken
@@ -29,7 +29,7 @@ pub memory_of-full : (line : List ℕ) (lines : List (List ℕ)) → memory_of 0
 unfolding memory_of words_taken
 memory_of-full line lines = grind (arith)
 
--- ---- the same behind words that are taken already
+-- ---- the same after words that are taken already
 
 behind-behind : (words : List ℕ) (word : ℕ) (rest : Result (List ℕ) ℕ) → behind words (behind (word ∷ []) rest) ≡ behind (words ++ word ∷ []) rest
 behind-behind words word (Ok memory) = ap Ok (sym (append_assoc words (word ∷ []) memory))
@@ -58,7 +58,7 @@ module _ (words : List ℕ) (space : ℕ) (line : List ℕ) (lines : List (List 
       let none : space - length words ≡ 0 = omega arith in
       ap (λ k. behind words (memory_of k (line ∷ lines))) none ∙ ap (behind words) (memory_of-full line lines)
 
--- behind the last line there are zeros
+-- after the last line there are zeros
 pub ended : (words : List ℕ) (space : ℕ) → behind words (memory_of (space - length words) []) ≡ Ok (words ++ replicate (space - length words) 0)
 ended words space = ap (behind words) (memory_of-end (space - length words))
 

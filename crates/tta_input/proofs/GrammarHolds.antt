@@ -11,7 +11,7 @@ use Rattle.tta_input.proofs.Cuts.{lines_of-newline}
 
 -- ---- from the lines of bytes to the bytes
 
--- a first line, what ends it, and what is behind it
+-- a first line, what ends it, and what is after it
 record First (line : List ℕ) (lines : List (List ℕ)) (bytes : List ℕ) : Type 0 where
   ending : List ℕ
   behind : List ℕ
@@ -24,7 +24,7 @@ abbrev head_of : List (List ℕ) → List ℕ
 head_of [] = []
 head_of (line ∷ lines) = line
 
--- the lines behind the first one
+-- the lines after the first one
 abbrev tail_of : List (List ℕ) → List (List ℕ)
 tail_of [] = []
 tail_of (line ∷ lines) = lines

@@ -15,7 +15,7 @@ pub record IsWritten (digits : List ℕ) (word : ℕ) : Type 0 where
 abbrev pub IsLineEnd : List ℕ → (behind : List ℕ) → Type 0
 IsLineEnd ending behind = (ending ≡ 10 ∷ []) ⊎ (ending ≡ 13 ∷ 10 ∷ []) ⊎ ((ending ≡ []) × (behind ≡ []))
 
--- the digits of a word, the end of their line, and what is behind it are these bytes
+-- the digits of a word, the end of their line, and what is after it are these bytes
 pub record IsLine (word : ℕ) (bytes behind : List ℕ) : Type 0 where
   pub digits : List ℕ
   pub ending : List ℕ
@@ -29,7 +29,7 @@ AreLines [] bytes = bytes ≡ []
 AreLines (word ∷ words) bytes = (behind : List ℕ) × IsLine word bytes behind × AreLines words behind
 
 -- the bytes are an input file that fills the memory of a space of so many words: its words stand
--- from address 0, and zeros behind them
+-- from address 0, and zeros after them
 pub record IsInput (space : ℕ) (bytes memory : List ℕ) : Type 0 where
   pub words : List ℕ
   pub lines : AreLines words bytes

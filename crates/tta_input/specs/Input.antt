@@ -19,12 +19,12 @@ value_of line = digits_value 16 line
 abbrev pub word_of : List ℕ → Option ℕ
 word_of line = if is_word line then Some (value_of line) else None
 
--- how many lines from the front on are words that the space has room for
+-- how many lines from the start on are words that the space has room for
 unfoldable pub words_taken : (space : ℕ) → List (List ℕ) → ℕ
 words_taken space lines = min (prefix_len is_word lines) space
 
--- the memory of a space of so many words: the words of the lines from address 0, and zeros behind
--- them; where a line is left over, it is refused and its number told, counted from 1
+-- the memory of a space of so many words: the words of the lines from address 0, and zeros after
+-- them; where a line is left over, it is refused and its number reported, counted from 1
 unfoldable pub memory_of : (space : ℕ) → List (List ℕ) → Result (List ℕ) ℕ
 memory_of space lines =
     if nat_lt (words_taken space lines) (length lines)
@@ -39,12 +39,12 @@ input_of space bytes = memory_of space (lines_of bytes)
 abbrev pub stream_of : List ℕ → Result (List ℕ) ℕ
 stream_of bytes = input_of (length (lines_of bytes)) bytes
 
--- what is told of a file that is no stream; want of memory needs no cause
+-- what is reported of a file that is no stream; out of memory needs no cause
 abbrev pub IsStreamCause : List ℕ → InputError → Type 0
 IsStreamCause bytes (Refused line) = stream_of bytes ≡ Err line
 IsStreamCause bytes NoMemory = ⊤
 
--- what is told of a file that gives no memory; want of memory needs no cause
+-- what is reported of a file that gives no memory; out of memory needs no cause
 abbrev pub HasCause : (space : ℕ) → List ℕ → InputError → Type 0
 HasCause space bytes (Refused line) = input_of space bytes ≡ Err line
 HasCause space bytes NoMemory = ⊤

@@ -20,7 +20,7 @@ onto_first byte [] = (byte ∷ []) ∷ []
 onto_first byte (line ∷ lines) = (byte ∷ line) ∷ lines
 
 -- the lines: a newline ends one, a carriage return directly before it belongs to none, and bytes
--- behind the last newline are a line too
+-- after the last newline are a line too
 unfoldable pub lines_of : List ℕ → List (List ℕ)
 lines_of [] = []
 lines_of (byte ∷ bytes) =

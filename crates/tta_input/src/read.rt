@@ -9,9 +9,9 @@ use crate::lines::Lines;
 use std::alloc::Global;
 
 /// The data space of so many words that an input file of at most 2^24 bytes fills: its words from
-/// address 0, and zeros behind them. It has exactly `words` elements.
+/// address 0, and zeros after them. It has exactly `words` elements.
 ///
-/// `Refused` tells the first line that is no word, or that is one more than the data space has
+/// `Refused` says the first line that is no word, or that is one more than the data space has
 /// words, whichever comes first.
 pub fn read_input(alloc: Global, bytes: &[u8], words: u32) -> Result<Vec<u32>, InputError>
     requires { length bytes.now ≤ 2 ^ 24 }
@@ -51,7 +51,7 @@ fn count_lines(bytes: &[u8]) -> u32
 
 /// The words of a stream's file of at most 2^24 bytes, as many as it has lines.
 ///
-/// `Refused` tells the first line that is no word.
+/// `Refused` says the first line that is no word.
 pub fn read_stream(alloc: Global, bytes: &[u8]) -> Result<Vec<u32>, InputError>
     requires { length bytes.now ≤ 2 ^ 24 }
     ensures read { IfOk result (λ words. spec.stream_of bytes.now ≡ Ok words.items) }

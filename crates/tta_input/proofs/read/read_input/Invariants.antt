@@ -3,7 +3,7 @@ use Rattle.tta_input.specs.Input.{memory_of, input_of}
 use Rattle.tta_input.proofs.Filled.{behind}
 use Rattle.tta_input.proofs.read.read_input.Given as goal
 
--- the lines left go on behind the words so far
+-- the lines left go on after the words so far
 abbrev pub invariant-loop-line : goal.invariant-loop-line
 invariant-loop-line l = record {
   memory : behind l.memory.items (memory_of (l.space - length l.memory.items) l.lines) ≡ input_of l.fn.words l.fn.bytes;
