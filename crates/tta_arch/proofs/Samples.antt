@@ -39,7 +39,7 @@ good_names (n ∷ ns) h =
 
 -- ---- one bus
 
--- a machine of one bus and a unit that puts words out, without registers
+-- a machine of one bus and a unit that outputs words, without registers
 abbrev pub one_bus : Machine
 one_bus = record {
   buses = record { name = codes "B"; short = 8; signed = false } ∷ [];
@@ -82,7 +82,7 @@ file name width size read write = record { name = name; width = width; size = si
 abbrev set : ℕ → ℕ → ℕ → UnitOp
 set id arity latency = record { op = Set (record { 0 = id }); arity = arity; latency = latency }
 
--- a unit with an operand, a trigger and a result port, behind the sockets of units, UI and UO
+-- a unit with an operand, a trigger and a result port, joined to the sockets of units, UI and UO
 abbrev unit : List ℕ → List UnitOp → OpUnit
 unit name ops = record { name = name; operand = Some 2; trigger = 2; result = Some 3; ops = ops }
 
@@ -103,7 +103,7 @@ inner_units =
 abbrev puts_out : UnitOp
 puts_out = record { op = Out; arity = 1; latency = 0 }
 
--- the machine whose fourth unit puts words out
+-- the machine whose fourth unit outputs words
 abbrev pub three_buses : Machine
 three_buses = record {
   buses = bus (codes "B0") ∷ bus (codes "B1") ∷ bus (codes "B2") ∷ [];

@@ -15,7 +15,7 @@ use Rattle.tta_arch.specs.Machine.{Machine}
 
 -- ---- moves
 
--- the three things that control can be told
+-- the three things that control can be made to do
 pub data Kind : Type 0 where
   Jumps : Kind
   Calls : Kind
@@ -211,7 +211,7 @@ takes t = takes_in t.does.op
 abbrev pub take_in : List ℕ → Start → List ℕ
 take_in input t = if takes t then drop 1 input else input
 
--- what control is told by a word that is moved into its trigger port
+-- what a word makes control do that is moved into its trigger port
 abbrev pub control_of : Brought → Option (Kind × ℕ)
 control_of (Control kind, word) = Some (kind, word)
 control_of (Reg file index, word) = None

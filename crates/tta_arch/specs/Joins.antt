@@ -23,7 +23,7 @@ is_same false b = not b
 abbrev pub within : (index size socket : ℕ) → Option ℕ
 within index size socket = if nat_lt index size then Some socket else None
 
--- the socket that a source stands behind, where the machine has such a source
+-- the socket that a source is joined to, where the machine has such a source
 abbrev pub source_socket : Machine → Source → Option ℕ
 source_socket m (source.Reg file index) = option_and_then (λ f. within index f.size f.out) (slice_get m.files file)
 source_socket m (source.Imm unit index) = option_and_then (λ f. within index f.size f.out) (slice_get m.imms unit)
@@ -31,7 +31,7 @@ source_socket m (source.Shown unit) = option_and_then (λ u. u.result) (slice_ge
 source_socket m source.Ra = m.control.ra
 source_socket m (source.Value word) = None
 
--- the socket that a destination stands behind, where the machine has such a destination
+-- the socket that a destination is joined to, where the machine has such a destination
 abbrev pub dest_socket : Machine → Dest → Option ℕ
 dest_socket m (dest.Reg file index) = option_and_then (λ f. within index f.size f.into) (slice_get m.files file)
 dest_socket m (dest.Operand unit) = option_and_then (λ u. u.operand) (slice_get m.units unit)

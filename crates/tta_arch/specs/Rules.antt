@@ -67,7 +67,7 @@ is_file sockets f =
     (f.width == 1 || f.width == 32) && is_from_to 1 64 f.size && is_from_to 1 16 f.read && is_from_to 1 16 f.write
     && is_socket sockets false f.out && is_socket sockets true f.into
 
--- an immediate unit: 1 to 16 registers behind one socket out
+-- an immediate unit: 1 to 16 registers that share one output socket
 abbrev pub is_imm : List Socket → ImmUnit → Bool
 is_imm sockets i = is_from_to 1 16 i.size && is_socket sockets false i.out
 

@@ -30,7 +30,7 @@ fn within(index: u8, size: u8, socket: u8) -> Option<u8>
     if index < size { Some(socket) } else { None }
 }
 
-/// The socket that a source stands behind, where the machine has such a source.
+/// The socket that a source is joined to, where the machine has such a source.
 fn source_socket(m: &Machine, src: Source) -> Option<u8>
     ensures { result ≡ source_socket m.now src }
 {
@@ -52,7 +52,7 @@ fn source_socket(m: &Machine, src: Source) -> Option<u8>
     }
 }
 
-/// The socket that a destination stands behind, where the machine has such a destination.
+/// The socket that a destination is joined to, where the machine has such a destination.
 fn dest_socket(m: &Machine, dst: Dest) -> Option<u8>
     ensures { result ≡ dest_socket m.now dst }
 {

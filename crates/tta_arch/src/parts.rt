@@ -27,7 +27,7 @@ pub struct Socket {
     pub buses: u16,
 }
 
-/// A register file: all its registers stand behind one output socket and one input socket.
+/// A register file: all its registers share one output socket and one input socket.
 #[derive(Drop)]
 pub struct File {
     pub name: Name,

@@ -39,7 +39,7 @@ far-first : first_illegal three_buses (three None (go far (into 2)) None) ≡ So
 unfolding first_illegal
 far-first = refl
 
--- a lower bus is told before a higher one, whatever the rules
+-- a lower bus is reported before a higher one, whatever the rules
 lower-first : first_illegal three_buses (wide (go far (into 2)) (go (r 1) (into 2)) None) ≡ Some Unjoined
 unfolding first_illegal
 lower-first = refl

@@ -37,13 +37,13 @@ r i = source.Reg 0 i
 abbrev pub into : ℕ → Dest
 into i = dest.Reg 0 i
 
--- the trigger port of the unit that puts words out
+-- the trigger port of the unit that outputs words
 abbrev out : Dest
 out = dest.Trigger 3 0
 
 -- ---- two registers change places, since all moves of a cycle read before any writes
 
--- a program that exchanges the words 1 and 2 of two registers in one cycle and puts both out
+-- a program that exchanges the words 1 and 2 of two registers in one cycle and outputs both
 abbrev swap : Code
 swap = record {
   words = one (go (source.Value 1) (into 1))
@@ -73,7 +73,7 @@ swap-legal = refl
 
 -- ---- a product shows three cycles after its start, and not before
 
--- a program that starts the product of 5 and 6, waits for as long as these instructions take, and puts out what the unit shows
+-- a program that starts the product of 5 and 6, waits for as long as these instructions take, and outputs what the unit shows
 abbrev product : List Instruction → Code
 product waits = record {
   words = three (go (source.Value 5) (dest.Operand 1)) (go (source.Value 6) (dest.Trigger 1 0)) None
@@ -143,9 +143,9 @@ wide-cycles : (u : Units) → (cyc u three_buses wide [] [] 5).cycle ≡ 2
 unfolding next
 wide-cycles u = refl
 
--- ---- a word of the input, which is put out
+-- ---- a word of the input, which is output
 
--- a program that takes the next word of the input and puts it out
+-- a program that takes the next word of the input and outputs it
 abbrev pub echo : Code
 echo = record {
   words = one (go (source.Value 0) (dest.Trigger 3 1))

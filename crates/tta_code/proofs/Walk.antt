@@ -19,7 +19,7 @@ use Rattle.tta_code.proofs.KeptRules.{KeepsAll, keeps_from_broken, broken_from_k
 
 -- ---- the walk
 
--- where nothing is told, all buses keep the rules
+-- where nothing is reported, all buses keep the rules
 keeps-from_first : (m : Machine) (taken : ℕ) (walked further : Slots) → KeepsAll m taken walked → first_broken m taken walked further ≡ None
     → KeepsAll m taken (walked ++ further)
 keeps-from_first m taken walked [] keeps none = subst (KeepsAll m taken) (sym (append-nil walked)) keeps
@@ -87,7 +87,7 @@ illegal_from_some m i told_why = false_from_ne_true (is_legal m i) (λ legal. so
 
 -- ---- the loop over the buses of an instruction
 
--- the buses below this one keep the rules, and what is told is found from here on
+-- the buses below this one keep the rules, and what is reported is found from here on
 pub record IsWalked (m : Machine) (i : Instruction) (taken bus : ℕ) (moves : List (Option Move)) : Type 0 where
   pub keeps : KeepsAll m taken (slots_from (take bus moves))
   pub first : first_illegal m i ≡ first_broken m taken (slots_from (take bus moves)) (slots_from (drop bus moves))
@@ -102,7 +102,7 @@ walk_start m i set templates moves is from all =
     subst (λ (l : List (Option Move)). IsWalked m i set 0 l) (sym all)
     (subst (λ (t : ℕ). IsWalked m i t 0 i.moves) (sym (is ∙ ap (λ (l : List Template). taken_by l i.long) from)) (start_at m i))
 
--- what is told where a bus is walked
+-- what is reported where a bus is walked
 walk_first : (m : Machine) (i : Instruction) (taken bus : ℕ) (moves : List (Option Move)) (slot : Option Move) → bus < length moves → get_or moves bus None ≡ slot
     → IsWalked m i taken bus moves
     → (slots_from (take (bus + 1) moves) ≡ slots_from (take bus moves) ++ option_map move_ends slot ∷ [])

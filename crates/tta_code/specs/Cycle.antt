@@ -35,7 +35,7 @@ pub data Outcome : Type 0 where
   Fault : (number cycle : ℕ) → Outcome
 
 -- what was written into registers and operand ports, every result that was started, the spaces, the rest of the input,
--- what was put out, the address of the next instruction, how many cycles were made, and the control move under way
+-- what was output, the address of the next instruction, how many cycles were made, and the control move under way
 pub record State : Type 0 where
   pub written : Written
   pub started : List Result'
@@ -189,7 +189,7 @@ carry_out u m s (Some i) =
     let ts = filter_map (start_of m written) bs in
     or_fault s (fault_of s effects bs ts) (or_wait s (waits s ts) (acts u m s bs ts written))
 
--- the state behind one more cycle, by how the run stands
+-- the state after one more cycle, by how the run stands
 abbrev pub next_of : Units → Machine → Code → State → Outcome → State
 next_of u m code s Running = carry_out u m s (slice_get code.words s.pc)
 next_of u m code s Halted = s

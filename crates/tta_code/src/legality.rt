@@ -60,7 +60,7 @@ fn check_move(
 
 /// Whether the machine can carry out an instruction. The buses are walked upwards, and on each the
 /// rules are tested in the order of the variants of `Illegal` against the moves walked so far: the
-/// first that is broken is told. It takes no memory.
+/// first that is broken is reported. It takes no memory.
 pub fn legal(m: &Machine, net: &Net, i: &Instruction) -> Result<(), Illegal>
     requires net { IsNetOf net.now m.now }
     requires instruction { is_instruction m.now i.now ≡ true }

@@ -8,6 +8,8 @@ use Rattle.tta_arch.specs.declared.parts.Unit.{Unit as OpUnit}
 use Rattle.tta_arch.specs.Machine.{Machine}
 use Rattle.tta_arch.specs.Rules.{IsMachine, IsMachineName, names_of}
 use Rattle.tta_code.specs.Cycle.{Result'}
+use Rattle.std.specs.Io.KnownBytes.{append_known}
+use Rattle.tta_print.proofs.Puts.{HasPut}
 use Rattle.tta_print.specs.Replies.{due_text}
 use Rattle.tta_sim.specs.Results.{due_at}
 use Rattle.tta_debug.specs.Debugged.{Debugged, Said, texts, due_line, due_lines, unit_lines}
@@ -25,6 +27,11 @@ pub due_last : (d : Debugged) (name : List ℕ) (unit delay : ℕ) → 17 ≤ de
 due_last d name unit delay le =
     let is : 17 - delay ≡ 0 = omega arith in
     ap (λ n. texts (due_lines d name unit delay n)) is
+
+-- where nothing is left, all has been put
+pub all_put : (old new : Option (List ℕ)) (whole left : List ℕ) → HasPut old new whole left → left ≡ [] → new ≡ append_known old whole
+all_put old new whole left has none =
+    has.taken ∙ ap (append_known old) (sym (has.parts ∙ ap (λ l. has.done ++ l) none ∙ append-nil has.done))
 
 -- the first of some units
 pub unit_first : (d : Debugged) (units : List OpUnit) (k : ℕ) (u : OpUnit) → k < length units

@@ -35,7 +35,7 @@ begun m input = record { state = start m [] input; stops = [] }
 abbrev nothing : Instruction
 nothing = record { moves = None ∷ None ∷ None ∷ []; long = None }
 
--- a product that is put out when it shows
+-- a product that is output when it shows
 abbrev product : Code
 product = record {
   words = three (go (source.Value 5) (dest.Operand 1)) (go (source.Value 6) (dest.Trigger 1 0)) None
@@ -67,7 +67,7 @@ ninth : (u : Units)
     ∷ reply_text reply.Done ∷ reply_text reply.Done ∷ reply_text (reply.Refused 72) ∷ []
 ninth u = refl
 
--- a run that waits is told so where it has to stop, and else as a run that goes on
+-- a run that waits is reported so where it has to stop, and else as a run that goes on
 waits-session : (u : Units)
     → talk u with_input echo (Some (Go 5) ∷ Some (Ask Where) ∷ []) (begun with_input [])
     ≡ reply_text (reply.Waiting 0 0) ∷ reply_text (reply.At 0 0) ∷ []

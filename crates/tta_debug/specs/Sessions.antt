@@ -27,7 +27,7 @@ pub record Follows (input : List ℕ) (h : Session') (d : Debugged) : Type 0 whe
   pub rest : d.state.rest ≡ drop h.taken input
   pub stops : h.stops ≡ d.stops
 
--- the bytes that the output has taken, where it tells them, and how often a put has failed
+-- the bytes that the output has taken, where it shows them, and how often a put has failed
 pub record Output : Type 0 where
   pub taken : Option (List ℕ)
   pub faults : ℕ

@@ -67,7 +67,7 @@ fn delete_at<S: Sink>(
 }
 
 #[tactic(auto, using(crate::proofs::Saying::keeps_said))]
-// Tells what one asks to see.
+// Shows what is asked for.
 fn ask<S: Sink>(
     session: &Session,
     m: &Machine,
@@ -91,7 +91,7 @@ fn ask<S: Sink>(
 }
 
 #[tactic(auto, using(crate::proofs::Saying::keeps_said))]
-// Tells the results in flight.
+// Shows the results in flight.
 fn flight<S: Sink>(
     session: &Session,
     m: &Machine,

@@ -34,7 +34,7 @@ after_block k before after ToHalt rest = record { block = k; state = after; outc
 after_block k before after ToWait rest = record { block = k; state = after; outcome = Waiting }
 after_block k before after ToNowhere rest = record { block = k; state = before; outcome = Undefined }
 
--- What a leg leaves that begins with these blocks, the first of which has the number k. `go` tells what a block leaves,
+-- What a leg leaves that begins with these blocks, the first of which has the number k. `go` says what a block leaves,
 -- and how it is left. After the last block there is none.
 abbrev pub leg : {B S : Type 0} → (go : ℕ → B → S → S × Leave) → (k : ℕ) → List B → S → Run S
 leg go k [] s = record { block = k; state = s; outcome = Undefined }

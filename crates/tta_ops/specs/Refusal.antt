@@ -20,13 +20,13 @@ first_refusal before [] = None
 first_refusal before (row ∷ rows) =
     option_or (refusal_of before row) (first_refusal (before ++ row.name ∷ []) rows)
 
--- an error is the walk's first refusal, or want of memory, which may come at any time
+-- an error is the walk's first refusal, or lack of memory, which may come at any time
 abbrev pub IsCause : Option OpsError → OpsError → Type 0
 IsCause refusal NoMemory = Unit {0}
 IsCause refusal (Twice unit index) = refusal ≡ Some (Twice unit index)
 IsCause refusal (Reserved unit index) = refusal ≡ Some (Reserved unit index)
 
--- a call succeeds only where the walk has no refusal, and else tells that refusal
+-- a call succeeds only where the walk has no refusal, and else reports that refusal
 abbrev pub IsWalkResult : {T : Type 0} → Option OpsError → Result T OpsError → Type 0
 IsWalkResult refusal (Ok _) = refusal ≡ None
 IsWalkResult refusal (Err error) = IsCause refusal error

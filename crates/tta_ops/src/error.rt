@@ -5,7 +5,7 @@ ghost use Rattle.tta_ops.specs.declared.error.OpsError.TheVariants.{NoMemory};
 
 use std::alloc::AllocError;
 
-/// Why units do not make a set. `unit` and `index` tell the operation, both counted from 0.
+/// Why units do not make a set. `unit` and `index` give the operation, both counted from 0.
 #[derive(Clone, Copy, Debug, PartialEq, Eq)]
 pub enum OpsError {
     /// An operation before this one has its name.

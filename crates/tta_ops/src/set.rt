@@ -26,7 +26,7 @@ impl UnitSet {
     /// The set of these units, which offer at most 65,536 operations.
     ///
     /// The operations are walked unit by unit, then by index, and the first that is refused is
-    /// told: `Reserved` where its name is a reserved word, `Twice` where an operation before it
+    /// reported: `Reserved` where its name is a reserved word, `Twice` where an operation before it
     /// has its name. A refusal drops the units.
     #[tactic(auto, unfolding(crate::specs::Stated::stated_by))]
     pub fn new(alloc: Global, units: Vec<Box<dyn OpUnit>>) -> Result<Self, OpsError>

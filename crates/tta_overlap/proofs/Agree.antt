@@ -91,7 +91,7 @@ module _ (u : Units) (m : Machine) (rules : IsMachine m) (p : Program) (code : C
   same_end : (a b : ℕ) → (cyc_at a).outcome ≢ cycle.Running → (cyc_at b).outcome ≢ cycle.Running → cyc_at a ≡ cyc_at b
   same_end a b h k = over_same u m code (cycle.start m memory input) a b h k
 
-  -- what the lists put out is what the machine has put out then
+  -- what the lists output is what the machine has output then
   output_is : (r : Run Held) (t : State) → Tracks addr r t → t.output ≡ r.state.output
   output_is r t (goes e g) = g.match.output
   output_is r t (halts e h) = h.output

@@ -1,4 +1,4 @@
--- A run that is over stays where it is, and what was put out stays.
+-- A run that is over stays where it is, and what was output stays.
 use Rattle.std.proofs.Common.{◌≡◌, ◌≢◌, ◌⊎◌, inl, inr, ℕ, zero, suc, ◌+◌, ◌-◌, ◌≤◌, Bool, true, false, List, [], ◌∷◌, ◌++◌, Option, Some, None, refl, sym, ap, subst, ◌∙◌, arith}
 use Rattle.std.specs.Prelude.{slice_get, fold, if◌then◌else◌, ◌==◌}
 use Rattle.std.proofs.lemmas.List.{append_assoc, append-nil}
@@ -101,7 +101,7 @@ module _ (u : Units) (m : Machine) (code : Code) (s : State) where
   sum_is : (a b : ℕ) → a ≤ b → a + (b - a) ≡ b
   sum_is a b le = omega arith
 
-  -- what was put out stays
+  -- what was output stays
   pub output_stays : (a b : ℕ) → a ≤ b → IsPrefixOf (at a).output (at b).output
   output_stays a b le = subst (λ (n : ℕ). IsPrefixOf (at a).output (at n).output) (sum_is a b le)
       (subst (λ (t : State). IsPrefixOf (at a).output t.output) (sym (iterate_add (next u m code) a (b - a) s)) (later_prefix a (b - a)))
@@ -128,7 +128,7 @@ module _ (u : Units) (m : Machine) (code : Code) (s : State) where
     | inr le ↦ over_stays b a le k
   ]
 
-  -- what was put out by the one moment begins what was put out by the other, unless the other is earlier and the run goes on
+  -- what was output by the one moment begins what was output by the other, unless the other is earlier and the run goes on
   pub output_before : (a b : ℕ) → (a ≤ b) ⊎ ((at b).outcome ≢ Running) → IsPrefixOf (at a).output (at b).output
   output_before a b (inl le) = output_stays a b le
   output_before a b (inr over) = elim (cases_lt a b) [

@@ -1,4 +1,4 @@
--- A list that takes a word of the input and puts it out, placed on the machine of three buses with its halt in the first
+-- A list that takes a word of the input and outputs it, placed on the machine of three buses with its halt in the first
 -- cycle: what the law of blocks says of it, with a word and without.
 use Rattle.std.proofs.Common.{◌≡◌, ℕ, zero, suc, ◌≤◌, true, false, List, [], ◌∷◌, Some, None, refl, subst, arith, lit≤, take}
 use Rattle.std.specs.Prelude.{slice_get, ◌==◌}
@@ -111,7 +111,7 @@ unfolding does lacks
 without u [] = refl
 without u (w ∷ ws) = refl
 
--- with a word the block takes three cycles and puts it out
+-- with a word the block takes three cycles and outputs it
 both : (u : Units) → IsMachine with_input → Overlaps u with_input code addr 3 list placed (held (9 ∷ [])) (first (9 ∷ []))
 both u rules = overlaps u with_input rules code legal addr 3 list placed (first (9 ∷ [])) (held (9 ∷ [])) is_placed (with_word u) refl refl refl (holds_first (9 ∷ []))
 

@@ -108,7 +108,7 @@ store_of-set files f at = same_map nat_list_cmp_total only_equal _ _ (λ name.
     ∙ ap (cond (bytes_eq name f.name) (Some f.bytes.items)) (sym (file_at-store_of name files))
     ∙ sym (at-with_file (store_of files) f.name f.bytes.items name))
 
--- and with a file behind them whose name is new
+-- and with a file after them whose name is new
 store_of-push : (files : List File) (f : File) → place f.name files ≡ length files
     → store_of (files ++ f ∷ []) ≡ with_file (store_of files) f.name f.bytes.items
 store_of-push files f at =

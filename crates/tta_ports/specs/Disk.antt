@@ -56,11 +56,11 @@ up_to limit None = Err Failed
 up_to limit (Some bytes) =
     if nat_le (length bytes) limit then Ok bytes else Err (TooLong (length bytes))
 
--- what a read gives, but for want of memory
+-- what a read gives, but for lack of memory
 abbrev pub read_answer : Disk → List ℕ → ℕ → Result (List ℕ) ReadError
 read_answer d name limit = if fails_next d then Err Failed else up_to limit (file_at d.store name)
 
--- a read answers this, but for want of memory
+-- a read answers this, but for lack of memory
 abbrev pub ReadAnswers : Result (List ℕ) ReadError → Result (Vec ℕ Global) ReadError → Type 0
 ReadAnswers answer (Ok v) = answer ≡ Ok v.items
 ReadAnswers answer (Err Failed) = answer ≡ Err Failed

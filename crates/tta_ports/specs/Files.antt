@@ -6,11 +6,11 @@ use Rattle.tta_ports.specs.declared.error.WriteError.{WriteError}
 use Rattle.tta_ports.specs.declared.error.WriteError.TheVariants.{Failed as WriteFailed, NoMemory as WriteNoMemory}
 use Rattle.tta_ports.specs.Store.{Store, file_at, with_file}
 
--- the name holds these bytes, where the files are told
+-- the name holds these bytes, where the files show them
 abbrev pub Holds : Option Store → List ℕ → List ℕ → Type 0
 Holds files name bytes = IfSome files (λ s. file_at s name ≡ Some bytes)
 
--- the name holds that many bytes or more, where the files are told
+-- the name holds that many bytes or more, where the files show them
 abbrev pub HoldsMore : Option Store → List ℕ → ℕ → Type 0
 HoldsMore files name count =
     IfSome files (λ s. IsSomeAnd (file_at s name) (λ bytes. count ≤ length bytes))
@@ -19,7 +19,7 @@ HoldsMore files name count =
 abbrev pub written : List ℕ → List ℕ → Option Store → Option Store
 written name bytes files = option_map (λ s. with_file s name bytes) files
 
--- the name holds the front of these bytes, or all is as it was
+-- the name holds a prefix of these bytes, or all is as it was
 abbrev pub IsPartlyWritten : List ℕ → List ℕ → Option Store → Option Store → Type 0
 IsPartlyWritten name bytes old new =
     ((count : ℕ) × (new ≡ written name (take count bytes) old)) ⊎ (new ≡ old)

@@ -2,7 +2,7 @@
 use Rattle.std.specs.Prelude.{◌≡◌, ℕ, List, take, Option, Result, Ok, Err}
 use Rattle.std.specs.Io.KnownBytes.{append_known}
 
--- all the bytes are taken, or the front of them where it failed
+-- all the bytes are taken, or a prefix of them where it failed
 abbrev pub PutsBytes : {T E : Type 0}
     → List ℕ → Option (List ℕ) → Option (List ℕ) → Result T E → Type 0
 PutsBytes bytes old new (Ok _) = new ≡ append_known old bytes

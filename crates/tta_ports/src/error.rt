@@ -26,7 +26,7 @@ pub enum ReadError {
 /// Why a file was not written.
 #[derive(Clone, Copy, Debug, PartialEq, Eq)]
 pub enum WriteError {
-    /// The outside failed. The file may hold the front of the bytes.
+    /// The outside failed. The file may hold a prefix of the bytes.
     Failed,
     /// There was no memory for the name or for the bytes. Nothing was written.
     NoMemory,

@@ -12,7 +12,7 @@ pub trait Files {
     ghost use Rattle.tta_ports.specs.Files.{Holds, HoldsMore, IfTooLong, WritesFile, read_failed};
     ghost use Rattle.tta_ports.specs.Files.{write_failed};
 
-    /// The bytes of each name, where these files tell them.
+    /// The bytes of each name, where these files show them.
     ghost contents: { Self → Option Store };
 
     /// How often a call has failed, up to the last value of a 64-bit counter.
@@ -42,7 +42,7 @@ pub trait Files {
     /// Makes the name hold the bytes, and leaves each other name as it is.
     ///
     /// It answers `Failed` where the outside failed, which the count of faults shows. The name
-    /// then holds the front of the bytes, or what it held before. After `NoMemory` every file is
+    /// then holds a prefix of the bytes, or what it held before. After `NoMemory` every file is
     /// as before.
     fn write(&mut self, name: &str, bytes: &[u8]) -> Result<(), WriteError>
         ensures written { WritesFile name.now bytes.now

@@ -1,4 +1,4 @@
-//! Files in memory, for tests: calls fail where they are told to.
+//! Files in memory, for tests: calls fail where they are asked to.
 
 ghost use Rattle.std.specs.Prelude.{◌≡◌, ◌≢◌, ℕ, List, ◌<◌, ◌≤◌, ◌^◌, length, OnOk, OnErr, IfOk};
 ghost use Rattle.std.specs.Prelude.{Some, option_copied, position, bytes_eq};

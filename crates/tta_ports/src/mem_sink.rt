@@ -1,4 +1,4 @@
-//! A sink in memory, for tests: puts fail where they are told to, and where there is no room.
+//! A sink in memory, for tests: puts fail where they are asked to, and where there is no room.
 
 ghost use Rattle.std.specs.Prelude.{◌≡◌, ◌+◌, ◌<◌, ◌≤◌, ◌^◌, ◌++◌, length, vec_len, vec_capacity};
 ghost use Rattle.std.specs.Prelude.{IfOk, Some, is_err};

@@ -10,7 +10,7 @@ use std::marker::Model;
 use std::{fs, rt};
 use tta_list::Name;
 
-/// The files of the host, which the runtime reaches. What they hold is not told.
+/// The files of the host, which the runtime reaches. What they hold is not shown.
 ///
 /// Each call copies the name first, and answers `NoMemory` where that copy finds no memory. Every
 /// error of the host is a fault.

@@ -7,7 +7,7 @@ use crate::{Failed, Sink};
 use std::io;
 use std::marker::Model;
 
-/// The standard output of the host, which the runtime reaches. What it has taken is not told.
+/// The standard output of the host, which the runtime reaches. What it has taken is not shown.
 ///
 /// Each put is handed to the host at once, so nothing is left to flush. A put of no bytes does not
 /// reach the host.

@@ -8,7 +8,7 @@ pub trait Sink {
     ghost use Rattle.tta_ports.specs.Faults.{CountsFault};
     ghost use Rattle.tta_ports.specs.Sink.{PutsBytes};
 
-    /// All the bytes that it has taken, where it tells them.
+    /// All the bytes that it has taken, where it shows them.
     ghost taken: { Self → Option (List ℕ) };
 
     /// How often a put has failed, up to the last value of a 64-bit counter.
@@ -17,7 +17,7 @@ pub trait Sink {
     /// Takes all the bytes.
     ///
     /// It answers `Failed` where the outside failed, which the count of faults shows. It has then
-    /// taken the front of the bytes.
+    /// taken a prefix of the bytes.
     fn put(&mut self, bytes: &[u8]) -> Result<(), Failed>
         ensures grows { PutsBytes bytes.now (taken self.old) (taken self.new) result }
         ensures cause { CountsFault (is_err result) (faults self.old) (faults self.new) }

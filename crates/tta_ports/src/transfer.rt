@@ -36,7 +36,7 @@ pub fn read_up_to<R: Read>(alloc: Global, reader: &mut R, limit: u64) -> Result<
     Err(ReadError::Failed)
 }
 
-/// Writes all the bytes, or some of their front where it fails.
+/// Writes all the bytes, or a prefix of them where it fails.
 ///
 /// A write that takes nothing of what is left is a fault.
 pub fn write_whole<W: Write>(writer: &mut W, bytes: &[u8]) -> Result<(), Failed>

@@ -26,7 +26,7 @@ alone vars steps = record { procs = proc 0 vars steps ∷ []; main = 0; init = [
 
 -- ---- a call tree: the squares of 3 and 5, and 3, added up
 
--- a program whose main adds the squares of 3 and 5 to 3, each square by a call, and puts out the sum
+-- a program whose main adds the squares of 3 and 5 to 3, each square by a call, and outputs the sum
 abbrev squares : Program
 squares = record {
   procs = proc 1 2 (Apply 1 (op 2) (Var 0) (Var 0) ∷ Return (Some (Var 1)) ∷ End ∷ [])
@@ -94,7 +94,7 @@ less = record {
   few = lit< tt;
 }
 
--- a program that puts out 9 where 5 is at least b, and else 1
+-- a program that outputs 9 where 5 is at least b, and else 1
 abbrev guarded : ℕ → Program
 guarded b = alone 4 (
     Copy 0 (Word 1) ∷ Copy 1 (Word 5) ∷ Copy 2 (Word b) ∷ Copy 3 (Word 9) ∷ When Ge (Var 1) (Var 2) 0 (Var 3) ∷ Put (Var 0) ∷ End ∷ [])
@@ -127,7 +127,7 @@ forever-steps u = refl
 
 -- ---- a store and a load past the last word do nothing and give 0
 
--- a program that stores into word 3 and word 4 of the data space, loads both, and puts them out
+-- a program that stores into word 3 and word 4 of the data space, loads both, and outputs them
 abbrev edges : Program
 edges = alone 2 (
     Store (Word 3) (Word 7) ∷ Store (Word 4) (Word 8) ∷ Load 0 (Word 3) ∷ Load 1 (Word 4) ∷ Put (Var 0) ∷ Put (Var 1) ∷ End ∷ [])
@@ -155,7 +155,7 @@ unset-ends u = refl
 
 -- ---- the input
 
--- a program that puts out the next word of the input
+-- a program that outputs the next word of the input
 abbrev echo : Program
 echo = alone 1 (Take 0 ∷ Put (Var 0) ∷ Halt ∷ End ∷ [])
 
@@ -187,7 +187,7 @@ echo-waiting_steps u = refl
 echo-begins : (u : Units) → (seq u echo [] [] 0).outcome ≡ Running
 echo-begins u = refl
 
--- a program that puts out each word of the input with itself added to it
+-- a program that outputs each word of the input with itself added to it
 abbrev doubles : Program
 doubles = alone 2 (Take 0 ∷ Apply 1 (op 0) (Var 0) (Var 0) ∷ Put (Var 1) ∷ Goto 0 ∷ End ∷ [])
 
@@ -209,7 +209,7 @@ doubles-steps u = refl
 data-laid : over ((2, 9) ∷ (4, 1) ∷ []) (1 ∷ 0 ∷ 0 ∷ 0 ∷ []) ≡ 1 ∷ 0 ∷ 9 ∷ 0 ∷ []
 data-laid = refl
 
--- a program with data that puts out the word at address 2
+-- a program with data that outputs the word at address 2
 abbrev with_data : Program
 with_data = record (alone 1 (Load 0 (Word 2) ∷ Put (Var 0) ∷ Halt ∷ End ∷ [])) { init = record { address = 2; value = 9; line = 1 } ∷ [] }
 

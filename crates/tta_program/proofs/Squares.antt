@@ -9,7 +9,7 @@ use Rattle.tta_program.specs.Program.{Program}
 use Rattle.tta_program.specs.Rules.{IsProgram, IsProc, Reaches, ByCall, ByMore, calls}
 use Rattle.tta_program.proofs.Rows.{op}
 
--- the procedure that puts out the squares of 3, 4 and 5, each after a call and by way of data word 0
+-- the procedure that outputs the squares of 3, 4 and 5, each after a call and by way of data word 0
 abbrev main : Proc
 main = record {
   params = 0;

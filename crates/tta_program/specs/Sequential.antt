@@ -25,7 +25,7 @@ pub data Outcome : Type 0 where
   Halted : Outcome
   Waiting : Outcome
 
--- the calls that are under way, the innermost first; the data words; the rest of the input; what was put out; and how
+-- the calls that are under way, the innermost first; the data words; the rest of the input; what was output; and how
 -- many steps were made
 pub record State : Type 0 where
   pub stack : List Frame

@@ -26,7 +26,7 @@ lines : lines_of (codes "a. # b" ++ 10 ∷ 10 ∷ codes "c ~") ≡ (word Name 97
 unfolding lines_of tokens_of tokens_from piece_at mark_piece word
 lines = refl
 
--- two names, of which one is the front of the other
+-- two names, of which one is a prefix of the other
 two : Declared ℕ
 two = (codes "alu", 7) ∷ (codes "al", 8) ∷ []
 

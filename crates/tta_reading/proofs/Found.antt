@@ -5,7 +5,7 @@ use Rattle.std.specs.Cmp.Lexicographic.{nat_list_eq_equiv}
 use Rattle.tta_reading.specs.Names.{Declared, named_in}
 
 module _ {P : Type 0} (name : List ℕ) (place : P) where
-  -- a name behind others is found where they have no such name
+  -- a name after others is found where they have no such name
   pub named_in-new : (names : Declared P) → named_in names name ≡ None → named_in (names ++ (name, place) ∷ []) name ≡ Some place
   named_in-new [] none = ap (λ b. if b then Some place else None) (nat_list_eq_equiv.refl name)
   named_in-new (d ∷ names) none = by (bytes_eq d.0 name) (named_in-new names) none

@@ -1,4 +1,4 @@
--- What it tells that a reading step by step came to its end.
+-- What it means that a reading step by step came to its end.
 use Rattle.std.proofs.Common.{◌≡◌, ℕ, Bool, true, false, Option, Some, None, Result, Ok, Err, refl}
 use Rattle.tta_reading.specs.Steps.{◌>>=◌, ◌>>?◌, at_line, or_refuse, refuse_if, only_if}
 

@@ -44,7 +44,7 @@ impl<'t> Lines<'t> {
     }
 
     /// Reads the words of the next line into `words`, in the place of those that it had, and
-    /// answers `true`. Where no line is left, it answers `false`. An `Err` is want of memory, and
+    /// answers `true`. Where no line is left, it answers `false`. An `Err` is lack of memory, and
     /// leaves the reader within a line. All calls together take time that is linear in the text.
     pub fn next_line(&mut self, words: &mut Vec<Word<'t>>) -> Result<bool, AllocError>
         ensures more { IfOk result (λ more.

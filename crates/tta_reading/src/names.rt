@@ -49,7 +49,7 @@ impl<P: Copy> Names<P> {
         self.by_name.get(name).copied()
     }
 
-    /// Declares a name that was not declared, behind the others. An `Err` is want of memory, and
+    /// Declares a name that was not declared, after the others. An `Err` is lack of memory, and
     /// leaves the names as they were.
     pub fn add(&mut self, alloc: Global, name: &[u8], place: P) -> Result<(), AllocError>
         requires { named_in self.old name.now ≡ None }

@@ -5,12 +5,12 @@ use Rattle.tta_text.specs.declared.lexeme.Token.{Token}
 use Rattle.tta_text.specs.Tokens.{tokens_from, with_token, piece_of, line_after}
 use Rattle.tta_text.specs.Bytes.{is_newline}
 
--- a front has at most one token
+-- a prefix has at most one token
 length-with_token : (kind : Option Kind) (line start end : ℕ) (tokens : List Token) → length (with_token kind line start end tokens) ≤ length tokens + 1
 length-with_token None line start end tokens = omega arith
 length-with_token (Some kind) line start end tokens = omega arith
 
--- bytes have at most one token each, and one behind the last
+-- bytes have at most one token each, and one after the last
 pub length-tokens_from : (bytes : List ℕ) (skip : ℕ) (is_open : Bool) (line at : ℕ) → length (tokens_from skip is_open line at bytes) ≤ length bytes + 1
 unfolding tokens_from
 length-tokens_from [] skip false line at = omega arith

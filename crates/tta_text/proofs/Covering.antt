@@ -36,7 +36,7 @@ line_after-front byte lines =
       | inr other ↦ rw other (omega arith)
     ]
 
--- the tokens of what is left of a text, where a piece stands at the front
+-- the tokens of what is left of a text, where a piece stands at the start
 turn : (byte : ℕ) (rest : List ℕ) (front : Front byte rest) (open_line : Bool) (line at : ℕ)
     → tokens_from 0 open_line line at (byte ∷ rest)
     ≡ with_token front.kind line at (at + length (byte ∷ front.others))
@@ -50,7 +50,7 @@ turn byte rest front open_line line at =
     let step = tokens_from-piece-cons byte rest open_line line at (omega (arith, len)) (omega (arith, len, fits)) in
     rw (kind, len, left) at step
 
--- what is left of a text behind some bytes is read as the law asks
+-- what is left of a text after some bytes is read as the law asks
 record IsCovered (before left : List ℕ) : Type 0 where
   bodies : List Token
   follow : Follow before left bodies
@@ -78,7 +78,7 @@ Follow-gap before byte others after rest (token ∷ tokens) whole gap (next, mor
       subst (λ b. Follow b next.rest tokens) read more,
     )
 
--- the token that these bytes are behind others
+-- the token that these bytes are after others
 abbrev token_at : (before word : List ℕ) → Kind → Token
 token_at before word kind =
     record { line = newlines before + 1; start = length before; end = length before + length word; kind = kind }

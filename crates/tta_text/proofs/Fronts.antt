@@ -1,4 +1,4 @@
--- What stands at the front of some bytes, as the law of tokens sees it.
+-- What stands at the start of some bytes, as the law of tokens sees it.
 use Rattle.std.proofs.Common.{◌≡◌, ℕ, ◌+◌, Bool, true, false, not, ◌==◌, List, [], ◌∷◌, ◌++◌, length, refl, sym, ◌∙◌, ap, inl, inr, one-add}
 use Rattle.std.specs.Prelude.{Option, Some, None, if◌then◌else◌, fold}
 use Rattle.std.specs.List.{list_all, prefix_len}
@@ -9,7 +9,7 @@ use Rattle.tta_text.specs.Words.{first_is, is_of_kind}
 use Rattle.tta_text.specs.Covers.{is_gap, newlines, is_open}
 use Rattle.tta_text.proofs.Longest.{IsLongest}
 
--- the bytes at the front that pass a test, and what comes then
+-- the bytes at the start that pass a test, and what comes then
 pub record Split (test : ℕ → Bool) (bytes : List ℕ) : Type 0 where
   pub front : List ℕ
   pub after : List ℕ
@@ -35,7 +35,7 @@ split test (byte ∷ bytes) =
       | inr fails ↦ record { front = []; after = byte ∷ bytes; whole = refl; len = rw fails refl; pass = refl; stops = fails }
     ]
 
--- what a piece is: a token as long as can be, or a blank or a comment in front of any others
+-- what a piece is: a token as long as can be, or a blank or a comment before any others
 abbrev pub Stands : Option Kind → (byte : ℕ) (others after : List ℕ) → Type 0
 Stands (Some kind) byte others after =
     (is_of_kind kind (byte ∷ others) ≡ true) × IsLongest (byte ∷ others) after
@@ -43,7 +43,7 @@ Stands None byte others after =
     (gap rest : List ℕ) → after ≡ gap ++ rest → is_gap gap rest ≡ true
     → is_gap (byte ∷ (others ++ gap)) rest ≡ true
 
--- the piece at the front: its bytes, and the lines that end in it
+-- the piece at the start: its bytes, and the lines that end in it
 pub record Front (byte : ℕ) (rest : List ℕ) : Type 0 where
   pub kind : Option Kind
   pub others : List ℕ

@@ -9,7 +9,7 @@ use Rattle.tta_text.specs.Words.{first_is, is_letter, is_run, is_of_kind}
 use Rattle.tta_text.specs.Bytes.{is_word_byte}
 use Rattle.tta_text.proofs.Shapes.{IsLong, run, minus, arrow, dots, token_is_long}
 
--- no longer part of a text is a token, where this word stands at its front and the rest comes then
+-- no longer part of a text is a token, where this word stands at its start and the rest comes then
 abbrev pub IsLongest : (word rest : List ℕ) → Type 0
 IsLongest word rest =
     (kind : Kind) (more after : List ℕ) → rest ≡ more ++ after → is_of_kind kind (word ++ more) ≡ true → more ≡ []
@@ -42,7 +42,7 @@ run_is_longest byte others after first stops kind (next ∷ more) tail e h =
       | dots dot _ ↦ absurd (false≢true (rw dot at first))
     ]
 
--- and so it is behind "-", where it begins with a digit
+-- and so it is after "-", where it begins with a digit
 pub negative_is_longest : (others after : List ℕ) → first_is is_ascii_digit others ≡ true
     → first_is is_word_byte after ≡ false → IsLongest (45 ∷ others) after
 negative_is_longest others after digit stops kind [] tail e h = refl

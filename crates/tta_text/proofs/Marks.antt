@@ -86,7 +86,7 @@ single_front byte rest alone =
       single_is_longest byte rest (or_from (is_letter byte) (is_ascii_digit byte) alone.letter alone.digit) alone.negative alone.arrow alone.dots,
     )
 
--- what stands at the front of any bytes
+-- what stands at the start of any bytes
 pub front_of : (byte : ℕ) (rest : List ℕ) → Front byte rest
 front_of byte rest =
     elim (cases_Bool (byte == 10)) [

@@ -42,7 +42,7 @@ blank_front byte rest newline blank =
     or_left _ _ (and_from (is_blank byte) (is_gap gap after) blank is_gap_there)
     )
 
--- a comment goes to the end of its line, and no blanks come behind it
+-- a comment goes to the end of its line, and no blanks come after it
 line_ends : (after : List ℕ) → first_is (λ byte. not (byte == 10)) after ≡ false → ends_line after ≡ true
 line_ends [] h = refl
 line_ends (byte ∷ after) h = not-false (byte == 10) h

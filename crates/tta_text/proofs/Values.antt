@@ -7,7 +7,7 @@ use Rattle.std.specs.List.{list_all}
 use Rattle.std.specs.Char.{digit_value, is_digit}
 use Rattle.std.specs.Str.Parse.{digits_value_after}
 
--- the value of what is left of some digits, behind digits of this value
+-- the value of what is left of some digits, after digits of this value
 unfoldable pub value_from : (base limit value : ℕ) → List ℕ → Option ℕ
 value_from base limit value digits =
     if list_all (λ digit. is_digit digit base) digits && nat_lt (digits_value_after base value digits) limit

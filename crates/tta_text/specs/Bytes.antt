@@ -23,7 +23,7 @@ is_newline byte = byte == 10
 abbrev pub is_mark : ℕ → Bool
 is_mark byte = list_any (λ mark. mark == byte) (codes ".,;:=?![]")
 
--- how many letters, digits and '_' stand at the front
+-- how many letters, digits and '_' stand at the start
 abbrev pub run_len : List ℕ → ℕ
 run_len bytes = prefix_len is_word_byte bytes
 

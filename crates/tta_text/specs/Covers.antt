@@ -12,11 +12,11 @@ use Rattle.tta_text.specs.Words.{is_blank, is_of_kind}
 abbrev pub newlines : List ℕ → ℕ
 newlines bytes = fold (λ count byte. if byte == 10 then count + 1 else count) 0 bytes
 
--- bytes stand behind the last newline
+-- bytes stand after the last newline
 abbrev pub is_open : List ℕ → Bool
 is_open bytes = fold (λ _ byte. not (byte == 10)) false bytes
 
--- These bytes of a text, between those before and the rest, are a token. It tells its place and its
+-- These bytes of a text, between those before and the rest, are a token. It gives its place and its
 -- line, and no longer part of the text from its place on is a token of any kind.
 pub record IsToken (before word rest : List ℕ) (token : Token) : Type 0 where
   pub start : token.start ≡ length before
@@ -38,7 +38,7 @@ is_gap (byte ∷ gap) rest =
     (is_blank byte && is_gap gap rest)
     || (byte == 35 && list_all (λ byte. not (byte == 10)) gap && ends_line rest)
 
--- the next token of what is left of a text behind some bytes, after blanks and comments
+-- the next token of what is left of a text after some bytes, after blanks and comments
 pub record IsNext (before left : List ℕ) (token : Token) : Type 0 where
   pub gap : List ℕ
   pub word : List ℕ
@@ -61,7 +61,7 @@ last_end text =
     else []
 
 -- The tokens of a text follow one another, from its first byte on, and the end of an open last line
--- comes behind them.
+-- comes after them.
 pub record Covers (text : List ℕ) (tokens : List Token) : Type 0 where
   pub bodies : List Token
   pub follow : Follow [] text bodies

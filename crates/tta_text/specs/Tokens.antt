@@ -25,11 +25,11 @@ kind_if value kind = if is_some value then kind else Bad
 unfoldable pub number_piece : List ℕ → (len : ℕ) → Piece
 number_piece bytes len = token (kind_if (number_of (take len bytes)) Number) len
 
--- "-" and the run behind it, which begins with a digit, as long as given
+-- "-" and the run after it, which begins with a digit, as long as given
 unfoldable pub negative_piece : List ℕ → (len : ℕ) → Piece
 negative_piece bytes len = token (kind_if (negative_of (take len bytes)) Negative) len
 
--- what else can stand at the front: a mark, or a byte that no token has
+-- what else can stand at the start: a mark, or a byte that no token has
 unfoldable pub mark_piece : ℕ → List ℕ → Piece
 mark_piece byte bytes =
     if starts_with nat_eq bytes (codes "->") then token Mark 2
@@ -37,7 +37,7 @@ mark_piece byte bytes =
     else if is_mark byte then token Mark 1
     else token Bad 1
 
--- what stands at the front, where this byte does and then the rest
+-- what stands at the start, where this byte does and then the rest
 unfoldable pub piece_at : ℕ → List ℕ → Piece
 piece_at byte rest =
     if is_newline byte then token Eol 1
@@ -48,22 +48,22 @@ piece_at byte rest =
     else if byte == 45 && starts_with_digit rest then negative_piece (byte ∷ rest) (1 + run_len rest)
     else mark_piece byte (byte ∷ rest)
 
--- what stands at the front: a token, or a blank or a comment, which are none
+-- what stands at the start: a token, or a blank or a comment, which are none
 abbrev pub piece_of : List ℕ → Piece
 piece_of [] = gap 0
 piece_of (byte ∷ rest) = piece_at byte rest
 
--- a token of this kind in front of others, where there is a kind
+-- a token of this kind before others, where there is a kind
 abbrev pub with_token : Option Kind → (line start end : ℕ) → List Token → List Token
 with_token None line start end tokens = tokens
 with_token (Some kind) line start end tokens =
     record { line = line; start = start; end = end; kind = kind } ∷ tokens
 
--- the line behind a byte of this line
+-- the line after a byte of this line
 abbrev pub line_after : ℕ → ℕ → ℕ
 line_after byte line = if is_newline byte then line + 1 else line
 
--- The tokens of what is left of a text behind its next `skip` bytes, where its next byte stands on
+-- The tokens of what is left of a text after its next `skip` bytes, where its next byte stands on
 -- this line, at this place. The line is open where bytes of it stand before; an open line ends
 -- with the text.
 unfoldable pub tokens_from : (skip : ℕ) (is_open : Bool) (line at : ℕ) → List ℕ → List Token

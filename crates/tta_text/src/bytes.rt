@@ -27,7 +27,7 @@ pub(crate) fn is_mark(byte: u8) -> bool
     b".,;:=?![]".contains(&byte)
 }
 
-/// How many letters, digits and `_` stand at the front.
+/// How many letters, digits and `_` stand at the start.
 pub(crate) fn run_len(bytes: &[u8]) -> usize
     ensures len { result ≡ spec.run_len bytes.now }
     ensures within { result ≤ length bytes.now }

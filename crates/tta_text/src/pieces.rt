@@ -1,4 +1,4 @@
-//! What stands at the front of some bytes.
+//! What stands at the start of some bytes.
 
 ghost use Rattle.std.specs.Prelude.{◌≡◌, ◌<◌, ◌≤◌, ◌∷◌, length};
 ghost use Rattle.tta_text.specs.Tokens as spec;
@@ -7,7 +7,7 @@ use crate::bytes::{is_blank, is_mark, is_name_start, line_len, run_len, starts_w
 use crate::lexeme::Kind;
 use crate::numbers::{negative, number};
 
-/// As many bytes at the front of some as are a token of a kind, or a blank or a comment, which have
+/// As many bytes at the start of some as are a token of a kind, or a blank or a comment, which have
 /// no kind.
 #[derive(Clone, Copy)]
 pub(crate) struct Piece {
@@ -32,7 +32,7 @@ impl Piece {
     }
 }
 
-/// What stands at the front of at least one byte.
+/// What stands at the start of at least one byte.
 pub(crate) fn piece_of(bytes: &[u8]) -> Piece
     requires { 0 < length bytes.now }
     ensures piece { result ≡ spec.piece_of bytes.now }

@@ -87,7 +87,7 @@ impl<'a> Scanner<'a> {
     }
 }
 
-/// The line behind a byte of this line.
+/// The line after a byte of this line.
 fn line_after(byte: u8, line: u32) -> u32
     requires { line < 2 ^ 31 }
     ensures line { result ≡ spec.line_after byte line }

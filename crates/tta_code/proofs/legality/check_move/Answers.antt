@@ -1,6 +1,6 @@
 use Rattle.tta_code.proofs.legality.check_move.Goals as goal
 
--- each test that the move has passed, and the one that it has not, as its callee tells it
+-- each test that the move has passed, and the one that it has not, as its callee answers it
 pub returns-then-not-has_read_left : goal.returns-then-not-has_read_left
 returns-then-not-has_read_left c =
     rw (← c.has_bus.ensures, c.if-has_bus.false, ← c.joins.ensures, c.if-not-joins.false, ← c.has_read_left.ensures, c.if-not-has_read_left.true)

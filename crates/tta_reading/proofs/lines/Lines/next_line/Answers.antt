@@ -1,7 +1,7 @@
 use Rattle.std.proofs.Common.{◌≡◌, true, false}
 use Rattle.tta_reading.proofs.lines.Lines.next_line.Goals as goal
 
--- where a line is told, none is not told
+-- where a line is answered, none is not answered
 told : {A : Type 0} → true ≡ false → A
 told e = cc
 
