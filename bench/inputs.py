@@ -58,6 +58,50 @@ def arithmetic(lines):
     return "\n".join(["proc main", *steps, "out v3", "end"]) + "\n"
 
 
+def backward(lines):
+    """A program of so many lines at most: blocks each of which jumps to the one before it in the text, over 100 variables."""
+    blocks = (lines - 106) // 4
+    parts = ["proc main", *(f"v{k} = {k}" for k in range(100)), "w = 1", "goto block0"]
+    for k in reversed(range(blocks)):
+        parts += [f"block{k}:", f"v{k % 100} = add v{k % 100} 1", f"w = add w v{k % 100}", f"goto block{k + 1}"]
+    return "\n".join([*parts, f"block{blocks}:", "out w", "end"]) + "\n"
+
+
+def tangled(lines):
+    """A program of so many lines at most: loops each of which jumps back into the one before it, over many variables that all live long."""
+    variables = lines // 14
+    loops = (lines - 2 * variables - 2) // 4
+    parts = ["proc main", *(f"v{k} = {k}" for k in range(variables))]
+    for k in range(loops):
+        parts += [f"v{k % variables} = add v{7 * k % variables} 1", f"m{k}:", f"v{3 * k % variables} = add v{5 * k % variables} 1"]
+        parts.append(f"if ltu v{11 * k % variables} 9 goto m{max(k - 1, 0)}")
+    return "\n".join([*parts, *(f"out v{k}" for k in range(variables)), "end"]) + "\n"
+
+
+def buses(count):
+    """A machine of so many buses, each of which reaches all that there is."""
+    every = " ".join(f"b{i}" for i in range(count))
+    lines = [f"bus b{i} short 32 signed" for i in range(count)]
+    lines += [f"socket I in {every}", f"socket O out {every}", "file R width 32 size 24 read 4 write 4 out O in I"]
+    lines += ["file G width 1 size 2 read 2 write 2 out O in I", "imm L size 1 out O"]
+    for k in range(4):
+        lines += [f"unit A{k} o I t I r O", *(f"op A{k} {op} 1" for op in ["add", "sub", "and", "or", "xor", "eq", "lt", "ltu"]), f"op A{k} mul 3"]
+    lines += ["unit M o I t I r O", "op M ldw 2", "op M stw", "op M ldf 2", "op M stf", "op M out"]
+    lines += [f"guard b{i} G.0 {way}" for i in range(count) for way in ("plain", "inverted")]
+    return "\n".join([*lines, "control delay 1 address 16 t I ra O", "space data 64", "space frame 64"]) + "\n"
+
+
+def chain(lines):
+    """A program of so many lines: one block in which each step takes the result of the one before it."""
+    return "proc main\nv = 1\n" + "v = add v 1\n" * (lines - 4) + "out v\nend\n"
+
+
+def fan(lines):
+    """A program of so many lines: one block of sixteen chains beside each other, all of which read one variable."""
+    steps = [f"v{k % 16} = {['add', 'xor', 'sub', 'or'][k // 16 % 4]} v{k % 16} a" for k in range(lines - 19)]
+    return "\n".join(["proc main", "a = 3", *steps, *(f"out v{k}" for k in range(16)), "end"]) + "\n"
+
+
 STEPS = """proc main
 a = 1
 b = 2

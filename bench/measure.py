@@ -54,7 +54,7 @@ class Folder:
 
 
 def end(process, words, status):
-    """Waits for the end of a process, looks at its status, and tells the seconds of the processor that it took."""
+    """Waits for the end of a process, looks at its status, and gives the seconds of the processor that it took."""
     said = process.stderr.read().decode().strip()
     _, ended, used = os.wait4(process.pid, 0)
     process.returncode = os.waitstatus_to_exitcode(ended)
