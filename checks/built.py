@@ -1,7 +1,9 @@
-"""The built program, over which the checks and the benchmark run."""
+"""The built programs, over which the checks and the benchmark run."""
 import os
 import sys
 
-PROGRAM = os.path.normpath(os.path.join(os.path.dirname(os.path.abspath(__file__)), "..", "crates", "tta", "out", "tta"))
+CRATES = os.path.normpath(os.path.join(os.path.dirname(os.path.abspath(__file__)), "..", "crates"))
+PROGRAM = os.path.join(CRATES, "tta", "out", "tta")
+PICTURE = os.path.join(CRATES, "tta_picture", "out", "tta_picture")
 if not os.access(PROGRAM, os.X_OK):
     sys.exit("the program is not built yet: ./tta builds it at its first use, from nothing in about a quarter of an hour")
