@@ -2,7 +2,7 @@
 
 ghost use Rattle.std.specs.Prelude.{◌≡◌, ◌+◌, ◌<◌, ◌≤◌, ◌/◌, ◌%◌, ◌==◌, ◌||◌, ◌&&◌, not, ◌^◌, ℕ, false};
 ghost use Rattle.std.specs.Prelude.{true, length, slice_index, bit_or, IfOk};
-ghost use Rattle.tta_flow.specs.Bits.{has};
+ghost use Rattle.tta_flow.specs.Bits.{has, covers, covered_to, clear_from};
 ghost use Rattle.tta_flow.specs.Growth.{Grows, Sets};
 ghost use Rattle.std.specs.Int.{bit_at};
 
@@ -112,7 +112,8 @@ impl BitRow {
 
     /// Whether all bits of a word of another row are set here too.
     pub fn covers_word(&self, other: &BitRow, at: usize) -> bool
-        ensures { result ≡ true → (k : ℕ) → k / 64 ≡ at
+        ensures value { result ≡ covers self.now other.now at }
+        ensures all { result ≡ true → (k : ℕ) → k / 64 ≡ at
             → has other.now k ≡ true → has self.now k ≡ true }
     {
         let word = self.word(at);
@@ -123,6 +124,7 @@ impl BitRow {
     /// and else the bit itself. So of the other row's bits from there up to it none is missing.
     pub fn covered_to(&self, other: &BitRow, bit: usize) -> usize
         requires { bit + 64 < 2 ^ 64 }
+        ensures value { result ≡ covered_to self.now other.now bit }
         ensures low { bit ≤ result }
         ensures all { (k : ℕ) → bit ≤ k → k < result
             → has other.now k ≡ true → has self.now k ≡ true }
@@ -138,6 +140,7 @@ impl BitRow {
     /// The first place of the word before a bit, where that word has no bits, and else the bit
     /// itself. So no bit is set from there up to it.
     pub fn clear_from(&self, bit: usize) -> usize
+        ensures value { result ≡ clear_from self.now bit }
         ensures low { result ≤ bit }
         ensures none { (k : ℕ) → result ≤ k → k < bit → has self.now k ≡ false }
     {
