@@ -1,19 +1,26 @@
 -- The placement of one item a cycle.
 use Rattle.std.specs.Option.{option_map_or}
 use Rattle.tta_moves.specs.Touches.{is_control}
-use Rattle.std.specs.Prelude.{◌≡◌, ℕ, ◌+◌, ◌-◌, true, if◌then◌else◌, length, max, List, map, take, Some, slice_get}
+use Rattle.std.specs.Prelude.{◌≡◌, ℕ, ◌+◌, ◌-◌, ◌<◌, true, false, if◌then◌else◌, length, max, List, map, take, Some, slice_get}
 use Rattle.tta_arch.specs.Machine.{Machine}
 use Rattle.tta_moves.specs.declared.items.Item.{Item}
+use Rattle.tta_moves.specs.declared.items.Slot.{Slot}
 use Rattle.tta_moves.specs.declared.items.PlacedItem.{PlacedItem}
 use Rattle.tta_moves.specs.declared.items.Placed.{Placed}
 use Rattle.tta_moves.specs.Slots.{carries}
 use Rattle.tta_moves.specs.Bounds.{length_of}
+use Rattle.tta_moves.specs.FirstFit.{number_of}
 use Rattle.tta_depend.specs.Stands.{end_of}
 
--- an item stands in the first cycle in which all items before it are over, on a slot that carries it
+-- no slot of a smaller number carries an item that is alone in its cycle
+abbrev pub IsLeastAlone : Machine → Item → Slot → Type 0
+IsLeastAlone m v s = (other : Slot) → number_of other < number_of s → carries m other v ≡ false
+
+-- an item stands in the first cycle in which all items before it are over, on the least slot that carries it
 pub record StandsAlone (m : Machine) (placed : List PlacedItem) (x : PlacedItem) : Type 0 where
   pub cycle : x.cycle ≡ end_of m placed
   pub carried : carries m x.slot x.item ≡ true
+  pub least : IsLeastAlone m x.item x.slot
 
 -- A serial placement has the items in their order; each stands in the first cycle in which all items before it are over; and
 -- it is as long as a block of these items is.

@@ -1,10 +1,11 @@
 //! An item alone: what carries it.
 
-ghost use Rattle.std.specs.Prelude.{◌≡◌, ◌≤◌, true, false, length, slice_get};
+ghost use Rattle.std.specs.Prelude.{◌≡◌, ◌<◌, ◌≤◌, ℕ, true, false, length, slice_get};
 ghost use Rattle.std.specs.Option.{option_map_or};
 ghost use Rattle.std.specs.List.{list_any};
 ghost use Rattle.tta_connect.specs.Net.{IsNetOf};
 ghost use Rattle.tta_moves.specs.Slots.{carries, fills, has_slot};
+ghost use Rattle.tta_sched.specs.Serial.{IsLeastAlone};
 
 use tta_arch::{Machine, Template};
 use tta_connect::Net;
@@ -21,7 +22,9 @@ fn fills(t: &Template, imm: u8, reg: u8) -> bool
 fn first_template(templates: &[Template], imm: u8, reg: u8) -> u8
     requires few { length templates.now ≤ 8 }
     requires some { list_any (fills imm reg) templates.now ≡ true }
-    ensures { option_map_or (fills imm reg) (slice_get templates.now result) false ≡ true }
+    ensures there { option_map_or (fills imm reg) (slice_get templates.now result) false ≡ true }
+    ensures least { (k : ℕ) → k < result
+        → option_map_or (fills imm reg) (slice_get templates.now k) false ≡ false }
 {
     for (t, template) in templates.iter().enumerate() {
         if fills(template, imm, reg) {
@@ -35,7 +38,8 @@ fn first_template(templates: &[Template], imm: u8, reg: u8) -> u8
 pub fn slot_alone(m: &Machine, net: &Net, x: Item) -> Slot
     requires net { IsNetOf net.now m.now }
     requires slot { has_slot m.now x ≡ true }
-    ensures { carries m.now result x ≡ true }
+    ensures carried { carries m.now result x ≡ true }
+    ensures least { IsLeastAlone m.now x result }
 {
     match x {
         Item::Move { guard, src, dst } => match net.bus_for(m, &carried(m, src), &dst, &guard) {

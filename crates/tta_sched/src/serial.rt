@@ -30,7 +30,7 @@ fn block_length(m: &Machine, items: &[Item], end: u32) -> u32
 }
 
 /// Places the items of a block in their order, one in a cycle, each in the first cycle in which all
-/// items before it are over. The only error is out of memory.
+/// items before it are over, on the least slot that carries it. The only error is out of memory.
 pub fn place_serial(
     alloc: Global,
     b: &BlockList,

@@ -12,7 +12,7 @@ use Rattle.tta_sched.proofs.serial.place_serial.Goals as goal
 pub loop-x-preserved : goal.loop-x-preserved
 loop-x-preserved c = record {
   order = order_step c.loop-x.placed c.push.new.self _ c.args.b.now.items c.as_slice-x-items.result.now c.loop-x.x-index _ c.in_ok-push.ensures.ok c.as_slice-x-items.ensures refl (omega arith) c.loop-x.invariant.order;
-  alone = rw c.in_ok-push.ensures.ok (each_push (StandsAlone c.args.m.now) c.loop-x.placed _ c.loop-x.invariant.alone (record { cycle = c.loop-x.invariant.end; carried = c.slot_alone-slot.ensures }));
+  alone = rw c.in_ok-push.ensures.ok (each_push (StandsAlone c.args.m.now) c.loop-x.placed _ c.loop-x.invariant.alone (record { cycle = c.loop-x.invariant.end; carried = c.slot_alone-slot.ensures.carried; least = c.slot_alone-slot.ensures.least }));
   end = rw c.in_ok-push.ensures.ok (end_step c.args.m.now c.loop-x.placed _ c.lasts-cycle.result c.loop-x.invariant.end c.lasts-cycle.ensures.value);
   few = omega arith;
 }
