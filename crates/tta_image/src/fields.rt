@@ -10,9 +10,17 @@ ghost use Rattle.tta_image.specs.Fields.{bus_field, left_after};
 
 use crate::search::{place_of_dest, place_of_source};
 use crate::sink::{BitSink, without_low};
+use crate::starts::Starts;
 use std::alloc::AllocError;
 use tta_arch::{BusFields, Dest, Guard, GuardRef, Source};
 use tta_code::Move;
+
+/// The fields of a bus, and where its sources and destinations are looked for first.
+#[derive(Clone, Copy)]
+pub struct BusCodes<'a> {
+    pub fields: &'a BusFields,
+    pub starts: &'a Starts,
+}
 
 /// Whether two guards are of one register and one sense.
 fn same_guard(a: GuardRef, b: GuardRef) -> bool
@@ -40,12 +48,12 @@ fn place_of_guard(guards: &[Guard], on: GuardRef) -> Option<usize>
 }
 
 /// The code of a source.
-fn source_code(fields: &BusFields, src: Source) -> usize
-    requires order { IsInOrder fields.now }
-    ensures { result ≡ position_or_len (same_source src) fields.now.sources }
+fn source_code(bus: &BusCodes<'_>, src: Source) -> usize
+    requires order { IsInOrder bus.now.fields.now }
+    ensures { result ≡ position_or_len (same_source src) bus.now.fields.now.sources }
 {
-    let sources = fields.sources.as_slice();
-    place_of_source(sources, src).unwrap_or(sources.len())
+    let sources = bus.fields.sources.as_slice();
+    place_of_source(sources, bus.starts.of_source(src), src).unwrap_or(sources.len())
 }
 
 /// The code of a guard, 0 for none.
@@ -60,19 +68,20 @@ fn guard_code(fields: &BusFields, guard: Option<GuardRef>) -> usize
 }
 
 /// The code of a destination.
-fn dest_code(fields: &BusFields, dst: Dest) -> usize
-    requires order { IsInOrder fields.now }
-    ensures { result ≡ dest_number fields.now dst }
+fn dest_code(bus: &BusCodes<'_>, dst: Dest) -> usize
+    requires order { IsInOrder bus.now.fields.now }
+    ensures { result ≡ dest_number bus.now.fields.now dst }
 {
-    let dests = fields.dests.as_slice();
-    1 + place_of_dest(dests, dst).unwrap_or(dests.len())
+    let dests = bus.fields.dests.as_slice();
+    1 + place_of_dest(dests, bus.starts.of_dest(dst), dst).unwrap_or(dests.len())
 }
 
 /// Puts a source field at the end.
-fn push_source(fields: &BusFields, sink: &mut BitSink, src: Source) -> Result<(), AllocError>
-    requires order { IsInOrder fields.now }
-    ensures ok { OnOk result (sink.new ≡ sink.old ++ source_field fields.now src) }
+fn push_source(bus: &BusCodes<'_>, sink: &mut BitSink, src: Source) -> Result<(), AllocError>
+    requires order { IsInOrder bus.now.fields.now }
+    ensures ok { OnOk result (sink.new ≡ sink.old ++ source_field bus.now.fields.now src) }
 {
+    let fields = bus.fields;
     if let Source::Value(word) = src {
         sink.push(true)?;
         return sink.push_number(
@@ -81,44 +90,45 @@ fn push_source(fields: &BusFields, sink: &mut BitSink, src: Source) -> Result<()
         );
     }
     sink.push(false)?;
-    sink.push_number(source_code(fields, src) as u64, fields.payload_width)
+    sink.push_number(source_code(bus, src) as u64, fields.payload_width)
 }
 
 /// Puts the three fields of a slot at the end.
-fn push_slot(fields: &BusFields, sink: &mut BitSink, slot: Option<Move>) -> Result<(), AllocError>
-    requires order { IsInOrder fields.now }
-    ensures ok { OnOk result (sink.new ≡ sink.old ++ slot_field fields.now slot) }
+fn push_slot(bus: &BusCodes<'_>, sink: &mut BitSink, slot: Option<Move>) -> Result<(), AllocError>
+    requires order { IsInOrder bus.now.fields.now }
+    ensures ok { OnOk result (sink.new ≡ sink.old ++ slot_field bus.now.fields.now slot) }
 {
+    let fields = bus.fields;
     let Some(v) = slot else {
         return sink.push_zeros(fields.width);
     };
     sink.push_number(guard_code(fields, v.guard) as u64, fields.guard_width)?;
-    push_source(fields, sink, v.src)?;
-    sink.push_number(dest_code(fields, v.dst) as u64, fields.dest_width)
+    push_source(bus, sink, v.src)?;
+    sink.push_number(dest_code(bus, v.dst) as u64, fields.dest_width)
 }
 
 /// Puts what the bus has in an instruction at the end: its slot, or the highest bits that are
 /// left of the long immediate. Answers how many bits of the long immediate are left after it.
 pub fn push_bus(
-    fields: &BusFields,
+    bus: &BusCodes<'_>,
     sink: &mut BitSink,
     is_taken: bool,
     left: u32,
     value: u32,
     slot: Option<Move>,
 ) -> Result<u32, AllocError>
-    requires order { IsInOrder fields.now }
-    requires taken { is_taken ≡ true → fields.now.width ≤ left }
+    requires order { IsInOrder bus.now.fields.now }
+    requires taken { is_taken ≡ true → bus.now.fields.now.width ≤ left }
     ensures bits { OnOk result
-        (sink.new ≡ sink.old ++ bus_field fields.now is_taken left value slot) }
-    ensures left { IfOk result (λ n. n ≡ left_after fields.now is_taken left) }
+        (sink.new ≡ sink.old ++ bus_field bus.now.fields.now is_taken left value slot) }
+    ensures left { IfOk result (λ n. n ≡ left_after bus.now.fields.now is_taken left) }
 {
     if is_taken {
-        let rest = left - fields.width;
-        sink.push_number(without_low(u64::from(value), rest), fields.width)?;
+        let rest = left - bus.fields.width;
+        sink.push_number(without_low(u64::from(value), rest), bus.fields.width)?;
         Ok(rest)
     } else {
-        push_slot(fields, sink, slot)?;
+        push_slot(bus, sink, slot)?;
         Ok(left)
     }
 }

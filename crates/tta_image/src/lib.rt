@@ -11,6 +11,7 @@ mod refusal;
 mod search;
 mod sink;
 mod slots;
+mod starts;
 mod words;
 mod write;
 

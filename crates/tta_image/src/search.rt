@@ -98,8 +98,8 @@ fn dests_below(dests: &[Dest], rank: u32) -> usize
     )
 }
 
-/// Where a source stands in a list that is in order.
-pub fn place_of_source(sources: &[Source], src: Source) -> Option<usize>
+/// Where a source stands in a list that is in order, found by its rank.
+fn search_source(sources: &[Source], src: Source) -> Option<usize>
     requires rising { Rising source_rank 0 sources.now 16385 }
     ensures { result ≡ position (same_source src) sources.now }
 {
@@ -110,8 +110,8 @@ pub fn place_of_source(sources: &[Source], src: Source) -> Option<usize>
     }
 }
 
-/// Where a destination stands in a list that is in order.
-pub fn place_of_dest(dests: &[Dest], dst: Dest) -> Option<usize>
+/// Where a destination stands in a list that is in order, found by its rank.
+fn search_dest(dests: &[Dest], dst: Dest) -> Option<usize>
     requires rising { Rising dest_rank 0 dests.now 16387 }
     ensures { result ≡ position (same_dest dst) dests.now }
 {
@@ -119,5 +119,29 @@ pub fn place_of_dest(dests: &[Dest], dst: Dest) -> Option<usize>
     match dests.get(place) {
         Some(d) if same_dest(dst, *d) => Some(place),
         _ => None,
+    }
+}
+
+/// Where a source stands in a list that is in order. The place at which to look first is handed
+/// in; where the source stands elsewhere, it is searched for.
+pub fn place_of_source(sources: &[Source], first: usize, src: Source) -> Option<usize>
+    requires rising { Rising source_rank 0 sources.now 16385 }
+    ensures { result ≡ position (same_source src) sources.now }
+{
+    match sources.get(first) {
+        Some(s) if same_source(src, *s) => Some(first),
+        _ => search_source(sources, src),
+    }
+}
+
+/// Where a destination stands in a list that is in order. The place at which to look first is
+/// handed in; where the destination stands elsewhere, it is searched for.
+pub fn place_of_dest(dests: &[Dest], first: usize, dst: Dest) -> Option<usize>
+    requires rising { Rising dest_rank 0 dests.now 16387 }
+    ensures { result ≡ position (same_dest dst) dests.now }
+{
+    match dests.get(first) {
+        Some(d) if same_dest(dst, *d) => Some(first),
+        _ => search_dest(dests, dst),
     }
 }

@@ -14,11 +14,20 @@ ghost use Rattle.tta_code.specs.Whole.{fits};
 ghost use Rattle.tta_image.specs.Ranks.{AreInOrder};
 ghost use Rattle.tta_image.specs.Fields.{buses_of, value_of};
 
-use crate::fields::push_bus;
+use crate::fields::{BusCodes, push_bus};
 use crate::sink::BitSink;
+use crate::starts::Starts;
 use std::alloc::{AllocError, Global};
 use tta_arch::{Layout, Machine, has_bus};
 use tta_code::{Code, Datum, Instruction, Long, Move, Whole};
+use tta_list::Items;
+
+/// The layout of a machine's instructions, and where to look first in the lists of each bus.
+#[derive(Clone, Copy)]
+struct Codes<'a> {
+    layout: &'a Layout,
+    starts: &'a Items<Starts>,
+}
 
 /// The code of a template, 0 for none.
 fn template_code(long: Option<Long>) -> u64
@@ -56,63 +65,68 @@ fn value_of(long: Option<Long>) -> u32
 /// Puts what each bus has in an instruction at the end: its slot, or its share of the long
 /// immediate.
 fn push_slots(
-    layout: &Layout,
+    codes: &Codes<'_>,
     m: &Machine,
     sink: &mut BitSink,
     taken: u16,
     value: u32,
     moves: &[Option<Move>],
 ) -> Result<(), AllocError>
-    requires layout { layout.now ≡ layout_of m.now }
-    requires order { AreInOrder layout.now.buses }
+    requires layout { codes.now.layout.now ≡ layout_of m.now }
+    requires order { AreInOrder codes.now.layout.now.buses }
+    requires starts { length codes.now.starts.now ≡ length codes.now.layout.now.buses }
     requires fits { word_width m.now < 2 ^ 32 }
     requires slots { length moves.now ≡ length m.now.buses }
     ensures ok { OnOk result
         (sink.new ≡ sink.old
         ++ slots_bits m.now taken (bits_of (taken_width m.now taken) value) 0 moves.now) }
 {
-    let mut left = layout.width_of_set(taken);
+    let mut left = codes.layout.width_of_set(taken);
     for (bus, slot) in moves.iter().enumerate() {
-        let fields = &layout.buses.as_slice()[bus];
-        left = push_bus(fields, sink, has_bus(taken, bus), left, value, *slot)?;
+        let fields = &codes.layout.buses.as_slice()[bus];
+        let starts = &codes.starts.as_slice()[bus];
+        let of_bus = BusCodes { fields, starts };
+        left = push_bus(&of_bus, sink, has_bus(taken, bus), left, value, *slot)?;
     }
     Ok(())
 }
 
 /// Puts the bits of an instruction at the end.
 fn push_instruction(
-    layout: &Layout,
+    codes: &Codes<'_>,
     m: &Machine,
     sink: &mut BitSink,
     i: &Instruction,
 ) -> Result<(), AllocError>
-    requires layout { layout.now ≡ layout_of m.now }
-    requires order { AreInOrder layout.now.buses }
+    requires layout { codes.now.layout.now ≡ layout_of m.now }
+    requires order { AreInOrder codes.now.layout.now.buses }
+    requires starts { length codes.now.starts.now ≡ length codes.now.layout.now.buses }
     requires fits { word_width m.now < 2 ^ 32 }
     requires slots { length i.now.moves ≡ length m.now.buses }
     ensures ok { OnOk result (sink.new ≡ sink.old ++ instruction_bits m.now i.now) }
 {
     let taken = buses_of(m, i.long);
-    sink.push_number(template_code(i.long), layout.template_width)?;
-    push_slots(layout, m, sink, taken, value_of(i.long), i.moves.as_slice())?;
+    sink.push_number(template_code(i.long), codes.layout.template_width)?;
+    push_slots(codes, m, sink, taken, value_of(i.long), i.moves.as_slice())?;
     Ok(())
 }
 
 /// Puts the bits of instructions at the end.
 fn push_words(
-    layout: &Layout,
+    codes: &Codes<'_>,
     m: &Machine,
     sink: &mut BitSink,
     words: &[Instruction],
 ) -> Result<(), AllocError>
-    requires layout { layout.now ≡ layout_of m.now }
-    requires order { AreInOrder layout.now.buses }
+    requires layout { codes.now.layout.now ≡ layout_of m.now }
+    requires order { AreInOrder codes.now.layout.now.buses }
+    requires starts { length codes.now.starts.now ≡ length codes.now.layout.now.buses }
     requires fits { word_width m.now < 2 ^ 32 }
     requires slots { All (λ i. length i.moves ≡ length m.now.buses) words.now }
     ensures ok { OnOk result (sink.new ≡ sink.old ++ flat_map (instruction_bits m.now) words.now) }
 {
     for i in words {
-        push_instruction(layout, m, sink, i)?;
+        push_instruction(codes, m, sink, i)?;
     }
     Ok(())
 }
@@ -189,6 +203,18 @@ fn count_words(code: &Code, m: &Machine) -> u32
     code.words.len() as u32
 }
 
+/// Where the parts of each bus begin in its lists.
+fn all_starts(alloc: Global, layout: &Layout) -> Result<Items<Starts>, AllocError>
+    ensures { IfOk result (λ v. length v ≡ length layout.now.buses) }
+{
+    let buses = layout.buses.as_slice();
+    let mut starts = Vec::with_capacity(alloc, buses.len())?;
+    for fields in buses {
+        starts.push(Starts::of(fields))?;
+    }
+    Ok(Items::of(starts))
+}
+
 /// The bits of instructions as bytes, the last of them filled up with zero bits.
 fn pack_words(
     alloc: Global,
@@ -203,12 +229,21 @@ fn pack_words(
     ensures { IfOk result (λ v.
         AreBytesOf (flat_map (instruction_bits m.now) words.now) v.items) }
 {
-    let mut sink = BitSink::new(alloc);
-    let Ok(()) = push_words(layout, m, &mut sink, words) else {
-        drop(sink);
-        return Err(AllocError);
+    let starts = all_starts(alloc, layout)?;
+    let codes = Codes {
+        layout,
+        starts: &starts,
     };
-    sink.into_bytes()
+    let mut sink = BitSink::new(alloc);
+    let written = push_words(&codes, m, &mut sink, words);
+    drop(starts);
+    match written {
+        Ok(()) => sink.into_bytes(),
+        Err(e) => {
+            drop(sink);
+            Err(e)
+        }
+    }
 }
 
 /// The image of code with data: a header with the digest of the machine's text, the data if any,

@@ -6,7 +6,7 @@ use Rattle.tta_image.proofs.fields.push_bus.Goals as goal
 
 pub returns-in_ok-push_number-clause-bits : goal.returns-in_ok-push_number-clause-bits
 returns-in_ok-push_number-clause-bits c =
-    let f = c.args.fields.now in let left = c.args.left in
+    let f = c.args.bus.now.fields.now in let left = c.args.left in
     let number = c.without_low.ensures ∙ ap (λ (n : ℕ). n / 2 ^ (left - f.width)) c.from.ensures in
     c.in_ok-push_number.ensures.ok
     ∙ ap (λ (n : ℕ). c.args.sink.now ++ bits_of f.width n) number

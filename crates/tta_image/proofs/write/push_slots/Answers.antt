@@ -10,7 +10,7 @@ use Rattle.tta_image.proofs.write.push_slots.Goals as goal
 pub loop-bus-init : goal.loop-bus-init
 loop-bus-init c =
     let m = c.args.m.now in
-    let same = c.width_of_set-left.ensures ∙ set_width m c.args.layout.now c.args.taken c.requires.layout in
+    let same = c.width_of_set-left.ensures ∙ set_width m c.args.codes.now.layout.now c.args.taken c.requires.layout in
     let many : length m.buses ≡ length c.args.moves.now - 0 = omega arith in
     record {
       bits = ap (λ (n : ℕ). c.args.sink.now ++ slots_bits m c.args.taken (bits_of n c.args.value) 0 c.args.moves.now) same;
@@ -20,35 +20,48 @@ loop-bus-init c =
 pub bounds-as_slice-bus : goal.bounds-as_slice-bus
 bounds-as_slice-bus c =
     let same = ap length c.as_slice.ensures in
-    let many = layout_buses c.args.m.now c.args.layout.now c.requires.layout in
+    let many = layout_buses c.args.m.now c.args.codes.now.layout.now c.requires.layout in
     omega arith
 
 pub offset_bounds-as_slice-bus : goal.offset_bounds-as_slice-bus
 offset_bounds-as_slice-bus c =
     let same = ap length c.as_slice.ensures in
-    let many = layout_buses c.args.m.now c.args.layout.now c.requires.layout in
+    let many = layout_buses c.args.m.now c.args.codes.now.layout.now c.requires.layout in
     let within : c.loop-bus.bus < length c.as_slice.result.now = omega arith in
     omega (arith, c.as_slice.type_inv.1)
 
 pub push_bus-requires-clause-taken : goal.push_bus-requires-clause-taken
 push_bus-requires-clause-taken c =
     let m = c.args.m.now in
-    let is = layout_bus_read m c.args.layout.now c.as_slice.result.now c.loop-bus.bus c.index-as_slice-bus.result c.requires.layout c.as_slice.ensures (omega arith) c.index-as_slice-bus.is in
+    let is = layout_bus_read m c.args.codes.now.layout.now c.as_slice.result.now c.loop-bus.bus c.index-as_slice-bus.result c.requires.layout c.as_slice.ensures (omega arith) c.index-as_slice-bus.is in
     λ h. left_enough m c.args.taken c.loop-bus.bus (length c.args.moves.now) c.loop-bus.left c.index-as_slice-bus.result c.loop-bus-test.true is c.loop-bus.invariant.left
     (sym c.has_bus.ensures ∙ h)
 
 pub push_bus-requires-clause-order : goal.push_bus-requires-clause-order
 push_bus-requires-clause-order c =
-    let many = layout_buses c.args.m.now c.args.layout.now c.requires.layout in
-    in_order_at c.args.layout.now.buses c.loop-bus.bus c.index-as_slice-bus.result c.requires.order (omega arith)
+    let many = layout_buses c.args.m.now c.args.codes.now.layout.now c.requires.layout in
+    in_order_at c.args.codes.now.layout.now.buses c.loop-bus.bus c.index-as_slice-bus.result c.requires.order (omega arith)
     (c.index-as_slice-bus.is ∙ ap (λ (fs : List BusFields). get_or fs c.loop-bus.bus c.index-as_slice-bus.result) c.as_slice.ensures)
 
 pub loop-bus-preserved : goal.loop-bus-preserved
 loop-bus-preserved c =
     let m = c.args.m.now in let f = c.index-as_slice-bus.result in let bus = c.loop-bus.bus in
-    let is = layout_bus_read m c.args.layout.now c.as_slice.result.now bus f c.requires.layout c.as_slice.ensures (omega arith) c.index-as_slice-bus.is in
+    let is = layout_bus_read m c.args.codes.now.layout.now c.as_slice.result.now bus f c.requires.layout c.as_slice.ensures (omega arith) c.index-as_slice-bus.is in
     record {
       bits = slots_more m c.args.taken c.args.value c.loop-bus.left c.in_ok-left.left bus c.args.moves.now _ f c.has_bus.result _ _ _ c.loop-bus-test.true refl is c.has_bus.ensures
           c.in_ok-left.ensures.bits c.in_ok-left.ensures.left c.loop-bus.invariant.left c.loop-bus.invariant.bits;
       left = left_more m c.args.taken bus (length c.args.moves.now) c.loop-bus.left c.in_ok-left.left f c.has_bus.result c.loop-bus-test.true is c.has_bus.ensures c.loop-bus.invariant.left c.in_ok-left.ensures.left;
     }
+
+pub bounds-as_slice-bus-in-loop-bus : goal.bounds-as_slice-bus-in-loop-bus
+bounds-as_slice-bus-in-loop-bus c =
+    let same = ap length c.as_slice-in-loop-bus.ensures in
+    let many = layout_buses c.args.m.now c.args.codes.now.layout.now c.requires.layout in
+    omega arith
+
+pub offset_bounds-as_slice-bus-in-loop-bus : goal.offset_bounds-as_slice-bus-in-loop-bus
+offset_bounds-as_slice-bus-in-loop-bus c =
+    let same = ap length c.as_slice-in-loop-bus.ensures in
+    let many = layout_buses c.args.m.now c.args.codes.now.layout.now c.requires.layout in
+    let within : c.loop-bus.bus < length c.as_slice-in-loop-bus.result.now = omega arith in
+    omega (arith, c.as_slice-in-loop-bus.type_inv.1)
