@@ -1,5 +1,6 @@
 -- Places that are put into lists.
-use Rattle.std.proofs.Common.{◌≡◌, ℕ, zero, suc, ◌+◌, ◌<◌, ◌≤◌, Bool, true, false, List, [], ◌∷◌, ◌++◌, length, get_or, set, take, refl, sym, ◌∙◌, ap, arith, inl, inr, ◌≢◌, ◌⊎◌, Vec, Global}
+use Rattle.std.proofs.Common.{◌≡◌, ℕ, zero, suc, ◌+◌, ◌<◌, ◌≤◌, Bool, true, false, List, [], ◌∷◌, ◌++◌, length, get_or, set, take, refl, sym, ◌∙◌, ap, arith, inl, inr, ◌≢◌, ◌⊎◌}
+use Rattle.smallvec.specs.SmallVec.{SmallVec}
 use Rattle.std.specs.Prelude.{◌||◌, ◌&&◌, ◌==◌, nat_lt, slice_get, slice_set}
 use Rattle.std.specs.Option.{option_map_or}
 use Rattle.std.proofs.lemmas.Bool.{eq-eqb, ne_eqb, cases_eq, lt-ltb, le-ltb, ltb-false}
@@ -58,37 +59,37 @@ module _ {A : Type 0} (f : A → Bool) where
   test_set_other (x ∷ xs) (suc i) (suc k) v other = test_set_other xs i k v (λ e. other (ap suc e))
 
 -- a table of empty lists with one empty list more
-pub table_push : (lists : List (Vec ℕ Global)) (l : Vec ℕ Global) → l.items ≡ []
-    → ((k p : ℕ) → option_map_or (λ (m : Vec ℕ Global). is_found m.items p) (slice_get lists k) false ≡ false)
-    → (k p : ℕ) → option_map_or (λ (m : Vec ℕ Global). is_found m.items p) (slice_get (lists ++ l ∷ []) k) false ≡ false
-table_push lists l empty none k p = all_false_push (λ (m : Vec ℕ Global). is_found m.items p) lists l (λ j. none j p) (ap (λ xs. is_found xs p) empty) k
+pub table_push : (lists : List (SmallVec ℕ)) (l : SmallVec ℕ) → l.items ≡ []
+    → ((k p : ℕ) → option_map_or (λ (m : SmallVec ℕ). is_found m.items p) (slice_get lists k) false ≡ false)
+    → (k p : ℕ) → option_map_or (λ (m : SmallVec ℕ). is_found m.items p) (slice_get (lists ++ l ∷ []) k) false ≡ false
+table_push lists l empty none k p = all_false_push (λ (m : SmallVec ℕ). is_found m.items p) lists l (λ j. none j p) (ap (λ xs. is_found xs p) empty) k
 
 -- a place that is put into one list
-pub adds_one : (key place : ℕ) (old new : Table) (was now : Vec ℕ Global) → key < length old.lists.items
+pub adds_one : (key place : ℕ) (old new : Table) (was now : SmallVec ℕ) → key < length old.lists.items
     → was ≡ get_or old.lists.items key was → now.items ≡ was.items ++ place ∷ []
     → new.lists.items ≡ slice_set old.lists.items key now → Adds place (λ k. key == k) old new
 adds_one key place old new was now below is grown set = record {
   size = ap length set ∙ length-set old.lists.items key now;
-  all = λ k p b. ap (λ ls. option_map_or (λ (m : Vec ℕ Global). is_found m.items p) (slice_get ls k) false) set ∙ by k p (cases_eq key k);
+  all = λ k p b. ap (λ ls. option_map_or (λ (m : SmallVec ℕ). is_found m.items p) (slice_get ls k) false) set ∙ by k p (cases_eq key k);
 } where
-  f : ℕ → Vec ℕ Global → Bool
+  f : ℕ → SmallVec ℕ → Bool
   f p m = is_found m.items p
 
   by : (k p : ℕ) → (key ≡ k) ⊎ (key ≢ k)
-      → option_map_or (λ (m : Vec ℕ Global). is_found m.items p) (slice_get (slice_set old.lists.items key now) k) false
+      → option_map_or (λ (m : SmallVec ℕ). is_found m.items p) (slice_get (slice_set old.lists.items key now) k) false
       ≡ (is_listed old k p || (place == p && key == k))
   by k p (inl e) =
       let here : is_listed old k p ≡ is_found was.items p =
       ap (λ i. is_listed old i p) (sym e)
-      ∙ ap (λ o. option_map_or (λ (m : Vec ℕ Global). is_found m.items p) o false) (slice_get_read old.lists.items (length old.lists.items) key was refl below is) in
-      ap (λ i. option_map_or (λ (m : Vec ℕ Global). is_found m.items p) (slice_get (slice_set old.lists.items key now) i) false) (sym e)
-      ∙ test_set_same (λ (m : Vec ℕ Global). is_found m.items p) old.lists.items key now below
+      ∙ ap (λ o. option_map_or (λ (m : SmallVec ℕ). is_found m.items p) o false) (slice_get_read old.lists.items (length old.lists.items) key was refl below is) in
+      ap (λ i. option_map_or (λ (m : SmallVec ℕ). is_found m.items p) (slice_get (slice_set old.lists.items key now) i) false) (sym e)
+      ∙ test_set_same (λ (m : SmallVec ℕ). is_found m.items p) old.lists.items key now below
       ∙ ap (λ l. is_found l p) grown ∙ found_more was.items place p
       ∙ sym (ap (λ b. b || (place == p && key == k)) here
       ∙ ap (λ b. is_found was.items p || (place == p && b)) (eq-eqb key k e)
       ∙ ap (λ b. is_found was.items p || b) (and-true (place == p)))
   by k p (inr other) =
-      test_set_other (λ (m : Vec ℕ Global). is_found m.items p) old.lists.items key k now other
+      test_set_other (λ (m : SmallVec ℕ). is_found m.items p) old.lists.items key k now other
       ∙ sym (ap (λ b. is_listed old k p || (place == p && b)) (ne_eqb key k other) ∙ none (is_listed old k p) (place == p)) where
         none : (a w : Bool) → (a || (w && false)) ≡ a
         none true w = refl
