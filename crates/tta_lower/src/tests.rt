@@ -39,16 +39,16 @@ fn square_proc(alloc: Global) -> Result<Proc, AllocError>
 }
 
 /// A call of the first procedure with one argument.
-fn call(alloc: Global, d: u32, s: Src) -> Step
-    ensures { result ≡ Invoke (Some d) 0 (s ∷ []) }
+fn call(alloc: Global, d: u32, s: Src) -> Result<Step, AllocError>
+    ensures { IfOk result (λ call. call ≡ Invoke (Some d) 0 (s ∷ [])) }
 {
     let mut args = Args::new(alloc);
-    args.push(s);
-    Step::Invoke {
+    args.push(s)?;
+    Ok(Step::Invoke {
         d: Some(d),
         callee: 0,
         args,
-    }
+    })
 }
 
 /// `proc main`, `a = 3`, `b = call sq a`, `c = call sq 5`, `d = add a b`, `d = add d c`, `out d`,
@@ -61,8 +61,10 @@ fn main_proc(alloc: Global) -> Result<Proc, AllocError>
         d: 0,
         s: Src::Word(3),
     })?;
-    steps.push(call(alloc, 1, Src::Var(0)))?;
-    steps.push(call(alloc, 2, Src::Word(5)))?;
+    let first = call(alloc, 1, Src::Var(0))?;
+    steps.push(first)?;
+    let second = call(alloc, 2, Src::Word(5))?;
+    steps.push(second)?;
     steps.push(Step::Apply {
         d: 3,
         op: OpId(0),

@@ -1,56 +1,54 @@
 //! The arguments of a call.
 
-ghost use Rattle.std.specs.Prelude.{◌≡◌, ◌<◌, ◌≤◌, ◌++◌, [], ◌∷◌, length};
+ghost use Rattle.std.specs.Prelude.{◌≡◌, ◌<◌, ◌≤◌, ◌++◌, [], ◌∷◌, length, IfOk, OnErr, OnOk};
 
 use crate::operand::Src;
-use smallvec::SmallVec;
-use std::alloc::Global;
+use std::alloc::{AllocError, Global};
 use std::marker::Model;
 
-/// A list of at most eight operands. It takes no memory beyond its own.
+/// A list of at most eight operands. They lie apart, so that a step without them is small.
 #[derive(Drop)]
 pub struct Args {
-    operands: SmallVec<Src, 8>,
+    operands: Vec<Src>,
 }
 
 impl Model for Args {
-    ghost use Rattle.std.specs.Prelude.{◌≡◌, ◌≤◌, List, length};
+    ghost use Rattle.std.specs.Prelude.{◌≤◌, List, length};
     ghost use Rattle.tta_program.specs.declared.operand.Src.{Src};
 
     ghost Value = { List Src };
 
     ghost view = { λ a. a.operands.items };
 
-    ghost invariant = { λ a. (a.operands.capacity ≡ 8) × (length a.operands.items ≤ 8) };
+    ghost invariant = { λ a. length a.operands.items ≤ 8 };
 }
 
 impl Args {
-    /// No operands. The allocator is kept and never used, since eight operands have room here.
+    /// No operands. It takes no memory.
     pub fn new(alloc: Global) -> Self
         ensures { result ≡ [] }
     {
         Args {
-            operands: SmallVec::new(alloc),
+            operands: Vec::new(alloc),
         }
     }
 
-    /// Puts an operand at the end.
-    pub fn push(&mut self, s: Src)
+    /// Puts an operand at the end. It fails only where there is no memory, and then nothing changes.
+    pub fn push(&mut self, s: Src) -> Result<(), AllocError>
         requires { length self.old < 8 }
-        ensures { self.new ≡ self.old ++ s ∷ [] }
+        ensures ok { OnOk result (self.new ≡ self.old ++ s ∷ []) }
+        ensures err { OnErr result (self.new ≡ self.old) }
     {
-        self.operands.push_reserved(s);
+        self.operands.push(s)?;
+        Ok(())
     }
 
-    /// The same operands once more.
-    pub fn copy(&self, alloc: Global) -> Self
-        ensures { result ≡ self.now }
+    /// The same operands once more. An `Err` is out of memory.
+    pub fn copy(&self, alloc: Global) -> Result<Self, AllocError>
+        ensures { IfOk result (λ s. s ≡ self.now) }
     {
-        let mut copy = Args::new(alloc);
-        for s in self.as_slice() {
-            copy.push(*s);
-        }
-        copy
+        let operands = Vec::from_slice(alloc, self.operands.as_slice())?;
+        Ok(Args { operands })
     }
 
     /// The operands in order.

@@ -1,5 +1,5 @@
 //! The language of programs in three-address code: what a program is made of, the rules that every
-//! program keeps, and what it means step by step. The kit's `smallvec` holds the arguments of a call.
+//! program keeps, and what it means step by step.
 #![tactic(auto)]
 
 mod args;

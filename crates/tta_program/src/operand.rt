@@ -1,20 +1,10 @@
 //! Operands, and the relations of conditions.
 
-ghost use Rattle.std.specs.Prelude.{◌≡◌};
-
 /// An operand: a variable of the procedure, or a constant word.
 #[derive(Clone, Copy, Debug, PartialEq, Eq)]
 pub enum Src {
     Var(u32),
     Word(u32),
-}
-
-impl Default for Src {
-    fn default() -> Self
-        ensures { result ≡ Src.Word 0 }
-    {
-        Src::Word(0)
-    }
 }
 
 /// The relation of a condition.

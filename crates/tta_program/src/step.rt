@@ -1,10 +1,10 @@
 //! The steps of a program.
 
-ghost use Rattle.std.specs.Prelude.{◌≡◌};
+ghost use Rattle.std.specs.Prelude.{◌≡◌, IfOk};
 
 use crate::args::Args;
 use crate::operand::{Rel, Src};
-use std::alloc::Global;
+use std::alloc::{AllocError, Global};
 use tta_ops::OpId;
 
 /// A step of a procedure. Variables and target steps are those of the procedure, counted from 0.
@@ -76,11 +76,11 @@ pub enum Step {
 }
 
 impl Step {
-    /// The same step once more. The allocator is kept by a call's arguments and never used.
-    pub fn copy(&self, alloc: Global) -> Self
-        ensures { result ≡ self.now }
+    /// The same step once more. An `Err` is out of memory: a call's arguments take some.
+    pub fn copy(&self, alloc: Global) -> Result<Self, AllocError>
+        ensures { IfOk result (λ s. s ≡ self.now) }
     {
-        match self {
+        Ok(match self {
             Step::Copy { d, s } => Step::Copy { d: *d, s: *s },
             Step::Apply { d, op, a, b } => Step::Apply {
                 d: *d,
@@ -109,11 +109,11 @@ impl Step {
             Step::Invoke { d, callee, args } => Step::Invoke {
                 d: *d,
                 callee: *callee,
-                args: args.copy(alloc),
+                args: args.copy(alloc)?,
             },
             Step::Return { s } => Step::Return { s: *s },
             Step::Halt => Step::Halt,
             Step::End => Step::End,
-        }
+        })
     }
 }

@@ -2,6 +2,8 @@
 use Rattle.std.specs.Prelude.{◌≡◌, ℕ, List, Some, None, slice_get, Result, Ok, Err}
 use Rattle.std.specs.Option.{option_map_or}
 use Rattle.tta_reading.specs.Lines.{lines_of}
+use Rattle.tta_reading.specs.declared.line_error.LineError.{LineError}
+use Rattle.tta_reading.specs.declared.line_error.LineError.TheVariants as line_error
 use Rattle.tta_ops.specs.Units.{Units}
 use Rattle.tta_program.specs.declared.program.Proc.{Proc}
 use Rattle.tta_tac.specs.declared.reading.refusal.Refusal.{Refusal}
@@ -13,6 +15,12 @@ use Rattle.tta_program.specs.Program.{Program}
 use Rattle.tta_tac.specs.Draft.{Draft, nothing}
 use Rattle.tta_tac.specs.SecondPass.{Refused}
 use Rattle.tta_tac.specs.Text.{take_lines, IsFirstRecursive, ProgramText, HasCause}
+
+-- what was made is what the definition says, or it was refused as it says, or there was no memory
+abbrev pub Links : {A E : Type 0} → Result A (LineError E) → Result A E → Type 0
+Links (Ok x) said = said ≡ Ok x
+Links (Err (line_error.Refused e)) said = said ≡ Err e
+Links (Err line_error.NoMemory) said = Unit {0}
 
 -- what was made is what the definition says; a refusal is reported with its line and number; or there was no memory
 abbrev pub Reports : {A : Type 0} → Result A TacError → Result A Refused → Type 0

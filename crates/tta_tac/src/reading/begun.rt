@@ -144,7 +144,7 @@ impl<'t> Draft<'t> {
         if proc.vars.len() > MOST_VARS {
             return Err(LineError::Refused(Refusal::TooMany));
         }
-        let Some(step) = step_of(alloc, units, &proc.vars, form) else {
+        let Some(step) = step_of(alloc, units, &proc.vars, form)? else {
             return Err(LineError::Refused(Refusal::Syntax));
         };
         proc.steps.push(step)?;

@@ -8,11 +8,11 @@ ghost use Rattle.tta_tac.specs.Draft.{CallTo, draft_seen, proc_seen, procs_seen,
 ghost use Rattle.tta_tac.specs.Draft.{steps_seen};
 ghost use Rattle.tta_tac.specs.Kept.{IsEnded};
 ghost use Rattle.tta_tac.specs.SecondPass as spec;
-ghost use Rattle.tta_tac.specs.Reported.{Reports};
+ghost use Rattle.tta_tac.specs.Reported.{Links, Reports};
 
 use crate::reading::TacError;
 use crate::reading::draft::{Draft, DraftProc, NamedStep};
-use crate::reading::refusal::Refusal;
+use crate::reading::refusal::{LineError, Refusal};
 use std::alloc::Global;
 use tta_list::Items;
 use tta_program::{Args, Proc, Step};
@@ -68,12 +68,13 @@ fn link_steps(
     for (place, step) in steps.iter().enumerate() {
         match link_step(alloc, draft, labels, step) {
             Ok(step) => linked.push(step)?,
-            Err(refusal) => {
+            Err(LineError::Refused(refusal)) => {
                 return Err(TacError::Refused {
                     line: lines[place],
                     code: refusal.code(),
                 });
             }
+            Err(LineError::NoMemory) => return Err(TacError::NoMemory),
         }
     }
     Ok(linked)
@@ -85,24 +86,20 @@ fn link_step(
     draft: &Draft,
     labels: &Names<u32>,
     step: &NamedStep,
-) -> Result<Step, Refusal>
-    ensures { result ≡ spec.link_step (draft_seen draft.now) labels.now (step_seen step.now) }
+) -> Result<Step, LineError>
+    ensures { Links result (spec.link_step (draft_seen draft.now) labels.now (step_seen step.now)) }
 {
     match step {
-        NamedStep::Plain(step) => Ok(step.copy(alloc)),
-        NamedStep::If { rel, a, b, label } => match label_named(labels, label) {
-            Ok(to) => Ok(Step::If {
-                rel: *rel,
-                a: *a,
-                b: *b,
-                to,
-            }),
-            Err(refusal) => Err(refusal),
-        },
-        NamedStep::Goto { label } => match label_named(labels, label) {
-            Ok(to) => Ok(Step::Goto { to }),
-            Err(refusal) => Err(refusal),
-        },
+        NamedStep::Plain(step) => Ok(step.copy(alloc)?),
+        NamedStep::If { rel, a, b, label } => Ok(Step::If {
+            rel: *rel,
+            a: *a,
+            b: *b,
+            to: label_named(labels, label)?,
+        }),
+        NamedStep::Goto { label } => Ok(Step::Goto {
+            to: label_named(labels, label)?,
+        }),
         NamedStep::Call { d, callee, args } => link_call(alloc, draft, *d, callee, args),
     }
 }
@@ -114,20 +111,18 @@ fn link_call(
     d: Option<u32>,
     callee: &[u8],
     args: &Args,
-) -> Result<Step, Refusal>
-    ensures { result ≡ spec.link_step (draft_seen draft.now) [] (CallTo d callee.now args.now) }
+) -> Result<Step, LineError>
+    ensures { let call = CallTo d callee.now args.now in
+        Links result (spec.link_step (draft_seen draft.now) [] call) }
 {
-    let callee = match callee_named(&draft.names, callee) {
-        Ok(callee) => callee,
-        Err(refusal) => return Err(refusal),
-    };
+    let callee = callee_named(&draft.names, callee)?;
     if params_of(draft.procs.as_slice(), callee) as usize != args.as_slice().len() {
-        return Err(Refusal::Arity);
+        return Err(LineError::Refused(Refusal::Arity));
     }
     Ok(Step::Invoke {
         d,
         callee,
-        args: args.copy(alloc),
+        args: args.copy(alloc)?,
     })
 }
 

@@ -1,6 +1,6 @@
 //! The step of a line.
 
-ghost use Rattle.std.specs.Prelude.{◌≡◌, ◌≤◌, false, Some, option_map, length};
+ghost use Rattle.std.specs.Prelude.{◌≡◌, ◌≤◌, false, Some, option_map, length, IfOk};
 ghost use Rattle.tta_ops.specs.Set.{stated};
 ghost use Rattle.tta_tac.specs.Draft.{step_seen, Plain, IfTo, CallTo};
 ghost use Rattle.tta_tac.specs.FirstPass.{step_of, apply_step, has_many_args, is_end};
@@ -11,7 +11,7 @@ use crate::reading::draft::NamedStep;
 use crate::reading::forms::{Form, Operand, Operands};
 use crate::reading::operations::op_named;
 use crate::reading::variables::{args_of, count_operands, number_of, src_of};
-use std::alloc::Global;
+use std::alloc::{AllocError, Global};
 use tta_ops::UnitSet;
 use tta_program::{Rel, Src, Step};
 use tta_reading::{Names, Word};
@@ -36,22 +36,25 @@ pub fn is_end(form: &Form) -> bool
     }
 }
 
-/// The step of a line whose variables were declared, and `None` for the lines that are no step.
+/// The step of a line whose variables were declared, and `None` for the lines that are no step. An
+/// `Err` is out of memory.
 pub fn step_of<'t>(
     alloc: Global,
     units: &UnitSet,
     vars: &Names<u32>,
     form: &Form<'_, 't>,
-) -> Option<NamedStep<'t>>
+) -> Result<Option<NamedStep<'t>>, AllocError>
     requires few { has_many_args (form_seen form.now) ≡ false }
-    ensures { option_map step_seen result
-        ≡ step_of (stated unit_meaning units.now) vars.now (form_seen form.now) }
+    ensures { IfOk result (λ step. option_map step_seen step
+        ≡ step_of (stated unit_meaning units.now) vars.now (form_seen form.now)) }
 {
     let step = match *form {
-        Form::Proc { .. } | Form::Data { .. } | Form::Label { .. } => return None,
-        Form::If { rel, a, b, label } => return Some(if_step(vars, rel, a, b, label)),
-        Form::Goto { label } => return Some(NamedStep::Goto { label }),
-        Form::Call { d, callee, args } => return Some(call_step(alloc, vars, d, callee, args)),
+        Form::Proc { .. } | Form::Data { .. } | Form::Label { .. } => return Ok(None),
+        Form::If { rel, a, b, label } => return Ok(Some(if_step(vars, rel, a, b, label))),
+        Form::Goto { label } => return Ok(Some(NamedStep::Goto { label })),
+        Form::Call { d, callee, args } => {
+            return Ok(Some(call_step(alloc, vars, d, callee, args)?));
+        }
         Form::Copy { d, s } => copy_step(vars, d, s),
         Form::Load { d, a } => load_step(vars, d, a),
         Form::Apply { d, op, operands } => apply_step(units, vars, d, op, operands),
@@ -65,7 +68,7 @@ pub fn step_of<'t>(
         Form::Halt => Step::Halt,
         Form::End => Step::End,
     };
-    Some(NamedStep::Plain(step))
+    Ok(Some(NamedStep::Plain(step)))
 }
 
 fn copy_step(vars: &Names<u32>, d: &[u8], s: Operand) -> Step
@@ -152,17 +155,18 @@ fn call_step<'t>(
     d: Option<&[u8]>,
     callee: &'t [u8],
     args: &[Word],
-) -> NamedStep<'t>
+) -> Result<NamedStep<'t>, AllocError>
     requires { length (operands_in args.now) ≤ 8 }
-    ensures { step_seen result ≡ CallTo (option_map (λ d. var_number vars.now d.now) d.entry)
-        callee.now (srcs_of vars.now (operands_in args.now)) }
+    ensures { let kept = option_map (λ d. var_number vars.now d.now) d.entry in
+        let srcs = srcs_of vars.now (operands_in args.now) in
+        IfOk result (λ step. step_seen step ≡ CallTo kept callee.now srcs) }
 {
     let d = match d {
         Some(d) => Some(number_of(vars, d)),
         None => None,
     };
-    let args = args_of(alloc, vars, args);
-    NamedStep::Call { d, callee, args }
+    let args = args_of(alloc, vars, args)?;
+    Ok(NamedStep::Call { d, callee, args })
 }
 
 fn return_step(vars: &Names<u32>, s: Option<Operand>) -> Step

@@ -1,6 +1,6 @@
 //! The variables of a procedure. They get their numbers at their first appearance.
 
-ghost use Rattle.std.specs.Prelude.{◌≡◌, ◌+◌, ◌<◌, ◌≤◌, ◌^◌, length, OnOk};
+ghost use Rattle.std.specs.Prelude.{◌≡◌, ◌+◌, ◌<◌, ◌≤◌, ◌^◌, length, IfOk, OnOk};
 ghost use Rattle.tta_tac.specs.FirstPass.{with_var, with_operand, with_operands};
 ghost use Rattle.tta_tac.specs.FirstPass.{var_number, src_of, srcs_of};
 ghost use Rattle.tta_tac.specs.Seen.{operand_seen, operands_in};
@@ -95,16 +95,16 @@ pub fn src_of(vars: &Names<u32>, operand: Operand) -> Src
     }
 }
 
-/// The operands among words as arguments. Their variables were declared.
-pub fn args_of(alloc: Global, vars: &Names<u32>, words: &[Word]) -> Args
+/// The operands among words as arguments. Their variables were declared. An `Err` is out of memory.
+pub fn args_of(alloc: Global, vars: &Names<u32>, words: &[Word]) -> Result<Args, AllocError>
     requires { length (operands_in words.now) ≤ 8 }
-    ensures { result ≡ srcs_of vars.now (operands_in words.now) }
+    ensures { IfOk result (λ args. args ≡ srcs_of vars.now (operands_in words.now)) }
 {
     let mut args = Args::new(alloc);
     for word in words {
         if let Some(operand) = operand_of(word) {
-            args.push(src_of(vars, operand));
+            args.push(src_of(vars, operand))?;
         }
     }
-    args
+    Ok(args)
 }

@@ -25,6 +25,6 @@ returns-clause-says g c =
     let full : nat_le 65536 d.lines ≡ false = lt-leb 65536 d.lines c.if-self-ge-MOST_LINES.false in
     let many : nat_lt 4096 (length vars) ≡ false = le-ltb 4096 (length vars) (rw c.len.ensures at c.if-len-gt-MOST_VARS.false) in
     take_step_taken U d (proc_seen q) c.args.line f _ c.check_op.result c.check_op.ensures
-    c.in_ok-check_op.was vars (step_seen c.in-Some.step) c.in_ok-declare_names.ensures full (cc) many c.in-Some.ensures
+    c.in_ok-check_op.was vars (step_seen c.in-Some.step) c.in_ok-declare_names.ensures full (cc) many (rw c.in-Some.is at c.in_ok-step.ensures)
     ∙ ap Ok (step_added d f q c.args.line vars c.in-Some.step c.push.new.self c.push-2.new.self
     c.in_ok-push.ensures.ok c.in_ok-push-2.ensures.ok)
