@@ -127,6 +127,7 @@ fn is_held(
 }
 
 /// A variable of the innermost call becomes what an operation makes of two of its operands.
+#[inline(always)]
 fn apply(calls: &mut Calls, units: &UnitSet, d: u32, op: OpId, a: Src, b: Src)
     requires { calls.old.top.at + 1 < 2 ^ 64 }
     ensures { let f = calls.old.top in
