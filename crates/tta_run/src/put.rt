@@ -54,6 +54,8 @@ pub fn put_run<R: Run, S: Sink>(
     let mut left = bound;
     let mut rest = input;
     'moves: while left > 0 {
+        let made = run.go_on(units, left - 1);
+        left -= made;
         match run.go(units, first_of(rest)) {
             Went::Over => return Ok(false),
             Went::Waits => return Ok(true),

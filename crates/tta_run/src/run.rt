@@ -7,9 +7,10 @@ use tta_ops::UnitSet;
 pub trait Run {
     ghost use Rattle.std.specs.Prelude.{◌≡◌, ◌≤◌, ◌+◌, ◌<◌, ◌^◌, ℕ};
     ghost use Rattle.tta_list.specs.Input.{IsFed};
+    ghost use Rattle.tta_list.specs.Iterate.{iterate};
     ghost use Rattle.tta_ops.specs.Set.{stated};
     ghost use Rattle.tta_ops.specs.Units.{Units};
-    ghost use Rattle.tta_run.specs.Meaning.{Meaning, Leaves, OutputGrows, WaitStays};
+    ghost use Rattle.tta_run.specs.Meaning.{Meaning, Leaves, IsQuiet, OutputGrows, WaitStays};
 
     /// The states that the meaning of the run is about.
     ghost State: { Type 0 };
@@ -43,6 +44,19 @@ pub trait Run {
         ensures leaves { let m = meaning (stated unit_meaning units.now) (course self.old) in
             (s : State) → stands self.old s → IsFed (m.rest s) next
             → Leaves m (stands self.new) s result };
+
+    /// Makes at most so many moves, and answers how many it made, which may be none. These moves
+    /// output nothing and take no word of the input. It takes no memory.
+    fn go_on(&mut self, units: &UnitSet, most: u64) -> u64
+        requires loaded { loaded self.old }
+        requires few { moves self.old + most < 2 ^ 62 }
+        ensures loaded { loaded self.new }
+        ensures course { course self.new ≡ course self.old }
+        ensures within { result ≤ most }
+        ensures counted { moves self.new ≤ moves self.old + result }
+        ensures quiet { let m = meaning (stated unit_meaning units.now) (course self.old) in
+            (s : State) → stands self.old s
+            → IsQuiet m (stands self.new) s (iterate result m.next s) };
 
     /// The output of a state begins that of the next one.
     ghost grows: { (units : Units) (c : Course) → OutputGrows (meaning units c) };

@@ -1,6 +1,7 @@
 pub mod Calling
 pub mod Entered
 pub mod First
+pub mod InCall
 pub mod Kept
 pub mod Passed
 pub mod Placed

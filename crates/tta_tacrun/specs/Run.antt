@@ -43,6 +43,12 @@ abbrev pub GoesOn : Units → Program → Run → State → SeqStep → Type 0
 GoesOn u p after s Waits = Stands after s
 GoesOn u p after s answer = Stands after (next u p s)
 
+-- A run after steps that output nothing and take nothing: it stands for the state after them.
+pub record IsQuiet (after : Run) (s t : State) : Type 0 where
+  pub stands : Stands after t
+  pub output : t.output ≡ s.output
+  pub rest : t.rest ≡ s.rest
+
 -- the steps that an answer stands for: one, but for a run that has halted before, or waits
 abbrev pub steps_of : SeqStep → ℕ
 steps_of DoesNotRun = 0
@@ -117,3 +123,23 @@ put output (Some word) = output ++ word ∷ []
 abbrev pub destination : Step → Option ℕ
 destination (Invoke d callee args) = d
 destination step = None
+
+-- a call of a procedure
+abbrev pub frame : (proc at : ℕ) (vars : List ℕ) → Frame
+frame proc at vars = record { proc = proc; at = at; vars = vars }
+
+-- a state that runs, whose innermost call is here
+abbrev pub going : (proc at : ℕ) (vars : List ℕ) (callers : List Frame) (memory rest output : List ℕ) (steps : ℕ) → State
+going proc at vars callers memory rest output steps =
+    record {
+      stack = frame proc at vars ∷ callers;
+      memory = memory;
+      rest = rest;
+      output = output;
+      steps = steps;
+      outcome = Running;
+    }
+
+-- the steps are those of a procedure
+abbrev pub AreStepsOf : Program → (proc : ℕ) → List Step → Type 0
+AreStepsOf p proc steps = (i : ℕ) → step_at p proc i ≡ slice_get steps i

@@ -2,16 +2,25 @@
 
 ghost use Rattle.std.specs.Prelude.{◌≡◌, ◌+◌, ◌<◌, ◌≤◌, ◌^◌, ◌∷◌, [], length, map, replicate};
 ghost use Rattle.std.specs.Prelude.{if◌then◌else◌, slice_index, slice_set, IfOk, IsFalse};
+ghost use Rattle.std.specs.Prelude.{ℕ, List, is_some, true};
+ghost use Rattle.tta_list.specs.Iterate.{iterate};
+ghost use Rattle.tta_ops.specs.Set.{stated};
+ghost use Rattle.tta_program.specs.Program.{Program};
 ghost use Rattle.tta_program.specs.Rules.{IsProgram};
-ghost use Rattle.tta_program.specs.Sequential.{operand, enter};
+ghost use Rattle.tta_program.specs.Sequential.{enter, next, operand, step_at};
 ghost use Rattle.tta_tacrun.specs.Calls.{IsFresh, begun};
+ghost use Rattle.tta_tacrun.specs.Run.{frame, is_path, state_of, AreStepsOf};
 
 use crate::entry::Entry;
 use crate::pass::{pass, value_of};
+use crate::phase::Phase;
+use crate::quiet::{Leg, go_on};
+use crate::relations::Relations;
 use crate::words::Words;
 use std::alloc::{AllocError, Global};
 use std::marker::Model;
-use tta_program::{Program, Src};
+use tta_ops::UnitSet;
+use tta_program::{Program, Src, Step};
 
 /// The calls that are under way. One always is.
 ///
@@ -114,6 +123,41 @@ impl Calls {
     {
         let word = self.value(s);
         self.assign(d, word);
+    }
+
+    /// The innermost call makes so many of its steps, or as many as there are until one outputs or
+    /// takes a word, or begins or ends a call. It answers how many it made.
+    #[inline(always)]
+    pub fn go_on(
+        &mut self,
+        memory: &mut Words,
+        relations: &mut Relations,
+        units: &UnitSet,
+        steps: &[Step],
+        most: u64,
+    ) -> u64
+        ensures within { result ≤ most }
+        ensures space { length memory.new ≡ length memory.old }
+        ensures top { let f = frame self.old.top.proc self.new.top.at self.new.top.vars in
+            self.new ≡ record self.old { top = f } }
+        ensures made { (p : Program) (rest output : List ℕ) (n : ℕ)
+            → AreStepsOf p self.old.top.proc steps.now
+            → let U = stated unit_meaning units.now in
+            iterate result (next U p) (state_of Phase.Running self.old memory.old rest output n)
+            ≡ state_of Phase.Running self.new memory.new rest output (n + result) }
+        ensures placed { (p : Program) → AreStepsOf p self.old.top.proc steps.now → IsProgram p
+            → is_path p (self.old.top ∷ self.old.below) ≡ true
+            → is_some (step_at p self.old.top.proc self.old.top.at) ≡ true
+            → is_some (step_at p self.old.top.proc self.new.top.at) ≡ true }
+    {
+        let mut leg = Leg {
+            at: self.top.at,
+            left: most,
+        };
+        let vars = &mut self.variables[self.top.proc];
+        go_on(vars, memory, relations, units, steps, &mut leg);
+        self.top.at = leg.at;
+        most - leg.left
     }
 
     /// A procedure is called, with arguments that are operands of the innermost call.

@@ -1,7 +1,7 @@
 //! One step.
 
 ghost use Rattle.std.specs.Prelude.{◌≡◌, ℕ, List, ◌+◌, ◌<◌, ◌^◌, ◌∷◌, length};
-ghost use Rattle.std.specs.Prelude.{Some, OnSome, IsSome, option_copied, slice_index, slice_set};
+ghost use Rattle.std.specs.Prelude.{Some, IfSome, OnSome, IsSome, option_copied, slice_index, slice_set};
 ghost use Rattle.std.specs.Option.{option_map_or};
 ghost use Rattle.tta_ops.specs.Set.{stated};
 ghost use Rattle.tta_program.specs.Rules.{IsProgram};
@@ -9,7 +9,7 @@ ghost use Rattle.tta_program.specs.Sequential.{State, operand, holds, step_at, t
 ghost use Rattle.tta_program.specs.Sequential.{carry_out};
 ghost use Rattle.tta_program.specs.Sequential.{take_value as value_taken};
 ghost use Rattle.tta_list.specs.Input.{left};
-ghost use Rattle.tta_tacrun.specs.Run.{AreCallsOf, state_of, put, destination};
+ghost use Rattle.tta_tacrun.specs.Run.{AreCallsOf, AreStepsOf, state_of, put, destination};
 
 use crate::calls::Calls;
 use crate::entry::Entry;
@@ -27,6 +27,17 @@ pub fn step_of(p: &Program, call: Entry) -> Option<&Step>
 {
     match p.procs.as_slice().get(call.proc) {
         Some(q) => q.steps.as_slice().get(call.at),
+        None => None,
+    }
+}
+
+/// The steps of a procedure, if there is one.
+pub fn steps_in(p: &Program, proc: usize) -> Option<&[Step]>
+    ensures steps { IfSome result (λ steps. AreStepsOf p.now proc steps.now) }
+    ensures rules { IsProgram p.now }
+{
+    match p.procs.as_slice().get(proc) {
+        Some(q) => Some(q.steps.as_slice()),
         None => None,
     }
 }

@@ -7,6 +7,7 @@ mod carry;
 mod entry;
 mod pass;
 mod phase;
+mod quiet;
 mod relations;
 mod seq;
 mod words;

@@ -1,17 +1,18 @@
 //! A run.
 
-ghost use Rattle.std.specs.Prelude.{◌≡◌, ◌+◌, ◌<◌, ◌^◌, List, ℕ, length, slice_index, IfOk};
+ghost use Rattle.std.specs.Prelude.{◌≡◌, ◌+◌, ◌<◌, ◌≤◌, ◌^◌, List, ℕ, length, slice_index, IfOk};
 ghost use Rattle.std.specs.Prelude.{◌&&◌, is_none, false};
 ghost use Rattle.tta_ops.specs.Set.{stated};
 ghost use Rattle.tta_program.specs.Sequential.{State, Running, next, start};
 ghost use Rattle.tta_list.specs.Input.{IsFed};
-ghost use Rattle.tta_tacrun.specs.Run.{Stands, IsAnswer, GoesOn, IsRunOf};
+ghost use Rattle.tta_list.specs.Iterate.{iterate};
+ghost use Rattle.tta_tacrun.specs.Run.{Stands, IsAnswer, IsQuiet, GoesOn, IsRunOf};
 ghost use Rattle.tta_tacrun.specs.Run.{is_over, steps_of};
 ghost use Rattle.tta_tacrun.specs.declared.answer.SeqStep.TheVariants.{Waiting};
 
 use crate::answer::SeqStep;
 use crate::calls::Calls;
-use crate::carry::{carry, step_of, takes};
+use crate::carry::{carry, step_of, steps_in, takes};
 use crate::phase::Phase;
 use crate::relations::Relations;
 use crate::words::Words;
@@ -104,6 +105,32 @@ impl Seq {
         self.phase = phase;
         self.steps += 1;
         SeqStep::Ran { put, took }
+    }
+
+    /// Carries out so many steps of the program that was loaded, or as many as there are until one
+    /// outputs or takes a word, begins or ends a call, or ends the run. It answers how many it
+    /// carried out, which may be none. It takes no memory.
+    pub fn go_on(&mut self, p: &Program, units: &UnitSet, most: u64) -> u64
+        requires loaded { IsRunOf p.now self.old }
+        requires few { self.old.steps + most < 2 ^ 62 }
+        ensures loaded { IsRunOf p.now self.new }
+        ensures space { length self.new.memory ≡ length self.old.memory }
+        ensures within { result ≤ most }
+        ensures counted { self.new.steps ≡ self.old.steps + result }
+        ensures next { let U = stated unit_meaning units.now in (s : State)
+            → Stands self.old s → IsQuiet self.new s (iterate result (next U p.now) s) }
+    {
+        match self.phase {
+            Phase::Running => {}
+            Phase::Stopped | Phase::Returned => return 0,
+        }
+        let Some(steps) = steps_in(p, self.calls.top().proc) else {
+            return 0;
+        };
+        let (memory, relations) = (&mut self.memory, &mut self.relations);
+        let made = self.calls.go_on(memory, relations, units, steps, most);
+        self.steps += made;
+        made
     }
 
     /// Whether the run has halted.

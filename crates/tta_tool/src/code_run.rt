@@ -46,6 +46,12 @@ impl<'a> Run for CodeRun<'a> {
         }
     }
 
+    /// Each cycle is made by `go`.
+    #[inline(always)]
+    fn go_on(&mut self, _units: &UnitSet, _most: u64) -> u64 {
+        0
+    }
+
     ghost grows = { λ u c. cycles_grow u c.machine c.code };
 
     ghost stays = { λ u c. cycles_wait u c.machine c.code };

@@ -44,6 +44,11 @@ impl<'a> Run for ProgramRun<'a> {
         }
     }
 
+    #[inline(always)]
+    fn go_on(&mut self, units: &UnitSet, most: u64) -> u64 {
+        self.seq.go_on(self.program, units, most)
+    }
+
     ghost grows = { λ u c. steps_grow u c.program };
 
     ghost stays = { λ u c. steps_wait u c.program };
