@@ -1,5 +1,5 @@
 -- Steps that stay in one call.
-use Rattle.std.proofs.Common.{◌≡◌, ◌+◌, ℕ, suc, true, false, List, [], ◌∷◌, is_some, slice_get, Some, refl, ap, sym, ◌∙◌, subst, add-zero, arith}
+use Rattle.std.proofs.Common.{◌≡◌, ◌+◌, ℕ, suc, true, false, List, [], ◌∷◌, is_some, Some, refl, ap, sym, ◌∙◌, arith}
 use Rattle.tta_list.specs.Iterate.{iterate}
 use Rattle.tta_ops.specs.Units.{Units}
 use Rattle.tta_program.specs.declared.step.Step.{Step}

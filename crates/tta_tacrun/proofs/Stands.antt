@@ -1,6 +1,6 @@
 -- What a step makes of the states that a run stands for.
-use Rattle.std.proofs.Common.{◌≡◌, ◌+◌, ℕ, Bool, true, false, List, ◌++◌, [], ◌∷◌, Option, Some, None, refl, ap, sym, ◌∙◌}
-use Rattle.std.specs.Prelude.{◌&&◌, is_none, is_some, option_to_list, slice_get, slice_index}
+use Rattle.std.proofs.Common.{◌≡◌, ◌+◌, ℕ, true, false, List, ◌++◌, [], ◌∷◌, Option, Some, None, refl, ap, sym, ◌∙◌}
+use Rattle.std.specs.Prelude.{option_to_list, slice_get, slice_index}
 use Rattle.std.specs.Option.{unwrap_or}
 use Rattle.std.proofs.lemmas.List.{append-nil}
 use Rattle.tta_ops.specs.Units.{Units}
@@ -13,7 +13,7 @@ use Rattle.tta_tacrun.specs.declared.phase.Phase.TheVariants.{Running as Runs}
 use Rattle.tta_tacrun.specs.Calls.{Calls}
 use Rattle.tta_list.specs.Input.{left}
 use Rattle.tta_list.specs.Iterate.{iterate}
-use Rattle.tta_tacrun.specs.Run.{Run, Stands, IsAnswer, IsQuiet, IsRunOf, frame, is_path, put, run_of, state_of}
+use Rattle.tta_tacrun.specs.Run.{Run, Stands, IsAnswer, IsQuiet, put, run_of, state_of}
 use Rattle.tta_tacrun.proofs.Placed.{Carries}
 
 -- a state is what it stands for, its input and its output
@@ -72,7 +72,7 @@ module _ (u : Units) (p : Program) (r : Run) (over : r.outcome ≡ Halted) (s : 
 module _ (u : Units) (p : Program) (c after : Calls) (memory new_memory : List ℕ) (steps k : ℕ) where
   pub quiet_stands : (s : State) → Stands (run_of Runs c memory steps) s
       → ((rest output : List ℕ) → iterate k (next u p) (state_of Runs c memory rest output steps)
-          ≡ state_of Runs after new_memory rest output (steps + k))
+      ≡ state_of Runs after new_memory rest output (steps + k))
       → IsQuiet (run_of Runs after new_memory (steps + k)) s (iterate k (next u p) s)
   quiet_stands s same made =
       let comes : iterate k (next u p) s ≡ state_of Runs after new_memory s.rest s.output (steps + k) =
@@ -82,13 +82,3 @@ module _ (u : Units) (p : Program) (c after : Calls) (memory new_memory : List �
       let quiet : IsQuiet (run_of Runs after new_memory (steps + k)) s (state_of Runs after new_memory s.rest s.output (steps + k)) =
       record { stands = stands; output = refl; rest = refl } in
       rw comes quiet
-
-  pub quiet_run : IsRunOf p (run_of Runs c memory steps)
-      → after ≡ record c { top = frame c.top.proc after.top.at after.top.vars }
-      → is_some (step_at p c.top.proc after.top.at) ≡ true
-      → IsRunOf p (run_of Runs after new_memory (steps + k))
-  quiet_run run is placed = record {
-    sizes = ap (λ (c : Calls). c.sizes) is ∙ run.sizes;
-    path = ap (λ (c : Calls). is_path p (c.top ∷ c.below)) is ∙ run.path;
-    placed = ap (λ (c : Calls). is_some (step_at p c.top.proc c.top.at)) is ∙ placed;
-  }

@@ -1,5 +1,5 @@
 -- What a run holds, and which state it stands for.
-use Rattle.std.specs.Prelude.{◌≡◌, ℕ, Bool, true, false, ◌&&◌, List, [], ◌∷◌, ◌++◌, map, drop, if◌then◌else◌, slice_get, Option, None, Some, is_some, option_to_list}
+use Rattle.std.specs.Prelude.{◌≡◌, ℕ, Bool, true, false, ◌&&◌, List, [], ◌∷◌, ◌++◌, map, slice_get, Option, None, Some, is_some, option_to_list}
 use Rattle.std.specs.Option.{option_map_or}
 use Rattle.tta_list.specs.Input.{left}
 use Rattle.tta_ops.specs.Units.{Units}
@@ -7,7 +7,7 @@ use Rattle.tta_program.specs.declared.step.Step.{Step}
 use Rattle.tta_program.specs.declared.step.Step.TheVariants.{Invoke}
 use Rattle.tta_program.specs.Program.{Program}
 use Rattle.tta_program.specs.Rules.{calls_proc}
-use Rattle.tta_program.specs.Sequential.{Frame, Outcome, State, Running, Halted, Waiting, step_at, takes, next}
+use Rattle.tta_program.specs.Sequential.{Frame, Outcome, State, Running, Halted, Waiting, step_at, next}
 use Rattle.tta_tacrun.specs.declared.answer.SeqStep.{SeqStep}
 use Rattle.tta_tacrun.specs.declared.answer.SeqStep.TheVariants.{Ran, Halted as DoesNotRun, Waiting as Waits}
 use Rattle.tta_tacrun.specs.declared.phase.Phase.{Phase}

@@ -39,7 +39,7 @@ returns-clause-made g c =
     get_or_read vs proc c.index_mut-vars.result.now c.self.invariant.within.0 c.index_mut-vars.ensures.value [] in
     let size : length new ≡ length (get_or vs proc []) = c.go_on.ensures.size ∙ ap length read in
     rw (← c.self.view_is) (λ p rest output n there.
-        ap (λ vars. iterate k (next U p) (going proc at vars callers c.args.memory.now rest output n)) (sym read)
-        ∙ c.go_on.ensures.made p proc callers rest output n there
-        ∙ ap (λ calls. state_of Running calls c.go_on.new.memory rest output (n + k))
-        (sym (calls_set vs c.self.inside.top c.self.inside.callers.items _ c.go_on.new.leg.at new c.self.invariant size)))
+    ap (λ vars. iterate k (next U p) (going proc at vars callers c.args.memory.now rest output n)) (sym read)
+    ∙ c.go_on.ensures.made p proc callers rest output n there
+    ∙ ap (λ calls. state_of Running calls c.go_on.new.memory rest output (n + k))
+    (sym (calls_set vs c.self.inside.top c.self.inside.callers.items _ c.go_on.new.leg.at new c.self.invariant size)))
