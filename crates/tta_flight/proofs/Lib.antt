@@ -9,4 +9,5 @@ pub mod Advanced
 pub mod First
 pub mod Standing
 pub mod Parts
+pub mod Rested
 pub mod Rows

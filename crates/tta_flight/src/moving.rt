@@ -1,6 +1,6 @@
 //! A set of units.
 
-ghost use Rattle.std.specs.Prelude.{◌≡◌, ◌≢◌, ◌<◌, ◌≤◌, ◌^◌, ◌==◌, ◌||◌, ◌&&◌, ℕ, not, false};
+ghost use Rattle.std.specs.Prelude.{◌≡◌, ◌<◌, ◌≤◌, ◌^◌, ◌==◌, ◌||◌, ◌&&◌, ℕ, not, false};
 ghost use Rattle.std.specs.Int.{bit_at};
 ghost use Rattle.tta_flight.specs.Moving.{has};
 
@@ -27,23 +27,11 @@ impl Moving {
     }
 
     /// Takes a unit out.
-    fn remove(&mut self, unit: usize)
+    pub fn remove(&mut self, unit: usize)
         requires { unit < 256 }
         ensures { (k : ℕ) → has self.new k ≡ (has self.old k && not (unit == k)) }
     {
         self.words[unit / 64] &= !one_bit(unit % 64);
-    }
-
-    /// Takes a unit out after a turn of its ring, if this needs no turn more.
-    pub fn turn(&mut self, unit: usize, turns: u16)
-        requires { unit < 256 }
-        ensures others { (k : ℕ) → k ≢ unit → has self.new k ≡ has self.old k }
-        ensures here { 0 < turns → has self.new unit ≡ has self.old unit }
-        ensures none { turns ≡ 0 → has self.new unit ≡ false }
-    {
-        if turns == 0 {
-            self.remove(unit);
-        }
     }
 
     /// The least unit of the set from one on and before an end, or else the end.

@@ -5,7 +5,7 @@ ghost use Rattle.std.specs.Prelude.{slice_index_or};
 ghost use Rattle.tta_flight.specs.Flight.{Flight, started, advanced, port_of, due_of, StandsFor};
 ghost use Rattle.tta_flight.specs.Flight.{StartsAmong, AdvancesAll, StayBeside};
 ghost use Rattle.tta_flight.specs.Rings.{IsStarted, IsAdvanced, AreEmpty, ring_of};
-ghost use Rattle.tta_flight.specs.Rings.{longest_of, due_in, shown_in, place_of};
+ghost use Rattle.tta_flight.specs.Rings.{longest_of, due_in, shown_in, place_of, turns_of};
 
 use crate::moving::Moving;
 use crate::ring::{Ring, carve, empty, size};
@@ -73,6 +73,7 @@ impl Region {
         ensures at { result.at ≤ result.longest }
         ensures within { result.first + result.longest < length self.now.cells }
         ensures few { result.first + result.longest < 65536 }
+        ensures none { (delay : ℕ) → result.turns ≤ delay → due_in self.now unit delay ≡ None }
     {
         self.rings[unit]
     }
@@ -93,6 +94,9 @@ impl Region {
         ensures { result ≡ due_in self.now unit delay }
     {
         let ring = self.ring(usize::from(unit));
+        if ring.turns <= u16::from(delay) {
+            return None;
+        }
         if delay > ring.longest {
             return None;
         }
@@ -122,10 +126,35 @@ impl Region {
     {
         let cell = self.place(unit, delay);
         let at = usize::from(unit);
-        let ring = self.ring(at);
         self.cells[cell] = Some(value);
-        self.rings[at].follow(ring.expecting(delay));
+        self.rings[at].expect(delay);
         self.moving.add(at);
+    }
+
+    /// Goes to the next cycle of a unit of which nothing is coming.
+    fn rest(&mut self, unit: usize)
+        requires unit { unit < length self.old.rings }
+        requires last { turns_of self.old unit ≤ 1 }
+        ensures { IsAdvanced unit 1 self.old self.new }
+    {
+        let now = self.ring(unit).now();
+        self.cells[now] = None;
+        self.rings[unit].rest();
+        self.moving.remove(unit);
+    }
+
+    /// Goes to the next cycle of a unit of which something is coming.
+    fn turn(&mut self, unit: usize)
+        requires unit { unit < length self.old.rings }
+        requires more { 1 < turns_of self.old unit }
+        ensures { IsAdvanced unit 1 self.old self.new }
+    {
+        let ring = self.ring(unit);
+        let now = ring.now();
+        self.cells[now] = None;
+        let turned = ring.turned();
+        let due = self.cells[turned.now()];
+        self.rings[unit].follow(turned.showing(due));
     }
 
     /// Goes to a unit's next cycle.
@@ -133,14 +162,11 @@ impl Region {
         requires { unit < length self.old.rings }
         ensures { IsAdvanced unit 1 self.old self.new }
     {
-        let ring = self.ring(unit);
-        let now = ring.place(0);
-        let turned = ring.turned();
-        let next = turned.place(0);
-        self.cells[now] = None;
-        let due = self.cells[next];
-        self.rings[unit].follow(turned.showing(due));
-        self.moving.turn(unit, turned.turns);
+        if self.ring(unit).turns <= 1 {
+            self.rest(unit);
+        } else {
+            self.turn(unit);
+        }
     }
 
     /// The first unit from one on and before an end whose ring has to turn, or else the end.
@@ -180,6 +206,7 @@ impl Region {
     }
 
     /// Goes to the next cycle of so many units from one on. Every other unit stays.
+    #[inline(always)]
     pub fn advance_units(&mut self, base: u8, count: u8)
         requires { base + count ≤ length self.old.rings }
         ensures held { IsAdvanced base count self.old self.new }

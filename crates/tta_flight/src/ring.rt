@@ -39,6 +39,15 @@ impl Ring {
         }
     }
 
+    /// The cell of what is due now.
+    pub fn now(self) -> usize
+        requires at { self.at ≤ self.longest }
+        requires few { self.first + self.longest < 65536 }
+        ensures { result ≡ place_of self 0 }
+    {
+        self.first + usize::from(self.at)
+    }
+
     /// The ring in the next cycle.
     pub fn turned(self) -> Ring
         requires { self.at ≤ self.longest }
@@ -90,17 +99,18 @@ impl Ring {
         self.shown = next.shown;
     }
 
-    /// The ring where a result is due in so many cycles.
-    pub fn expecting(self, delay: u8) -> Ring
-        ensures { result ≡ record self { turns = max self.turns (delay + 1) } }
+    /// Expects a result that is due in so many cycles.
+    pub fn expect(&mut self, delay: u8)
+        ensures { self.new ≡ record self.old { turns = max self.old.turns (delay + 1) } }
     {
-        Ring {
-            first: self.first,
-            longest: self.longest,
-            at: self.at,
-            turns: self.turns.max(u16::from(delay) + 1),
-            shown: self.shown,
-        }
+        self.turns = self.turns.max(u16::from(delay) + 1);
+    }
+
+    /// Expects nothing.
+    pub fn rest(&mut self)
+        ensures { self.new ≡ record self.old { turns = 0 } }
+    {
+        self.turns = 0;
     }
 }
 
