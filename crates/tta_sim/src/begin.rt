@@ -49,6 +49,7 @@ fn begin(region: &mut Region, base: u8, start: &Start, value: Option<u32>)
 
 /// Starts the results of all operations of a machine with these units, where they can start at
 /// once and `next` is the next word of the input.
+#[inline(always)]
 pub fn begin_all(
     region: &mut Region,
     part: Part,

@@ -40,6 +40,7 @@ use tta_flight::Region;
 use tta_ops::UnitSet;
 
 /// Collects what a line writes and starts, and answers whether all of its moves can be carried out.
+#[inline(always)]
 fn is_ready(
     doings: &mut Doings,
     store: &Store,
@@ -69,6 +70,7 @@ fn is_ready(
 /// The fault of a cycle whose line is not ready: 60 where a register is read that was never
 /// written, else 61 where a result port is read that shows nothing yet, else 62 or 63 where an
 /// operation cannot start, and else 64, since only control is left.
+#[inline(never)]
 fn fault_of(doings: &mut Doings, store: &Store, results: &Results<'_>, line: &Line) -> u8
     requires there { IsLineThere results.now.units line.now }
     requires noted { let shown = shown_by results.now in
@@ -99,6 +101,7 @@ fn fault_of(doings: &mut Doings, store: &Store, results: &Results<'_>, line: &Li
 }
 
 /// Collects what a line writes and starts, or answers the fault of its cycle.
+#[inline(always)]
 fn find_fault(
     doings: &mut Doings,
     store: &Store,
@@ -165,6 +168,7 @@ fn go_on(store: &mut Store, region: &mut Region, part: Part, writes: &[Write])
 /// Carries out a cycle of a run that goes on, with the line at its address, where `next` is the
 /// next word of the input, and these are the machine's units in the region. A control move takes
 /// effect `delay` cycles after the next one.
+#[inline(always)]
 pub fn carry(
     store: &mut Store,
     control: &mut Control,

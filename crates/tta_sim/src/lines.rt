@@ -172,6 +172,7 @@ pub fn operand_of(writes: &[Write], places: &Places, unit: u8, does: &UnitOp) ->
 }
 
 /// Notes the operation that a move starts, if it acts, and answers whether it cannot start.
+#[inline(always)]
 fn note_start(
     starts: &mut Short<Start>,
     writes: &[Write],
@@ -206,6 +207,7 @@ fn note_start(
 
 /// Collects the operations that the moves start, whether or not these can start, and answers
 /// whether all of them can.
+#[inline(always)]
 pub fn note_starts(
     starts: &mut Short<Start>,
     writes: &[Write],

@@ -96,6 +96,7 @@ impl Sim {
     /// answers `Halted` exactly where the run has halted before, `Fault` exactly where this cycle
     /// faults or an earlier one did, and `Waiting` exactly where a cycle without a fault takes a
     /// word of the input and there is none; the run then stays as it is. It takes no memory.
+    #[inline(always)]
     pub fn cycle(
         &mut self,
         m: &Machine,

@@ -106,6 +106,7 @@ impl SimState {
     /// input, `None` where none is left, and the machine's first unit is `base` of the region. Every
     /// unit that is none of the machine's stays. It answers as a cycle of a `Sim` does, and it takes
     /// no memory.
+    #[inline(always)]
     pub fn cycle(
         &mut self,
         region: &mut Region,
