@@ -96,13 +96,26 @@ advanced_from base at r order empty =
     let end : at ≡ base + (at - base) = omega (arith, order) in
     advanced_empty base (at - base) r (subst (λ n. AreEmpty base n r) end empty)
 
-pub advanced_on : (base at next : ℕ) (a b c : Rings) → base ≤ at → at + 1 ≤ next → IsAdvanced base (at - base) a b → IsAdvanced at 1 b c
-    → AreEmpty (at + 1) next c → IsAdvanced base (next - base) a c
-advanced_on base at next a b c order later first one empty =
+pub advanced_chain : (base at next : ℕ) (a b c : Rings) → base ≤ at → at ≤ next → IsAdvanced base (at - base) a b → IsAdvanced at (next - at) b c
+    → IsAdvanced base (next - base) a c
+advanced_chain base at next a b c order later first rest =
     let at_is : at ≡ base + (at - base) = omega (arith, order) in
-    let two : IsAdvanced base (at - base + 1) a c = advanced_more base (at - base) 1 a b c first (subst (λ n. IsAdvanced n 1 b c) at_is one) in
-    let rest : IsAdvanced (at + 1) (next - (at + 1)) c c = advanced_from (at + 1) next c later empty in
-    let past : at + 1 ≡ base + (at - base + 1) = omega (arith, order) in
-    let all = advanced_more base (at - base + 1) (next - (at + 1)) a c c two (subst (λ n. IsAdvanced n (next - (at + 1)) c c) past rest) in
-    let count : at - base + 1 + (next - (at + 1)) ≡ next - base = omega (arith, order, later) in
+    let all = advanced_more base (at - base) (next - at) a b c first (subst (λ n. IsAdvanced n (next - at) b c) at_is rest) in
+    let count : at - base + (next - at) ≡ next - base = omega (arith, order, later) in
     subst (λ n. IsAdvanced base n a c) count all
+
+-- up to a unit of which nothing before it is coming
+pub advanced_to : (base at next : ℕ) (a b : Rings) → base ≤ at → at ≤ next → IsAdvanced base (at - base) a b → AreEmpty at next b
+    → IsAdvanced base (next - base) a b
+advanced_to base at next a b order later first empty = advanced_chain base at next a b b order later first (advanced_from at next b later empty)
+
+-- and past that unit
+pub advanced_past : (base at unit : ℕ) (a b c : Rings) → base ≤ at → at ≤ unit → IsAdvanced base (at - base) a b → AreEmpty at unit b
+    → IsAdvanced unit 1 b c → IsAdvanced base (unit + 1 - base) a c
+advanced_past base at unit a b c order later first empty one =
+    let count : 1 ≡ unit + 1 - unit = omega arith in
+    advanced_chain base unit (unit + 1) a b c (omega (arith, order, later)) (omega arith) (advanced_to base at unit a b order later first empty)
+    (subst (λ n. IsAdvanced unit n b c) count one)
+
+pub advanced_none : (base : ℕ) (r : Rings) → IsAdvanced base (base - base) r r
+advanced_none base r = advanced_from base base r (omega arith) (λ u d least most. absurd (omega (arith, least, most)))

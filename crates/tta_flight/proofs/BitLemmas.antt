@@ -1,9 +1,9 @@
 -- Sets of units, as words of bits.
-use Rattle.std.proofs.Common.{◌≡◌, ◌<◌, ◌≤◌, ◌/◌, ◌%◌, ◌*◌, ◌-◌, ◌^◌, ℕ, zero, suc, Bool, false, List, length, get_or, set, refl, sym, ap, ◌∙◌, inl, inr, arith, min, max, w64}
+use Rattle.std.proofs.Common.{◌≡◌, ◌≢◌, ◌<◌, ◌≤◌, ◌/◌, ◌%◌, ◌*◌, ◌-◌, ◌^◌, ℕ, zero, suc, Bool, false, List, length, get_or, set, refl, sym, ap, ◌∙◌, inl, inr, arith, min, max, w64}
 use Rattle.std.specs.Prelude.{◌==◌, ◌||◌, ◌&&◌, not, bit_and, bit_or}
 use Rattle.std.specs.Int.{bit_at, trailing_zeros}
 use Rattle.std.proofs.lemmas.Bool.{cases_eq, eq-eqb, ne_eqb}
-use Rattle.std.proofs.lemmas.Nat.Bits.{bit_at_and, bit_at_or, bit_at_not, bit_at-lt, bit_at-pow_same, bit_at-pow_other, bit_at_mask_inside, ones_shl, bit_at-trailing_zeros}
+use Rattle.std.proofs.lemmas.Nat.Bits.{bit_at-zero, bit_at_and, bit_at_or, bit_at_not, bit_at-lt, bit_at-pow_same, bit_at-pow_other, bit_at_mask_inside, ones_shl, bit_at-trailing_zeros}
 use Rattle.std.proofs.Common.{get_or-set_same, get_or-set_other}
 use Rattle.std.proofs.Math.Bool.{or-false, and-true}
 
@@ -24,6 +24,17 @@ bits_stay word bit i small from below =
 -- no bit stands before the least
 pub least_first : (word i : ℕ) → 0 < word → word < 2 ^ 64 → i < trailing_zeros w64 word → bit_at word i ≡ 0
 least_first word i some small below = (bit_at-trailing_zeros w64 word some small).2 i below
+
+-- the word of no bits
+pub no_bit : (word i : ℕ) → word ≡ 0 → bit_at word i ≡ 0
+no_bit word i none = ap (λ n. bit_at n i) none ∙ bit_at-zero i
+
+-- the other bits stay
+pub other_bits : (word one bit i : ℕ) → one ≡ 2 ^ bit → one < 2 ^ 64 → i ≢ bit → i < 64
+    → bit_at (bit_and word (18446744073709551615 - one)) i ≡ bit_at word i
+other_bits word one bit i single small other below =
+    bit_at_and word (18446744073709551615 - one) i ∙ ap (min (bit_at word i)) (bit_at_not w64 one i small below)
+    ∙ ap (λ n. min (bit_at word i) (1 - n)) (ap (λ n. bit_at n i) single ∙ bit_at-pow_other bit i other) ∙ min_one (bit_at word i) (bit_at-lt word i)
 
 either_bit : (x y : ℕ) → x < 2 → y < 2 → (max x y == 1) ≡ (x == 1 || y == 1)
 either_bit zero zero hx hy = refl

@@ -4,7 +4,7 @@ use Rattle.std.specs.Prelude.{◌==◌, ◌||◌, if◌then◌else◌, is_some, 
 use Rattle.std.proofs.lemmas.Bool.{eq-eqb, ne_eqb}
 use Rattle.std.proofs.Math.Bool.{or-true, or-false}
 use Rattle.tta_flight.specs.Moving.{has}
-use Rattle.tta_flight.specs.Rings.{Rings, turns_of, due_in, AreMoving, AreEmpty, IsStarted, IsAdvanced}
+use Rattle.tta_flight.specs.Rings.{Rings, turns_of, due_in, AreMoving, IsStarted, IsAdvanced}
 use Rattle.tta_flight.proofs.Cells.{by_unit}
 use Rattle.tta_flight.proofs.Among.{among_here, among_other}
 
@@ -15,12 +15,9 @@ zero_by (suc n) zero_if = zero_if (omega arith)
 pub never : {A : Type 0} → true ≡ false → A
 never e = absurd cc
 
--- the rings of units that are not in the set are empty
-pub empty_between : (r : Rings) (from end : ℕ) → AreMoving r → end ≤ length r.rings → ((u : ℕ) → from ≤ u → u < end → has r.moving u ≡ false)
-    → AreEmpty from end r
-empty_between r from end moving there off = λ u d least most.
-    let had : u < length r.rings = omega (arith, most, there) in
-    moving.empty u d had (omega (arith, moving.still u had (off u least most)))
+-- the ring of a unit that is not in the set is empty
+pub empty_off : (r : Rings) (u d : ℕ) → AreMoving r → u < length r.rings → has r.moving u ≡ false → due_in r u d ≡ None
+empty_off r u d moving had off = moving.empty u d had (omega (arith, moving.still u had off))
 
 -- ---- a unit's next cycle
 

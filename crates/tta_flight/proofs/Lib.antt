@@ -10,4 +10,5 @@ pub mod First
 pub mod Standing
 pub mod Parts
 pub mod Rested
+pub mod Walked
 pub mod Rows

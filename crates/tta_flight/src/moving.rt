@@ -1,6 +1,6 @@
 //! A set of units.
 
-ghost use Rattle.std.specs.Prelude.{◌≡◌, ◌<◌, ◌≤◌, ◌^◌, ◌==◌, ◌||◌, ◌&&◌, ℕ, not, false};
+ghost use Rattle.std.specs.Prelude.{◌≢◌, ◌/◌, ◌%◌, ◌≡◌, ◌<◌, ◌≤◌, ◌^◌, ◌==◌, ◌||◌, ◌&&◌, ℕ, not, false};
 ghost use Rattle.std.specs.Int.{bit_at};
 ghost use Rattle.tta_flight.specs.Moving.{has};
 
@@ -34,23 +34,13 @@ impl Moving {
         self.words[unit / 64] &= !one_bit(unit % 64);
     }
 
-    /// The least unit of the set from one on and before an end, or else the end.
-    pub fn next(&self, from: usize, end: usize) -> usize
-        requires order { from ≤ end }
-        requires few { end ≤ 256 }
-        ensures after { from ≤ result }
-        ensures within { result ≤ end }
-        ensures none { (k : ℕ) → from ≤ k → k < result → has self.now k ≡ false }
+    /// The word that has the bit of a unit, without the bits below it.
+    pub fn bits(&self, from: usize) -> u64
+        requires { from < 256 }
+        ensures { (k : ℕ) → from ≤ k → k / 64 ≡ from / 64
+            → bit_at result (k % 64) ≡ 0 → has self.now k ≡ false }
     {
-        let mut at = from;
-        'words: while at < end {
-            let word = bits_from(self.words[at / 64], at % 64);
-            if word != 0 {
-                return end.min(at.max(at / 64 * 64 + least_bit(word)));
-            }
-            at = (at / 64 + 1) * 64;
-        }
-        end
+        bits_from(self.words[from / 64], from % 64)
     }
 }
 
@@ -71,10 +61,18 @@ fn bits_from(word: u64, bit: usize) -> u64
 }
 
 /// The least bit of a word that has one.
-fn least_bit(word: u64) -> usize
+pub fn least_bit(word: u64) -> usize
     requires { 0 < word }
     ensures few { result < 64 }
     ensures none { (i : ℕ) → i < result → bit_at word i ≡ 0 }
 {
     word.trailing_zeros() as usize
+}
+
+/// A word without one bit.
+pub fn without_bit(word: u64, bit: usize) -> u64
+    requires { bit < 64 }
+    ensures { (i : ℕ) → i ≢ bit → i < 64 → bit_at result i ≡ bit_at word i }
+{
+    word & !one_bit(bit)
 }

@@ -1,13 +1,14 @@
 //! A region of rings.
 
 ghost use Rattle.std.specs.Prelude.{◌≡◌, ◌<◌, ◌≤◌, ◌+◌, ◌^◌, ℕ, [], length, None, is_some, IfOk};
-ghost use Rattle.std.specs.Prelude.{slice_index_or};
+ghost use Rattle.std.specs.Prelude.{◌-◌, ◌*◌, ◌/◌, ◌%◌, slice_index_or};
+ghost use Rattle.std.specs.Int.{bit_at};
 ghost use Rattle.tta_flight.specs.Flight.{Flight, started, advanced, port_of, due_of, StandsFor};
 ghost use Rattle.tta_flight.specs.Flight.{StartsAmong, AdvancesAll, StayBeside};
-ghost use Rattle.tta_flight.specs.Rings.{IsStarted, IsAdvanced, AreEmpty, ring_of};
+ghost use Rattle.tta_flight.specs.Rings.{IsStarted, IsAdvanced, ring_of};
 ghost use Rattle.tta_flight.specs.Rings.{longest_of, due_in, shown_in, place_of, turns_of};
 
-use crate::moving::Moving;
+use crate::moving::{Moving, least_bit, without_bit};
 use crate::ring::{Ring, carve, empty, size};
 use std::alloc::{AllocError, Global};
 use std::marker::Model;
@@ -61,7 +62,8 @@ impl Region {
 
     /// How many units there are.
     fn units(&self) -> usize
-        ensures { result ≡ length self.now.rings }
+        ensures all { result ≡ length self.now.rings }
+        ensures few { result ≤ 256 }
     {
         self.rings.len()
     }
@@ -169,29 +171,57 @@ impl Region {
         }
     }
 
-    /// The first unit from one on and before an end whose ring has to turn, or else the end.
-    fn next_moving(&self, from: usize, end: usize) -> usize
-        requires order { from ≤ end }
+    /// The bits of the units from one on and before an end, which one word of the set has. Where a
+    /// bit is 0, nothing is coming.
+    #[inline(always)]
+    fn bits(&self, from: usize, end: usize) -> u64
+        requires order { from < end }
+        requires word { end ≤ (from / 64 + 1) * 64 }
         requires there { end ≤ length self.now.rings }
-        ensures after { from ≤ result }
-        ensures within { result ≤ end }
-        ensures none { AreEmpty from result self.now }
+        ensures { (unit delay : ℕ) → from ≤ unit → unit < end
+            → bit_at result (unit % 64) ≡ 0 → due_in self.now unit delay ≡ None }
     {
-        self.moving.next(from, end)
+        self.moving.bits(from)
     }
 
-    /// Goes to the next cycle of so many units from one on. Where nothing is coming, it looks at no
-    /// ring.
+    /// Goes to the next cycle of the units from one on and before an end, which one word of the set
+    /// has. Where nothing is coming, it looks at no ring.
+    #[inline(always)]
+    fn walk(&mut self, from: usize, end: usize)
+        requires order { from < end }
+        requires word { end ≤ (from / 64 + 1) * 64 }
+        requires there { end ≤ length self.old.rings }
+        requires few { end ≤ 256 }
+        ensures { IsAdvanced from (end - from) self.old self.new }
+    {
+        let first = from / 64 * 64;
+        let mut left = self.bits(from, end);
+        let mut at = from;
+        'bits: while left != 0 {
+            let bit = least_bit(left);
+            let unit = at.max(first + bit);
+            if unit >= end {
+                return;
+            }
+            self.step(unit);
+            at = unit + 1;
+            left = without_bit(left, bit);
+        }
+    }
+
+    /// Goes to the next cycle of so many units from one on, word by word of the set.
+    #[inline(always)]
     fn steps(&mut self, base: usize, count: usize)
         requires there { base + count ≤ length self.old.rings }
         requires few { base + count < 2 ^ 64 }
         ensures { IsAdvanced base count self.old self.new }
     {
-        let end = base + count;
-        let mut at = self.next_moving(base, end);
-        'units: while at < end {
-            self.step(at);
-            at = self.next_moving(at + 1, end);
+        let end = self.units().min(base + count);
+        let mut at = base;
+        'words: while at < end {
+            let last = at + (end - at).min(64 - at % 64);
+            self.walk(at, last);
+            at = last;
         }
     }
 

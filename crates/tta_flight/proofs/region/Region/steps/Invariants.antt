@@ -2,12 +2,12 @@ use Rattle.std.proofs.Common.{◌≤◌, ◌+◌, ◌-◌}
 use Rattle.tta_flight.specs.Rings.{IsAdvanced}
 use Rattle.tta_flight.proofs.region.Region.steps.Given as goal
 
-abbrev pub invariant-units : goal.invariant-units
-invariant-units l = record {
+abbrev pub invariant-words : goal.invariant-words
+invariant-words l = record {
   after : l.base ≤ l.at;
   within : l.at ≤ l.base + l.count;
   advanced : IsAdvanced l.base (l.at - l.base) l.fn.self l.self;
 }
 
-abbrev pub decreases-units : goal.decreases-units
-decreases-units l = l.base + l.count - l.at
+abbrev pub decreases-words : goal.decreases-words
+decreases-words l = l.base + l.count - l.at
