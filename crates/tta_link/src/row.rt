@@ -130,7 +130,7 @@ pub fn link(alloc: Global, blocks: &[Placed], m: &Machine) -> Result<Code, LinkE
         return Err(LinkError::CodeFull { words, have });
     }
     let starts = starts(alloc, blocks)?;
-    let mut code = Vec::new(alloc);
+    let mut code = Vec::with_capacity(alloc, words as usize)?;
     for p in blocks {
         push_block(alloc, &mut code, m, starts.as_slice(), p)?;
     }

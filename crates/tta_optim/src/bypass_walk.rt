@@ -107,7 +107,7 @@ pub fn bypass_items(
 {
     keeps_rules(m);
     notes.begin();
-    let mut kept = Vec::new(alloc);
+    let mut kept = Vec::with_capacity(alloc, items.len())?;
     for (at, x) in items.iter().enumerate() {
         let y = bypassed(m, net, notes, *x);
         notes.pass(m, at + 1, y);

@@ -23,7 +23,7 @@ pub fn dead_items(
 {
     keeps_rules(m);
     wanted.end(live);
-    let mut kept = Vec::new(alloc);
+    let mut kept = Vec::with_capacity(alloc, items.len())?;
     let mut first = items.len();
     while first > 0 {
         first -= 1;

@@ -80,7 +80,7 @@ pub fn share_items(
 {
     keeps_rules(m);
     notes.begin();
-    let mut kept = Vec::new(alloc);
+    let mut kept = Vec::with_capacity(alloc, items.len())?;
     for x in items {
         if is_redundant(notes, *x) {
             continue;

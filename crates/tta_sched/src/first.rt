@@ -123,7 +123,8 @@ impl Placer {
         keeps_rules(m);
         self.bounds.clear(m);
         self.table.clear();
-        let mut placed = Items::new(alloc);
+        let room = Vec::with_capacity(alloc, b.items.len())?;
+        let mut placed = Items::of(room);
         for x in b.items.as_slice() {
             self.place_item(&mut placed, x, m, net)?;
         }

@@ -15,10 +15,10 @@ use Rattle.tta_sched.proofs.first.Placer.place.Goals as goal
 
 pub loop-x-init : goal.loop-x-init
 loop-x-init c = record {
-  keeps = nothing_kept c.args.m.now _ _ c.new-placed.result c.new-placed.ensures c.clear.ensures (c.clear-2.ensures.none c.args.m.now);
-  order = ap (map (λ (y : PlacedItem). y.item)) c.new-placed.ensures;
-  first = λ k y e. absurd (no_entry c.new-placed.result k y c.new-placed.ensures e);
-  soon = let e = ap (end_of c.args.m.now) c.new-placed.ensures in omega arith;
+  keeps = nothing_kept c.args.m.now _ _ c.of-placed.result (c.of-placed.ensures ∙ c.in_ok-room.ensures.items) c.clear.ensures (c.clear-2.ensures.none c.args.m.now);
+  order = ap (map (λ (y : PlacedItem). y.item)) (c.of-placed.ensures ∙ c.in_ok-room.ensures.items);
+  first = λ k y e. absurd (no_entry c.of-placed.result k y (c.of-placed.ensures ∙ c.in_ok-room.ensures.items) e);
+  soon = let e = ap (end_of c.args.m.now) (c.of-placed.ensures ∙ c.in_ok-room.ensures.items) in omega arith;
 }
 
 pub place_item-requires-clause-controls : goal.place_item-requires-clause-controls
