@@ -1,8 +1,9 @@
 //! A script, line by line.
 
-ghost use Rattle.std.specs.Prelude.{◌≡◌, ◌+◌, ◌<◌, ◌≤◌, ◌^◌, ◌∷◌, length};
+ghost use Rattle.std.specs.Prelude.{◌≡◌, ◌+◌, ◌<◌, ◌≤◌, ◌^◌, ◌∷◌, length, is_err};
 ghost use Rattle.tta_ops.specs.Set.{stated};
 ghost use Rattle.tta_sim.specs.Held.{IsRunOf};
+ghost use Rattle.tta_ports.specs.Faults.{CountsFault};
 ghost use Rattle.tta_debug.specs.Debugged.{Debugged, command, session as session_of};
 ghost use Rattle.tta_debug.specs.Sessions.{Follows, output};
 ghost use Rattle.tta_debug.specs.Scripts.{TakesLine, TakesScript, lines_of, line_len as len_of};
@@ -37,6 +38,7 @@ fn take_line<S: Sink>(
         → TakesLine input.now d (command U m.now code.now line.now d) session.new
         (output (S.taken sink.old) (S.faults sink.old))
         (output (S.taken sink.new) (S.faults sink.new)) result }
+    ensures cause { CountsFault (is_err result) (S.faults sink.old) (S.faults sink.new) }
 {
     match session.command(line, m, code, units, input, sink) {
         Ok(Told::More) => Ok(true),
@@ -88,7 +90,8 @@ fn cut_line<'t>(bytes: &'t [u8]) -> Cut<'t>
 /// their replies and refusals, up to a line that is `quit` or to the script's end. The input is that
 /// of all calls of the session. It takes no memory.
 ///
-/// It answers `Failed` at the first line of a reply at which the sink does.
+/// It answers `Failed` at the first line of a reply at which the sink does, and only there: the
+/// sink's count of faults shows it.
 pub fn run_script<S: Sink>(
     session: &mut Session,
     script: &[u8],
@@ -107,6 +110,7 @@ pub fn run_script<S: Sink>(
         → TakesScript input.now (session_of U m.now code.now (lines_of script.now) d) session.new
         (output (S.taken sink.old) (S.faults sink.old))
         (output (S.taken sink.new) (S.faults sink.new)) result }
+    ensures cause { CountsFault (is_err result) (S.faults sink.old) (S.faults sink.new) }
 {
     let mut rest = script;
     'lines: while !rest.is_empty() {

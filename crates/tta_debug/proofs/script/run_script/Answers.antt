@@ -16,6 +16,7 @@ lines-init g c =
       loaded = c.requires.loaded;
       few = omega arith;
       short = c.requires.short;
+      faults = refl;
       taken = λ d f. taken_first _ _ _ _ _ d _ _ f;
     }
 
@@ -51,6 +52,7 @@ lines-preserved g c =
       loaded = c.take_line.ensures.loaded;
       few = omega arith;
       short = omega arith;
+      faults = c.in_ok-goes.ensures.cause ∙ c.lines.invariant.faults;
       taken = λ d f.
           let U = stated (λ v. (goal.OpUnit-dyn g v).unit_meaning v.1) c.args.units.now in
           let old = output (g.S.Sink.taken c.args.sink.now) (g.S.Sink.faults c.args.sink.now) in

@@ -17,6 +17,7 @@ invariant-lines g l =
       loaded : IsRunOf l.m l.code l.session.held;
       few : l.session.held.cycle + length l.rest * 2 ^ 32 < 2 ^ 61;
       short : length l.rest ≤ 2 ^ 24;
+      faults : g.S.Sink.faults l.sink ≡ g.S.Sink.faults l.initial.sink;
       taken : (d : Debugged) → Follows l.input l.initial.session d
           → Taken U l.m l.code l.input (lines_of l.script) (lines_of l.rest) d l.session
           (output (g.S.Sink.taken l.initial.sink) (g.S.Sink.faults l.initial.sink)) (output (g.S.Sink.taken l.sink) (g.S.Sink.faults l.sink));
