@@ -1,5 +1,5 @@
-"""What a command of the built program takes: seconds of the processor, which other work on the machine touches less than
-those of the clock, and memory."""
+"""What a command of a program takes: seconds of the processor, which other work on the machine touches less than those of the
+clock, and memory. The program is the built one, where no other is named."""
 import os
 import subprocess
 import sys
@@ -16,17 +16,18 @@ class Failed(Exception):
 
 
 class Folder:
-    """A folder with the files that commands are measured on."""
+    """A folder with the files that commands of a program are measured on."""
 
-    def __init__(self, path):
+    def __init__(self, path, program=PROGRAM):
         self.path = path
+        self.program = program
 
     def write(self, name, text):
         with open(os.path.join(self.path, name), "w") as f:
             f.write(text)
 
     def start(self, words):
-        return subprocess.Popen([PROGRAM, *words], cwd=self.path, stdout=subprocess.DEVNULL, stderr=subprocess.PIPE)
+        return subprocess.Popen([self.program, *words], cwd=self.path, stdout=subprocess.DEVNULL, stderr=subprocess.PIPE)
 
     def run(self, words, status=0):
         """The seconds of the processor that a command takes, which ends with this status."""

@@ -1,0 +1,16 @@
+//! Stands for the parts of the kit that the crates use, in plain Rust. In each part, what the crates do not use is left out.
+
+pub mod alloc;
+pub mod array_vec;
+pub mod digest;
+pub mod index_map;
+pub mod small_vec;
+pub mod text;
+pub mod vec;
+
+/// What each file of the crates sees without naming it. Each name here hides one of Rust's own.
+pub mod prelude {
+    pub use crate::alloc::Drop;
+    pub use crate::text::FromStr as _;
+    pub use crate::vec::{Collect as _, Vec};
+}

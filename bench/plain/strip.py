@@ -1,0 +1,112 @@
+"""Makes plain Rust of the sources of the crates: contracts and ghost items are left out, and the kit's names become those of
+its stand-in."""
+import os
+import re
+
+# The parts of tta_ports that meet the host, and those that stand for it in tests.
+HOSTS = ["real_files", "real_sink", "transfer", "mem_files", "mem_sink"]
+
+COMMENT = r"//[^\n]*"
+STRING = r'"(?:\\.|[^"\\])*"'
+CHARACTER = r"'(?:\\.[^'\n]*|[^'\\\n])'"
+COMMENT_OR_LITERAL = re.compile(f"{COMMENT}|{STRING}|{CHARACTER}", re.S)
+LITERAL = re.compile(f"({STRING}|{CHARACTER})", re.S)
+
+# These are changed between strings alone.
+NAMES = [
+    (r"^use (?:std::marker::Model|thiserror::Error);\n", ""),
+    (r"\bstd::alloc::", "kit::alloc::"),
+    (r"\barrayvec::", "kit::array_vec::"),
+    (r"\bindexmap::", "kit::index_map::"),
+    (r"\bsmallvec::", "kit::small_vec::"),
+    (r"\b(?:itoa|hex)::", "kit::text::"),
+    (r"\bsha2::", "kit::digest::"),
+    (r"\.collect\(", ".collect_in("),
+]
+DERIVED = re.compile(r"^([ \t]*)#\[derive\(([^)]*)\)\]\n", re.M)
+PRELUDE = "#[allow(unused_imports)]\nuse kit::{prelude::*, vec_in as vec};\n"
+
+
+def without_comments(text):
+    return COMMENT_OR_LITERAL.sub(lambda found: "" if found[0].startswith("//") else found[0], text)
+
+
+def blank(text):
+    """The text with blanks in place of its strings and characters, so that each other place stays where it is."""
+    return LITERAL.sub(lambda found: " " * len(found[0]), text)
+
+
+def match_end(text, found):
+    return found.end()
+
+
+def brace_end(text, found):
+    """The place behind the brace that closes the one at the end of what was found."""
+    depth, at = 1, found.end()
+    while depth:
+        depth += {"{": 1, "}": -1}.get(text[at], 0)
+        at += 1
+    return at
+
+
+def item_end(text, found):
+    """The place behind the first semicolon or comma outside of braces."""
+    depth, at = 0, found.end()
+    while depth or text[at] not in ";,":
+        depth += {"{": 1, "}": -1}.get(text[at], 0)
+        at += 1
+    return at + 1
+
+
+# What is left out: how it begins, and what gives its end.
+PARTS = [
+    (r"^impl\b[^{;]*?\bModel for [^{]*\{", brace_end),
+    (r"^[ \t]*ghost\b", item_end),
+    (r"^[ \t]*(?:requires|ensures\*?)(?:\s+\w+)?\s*\{", brace_end),
+    (r"^[ \t]*#!?\[(?:tactic|error)\b[^\]]*\]\n", match_end),
+    (rf"^(?:mod|pub use) (?:{'|'.join(HOSTS)})\b", item_end),
+]
+
+
+def without(text, pattern, end):
+    """The text without each part that begins as the pattern says and ends at the place that `end` gives."""
+    seen, kept, at = blank(text), [], 0
+    starts = re.compile(pattern, re.M)
+    while found := starts.search(seen, at):
+        kept.append(text[at:found.start()])
+        at = end(seen, found)
+    return "".join(kept) + text[at:]
+
+
+def derived(found):
+    """What is derived, without what Rust does by itself and what makes the text of a status."""
+    names = [name for name in found[2].split(", ") if name not in ("Drop", "Error")]
+    return f"{found[1]}#[derive({', '.join(names)})]\n" if names else ""
+
+
+def renamed(code):
+    for pattern, name in NAMES:
+        code = re.sub(pattern, name, code, flags=re.M)
+    return DERIVED.sub(derived, code)
+
+
+def plain(text):
+    """A source in plain Rust."""
+    text = without_comments(text)
+    for pattern, end in PARTS:
+        text = without(text, pattern, end)
+    pieces = LITERAL.split(text)
+    return PRELUDE + "".join(piece if at % 2 else renamed(piece) for at, piece in enumerate(pieces))
+
+
+def copy_plain(source, target):
+    """Writes a crate's sources in plain Rust to another folder."""
+    for folder, _, names in os.walk(source):
+        to = os.path.join(target, os.path.relpath(folder, source))
+        os.makedirs(to, exist_ok=True)
+        for base, ending in map(os.path.splitext, names):
+            if ending == ".rt" and base not in HOSTS:
+                with open(os.path.join(folder, base + ending)) as f:
+                    text = plain(f.read())
+                with open(os.path.join(to, base + ".rs"), "w") as f:
+                    f.write(text)
