@@ -41,7 +41,7 @@ def match_end(text, found):
 
 
 def brace_end(text, found):
-    """The place behind the brace that closes the one at the end of what was found."""
+    """The place after the brace that closes the one at the end of what was found."""
     depth, at = 1, found.end()
     while depth:
         depth += {"{": 1, "}": -1}.get(text[at], 0)
@@ -50,7 +50,7 @@ def brace_end(text, found):
 
 
 def item_end(text, found):
-    """The place behind the first semicolon or comma outside of braces."""
+    """The place after the first semicolon or comma outside of braces."""
     depth, at = 0, found.end()
     while depth or text[at] not in ";,":
         depth += {"{": 1, "}": -1}.get(text[at], 0)
