@@ -4,7 +4,7 @@ use Rattle.std.specs.Option.{option_map_or}
 use Rattle.tta_list.specs.Input.{left}
 use Rattle.tta_ops.specs.Units.{Units}
 use Rattle.tta_program.specs.declared.step.Step.{Step}
-use Rattle.tta_program.specs.declared.step.Step.TheVariants.{Invoke}
+use Rattle.tta_program.specs.declared.step.Step.TheVariants.{Copy, Apply, Load, Store, If, Goto, When, Invoke}
 use Rattle.tta_program.specs.Program.{Program}
 use Rattle.tta_program.specs.Rules.{calls_proc}
 use Rattle.tta_program.specs.Sequential.{Frame, Outcome, State, Running, Halted, Waiting, step_at, next}
@@ -118,6 +118,17 @@ pub record AreCallsOf (p : Program) (c : Calls) : Type 0 where
 abbrev pub put : List ℕ → Option ℕ → List ℕ
 put output None = output
 put output (Some word) = output ++ word ∷ []
+
+-- whether a step neither outputs nor takes a word, and neither begins nor ends a call
+abbrev pub is_quiet : Step → Bool
+is_quiet (Copy d s) = true
+is_quiet (Apply d op a b) = true
+is_quiet (Load d a) = true
+is_quiet (Store a v) = true
+is_quiet (If rel a b to) = true
+is_quiet (Goto to) = true
+is_quiet (When rel a b d s) = true
+is_quiet step = false
 
 -- the variable that takes the value of a call, where a step is a call that has one
 abbrev pub destination : Step → Option ℕ

@@ -2,19 +2,19 @@
 
 ghost use Rattle.std.specs.Prelude.{◌≡◌, ◌+◌, ◌<◌, ◌≤◌, ◌^◌, ◌∷◌, [], length, map, replicate};
 ghost use Rattle.std.specs.Prelude.{if◌then◌else◌, slice_index, slice_set, IfOk, IsFalse};
-ghost use Rattle.std.specs.Prelude.{ℕ, List, is_some, true};
+ghost use Rattle.std.specs.Prelude.{ℕ, List, is_some, true, false};
 ghost use Rattle.tta_list.specs.Iterate.{iterate};
 ghost use Rattle.tta_ops.specs.Set.{stated};
 ghost use Rattle.tta_program.specs.Program.{Program};
 ghost use Rattle.tta_program.specs.Rules.{IsProgram};
-ghost use Rattle.tta_program.specs.Sequential.{enter, next, operand, step_at};
+ghost use Rattle.tta_program.specs.Sequential.{carry_out, enter, next, operand, step_at, takes};
 ghost use Rattle.tta_tacrun.specs.Calls.{IsFresh, begun};
-ghost use Rattle.tta_tacrun.specs.Run.{frame, is_path, state_of, AreStepsOf};
+ghost use Rattle.tta_tacrun.specs.Run.{frame, is_path, is_quiet, state_of, AreStepsOf};
 
 use crate::entry::Entry;
 use crate::pass::{pass, value_of};
 use crate::phase::Phase;
-use crate::quiet::{Leg, go_on};
+use crate::quiet::{Leg, go_on, go_quietly};
 use crate::relations::Relations;
 use crate::words::Words;
 use std::alloc::{AllocError, Global};
@@ -114,15 +114,35 @@ impl Calls {
         self.top.at += 1;
     }
 
-    /// A variable of the innermost call becomes the word of an operand, and the next step comes.
-    pub fn copy(&mut self, d: u32, s: Src)
+    /// The innermost call makes a step that neither outputs nor takes a word, and neither begins nor
+    /// ends a call. It answers whether the step is such a one; where it is another, nothing changes.
+    pub fn go_quietly(
+        &mut self,
+        memory: &mut Words,
+        relations: &mut Relations,
+        units: &UnitSet,
+        step: &Step,
+    ) -> bool
         requires { self.old.top.at + 1 < 2 ^ 64 }
-        ensures { let f = self.old.top in
-            let g = record f { at = f.at + 1; vars = slice_set f.vars d (operand f.vars s) } in
-            self.new ≡ record self.old { top = g } }
+        ensures quiet { result ≡ is_quiet step.now }
+        ensures takes { result ≡ true → takes step.now ≡ false }
+        ensures space { length memory.new ≡ length memory.old }
+        ensures memory { result ≡ false → memory.new ≡ memory.old }
+        ensures calls { result ≡ false → self.new ≡ self.old }
+        ensures top { let f = frame self.old.top.proc self.new.top.at self.new.top.vars in
+            self.new ≡ record self.old { top = f } }
+        ensures made { result ≡ true → (p : Program) (rest output : List ℕ) (n : ℕ)
+            → let U = stated unit_meaning units.now in
+            let s = state_of Phase.Running self.old memory.old rest output n in
+            carry_out U p s self.old.top self.old.below step.now
+            ≡ state_of Phase.Running self.new memory.new rest output n }
     {
-        let word = self.value(s);
-        self.assign(d, word);
+        let vars = &mut self.variables[self.top.proc];
+        let Some(to) = go_quietly(vars, memory, relations, units, step, self.top.at) else {
+            return false;
+        };
+        self.top.at = to;
+        true
     }
 
     /// The innermost call makes so many of its steps, or as many as there are until one outputs or

@@ -1,23 +1,24 @@
 //! One step.
 
 ghost use Rattle.std.specs.Prelude.{◌≡◌, ℕ, List, ◌+◌, ◌<◌, ◌^◌, ◌∷◌, length};
-ghost use Rattle.std.specs.Prelude.{Some, IfSome, OnSome, IsSome, option_copied, slice_index, slice_set};
+ghost use Rattle.std.specs.Prelude.{Some, IfSome, OnSome, IsSome, option_copied, slice_index, false};
 ghost use Rattle.std.specs.Option.{option_map_or};
 ghost use Rattle.tta_ops.specs.Set.{stated};
+ghost use Rattle.tta_ops.specs.Units.{Units};
 ghost use Rattle.tta_program.specs.Rules.{IsProgram};
-ghost use Rattle.tta_program.specs.Sequential.{State, operand, holds, step_at, takes, returns};
+ghost use Rattle.tta_program.specs.Sequential.{State, operand, step_at, takes, returns};
 ghost use Rattle.tta_program.specs.Sequential.{carry_out};
 ghost use Rattle.tta_program.specs.Sequential.{take_value as value_taken};
 ghost use Rattle.tta_list.specs.Input.{left};
-ghost use Rattle.tta_tacrun.specs.Run.{AreCallsOf, AreStepsOf, state_of, put, destination};
+ghost use Rattle.tta_tacrun.specs.Run.{AreCallsOf, AreStepsOf, is_quiet, state_of, put, destination};
 
 use crate::calls::Calls;
 use crate::entry::Entry;
 use crate::phase::Phase;
 use crate::relations::Relations;
 use crate::words::Words;
-use tta_ops::{OpId, UnitSet};
-use tta_program::{Program, Rel, Src, Step};
+use tta_ops::UnitSet;
+use tta_program::{Program, Src, Step};
 
 /// The step that a call has come to, if there is one.
 pub fn step_of(p: &Program, call: Entry) -> Option<&Step>
@@ -122,53 +123,49 @@ fn end_call(calls: &mut Calls, p: &Program) -> Phase
     give_back(calls, p, 0)
 }
 
-/// Whether a condition holds on two operands of the innermost call.
-fn is_held(
-    calls: &Calls,
-    relations: &mut Relations,
-    units: &UnitSet,
-    rel: Rel,
-    a: Src,
-    b: Src,
-) -> bool
-    ensures { let vars = calls.now.top.vars in
-        result ≡ holds (stated unit_meaning units.now) rel (operand vars a) (operand vars b) }
-{
-    relations.is_held(units, rel, calls.value(a), calls.value(b))
-}
-
-/// A variable of the innermost call becomes what an operation makes of two of its operands.
-#[inline(always)]
-fn apply(calls: &mut Calls, units: &UnitSet, d: u32, op: OpId, a: Src, b: Src)
+/// The word of an operand of the innermost call, whose next step comes.
+fn show(calls: &mut Calls, v: Src) -> u32
     requires { calls.old.top.at + 1 < 2 ^ 64 }
-    ensures { let f = calls.old.top in
-        let U = stated unit_meaning units.now in
-        let value = U.value op.0 (operand f.vars a) (operand f.vars b) in
-        let g = record f { at = f.at + 1; vars = slice_set f.vars d value } in
-        calls.new ≡ record calls.old { top = g } }
+    ensures word { result ≡ operand calls.old.top.vars v }
+    ensures next { let f = calls.old.top in
+        calls.new ≡ record calls.old { top = record f { at = f.at + 1 } } }
 {
-    let value = units.apply(op, calls.value(a), calls.value(b));
-    calls.assign(d, value);
+    let call = calls.top();
+    calls.go_to(call.at + 1);
+    calls.value(v)
 }
 
-/// A variable of the innermost call becomes the data word at the address that an operand gives.
-fn load(calls: &mut Calls, memory: &Words, d: u32, a: Src)
-    requires { calls.old.top.at + 1 < 2 ^ 64 }
-    ensures { let f = calls.old.top in
-        let value = slice_index memory.now (operand f.vars a) in
-        let g = record f { at = f.at + 1; vars = slice_set f.vars d value } in
-        calls.new ≡ record calls.old { top = g } }
+/// Carries out a step that outputs or takes a word, or begins or ends a call, where `next` is the
+/// next word of the input. It answers whether the run goes on, and the word that is output, if any.
+fn carry_loudly(calls: &mut Calls, p: &Program, step: &Step, next: u32) -> (Phase, Option<u32>)
+    requires rules { IsProgram p.now }
+    requires loaded { AreCallsOf p.now calls.old }
+    requires at { step_at p.now calls.old.top.proc calls.old.top.at ≡ Some step.now }
+    requires more { calls.old.top.at + 1 < 2 ^ 64 }
+    requires loud { is_quiet step.now ≡ false }
+    ensures loaded { AreCallsOf p.now calls.new }
+    ensures carried { (U : Units) (memory rest output : List ℕ) (steps : ℕ)
+        → slice_index rest 0 ≡ next
+        → let s = state_of Phase.Running calls.old memory rest output steps in
+        let after = left (takes step.now) rest in
+        state_of result.0 calls.new memory after (put output result.1) steps
+        ≡ carry_out U p.now s calls.old.top calls.old.below step.now }
 {
-    let value = memory.get(calls.value(a) as usize);
-    calls.assign(d, value);
-}
-
-/// The data word at the address that an operand gives becomes the word of another.
-fn store(calls: &Calls, memory: &mut Words, a: Src, v: Src)
-    ensures { let vars = calls.now.top.vars in
-        memory.new ≡ slice_set memory.old (operand vars a) (operand vars v) }
-{
-    memory.set(calls.value(a) as usize, calls.value(v));
+    match step {
+        Step::Put { v } => (Phase::Running, Some(show(calls, *v))),
+        Step::Take { d } => {
+            calls.assign(*d, next);
+            (Phase::Running, None)
+        }
+        Step::Invoke { callee, args, .. } => {
+            calls.enter(*callee as usize, args.as_slice());
+            (Phase::Running, None)
+        }
+        Step::Return { s } => (give_back_of(calls, p, *s), None),
+        Step::End => (end_call(calls, p), None),
+        Step::Halt => (Phase::Stopped, None),
+        _ => unreachable!(),
+    }
 }
 
 /// Carries out a step, where `next` is the next word of the input. It answers whether the run goes
@@ -196,37 +193,8 @@ pub fn carry(
         state_of result.0 calls.new memory.new after (put output result.1) steps
         ≡ carry_out U p.now s calls.old.top calls.old.below step.now }
 {
-    let behind = calls.top().at + 1;
-    let mut word = None;
-    match step {
-        Step::Copy { d, s } => calls.copy(*d, *s),
-        Step::Apply { d, op, a, b } => apply(calls, units, *d, *op, *a, *b),
-        Step::Load { d, a } => load(calls, memory, *d, *a),
-        Step::Store { a, v } => {
-            store(calls, memory, *a, *v);
-            calls.go_to(behind);
-        }
-        Step::Put { v } => {
-            word = Some(calls.value(*v));
-            calls.go_to(behind);
-        }
-        Step::Take { d } => calls.assign(*d, next),
-        Step::If { rel, a, b, to } => {
-            let held = is_held(calls, relations, units, *rel, *a, *b);
-            calls.go_to(if held { *to as usize } else { behind });
-        }
-        Step::Goto { to } => calls.go_to(*to as usize),
-        Step::When { rel, a, b, d, s } => {
-            if is_held(calls, relations, units, *rel, *a, *b) {
-                calls.copy(*d, *s);
-            } else {
-                calls.go_to(behind);
-            }
-        }
-        Step::Invoke { callee, args, .. } => calls.enter(*callee as usize, args.as_slice()),
-        Step::Return { s } => return (give_back_of(calls, p, *s), None),
-        Step::End => return (end_call(calls, p), None),
-        Step::Halt => return (Phase::Stopped, None),
+    if calls.go_quietly(memory, relations, units, step) {
+        return (Phase::Running, None);
     }
-    (Phase::Running, word)
+    carry_loudly(calls, p, step, next)
 }

@@ -2,23 +2,76 @@
 
 ghost use Rattle.std.specs.Prelude.{◌≡◌, ℕ, List, ◌+◌, ◌-◌, ◌<◌, ◌≤◌, ◌^◌, ◌∷◌, length};
 ghost use Rattle.std.specs.Prelude.{None, IfSome, OnSome, is_some, option_copied, slice_get, true, false};
+ghost use Rattle.std.specs.Prelude.{slice_index, slice_set};
 ghost use Rattle.tta_ops.specs.Set.{stated};
 ghost use Rattle.tta_list.specs.Iterate.{iterate};
 ghost use Rattle.tta_program.specs.Program.{Program};
 ghost use Rattle.tta_program.specs.Rules.{IsProgram};
-ghost use Rattle.tta_program.specs.Sequential.{Frame, carry_out, takes, next, step_at};
-ghost use Rattle.tta_tacrun.specs.Run.{frame, going, is_path, AreStepsOf};
+ghost use Rattle.tta_program.specs.Sequential.{Frame, carry_out, holds, next, operand, step_at, takes};
+ghost use Rattle.tta_tacrun.specs.Run.{frame, going, is_path, is_quiet, AreStepsOf};
 
 use crate::pass::value_of;
 use crate::relations::Relations;
 use crate::words::Words;
-use tta_ops::UnitSet;
-use tta_program::Step;
+use tta_ops::{OpId, UnitSet};
+use tta_program::{Rel, Src, Step};
+
+/// A variable becomes the word of an operand.
+#[inline(always)]
+fn copy(vars: &mut Words, d: u32, s: Src)
+    ensures { vars.new ≡ slice_set vars.old d (operand vars.old s) }
+{
+    let word = value_of(vars, s);
+    vars.set(d as usize, word);
+}
+
+/// A variable becomes what an operation makes of two operands.
+#[inline(always)]
+fn apply(vars: &mut Words, units: &UnitSet, d: u32, op: OpId, a: Src, b: Src)
+    ensures { let U = stated unit_meaning units.now in
+        vars.new ≡ slice_set vars.old d (U.value op.0 (operand vars.old a) (operand vars.old b)) }
+{
+    let word = units.apply(op, value_of(vars, a), value_of(vars, b));
+    vars.set(d as usize, word);
+}
+
+/// A variable becomes the data word at the address that an operand gives.
+#[inline(always)]
+fn load(vars: &mut Words, memory: &Words, d: u32, a: Src)
+    ensures { vars.new ≡ slice_set vars.old d (slice_index memory.now (operand vars.old a)) }
+{
+    let word = memory.get(value_of(vars, a) as usize);
+    vars.set(d as usize, word);
+}
+
+/// The data word at the address that an operand gives becomes the word of another.
+#[inline(always)]
+fn store(vars: &Words, memory: &mut Words, a: Src, v: Src)
+    ensures { memory.new ≡ slice_set memory.old (operand vars.now a) (operand vars.now v) }
+{
+    memory.set(value_of(vars, a) as usize, value_of(vars, v));
+}
+
+/// Whether a condition holds on two operands.
+#[inline(always)]
+fn is_held(
+    vars: &Words,
+    relations: &mut Relations,
+    units: &UnitSet,
+    rel: Rel,
+    a: Src,
+    b: Src,
+) -> bool
+    ensures { let U = stated unit_meaning units.now in
+        result ≡ holds U rel (operand vars.now a) (operand vars.now b) }
+{
+    relations.is_held(units, rel, value_of(vars, a), value_of(vars, b))
+}
 
 /// Carries out a step that neither outputs nor takes a word, and neither begins nor ends a call. It
-/// answers the step that comes next, and `None` where the step may be another.
+/// answers the step that comes next, and `None` where the step is another.
 #[inline(always)]
-fn go_quietly(
+pub fn go_quietly(
     vars: &mut Words,
     memory: &mut Words,
     relations: &mut Relations,
@@ -29,6 +82,7 @@ fn go_quietly(
     requires { at + 1 < 2 ^ 64 }
     ensures size { length vars.new ≡ length vars.old }
     ensures space { length memory.new ≡ length memory.old }
+    ensures quiet { is_some result ≡ is_quiet step.now }
     ensures vars { result ≡ None → vars.new ≡ vars.old }
     ensures memory { result ≡ None → memory.new ≡ memory.old }
     ensures takes { IfSome result (λ to. takes step.now ≡ false) }
@@ -40,32 +94,23 @@ fn go_quietly(
         ≡ going proc to vars.new callers memory.new rest output steps) }
 {
     match step {
-        Step::Copy { d, s } => {
-            let word = value_of(vars, *s);
-            vars.set(*d as usize, word);
-            Some(at + 1)
-        }
-        Step::Apply { d, op, a, b } => {
-            let word = units.apply(*op, value_of(vars, *a), value_of(vars, *b));
-            vars.set(*d as usize, word);
-            Some(at + 1)
-        }
-        Step::Load { d, a } => {
-            let word = memory.get(value_of(vars, *a) as usize);
-            vars.set(*d as usize, word);
-            Some(at + 1)
-        }
-        Step::Store { a, v } => {
-            memory.set(value_of(vars, *a) as usize, value_of(vars, *v));
-            Some(at + 1)
+        Step::Copy { d, s } => copy(vars, *d, *s),
+        Step::Apply { d, op, a, b } => apply(vars, units, *d, *op, *a, *b),
+        Step::Load { d, a } => load(vars, memory, *d, *a),
+        Step::Store { a, v } => store(vars, memory, *a, *v),
+        Step::When { rel, a, b, d, s } => {
+            if is_held(vars, relations, units, *rel, *a, *b) {
+                copy(vars, *d, *s);
+            }
         }
         Step::If { rel, a, b, to } => {
-            let held = relations.is_held(units, *rel, value_of(vars, *a), value_of(vars, *b));
-            Some(if held { *to as usize } else { at + 1 })
+            let held = is_held(vars, relations, units, *rel, *a, *b);
+            return Some(if held { *to as usize } else { at + 1 });
         }
-        Step::Goto { to } => Some(*to as usize),
-        _ => None,
+        Step::Goto { to } => return Some(*to as usize),
+        _ => return None,
     }
+    Some(at + 1)
 }
 
 /// The step at a place, if there is one.
