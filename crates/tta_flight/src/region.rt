@@ -69,6 +69,7 @@ impl Region {
     }
 
     /// The ring of a unit.
+    #[inline(always)]
     fn ring(&self, unit: usize) -> Ring
         requires { unit < length self.now.rings }
         ensures ring { result ≡ ring_of self.now unit }
@@ -81,6 +82,7 @@ impl Region {
     }
 
     /// The cell of what is due of a unit in so many cycles.
+    #[inline(always)]
     fn place(&self, unit: u8, delay: u8) -> usize
         requires unit { unit < length self.now.rings }
         requires soon { delay ≤ longest_of self.now unit }
@@ -91,6 +93,7 @@ impl Region {
     }
 
     /// What is due of a unit in so many cycles. Nothing is due later than after its longest delay.
+    #[inline(always)]
     fn coming(&self, unit: u8, delay: u8) -> Option<u32>
         requires { unit < length self.now.rings }
         ensures { result ≡ due_in self.now unit delay }
@@ -106,6 +109,7 @@ impl Region {
     }
 
     /// Whether a result of the unit is due in so many cycles.
+    #[inline(always)]
     pub fn clash(&self, unit: u8, delay: u8) -> bool
         requires { unit < length self.now.rings }
         ensures held { result ≡ is_some (due_in self.now unit delay) }
@@ -116,6 +120,7 @@ impl Region {
     }
 
     /// Adds a result that is due in so many cycles. Every other unit and every other due stays.
+    #[inline(always)]
     pub fn start(&mut self, unit: u8, delay: u8, value: u32)
         requires unit { unit < length self.old.rings }
         requires later { 0 < delay }
@@ -134,6 +139,7 @@ impl Region {
     }
 
     /// Goes to the next cycle of a unit of which nothing is coming.
+    #[inline(always)]
     fn rest(&mut self, unit: usize)
         requires unit { unit < length self.old.rings }
         requires last { turns_of self.old unit ≤ 1 }
@@ -146,6 +152,7 @@ impl Region {
     }
 
     /// Goes to the next cycle of a unit of which something is coming.
+    #[inline(always)]
     fn turn(&mut self, unit: usize)
         requires unit { unit < length self.old.rings }
         requires more { 1 < turns_of self.old unit }
@@ -160,6 +167,7 @@ impl Region {
     }
 
     /// Goes to a unit's next cycle.
+    #[inline(always)]
     fn step(&mut self, unit: usize)
         requires { unit < length self.old.rings }
         ensures { IsAdvanced unit 1 self.old self.new }
@@ -249,6 +257,7 @@ impl Region {
     }
 
     /// The word on a unit's result port, `None` where no result was due yet.
+    #[inline(always)]
     pub fn port(&self, unit: u8) -> Option<u32>
         requires { unit < length self.now.rings }
         ensures held { result ≡ shown_in self.now unit }
@@ -258,6 +267,7 @@ impl Region {
     }
 
     /// The result of a unit that is due in so many cycles, `None` where none is.
+    #[inline(always)]
     pub fn due(&self, unit: u8, delay: u8) -> Option<u32>
         requires { unit < length self.now.rings }
         ensures held { result ≡ due_in self.now unit delay }

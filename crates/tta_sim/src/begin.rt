@@ -17,6 +17,7 @@ use tta_flight::Region;
 use tta_ops::UnitSet;
 
 /// The word that an operation shows, if it shows one, where `next` is the next word of the input.
+#[inline(always)]
 fn result_of(
     units: &UnitSet,
     memory: &[u32],
@@ -38,6 +39,7 @@ fn result_of(
 }
 
 /// Starts an operation's result, if it has one, where the machine's first unit is `base`.
+#[inline(always)]
 fn begin(region: &mut Region, base: u8, start: &Start, value: Option<u32>)
     requires { is_some value ≡ true → CanBegin base region.old start.now }
     ensures { HasBegun base start.now value region.old region.new }
@@ -74,6 +76,7 @@ pub fn begin_all(
 }
 
 /// Whether some of the operations takes a word of the input.
+#[inline(always)]
 pub fn any_takes(starts: &[Start]) -> bool
     ensures { result ≡ list_any takes starts.now }
 {

@@ -121,6 +121,7 @@ fn find_fault(
 }
 
 /// Whether a cycle has to wait: it takes a word of the input, and none is left.
+#[inline(always)]
 fn is_stuck(took: bool, next: Option<u32>) -> bool
     ensures { result ≡ (took && is_none next) }
 {
@@ -129,6 +130,7 @@ fn is_stuck(took: bool, next: Option<u32>) -> bool
 
 /// Stores the words of a cycle's operations, and answers the word that they output, if any. Where
 /// the line is quiet, none of them stores or outputs a word.
+#[inline(always)]
 fn put_all(store: &mut Store, quiet: bool, starts: &[Start]) -> Option<u32>
     requires { quiet ≡ true → filter is_resultless starts.now ≡ [] }
     ensures places { store.new.places ≡ store.old.places }

@@ -95,6 +95,7 @@ pub fn read_move(places: &Places, results: &Results<'_>, r: &Reading) -> Read
 }
 
 /// Notes the word that a move writes, if it acts, and answers whether it could not be read.
+#[inline(always)]
 fn note_write(
     writes: &mut Short<Write>,
     places: &Places,
@@ -121,6 +122,7 @@ fn note_write(
 }
 
 /// Collects what the moves write, and answers whether all of them could be read.
+#[inline(always)]
 pub fn note_writes(
     writes: &mut Short<Write>,
     places: &Places,
@@ -145,6 +147,7 @@ pub fn note_writes(
 }
 
 /// The word in a unit's operand port once this cycle's words are written.
+#[inline(always)]
 fn operand_after(writes: &[Write], places: &Places, unit: u8) -> Option<u32>
     requires { IsTrue (is_place (KeptOperand unit)) }
     ensures { result ≡ operand_in places.now writes.now unit }
@@ -159,6 +162,7 @@ fn operand_after(writes: &[Write], places: &Places, unit: u8) -> Option<u32>
 }
 
 /// The operand that an operation starts with, 0 where it takes none.
+#[inline(always)]
 pub fn operand_of(writes: &[Write], places: &Places, unit: u8, does: &UnitOp) -> Option<u32>
     requires { IsTrue (is_place (KeptOperand unit)) }
     ensures { let operand = operand_in places.now writes.now in

@@ -40,6 +40,7 @@ impl Model for Start {
 }
 
 /// Whether an operation shows a result.
+#[inline(always)]
 pub fn has_result(op: Op) -> bool
     ensures { result ≡ has_result op }
 {
@@ -50,6 +51,7 @@ pub fn has_result(op: Op) -> bool
 }
 
 /// Whether a unit's result of an operation would be due at the time of another one.
+#[inline(always)]
 pub fn clashes(results: &Results<'_>, unit: u8, does: &UnitOp) -> bool
     requires { unit < results.now.units }
     ensures { result ≡ clashes_at results.now unit does.now }

@@ -74,6 +74,7 @@ fn can_tell(places: &Places, results: &Results<'_>, pending: bool, moves: &[Deco
 }
 
 /// Whether the control moves of a line can act.
+#[inline(always)]
 pub fn tells_well(places: &Places, results: &Results<'_>, pending: bool, line: &Line) -> bool
     requires { IsLineThere results.now.units line.now }
     ensures { result ≡ tells_well places.now (shown_by results.now) pending line.now.tells }
@@ -82,6 +83,7 @@ pub fn tells_well(places: &Places, results: &Results<'_>, pending: bool, line: &
 }
 
 /// The control move of a line that acts, if any does.
+#[inline(always)]
 pub fn told_in(places: &Places, results: &Results<'_>, line: &Line) -> Option<Told>
     requires { IsLineThere results.now.units line.now }
     ensures { let tells = tell_brought places.now (shown_by results.now) in
