@@ -1,9 +1,9 @@
 -- Sets of units, as words of bits.
-use Rattle.std.proofs.Common.{◌≡◌, ◌≢◌, ◌<◌, ◌≤◌, ◌/◌, ◌%◌, ◌*◌, ◌-◌, ◌^◌, ℕ, zero, suc, Bool, false, List, length, get_or, set, refl, sym, ap, ◌∙◌, inl, inr, arith, min, max, w64}
-use Rattle.std.specs.Prelude.{◌==◌, ◌||◌, ◌&&◌, not, bit_and, bit_or}
+use Rattle.std.proofs.Common.{◌≡◌, ◌≢◌, ◌<◌, ◌≤◌, ◌/◌, ◌%◌, ◌*◌, ◌-◌, ◌^◌, ℕ, ◌+◌, zero, suc, Bool, true, false, List, length, get_or, set, refl, sym, ap, ◌∙◌, inl, inr, arith, min, max, w64}
+use Rattle.std.specs.Prelude.{◌==◌, ◌||◌, ◌&&◌, not, bit_and, bit_or, nat_le}
 use Rattle.std.specs.Int.{bit_at, trailing_zeros}
 use Rattle.std.proofs.lemmas.Bool.{cases_eq, eq-eqb, ne_eqb}
-use Rattle.std.proofs.lemmas.Nat.Bits.{bit_at-zero, bit_at_and, bit_at_or, bit_at_not, bit_at-lt, bit_at-pow_same, bit_at-pow_other, bit_at_mask_inside, ones_shl, bit_at-trailing_zeros}
+use Rattle.std.proofs.lemmas.Nat.Bits.{bit_at-zero, bit_at_and, bit_at_or, bit_at_not, bit_at-lt, bit_at-pow_same, bit_at-pow_other, bit_at_mask_inside, bit_at_mask_below, ones_shl, bit_at-trailing_zeros}
 use Rattle.std.proofs.Common.{get_or-set_same, get_or-set_other}
 use Rattle.std.proofs.Math.Bool.{or-false, and-true}
 
@@ -14,12 +14,25 @@ min_one zero small = refl
 min_one (suc zero) small = refl
 min_one (suc (suc x)) small = absurd (omega arith)
 
+min_none : (x : ℕ) → min x 0 ≡ 0
+min_none x = grind arith
+
 -- the bits from one on stay
 pub bits_stay : (word bit i : ℕ) → bit < 64 → bit ≤ i → i < 64
     → bit_at (bit_and word (18446744073709551615 * 2 ^ bit % 18446744073709551616)) i ≡ bit_at word i
 bits_stay word bit i small from below =
     ap (λ (n : ℕ). bit_at (bit_and word n) i) (ones_shl 64 bit (omega (arith, small))) ∙ bit_at_and word (2 ^ 64 - 2 ^ bit) i
     ∙ ap (min (bit_at word i)) (bit_at_mask_inside bit 64 i from below) ∙ min_one (bit_at word i) (bit_at-lt word i)
+
+-- the bits below it are gone
+pub low_bits_gone : (word bit i : ℕ) → bit < 64 → i < bit → bit_at (bit_and word (18446744073709551615 * 2 ^ bit % 18446744073709551616)) i ≡ 0
+low_bits_gone word bit i small below =
+    ap (λ (n : ℕ). bit_at (bit_and word n) i) (ones_shl 64 bit (omega (arith, small))) ∙ bit_at_and word (2 ^ 64 - 2 ^ bit) i
+    ∙ ap (min (bit_at word i)) (bit_at_mask_below bit 64 i below) ∙ min_none (bit_at word i)
+
+-- the least bit is one that is set
+pub least_is_set : (word : ℕ) → 0 < word → word < 2 ^ 64 → bit_at word (trailing_zeros w64 word) ≡ 1
+least_is_set word some small = (bit_at-trailing_zeros w64 word some small).1
 
 -- no bit stands before the least
 pub least_first : (word i : ℕ) → 0 < word → word < 2 ^ 64 → i < trailing_zeros w64 word → bit_at word i ≡ 0
@@ -35,6 +48,32 @@ pub other_bits : (word one bit i : ℕ) → one ≡ 2 ^ bit → one < 2 ^ 64 →
 other_bits word one bit i single small other below =
     bit_at_and word (18446744073709551615 - one) i ∙ ap (min (bit_at word i)) (bit_at_not w64 one i small below)
     ∙ ap (λ n. min (bit_at word i) (1 - n)) (ap (λ n. bit_at n i) single ∙ bit_at-pow_other bit i other) ∙ min_one (bit_at word i) (bit_at-lt word i)
+
+-- and this one is gone
+pub this_bit_gone : (word one bit : ℕ) → one ≡ 2 ^ bit → one < 2 ^ 64 → bit < 64 → bit_at (bit_and word (18446744073709551615 - one)) bit ≡ 0
+this_bit_gone word one bit single small below =
+    bit_at_and word (18446744073709551615 - one) bit ∙ ap (min (bit_at word bit)) (bit_at_not w64 one bit small below)
+    ∙ ap (λ n. min (bit_at word bit) (1 - n)) (ap (λ n. bit_at n bit) single ∙ bit_at-pow_same bit) ∙ min_none (bit_at word bit)
+
+-- a bit that is set does not stand before a place before which none is
+pub no_bit_before : (at first bit word : ℕ) → ((i : ℕ) → first + i < at → bit_at word i ≡ 0) → bit_at word bit ≡ 1 → at ≤ first + bit
+no_bit_before at first bit word none set = elim (nat_le at (first + bit)) as (λ b. nat_le at (first + bit) ≡ b → at ≤ first + bit) [
+  | true ↦ λ is. grind (arith, is)
+  | false ↦ λ is.
+      let before : first + bit < at = grind (arith, is) in
+      let off = none bit before in
+      absurd (omega (arith, off, set))
+] refl
+
+-- no bit stands at or before the least one once that is gone
+pub none_up_to : (bit i word left : ℕ) → i < bit + 1 → bit < 64 → ((j : ℕ) → j < bit → bit_at word j ≡ 0) → bit_at left bit ≡ 0
+    → ((j : ℕ) → j ≢ bit → j < 64 → bit_at left j ≡ bit_at word j) → bit_at left i ≡ 0
+none_up_to bit i word left up few none gone others = elim (cases_eq i bit) [
+  | inl same ↦ ap (bit_at left) same ∙ gone
+  | inr other ↦
+      let before : i < bit = omega (arith, up, other) in
+      others i other (omega (arith, before, few)) ∙ none i before
+]
 
 either_bit : (x y : ℕ) → x < 2 → y < 2 → (max x y == 1) ≡ (x == 1 || y == 1)
 either_bit zero zero hx hy = refl

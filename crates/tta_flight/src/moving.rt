@@ -37,8 +37,9 @@ impl Moving {
     /// The word that has the bit of a unit, without the bits below it.
     pub fn bits(&self, from: usize) -> u64
         requires { from < 256 }
-        ensures { (k : ℕ) → from ≤ k → k / 64 ≡ from / 64
+        ensures off { (k : ℕ) → from ≤ k → k / 64 ≡ from / 64
             → bit_at result (k % 64) ≡ 0 → has self.now k ≡ false }
+        ensures low { (i : ℕ) → i < from % 64 → bit_at result i ≡ 0 }
     {
         bits_from(self.words[from / 64], from % 64)
     }
@@ -55,7 +56,8 @@ fn one_bit(bit: usize) -> u64
 /// A word without the bits below one.
 fn bits_from(word: u64, bit: usize) -> u64
     requires { bit < 64 }
-    ensures { (i : ℕ) → bit ≤ i → i < 64 → bit_at result i ≡ bit_at word i }
+    ensures stay { (i : ℕ) → bit ≤ i → i < 64 → bit_at result i ≡ bit_at word i }
+    ensures low { (i : ℕ) → i < bit → bit_at result i ≡ 0 }
 {
     word & (u64::MAX << bit)
 }
@@ -64,6 +66,7 @@ fn bits_from(word: u64, bit: usize) -> u64
 pub fn least_bit(word: u64) -> usize
     requires { 0 < word }
     ensures few { result < 64 }
+    ensures some { bit_at word result ≡ 1 }
     ensures none { (i : ℕ) → i < result → bit_at word i ≡ 0 }
 {
     word.trailing_zeros() as usize
@@ -72,7 +75,8 @@ pub fn least_bit(word: u64) -> usize
 /// A word without one bit.
 pub fn without_bit(word: u64, bit: usize) -> u64
     requires { bit < 64 }
-    ensures { (i : ℕ) → i ≢ bit → i < 64 → bit_at result i ≡ bit_at word i }
+    ensures others { (i : ℕ) → i ≢ bit → i < 64 → bit_at result i ≡ bit_at word i }
+    ensures none { bit_at result bit ≡ 0 }
 {
     word & !one_bit(bit)
 }

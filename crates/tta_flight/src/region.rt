@@ -186,8 +186,9 @@ impl Region {
         requires order { from < end }
         requires word { end ≤ (from / 64 + 1) * 64 }
         requires there { end ≤ length self.now.rings }
-        ensures { (unit delay : ℕ) → from ≤ unit → unit < end
+        ensures still { (unit delay : ℕ) → from ≤ unit → unit < end
             → bit_at result (unit % 64) ≡ 0 → due_in self.now unit delay ≡ None }
+        ensures low { (i : ℕ) → i < from % 64 → bit_at result i ≡ 0 }
     {
         self.moving.bits(from)
     }
@@ -207,7 +208,7 @@ impl Region {
         let mut at = from;
         'bits: while left != 0 {
             let bit = least_bit(left);
-            let unit = at.max(first + bit);
+            let unit = first + bit;
             if unit >= end {
                 return;
             }
