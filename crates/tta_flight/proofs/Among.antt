@@ -13,6 +13,9 @@ among_other unit u other = grind (arith, other)
 
 -- ---- some units, and more after them
 
+pub among_past : (base count u : ℕ) → base + count ≤ u → is_among base count u ≡ false
+among_past base count u past = grind (arith, past)
+
 pub is_among_more : (base count more u : ℕ) → is_among base count u ≡ true → is_among (base + count) more u ≡ false
 is_among_more base count more u is = grind (arith, is)
 

@@ -1,19 +1,73 @@
 -- Units whose bits are in one word of a set.
-use Rattle.std.proofs.Common.{◌≡◌, ◌≢◌, ◌<◌, ◌≤◌, ◌+◌, ◌*◌, ◌/◌, ◌%◌, ℕ, length, subst, arith}
+use Rattle.std.proofs.Common.{◌≡◌, ◌≢◌, ◌<◌, ◌≤◌, ◌+◌, ◌-◌, ◌*◌, ◌/◌, ◌%◌, ℕ, length, sym, subst, arith}
 use Rattle.std.specs.Prelude.{if◌then◌else◌}
-use Rattle.tta_flight.specs.Rings.{Rings, due_in, IsAdvanced}
-use Rattle.tta_flight.proofs.Among.{among_other}
+use Rattle.tta_flight.proofs.Among.{among_past}
+use Rattle.tta_flight.specs.Rings.{Rings, due_in, nearest, IsAdvanced, AreEmpty}
+use Rattle.tta_flight.proofs.Advanced.{advanced_chain, advanced_to}
 
-module _ (from end at bit u : ℕ) (word : end ≤ (from / 64 + 1) * 64) (order : from ≤ at) (last : u < end) where
+module _ (number at bit u : ℕ) (here : u / 64 ≡ number) (order : 64 * number ≤ at) where
   -- the bit of a unit before the next one is before that of the next one
-  pub bit_before : at ≤ u → u < from / 64 * 64 + bit → u % 64 < bit
-  bit_before least below = omega (arith, word, order, last, least, below)
+  pub bit_before : at ≤ u → u < 64 * number + bit → u % 64 < bit
+  bit_before least below = omega (arith, here, order, least, below)
 
   -- the bit of a unit past it is another
-  pub bit_past : at ≤ from / 64 * 64 + bit → bit < 64 → from / 64 * 64 + bit + 1 ≤ u → u % 64 ≢ bit
-  bit_past later few past same = omega (arith, word, order, last, later, few, past, same)
+  pub bit_past : at ≤ 64 * number + bit → bit < 64 → 64 * number + bit + 1 ≤ u → u % 64 ≢ bit
+  bit_past later few past same = omega (arith, here, order, later, few, past, same)
 
--- a unit past one that went to its next cycle is as it was
-pub due_past : (unit u d : ℕ) (a b : Rings) → IsAdvanced unit 1 a b → u < length a.rings → unit + 1 ≤ u → due_in b u d ≡ due_in a u d
-due_past unit u d a b one had past =
-    subst (λ x. due_in b u d ≡ (if x then due_in a u (d + 1) else due_in a u d)) (among_other unit u (λ same. omega (arith, same, past))) (one.due u d had)
+-- a unit past those that went to their next cycle is as it was
+pub due_past : (from count u d : ℕ) (a b : Rings) → IsAdvanced from count a b → u < length a.rings → from + count ≤ u → due_in b u d ≡ due_in a u d
+due_past from count u d a b some had past =
+    subst (λ x. due_in b u d ≡ (if x then due_in a u (d + 1) else due_in a u d)) (among_past from count u past) (some.due u d had)
+
+module _ (base end : ℕ) (order : base ≤ end) where
+  pub nearest_first : (at : ℕ) → base ≤ nearest base end at
+  nearest_first at = grind (arith, order)
+
+  pub nearest_order : (at next : ℕ) → at ≤ next → nearest base end at ≤ nearest base end next
+  nearest_order at next later = grind (arith, order, later)
+
+  -- a unit before the nearest to another is before that one, and before the end
+  pub nearest_before : (at u : ℕ) → base ≤ u → u < nearest base end at → u < at
+  nearest_before at u first before = grind (arith, order, first, before)
+
+  pub nearest_within : (at u : ℕ) → u < nearest base end at → u < end
+  nearest_within at u before = grind (arith, order, before)
+
+  -- and one that is not before the nearest to another is not before that one
+  pub nearest_least : (at u : ℕ) → nearest base end at ≤ u → u < end → at ≤ u
+  nearest_least at u least most = grind (arith, order, least, most)
+
+  pub nearest_past : (at u : ℕ) → base ≤ u → at ≤ u → nearest base end at ≤ u
+  nearest_past at u first past = grind (arith, order, first, past)
+
+  pub nearest_low : (at : ℕ) → at ≤ base → nearest base end at ≡ base
+  nearest_low at low = grind (arith, low)
+
+  -- one of the units is the nearest to itself
+  pub nearest_here : (unit : ℕ) → base ≤ unit → unit < end → nearest base end unit ≡ unit
+  nearest_here unit first last = grind (arith, first, last)
+
+  pub nearest_next : (unit : ℕ) → base ≤ unit → unit < end → nearest base end (unit + 1) ≡ unit + 1
+  nearest_next unit first last = grind (arith, first, last)
+
+  -- the next cycle of one of the units
+  pub advanced_one : (unit : ℕ) (a b : Rings) → base ≤ unit → unit < end → IsAdvanced unit 1 a b
+      → IsAdvanced (nearest base end unit) (nearest base end (unit + 1) - nearest base end unit) a b
+  advanced_one unit a b first last one =
+      let here = nearest_here unit first last in
+      let next = nearest_next unit first last in
+      let count : 1 ≡ nearest base end (unit + 1) - nearest base end unit = omega (arith, here, next) in
+      subst (λ n. IsAdvanced n (nearest base end (unit + 1) - nearest base end unit) a b) (sym here)
+      (subst (λ n. IsAdvanced unit n a b) count one)
+
+  -- up to a unit, then past units of which nothing is coming, and then past one more
+  pub advanced_next : (start at unit : ℕ) (a b c : Rings) → start ≤ at → at ≤ unit
+      → IsAdvanced (nearest base end start) (nearest base end at - nearest base end start) a b
+      → AreEmpty (nearest base end at) (nearest base end unit) b
+      → IsAdvanced (nearest base end unit) (nearest base end (unit + 1) - nearest base end unit) b c
+      → IsAdvanced (nearest base end start) (nearest base end (unit + 1) - nearest base end start) a c
+  advanced_next start at unit a b c order_at later before empty one =
+      let to_unit = advanced_to (nearest base end start) (nearest base end at) (nearest base end unit) a b (nearest_order start at order_at)
+      (nearest_order at unit later) before empty in
+      advanced_chain (nearest base end start) (nearest base end unit) (nearest base end (unit + 1)) a b c
+      (nearest_order start unit (omega (arith, order_at, later))) (nearest_order unit (unit + 1) (omega arith)) to_unit one

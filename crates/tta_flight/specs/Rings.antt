@@ -96,6 +96,10 @@ pub record IsRegion (r : Rings) : Type 0 where
 abbrev pub is_among : (base count unit : ℕ) → Bool
 is_among base count unit = nat_le base unit && nat_lt unit (base + count)
 
+-- a unit, or the nearest of those from one on up to an end
+abbrev pub nearest : (base end unit : ℕ) → ℕ
+nearest base end unit = if nat_le unit base then base else if nat_le end unit then end else unit
+
 -- A result was added: every other unit and every other delay is as before.
 pub record IsStarted (unit delay value : ℕ) (old new : Rings) : Type 0 where
   pub units : length new.rings ≡ length old.rings

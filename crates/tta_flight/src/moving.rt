@@ -1,6 +1,6 @@
 //! A set of units.
 
-ghost use Rattle.std.specs.Prelude.{◌≢◌, ◌/◌, ◌%◌, ◌≡◌, ◌<◌, ◌≤◌, ◌^◌, ◌==◌, ◌||◌, ◌&&◌, ℕ, not, false};
+ghost use Rattle.std.specs.Prelude.{◌≢◌, ◌/◌, ◌%◌, ◌≡◌, ◌<◌, ◌^◌, ◌==◌, ◌||◌, ◌&&◌, ℕ, not, false};
 ghost use Rattle.std.specs.Int.{bit_at};
 ghost use Rattle.tta_flight.specs.Moving.{has};
 
@@ -34,14 +34,13 @@ impl Moving {
         self.words[unit / 64] &= !one_bit(unit % 64);
     }
 
-    /// The word that has the bit of a unit, without the bits below it.
-    pub fn bits(&self, from: usize) -> u64
-        requires { from < 256 }
-        ensures off { (k : ℕ) → from ≤ k → k / 64 ≡ from / 64
-            → bit_at result (k % 64) ≡ 0 → has self.now k ≡ false }
-        ensures low { (i : ℕ) → i < from % 64 → bit_at result i ≡ 0 }
+    /// The word that has the bits of 64 units, from unit `64 * number` on.
+    #[inline(always)]
+    pub fn word(&self, number: usize) -> u64
+        requires { number < 4 }
+        ensures { (k : ℕ) → k / 64 ≡ number → bit_at result (k % 64) ≡ 0 → has self.now k ≡ false }
     {
-        bits_from(self.words[from / 64], from % 64)
+        self.words[number]
     }
 }
 
@@ -51,15 +50,6 @@ fn one_bit(bit: usize) -> u64
     ensures { result ≡ 2 ^ bit }
 {
     1 << bit
-}
-
-/// A word without the bits below one.
-fn bits_from(word: u64, bit: usize) -> u64
-    requires { bit < 64 }
-    ensures stay { (i : ℕ) → bit ≤ i → i < 64 → bit_at result i ≡ bit_at word i }
-    ensures low { (i : ℕ) → i < bit → bit_at result i ≡ 0 }
-{
-    word & (u64::MAX << bit)
 }
 
 /// The least bit of a word that has one.

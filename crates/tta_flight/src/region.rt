@@ -7,6 +7,7 @@ ghost use Rattle.tta_flight.specs.Flight.{Flight, started, advanced, port_of, du
 ghost use Rattle.tta_flight.specs.Flight.{StartsAmong, AdvancesAll, StayBeside};
 ghost use Rattle.tta_flight.specs.Rings.{IsStarted, IsAdvanced, ring_of};
 ghost use Rattle.tta_flight.specs.Rings.{longest_of, due_in, shown_in, place_of, turns_of};
+ghost use Rattle.tta_flight.specs.Rings.{nearest};
 
 use crate::moving::{Moving, least_bit, without_bit};
 use crate::ring::{Ring, carve, empty, size};
@@ -179,41 +180,46 @@ impl Region {
         }
     }
 
-    /// The bits of the units from one on and before an end, which one word of the set has. Where a
-    /// bit is 0, nothing is coming.
+    /// Goes to a unit's next cycle, if the unit is one of those from one on and before an end.
     #[inline(always)]
-    fn bits(&self, from: usize, end: usize) -> u64
-        requires order { from < end }
-        requires word { end ≤ (from / 64 + 1) * 64 }
-        requires there { end ≤ length self.now.rings }
-        ensures still { (unit delay : ℕ) → from ≤ unit → unit < end
-            → bit_at result (unit % 64) ≡ 0 → due_in self.now unit delay ≡ None }
-        ensures low { (i : ℕ) → i < from % 64 → bit_at result i ≡ 0 }
+    fn step_among(&mut self, unit: usize, base: usize, end: usize)
+        requires order { base ≤ end }
+        requires there { end ≤ length self.old.rings }
+        ensures { let count = nearest base end (unit + 1) - nearest base end unit in
+            IsAdvanced (nearest base end unit) count self.old self.new }
     {
-        self.moving.bits(from)
+        if base <= unit && unit < end {
+            self.step(unit);
+        }
     }
 
-    /// Goes to the next cycle of the units from one on and before an end, which one word of the set
-    /// has. Where nothing is coming, it looks at no ring.
+    /// The bits of 64 units, from unit `64 * number` on. Where a bit is 0, nothing is coming.
     #[inline(always)]
-    fn walk(&mut self, from: usize, end: usize)
-        requires order { from < end }
-        requires word { end ≤ (from / 64 + 1) * 64 }
-        requires there { end ≤ length self.old.rings }
-        requires few { end ≤ 256 }
-        ensures { IsAdvanced from (end - from) self.old self.new }
+    fn word(&self, number: usize) -> u64
+        requires { number < 4 }
+        ensures { (unit delay : ℕ) → unit < length self.now.rings → unit / 64 ≡ number
+            → bit_at result (unit % 64) ≡ 0 → due_in self.now unit delay ≡ None }
     {
-        let first = from / 64 * 64;
-        let mut left = self.bits(from, end);
-        let mut at = from;
+        self.moving.word(number)
+    }
+
+    /// Goes to the next cycle of those units from one on and before an end whose bits this word of
+    /// the set has. Where nothing is coming, it looks at no ring.
+    #[inline(always)]
+    fn walk(&mut self, number: usize, base: usize, end: usize)
+        requires word { number < 4 }
+        requires order { base ≤ end }
+        requires there { end ≤ length self.old.rings }
+        ensures { let first = nearest base end (64 * number) in
+            IsAdvanced first (nearest base end (64 * number + 64) - first) self.old self.new }
+    {
+        let first = 64 * number;
+        let mut left = self.word(number);
+        let mut at = first;
         'bits: while left != 0 {
             let bit = least_bit(left);
-            let unit = first + bit;
-            if unit >= end {
-                return;
-            }
-            self.step(unit);
-            at = unit + 1;
+            self.step_among(first + bit, base, end);
+            at = first + bit + 1;
             left = without_bit(left, bit);
         }
     }
@@ -226,11 +232,10 @@ impl Region {
         ensures { IsAdvanced base count self.old self.new }
     {
         let end = self.units().min(base + count);
-        let mut at = base;
-        'words: while at < end {
-            let last = at + (end - at).min(64 - at % 64);
-            self.walk(at, last);
-            at = last;
+        let mut number = base / 64;
+        'words: while 64 * number < end {
+            self.walk(number, base, end);
+            number += 1;
         }
     }
 

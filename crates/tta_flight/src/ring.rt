@@ -11,7 +11,7 @@ use std::alloc::{AllocError, Global};
 #[derive(Clone, Copy)]
 pub struct Ring {
     /// The first of its cells.
-    pub first: usize,
+    pub first: u32,
     /// The longest delay.
     pub longest: u8,
     /// How far after the first cell that of this cycle is.
@@ -33,9 +33,9 @@ impl Ring {
         let size = usize::from(self.longest) + 1;
         let along = usize::from(self.at) + usize::from(delay);
         if along < size {
-            self.first + along
+            self.first as usize + along
         } else {
-            self.first + (along - size)
+            self.first as usize + (along - size)
         }
     }
 
@@ -45,7 +45,7 @@ impl Ring {
         requires few { self.first + self.longest < 65536 }
         ensures { result ≡ place_of self 0 }
     {
-        self.first + usize::from(self.at)
+        self.first as usize + usize::from(self.at)
     }
 
     /// The ring in the next cycle.
@@ -130,7 +130,7 @@ pub fn carve(alloc: Global, longest: &[u8]) -> Result<Vec<Ring>, AllocError>
             shown: None,
         };
         rings.push(ring)?;
-        first += usize::from(*l) + 1;
+        first += u32::from(*l) + 1;
     }
     Ok(rings)
 }

@@ -1,20 +1,38 @@
-use Rattle.std.proofs.Common.{◌≤◌, ◌+◌, ◌-◌, arith}
+use Rattle.std.proofs.Common.{◌≡◌, ◌≤◌, ◌+◌, ◌-◌, ◌*◌, ◌/◌, ℕ, subst, sym, arith}
+use Rattle.tta_flight.specs.Rings.{nearest, IsAdvanced}
 use Rattle.tta_flight.proofs.Advanced.{advanced_none, advanced_chain}
+use Rattle.tta_flight.proofs.Walked.{nearest_first, nearest_order, nearest_low}
 use Rattle.tta_flight.proofs.region.Region.steps.Goals as goal
 
 pub words-init : goal.words-init
-words-init c = record {
-  after = omega arith;
-  within = omega arith;
-  advanced = advanced_none _ _;
-}
+words-init c =
+    let base : ℕ = c.args.base in
+    let end : ℕ = c.min-end.result in
+    let order : base ≤ end = grind (arith, c.min-end.ensures, c.units.ensures.all, c.requires.there) in
+    let from : nearest base end (64 * (base / 64)) ≡ base = nearest_low base end order (64 * (base / 64)) (omega arith) in
+    record {
+      near = omega arith;
+      advanced = subst (λ n. IsAdvanced base (n - base) c.args.self.now c.args.self.now) (sym from) (advanced_none base c.args.self.now);
+    }
 
 pub words-preserved : goal.words-preserved
 words-preserved c =
-    let end : c.min-end.result ≤ c.args.base + c.args.count = grind (arith, c.min-end.ensures) in
-    let some : c.min.result ≤ c.min-end.result - c.words.at = grind (arith, c.min.ensures) in
+    let base : ℕ = c.args.base in
+    let end : ℕ = c.min-end.result in
+    let order : base ≤ end = grind (arith, c.min-end.ensures, c.units.ensures.all, c.requires.there) in
+    let start : ℕ = 64 * c.words.number in
+    let next : start + 64 ≡ 64 * (c.words.number + 1) = omega arith in
     record {
-      after = omega (arith, c.words.invariant.after);
-      within = omega (arith, end, some, c.words-test.true);
-      advanced = advanced_chain _ _ _ _ _ _ c.words.invariant.after (omega arith) c.words.invariant.advanced c.walk.ensures;
+      near = omega (arith, c.words-test.true);
+      advanced = subst (λ n. IsAdvanced base (nearest base end n - base) c.args.self.now c.walk.new.self) next
+          (advanced_chain base (nearest base end start) (nearest base end (start + 64)) _ _ _ (nearest_first base end order start)
+          (nearest_order base end order start (start + 64) (omega arith)) c.words.invariant.advanced c.walk.ensures);
     }
+
+pub returns : goal.returns
+returns c =
+    let base : ℕ = c.args.base in
+    let all_are : c.min-end.result ≡ base + c.args.count = grind (arith, c.min-end.ensures, c.units.ensures.all, c.requires.there) in
+    let end : ℕ = c.min-end.result in
+    let all : nearest base end (64 * c.words.number) - base ≡ c.args.count = grind (arith, c.words-test.false, all_are) in
+    subst (λ n. IsAdvanced base n c.args.self.now c.words.self) all c.words.invariant.advanced

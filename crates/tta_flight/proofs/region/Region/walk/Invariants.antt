@@ -1,16 +1,16 @@
-use Rattle.std.proofs.Common.{◌≡◌, ◌<◌, ◌≤◌, ◌-◌, ◌%◌, ◌+◌, ◌*◌, ◌/◌, ℕ, None}
+use Rattle.std.proofs.Common.{◌≡◌, ◌<◌, ◌≤◌, ◌-◌, ◌%◌, ◌+◌, ◌/◌, ℕ, None}
 use Rattle.std.specs.Int.{bit_at}
-use Rattle.tta_flight.specs.Rings.{IsAdvanced, due_in}
+use Rattle.tta_flight.specs.Rings.{IsAdvanced, due_in, nearest}
 use Rattle.tta_flight.proofs.region.Region.walk.Given as goal
 
 abbrev pub invariant-bits : goal.invariant-bits
 invariant-bits l = record {
-  after : l.from ≤ l.at;
-  within : l.at ≤ l.end;
-  advanced : IsAdvanced l.from (l.at - l.from) l.fn.self l.self;
-  low : (i : ℕ) → l.from / 64 * 64 + i < l.at → bit_at l.left i ≡ 0;
-  still : (unit delay : ℕ) → l.at ≤ unit → unit < l.end → bit_at l.left (unit % 64) ≡ 0 → due_in l.self unit delay ≡ None;
+  after : l.first ≤ l.at;
+  within : l.at ≤ l.first + 64;
+  advanced : IsAdvanced (nearest l.base l.end l.first) (nearest l.base l.end l.at - nearest l.base l.end l.first) l.fn.self l.self;
+  low : (i : ℕ) → l.first + i < l.at → bit_at l.left i ≡ 0;
+  still : (unit delay : ℕ) → l.base ≤ unit → l.at ≤ unit → unit < l.end → unit / 64 ≡ l.number → bit_at l.left (unit % 64) ≡ 0 → due_in l.self unit delay ≡ None;
 }
 
 abbrev pub decreases-bits : goal.decreases-bits
-decreases-bits l = l.end - l.at
+decreases-bits l = l.first + 64 - l.at
