@@ -1,7 +1,7 @@
 -- A decoded instruction and the instruction that it was decoded from.
-use Rattle.std.proofs.Common.{◌≡◌, ℕ, not, Bool, true, false, List, [], ◌∷◌, ◌++◌, length, map, Option, Some, None, refl, sym, ap, ◌∙◌, subst}
-use Rattle.std.specs.Prelude.{is_none, option_map, filter, if◌then◌else◌}
-use Rattle.std.specs.List.{list_any, filter_map, cons_option}
+use Rattle.std.proofs.Common.{◌≡◌, ℕ, not, Bool, true, false, List, ◌++◌, length, map, Option, Some, None, refl, sym, ap, ◌∙◌, subst}
+use Rattle.std.specs.Prelude.{is_none, if◌then◌else◌}
+use Rattle.std.specs.List.{list_any, filter_map}
 use Rattle.tta_arch.specs.Machine.{Machine}
 use Rattle.tta_arch.specs.Rules.{IsMachine}
 use Rattle.tta_arch.specs.Effects.{Start, write_of, first_some, lacks_operand}
@@ -15,49 +15,16 @@ use Rattle.tta_sim.specs.declared.lines.Missing.TheVariants as missing
 use Rattle.tta_sim.specs.declared.lines.Write.{Write}
 use Rattle.tta_sim.specs.Results.{Results, HasUnits, shown_by}
 use Rattle.tta_sim.specs.Moves.{reads_of, effects_in, arrivals_of, brought_of}
-use Rattle.tta_sim.specs.Starts.{started, start_by, starts_of, fault_in, told_in, is_resultless, AreFitting, AreReachable}
+use Rattle.tta_sim.specs.Starts.{start_by, starts_of, fault_in, told_in, AreFitting, AreReachable}
 use Rattle.tta_sim.specs.Writing.{long_writes, numbered, ArePlaces}
 use Rattle.tta_sim.specs.Decoded.{line_of}
-use Rattle.tta_sim.specs.Lines.{word_read, is_unread, write_brought, start_brought, tell_brought, operand_in, cannot_start, is_store, is_ready}
+use Rattle.tta_sim.specs.Lines.{is_unread, write_brought, start_brought, tell_brought, operand_in, cannot_start, is_ready}
 use Rattle.tta_sim.specs.Unset.{lacks_for}
 use Rattle.tta_sim.proofs.Possible.{possible, long_possible, operations_there}
 use Rattle.tta_sim.proofs.Starting.{reachable, are_fitting}
 use Rattle.tta_sim.proofs.Fitting.{writes_placed}
 use Rattle.tta_sim.proofs.Brought.{starts_in, tells_in}
 use Rattle.tta_sim.proofs.Readying.{ready_is, all_unread, could_read, brought_is, starts_are, fault_place, fault_port, fault_start, fault_control, writes_read, starts_read}
-
--- the operations of stores show no result
-pub stores_of : (places : List (Option ℕ)) (shown : ℕ → Option ℕ) (operand : ℕ → Option ℕ) (ss : List DecodedStart)
-    → filter_map (start_brought places shown operand) (filter is_store ss) ≡ filter is_resultless (filter_map (start_brought places shown operand) ss)
-stores_of places shown operand [] = refl
-stores_of places shown operand (s ∷ ss) =
-    let brought = start_brought places shown operand in
-    let rest = stores_of places shown operand ss in
-    elim (is_store s) as (λ b. is_store s ≡ b → filter_map brought (if b then s ∷ filter is_store ss else filter is_store ss) ≡ filter is_resultless (cons_option (brought s) (filter_map brought ss))) [
-      | true ↦ λ is. kept (word_read places shown s.reading) is rest
-      | false ↦ λ is. left (word_read places shown s.reading) is rest
-    ] refl
-  where
-    brings : Option ℕ → Option Start
-    brings o = option_map (started operand s.unit s.does) o
-
-    some : List Start
-    some = filter_map (start_brought places shown operand) (filter is_store ss)
-
-    all : List Start
-    all = filter_map (start_brought places shown operand) ss
-
-    kept : (o : Option ℕ) → is_store s ≡ true → some ≡ filter is_resultless all → cons_option (brings o) some ≡ filter is_resultless (cons_option (brings o) all)
-    kept None is rest = rest
-    kept (Some word) is rest =
-        let t : Start = started operand s.unit s.does word in
-        ap (λ ts. t ∷ ts) rest ∙ ap (λ b. if b then t ∷ filter is_resultless all else filter is_resultless all) (sym is)
-
-    left : (o : Option ℕ) → is_store s ≡ false → some ≡ filter is_resultless all → some ≡ filter is_resultless (cons_option (brings o) all)
-    left None is rest = rest
-    left (Some word) is rest =
-        let t : Start = started operand s.unit s.does word in
-        rest ∙ ap (λ b. if b then t ∷ filter is_resultless all else filter is_resultless all) (sym is)
 
 module _ (m : Machine) (rules : IsMachine m) (i : Instruction) (legal : is_legal m i ≡ true) (back : ℕ) (l : Line) (decoded : l ≡ line_of m back i)
     (places : List (Option ℕ)) (r : Results) (p : Bool) where

@@ -1,6 +1,6 @@
 -- A legal instruction is decoded into a line that a run can carry out.
-use Rattle.std.proofs.Common.{◌≡◌, ℕ, ◌<◌, ◌≤◌, Bool, true, false, not, ◌&&◌, IsTrue, List, [], ◌∷◌, ◌++◌, length, map, Option, Some, None, refl, ap, arith}
-use Rattle.std.specs.Prelude.{nat_lt, option_map, option_to_list, option_and_then, filter, slice_get, if◌then◌else◌}
+use Rattle.std.proofs.Common.{◌≡◌, ℕ, ◌<◌, ◌≤◌, Bool, true, false, ◌&&◌, IsTrue, List, [], ◌∷◌, ◌++◌, length, map, Option, Some, None, refl, arith}
+use Rattle.std.specs.Prelude.{nat_lt, option_map, option_to_list, slice_get}
 use Rattle.std.specs.Option.{option_map_or}
 use Rattle.std.specs.List.{filter_map, cons_option, AllByRecursion}
 use Rattle.std.proofs.lemmas.Bool.{and_parts, and_from, ltb-true}
@@ -14,21 +14,20 @@ use Rattle.tta_arch.specs.declared.ends.Dest.{Dest}
 use Rattle.tta_arch.specs.declared.ends.Dest.TheVariants as dest
 use Rattle.tta_arch.specs.Machine.{Machine}
 use Rattle.tta_arch.specs.Rules.{IsMachine}
-use Rattle.tta_arch.specs.Effects.{KeptReg, KeptImm, KeptOperand, write_of, op_at, has_result}
+use Rattle.tta_arch.specs.Effects.{KeptReg, KeptImm, KeptOperand, write_of, op_at}
 use Rattle.tta_code.specs.declared.code.Move.{Move}
 use Rattle.tta_code.specs.declared.code.Long.{Long}
 use Rattle.tta_code.specs.declared.code.Instruction.{Instruction}
 use Rattle.tta_code.specs.Cycle.{moves_of}
 use Rattle.tta_code.specs.Legal.{is_legal}
 use Rattle.tta_sim.specs.declared.decoded.DecodedSource.TheVariants as decoded
-use Rattle.tta_sim.specs.declared.decoded.DecodedStart.{DecodedStart}
 use Rattle.tta_sim.specs.declared.decoded.DecodedWrite.{DecodedWrite}
 use Rattle.tta_sim.specs.Places.{is_place, number_of}
 use Rattle.tta_sim.specs.Moves.{Arrival, is_askable, is_readable, is_reachable, is_possible, is_possible_slot, brought_of}
 use Rattle.tta_sim.specs.Starts.{AreReachable}
 use Rattle.tta_sim.specs.Writing.{is_long_place, long_writes, ArePlaces}
-use Rattle.tta_sim.specs.Decoded.{source_decoded, reading_of, write_decoded, start_decoded, store_decoded, tell_decoded, long_decoded, line_of}
-use Rattle.tta_sim.specs.Lines.{is_source_there, is_reading_there, is_write_there, is_start_there, is_tell_there, is_store, IsLineThere}
+use Rattle.tta_sim.specs.Decoded.{source_decoded, reading_of, write_decoded, start_decoded, tell_decoded, long_decoded, line_of}
+use Rattle.tta_sim.specs.Lines.{is_source_there, is_reading_there, is_write_there, is_start_there, is_tell_there, IsLineThere}
 use Rattle.tta_sim.proofs.Rows.{number_within}
 use Rattle.tta_sim.proofs.Lists.{length-filter_map}
 use Rattle.tta_sim.proofs.Possible.{possible, long_possible}
@@ -109,13 +108,6 @@ module _ (m : Machine) (units : ℕ) (few : units ≤ 32) where
     by dest.Call there = refl
     by dest.Halt there = refl
 
-  store_there : (v : Move) → is_possible units v ≡ true → option_map_or (is_start_there units) (store_decoded m v) true ≡ true
-  store_there v possible = of (start_decoded m v) (start_there v possible) where
-    of : (o : Option DecodedStart) → option_map_or (is_start_there units) o true ≡ true
-        → option_map_or (is_start_there units) (option_and_then (λ s. if has_result s.does.op then None else Some s) o) true ≡ true
-    of None there = refl
-    of (Some s) there = elim (has_result s.does.op) as (λ b. option_map_or (is_start_there units) (if b then None else Some s) true ≡ true) [ true ↦ refl | false ↦ there ]
-
   tell_there : (v : Move) → is_possible units v ≡ true → option_map_or (is_tell_there units) (tell_decoded v) true ≡ true
   tell_there v possible = by v.dst where
     by : (d : Dest) → option_map_or (is_tell_there units) (tell_decoded (record v { dst = d })) true ≡ true
@@ -144,20 +136,6 @@ length-option : {A : Type 0} (o : Option A) → length (option_to_list o) ≤ 1
 length-option None = omega arith
 length-option (Some x) = omega arith
 
--- the starts that are stores
-stored_parts : (m : Machine) (ms : List Move) → filter_map (store_decoded m) ms ≡ filter is_store (filter_map (start_decoded m) ms)
-stored_parts m [] = refl
-stored_parts m (v ∷ ms) = of (start_decoded m v) (stored_parts m ms) where
-  of : (o : Option DecodedStart) → filter_map (store_decoded m) ms ≡ filter is_store (filter_map (start_decoded m) ms)
-      → cons_option (option_and_then (λ s. if has_result s.does.op then None else Some s) o) (filter_map (store_decoded m) ms)
-      ≡ filter is_store (cons_option o (filter_map (start_decoded m) ms))
-  of None rest = rest
-  of (Some s) rest = elim (has_result s.does.op) as (λ b. cons_option (if b then None else Some s) (filter_map (store_decoded m) ms)
-      ≡ (if not b then s ∷ filter is_store (filter_map (start_decoded m) ms) else filter is_store (filter_map (start_decoded m) ms))) [
-        | true ↦ rest
-        | false ↦ ap (λ ss. s ∷ ss) rest
-      ]
-
 -- a legal instruction is decoded into a line that is there
 pub line_there : (m : Machine) → IsMachine m → (back : ℕ) (i : Instruction) → is_legal m i ≡ true → IsLineThere (length m.units) (line_of m back i)
 line_there m rules back i legal =
@@ -171,8 +149,6 @@ line_there m rules back i legal =
       few_writes =
           omega (arith, fits.few, count, length-filter_map (write_decoded m back) ms, length-append writes (option_to_list (long_decoded m i.long)), length-option (long_decoded m i.long));
       few_starts = omega (arith, fits.few, count, length-filter_map (start_decoded m) ms);
-      few_stores = omega (arith, fits.few, count, length-filter_map (store_decoded m) ms);
-      stored = stored_parts m ms;
       quiet = refl;
       writes =
           all_append (is_write_there units) writes (option_to_list (long_decoded m i.long))
@@ -182,9 +158,6 @@ line_there m rules back i legal =
       starts =
           all_filter_map (is_start_there units) (start_decoded m) ms
           (each m units fits.units (λ v. option_map_or (is_start_there units) (start_decoded m v) true) (start_there m units fits.units) ms all);
-      stores =
-          all_filter_map (is_start_there units) (store_decoded m) ms
-          (each m units fits.units (λ v. option_map_or (is_start_there units) (store_decoded m v) true) (store_there m units fits.units) ms all);
       tells =
           all_filter_map (is_tell_there units) tell_decoded ms
           (each m units fits.units (λ v. option_map_or (is_tell_there units) (tell_decoded v) true) (tell_there m units fits.units) ms all);

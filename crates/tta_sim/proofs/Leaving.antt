@@ -1,6 +1,6 @@
 -- What a line leaves is what the instruction does that it was decoded from.
 use Rattle.std.proofs.Common.{◌≡◌, ℕ, ◌<◌, true, IsTrue, List, [], ◌∷◌, ◌++◌, map, Option, Some, None, refl, sym, ap, ◌∙◌, subst}
-use Rattle.std.specs.Prelude.{◌%◌, Bool, is_none, nat_lt, filter, option_map, if◌then◌else◌}
+use Rattle.std.specs.Prelude.{◌%◌, Bool, is_none, nat_lt, option_map, if◌then◌else◌}
 use Rattle.std.specs.List.{filter_map, cons_option, list_any, AllByRecursion}
 use Rattle.std.proofs.lemmas.Bool.{and_parts, ltb-true}
 use Rattle.tta_arch.specs.Machine.{Machine}
@@ -13,13 +13,12 @@ use Rattle.tta_sim.specs.declared.store.Store.{Store}
 use Rattle.tta_sim.specs.declared.store.Doings.{Doings}
 use Rattle.tta_sim.specs.Results.{Results, shown_by}
 use Rattle.tta_sim.specs.Moves.{Arrival, reads_of, arrivals_of, brought_of}
-use Rattle.tta_sim.specs.Starts.{starts_of, fault_in, is_resultless, clashes_with, AreFitting, CanStart}
+use Rattle.tta_sim.specs.Starts.{starts_of, fault_in, clashes_with, AreFitting, CanStart}
 use Rattle.tta_sim.specs.Writing.{long_writes, numbered}
-use Rattle.tta_sim.specs.Decoded.{is_nil, IsDecoded}
-use Rattle.tta_sim.specs.Lines.{is_reading_there, is_write_there, word_read, write_brought, start_brought, operand_in, is_ready, IsLineThere}
+use Rattle.tta_sim.specs.Decoded.{IsDecoded}
+use Rattle.tta_sim.specs.Lines.{is_reading_there, is_write_there, word_read, write_brought, operand_in, is_ready, IsLineThere}
 use Rattle.tta_sim.specs.Ready.{writes_in, FitsLine, AreLeft}
-use Rattle.tta_sim.proofs.Facing.{stores_of, ready_same, writes_same, starts_same}
-use Rattle.tta_sim.proofs.Noting.{nothing_in, quiet_parts}
+use Rattle.tta_sim.proofs.Facing.{ready_same, writes_same, starts_same}
 
 module _ (m : Machine) (i : Instruction) (old : Store) (r : Results) where
   -- the words that the moves of an instruction bring, and the operations that they start
@@ -68,12 +67,3 @@ pub left_can : (store : Store) (r : Results) (l : Line) (doings : Doings) (ts : 
 left_can store r l doings ts fits left same =
     let fit = subst (AreFitting r) (sym (same ∙ left.starts)) (fits (operand_in store.places (writes_in store r l))) in
     record { fitting = fit.fitting; apart = fit.apart; free = ap (list_any (clashes_with r)) same ∙ left.free }
-
--- those of a quiet line all show a result
-pub left_quiet : (units : ℕ) (store : Store) (r : Results) (l : Line) (doings : Doings) (ts : List Start) → IsLineThere units l → AreLeft store r l doings → ts ≡ doings.starts
-    → l.quiet ≡ true → filter is_resultless ts ≡ []
-left_quiet units store r l doings ts there left same quiet =
-    let brought = start_brought store.places (shown_by r) (operand_in store.places (writes_in store r l)) in
-    let none : l.stores ≡ [] = nothing_in l.stores (quiet_parts l.quiet (is_nil l.stores) (is_nil l.tells) there.quiet quiet).0 in
-    ap (filter is_resultless) (same ∙ left.starts) ∙ sym (stores_of store.places (shown_by r) (operand_in store.places (writes_in store r l)) l.starts)
-    ∙ ap (filter_map brought) (sym there.stored ∙ none)

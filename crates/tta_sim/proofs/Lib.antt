@@ -1,11 +1,14 @@
 pub mod Agreeing
+pub mod Cycles
 pub mod Decoding
 pub mod Beginning
 pub mod Lining
 pub mod Lists
 pub mod Possible
+pub mod Quiet
 pub mod Rows
 pub mod Showing
+pub mod Silent
 pub mod Starting
 pub mod Writes
 pub mod Wrote

@@ -18,7 +18,7 @@ pub nothing_in : {A : Type 0} (xs : List A) → is_nil xs ≡ true → xs ≡ []
 nothing_in [] none = refl
 nothing_in (x ∷ xs) none = grind (arith, none)
 
--- a quiet line has neither stores nor control moves
+-- a quiet line has no loud starts, and no control moves
 pub quiet_parts : (q a b : Bool) → q ≡ (a && b) → q ≡ true → (a ≡ true) × (b ≡ true)
 quiet_parts q true true is quiet = (refl, refl)
 quiet_parts q true false is quiet = cc

@@ -1,14 +1,12 @@
 -- Words that are written one by one.
-use Rattle.std.proofs.Common.{◌≡◌, ◌<◌, ◌≤◌, ◌+◌, ◌-◌, ℕ, zero, suc, true, false, List, [], ◌∷◌, ◌++◌, length, drop, get_or, Option, Some, refl, ap, sym, ◌∙◌, subst, arith}
-use Rattle.std.specs.Prelude.{not, if◌then◌else◌, filter, fold}
-use Rattle.std.specs.List.{find}
+use Rattle.std.proofs.Common.{◌≡◌, ◌<◌, ◌≤◌, ◌+◌, ◌-◌, ℕ, zero, suc, true, List, [], ◌∷◌, ◌++◌, length, drop, get_or, Option, refl, ap, sym, ◌∙◌, subst, arith}
+use Rattle.std.specs.Prelude.{fold}
 use Rattle.std.proofs.lemmas.List.{drop_more, length-set}
 use Rattle.tta_arch.specs.declared.parts.Op.{Op}
 use Rattle.tta_arch.specs.declared.parts.Op.TheVariants.{Ldw, Stw, Ldf, Stf, Out, Take, Set}
-use Rattle.tta_arch.specs.Effects.{Place, KeptRa, Written, Start, operand_word, store_data, store_frame, has_result}
+use Rattle.tta_arch.specs.Effects.{Place, KeptRa, Written, Start, operand_word, store_data, store_frame}
 use Rattle.tta_sim.specs.declared.lines.Write.{Write}
 use Rattle.tta_sim.specs.Places.{HasWritten, is_place, number_of}
-use Rattle.tta_sim.specs.Starts.{is_resultless, puts}
 use Rattle.tta_sim.specs.Writing.{numbered, numbered_one, ArePlaces}
 
 -- ---- spaces
@@ -44,41 +42,6 @@ pub length-stored_frame : (words : List ℕ) (starts : List Start) → length (f
 length-stored_frame words [] = refl
 length-stored_frame words (t ∷ starts) = length-stored_frame (store_frame words t) starts ∙ length-store_frame words t
 
--- ---- operations that all have results
-
-kept_data : (words : List ℕ) (t : Start) → is_resultless t ≡ false → store_data words t ≡ words
-kept_data words t shows = by t.does.op shows where
-  by : (o : Op) → not (has_result o) ≡ false → store_data words (record t { does = record t.does { op = o } }) ≡ words
-  by Ldw shows = refl
-  by Stw shows = cc
-  by Ldf shows = refl
-  by Stf shows = refl
-  by Out shows = refl
-  by Take shows = refl
-  by (Set id) shows = refl
-
-kept_frame : (words : List ℕ) (t : Start) → is_resultless t ≡ false → store_frame words t ≡ words
-kept_frame words t shows = by t.does.op shows where
-  by : (o : Op) → not (has_result o) ≡ false → store_frame words (record t { does = record t.does { op = o } }) ≡ words
-  by Ldw shows = refl
-  by Stw shows = refl
-  by Ldf shows = refl
-  by Stf shows = cc
-  by Out shows = refl
-  by Take shows = refl
-  by (Set id) shows = refl
-
-kept_in : (t : Start) → is_resultless t ≡ false → puts t ≡ false
-kept_in t shows = by t.does.op shows where
-  by : (o : Op) → not (has_result o) ≡ false → puts (record t { does = record t.does { op = o } }) ≡ false
-  by Ldw shows = refl
-  by Stw shows = refl
-  by Ldf shows = refl
-  by Stf shows = refl
-  by Out shows = cc
-  by Take shows = refl
-  by (Set id) shows = refl
-
 -- ---- writes by number
 
 get_or-numbered : (new : Written) (k : ℕ) (d : Write) (e : Place × ℕ) → k < length new → get_or (numbered new) k d ≡ numbered_one (get_or new k e)
@@ -108,31 +71,3 @@ written_next writes i d rows now new old some within are there sets had =
     let w : get_or writes (i - 1) d ≡ numbered_one x = ap (λ ws. get_or ws (i - 1) d) are ∙ get_or-numbered new (i - 1) d e inside in
     let puts = sets x.0 (drop i new ++ old) (place_at new (i - 1) e there inside) (sym (ap (λ w. w.place) w)) had in
     subst (λ ws. HasWritten now (ws ++ old)) (sym parts) (subst (λ n. HasWritten now ((x.0, n) ∷ (drop i new ++ old))) (ap (λ w. w.word) w) puts)
-
--- ---- operations among which some have results
-
--- only those without a result store
-pub stores_alone : (words : List ℕ) (starts : List Start) → fold store_data words (filter is_resultless starts) ≡ fold store_data words starts
-stores_alone words [] = refl
-stores_alone words (t ∷ starts) = elim (is_resultless t) as (λ b. is_resultless t ≡ b
-    → fold store_data words (if b then t ∷ filter is_resultless starts else filter is_resultless starts) ≡ fold store_data (store_data words t) starts) [
-      | true ↦ λ is. stores_alone (store_data words t) starts
-      | false ↦ λ is. stores_alone words starts ∙ ap (λ ws. fold store_data ws starts) (sym (kept_data words t is))
-    ] refl
-
-pub stores_alone_frame : (words : List ℕ) (starts : List Start) → fold store_frame words (filter is_resultless starts) ≡ fold store_frame words starts
-stores_alone_frame words [] = refl
-stores_alone_frame words (t ∷ starts) = elim (is_resultless t) as (λ b. is_resultless t ≡ b
-    → fold store_frame words (if b then t ∷ filter is_resultless starts else filter is_resultless starts) ≡ fold store_frame (store_frame words t) starts) [
-      | true ↦ λ is. stores_alone_frame (store_frame words t) starts
-      | false ↦ λ is. stores_alone_frame words starts ∙ ap (λ ws. fold store_frame ws starts) (sym (kept_frame words t is))
-    ] refl
-
--- only those output a word
-pub puts_alone : (starts : List Start) → find puts (filter is_resultless starts) ≡ find puts starts
-puts_alone [] = refl
-puts_alone (t ∷ starts) = elim (is_resultless t) as (λ b. is_resultless t ≡ b
-    → find puts (if b then t ∷ filter is_resultless starts else filter is_resultless starts) ≡ (if puts t then Some t else find puts starts)) [
-      | true ↦ λ is. ap (λ o. if puts t then Some t else o) (puts_alone starts)
-      | false ↦ λ is. puts_alone starts ∙ ap (λ b. if b then Some t else find puts starts) (sym (kept_in t is))
-    ] refl

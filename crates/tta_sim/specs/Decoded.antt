@@ -1,6 +1,6 @@
 -- Instructions in the form in which they are carried out.
-use Rattle.std.specs.Prelude.{◌≡◌, ℕ, ◌+◌, ◌==◌, Bool, true, false, ◌&&◌, if◌then◌else◌, List, [], ◌∷◌, ◌++◌, Option, None, Some, is_some, option_map, option_to_list, option_and_then, length, slice_get}
-use Rattle.std.specs.List.{filter_map}
+use Rattle.std.specs.Prelude.{◌≡◌, ℕ, ◌+◌, ◌==◌, Bool, true, false, not, ◌&&◌, List, [], ◌∷◌, ◌++◌, Option, None, Some, is_some, option_map, option_to_list, option_and_then, length, slice_get}
+use Rattle.std.specs.List.{filter_map, list_any}
 use Rattle.tta_arch.specs.declared.ends.GuardRef.{GuardRef}
 use Rattle.tta_arch.specs.declared.ends.Source.{Source}
 use Rattle.tta_arch.specs.declared.ends.Source.TheVariants as source
@@ -8,7 +8,7 @@ use Rattle.tta_arch.specs.declared.ends.Dest.{Dest}
 use Rattle.tta_arch.specs.declared.ends.Dest.TheVariants as dest
 use Rattle.tta_arch.specs.Machine.{Machine}
 use Rattle.tta_arch.specs.Rules.{IsMachine}
-use Rattle.tta_arch.specs.Effects.{KeptReg, KeptImm, KeptOperand, KeptRa, width_of, op_at, has_result}
+use Rattle.tta_arch.specs.Effects.{KeptReg, KeptImm, KeptOperand, KeptRa, width_of, op_at}
 use Rattle.tta_code.specs.declared.code.Move.{Move}
 use Rattle.tta_code.specs.declared.code.Long.{Long}
 use Rattle.tta_code.specs.declared.code.Instruction.{Instruction}
@@ -24,6 +24,7 @@ use Rattle.tta_sim.specs.declared.decoded.DecodedStart.{DecodedStart}
 use Rattle.tta_sim.specs.declared.decoded.DecodedTell.{DecodedTell}
 use Rattle.tta_sim.specs.declared.decoded.Line.{Line}
 use Rattle.tta_sim.specs.Places.{number_of}
+use Rattle.tta_sim.specs.Starts.{is_loud_op}
 
 -- ---- what a move reads
 
@@ -67,10 +68,6 @@ start_decoded m v = on v.dst where
   on dest.Call = None
   on dest.Halt = None
 
--- the start of an operation that shows no result
-abbrev pub store_decoded : Machine → Move → Option DecodedStart
-store_decoded m v = option_and_then (λ s. if has_result s.does.op then None else Some s) (start_decoded m v)
-
 -- whether a move to a trigger port finds its operation
 abbrev pub has_operation : Machine → Move → Bool
 has_operation m v = on v.dst where
@@ -105,14 +102,21 @@ long_decoded m long = option_and_then (λ l.
 abbrev pub is_nil : {A : Type 0} → List A → Bool
 is_nil xs = length xs == 0
 
+-- whether a move starts an operation that does more than show a result of words that the machine has
+abbrev pub is_loud_start : DecodedStart → Bool
+is_loud_start s = is_loud_op s.does.op
+
+-- whether there are no such moves, and no control moves
+abbrev pub is_quiet : List DecodedStart → List DecodedTell → Bool
+is_quiet starts tells = not (list_any is_loud_start starts) && is_nil tells
+
 -- an instruction, where a call in it comes back to this address
 abbrev pub line_of : Machine → (back : ℕ) → Instruction → Line
 line_of m back i = record {
   writes = filter_map (write_decoded m back) (moves_of i) ++ option_to_list (long_decoded m i.long);
   starts = filter_map (start_decoded m) (moves_of i);
-  stores = filter_map (store_decoded m) (moves_of i);
   tells = filter_map tell_decoded (moves_of i);
-  quiet = is_nil (filter_map (store_decoded m) (moves_of i)) && is_nil (filter_map tell_decoded (moves_of i));
+  quiet = is_quiet (filter_map (start_decoded m) (moves_of i)) (filter_map tell_decoded (moves_of i));
 }
 
 -- an instruction to which what one more move does is added
@@ -120,7 +124,6 @@ abbrev pub with_move : Machine → (back : ℕ) → Line → Option Move → Lin
 with_move m back line slot = record line {
   writes = line.writes ++ option_to_list (option_and_then (write_decoded m back) slot);
   starts = line.starts ++ option_to_list (option_and_then (start_decoded m) slot);
-  stores = line.stores ++ option_to_list (option_and_then (store_decoded m) slot);
   tells = line.tells ++ option_to_list (option_and_then tell_decoded slot);
 }
 

@@ -110,6 +110,12 @@ abbrev pub GoesTo : Held → (s next : State) → CycleStep → Type 0
 GoesTo h s next Waits = Stands h s
 GoesTo h s next answer = Stands h next
 
+-- A run went from a state to another and was quiet: it stands for that one, output nothing, and took no word.
+pub record IsQuiet (Stands : State → Type 0) (s t : State) : Type 0 where
+  pub stands : Stands t
+  pub output : t.output ≡ s.output
+  pub rest : t.rest ≡ s.rest
+
 -- The answer of a cycle from a state: Halted where the state has halted; the fault that the next state is at, now or since
 -- earlier; Waiting where the cycle makes it wait; and else the word that the cycle outputs, if any, and whether it takes a
 -- word of the input.

@@ -1,14 +1,23 @@
 -- How a run is kept, and what a cycle of it comes to.
-use Rattle.std.specs.Prelude.{◌≡◌, ◌++◌, List, false, option_map, option_to_list}
-use Rattle.tta_code.specs.Cycle.{State, Waiting, Fault}
+use Rattle.std.specs.Prelude.{◌≡◌, ℕ, ◌+◌, ◌<◌, ◌^◌, ◌++◌, List, length, Option, Some, is_none, Bool, true, false, not, ◌&&◌, option_map, option_to_list}
+use Rattle.tta_ops.specs.Units.{Units}
+use Rattle.tta_arch.specs.Machine.{Machine}
+use Rattle.tta_code.specs.declared.code.Instruction.{Instruction}
+use Rattle.tta_code.specs.Cycle.{State, Waiting, Fault, carry_out}
+use Rattle.tta_flight.specs.Rings.{Rings}
 use Rattle.tta_sim.specs.declared.answer.CycleStep.{CycleStep}
 use Rattle.tta_sim.specs.declared.answer.CycleStep.TheVariants.{Ran, Halted as HadHalted, Waiting as Waits, Fault as Faults}
 use Rattle.tta_sim.specs.declared.decoded.Line.{Line}
 use Rattle.tta_sim.specs.declared.store.Store.{Store}
 use Rattle.tta_sim.specs.declared.control.Control.{Control}
-use Rattle.tta_list.specs.Input.{left}
-use Rattle.tta_sim.specs.Held.{HeldState, GoesWith, is_fault}
-use Rattle.tta_sim.specs.Results.{Results}
+use Rattle.tta_sim.specs.declared.control.Phase.TheVariants.{Running}
+use Rattle.tta_sim.specs.declared.results.Part.{Part}
+use Rattle.tta_list.specs.Input.{IsFed, left}
+use Rattle.tta_sim.specs.Held.{HeldState, StandsWith, GoesWith, is_fault, cycles_of}
+use Rattle.tta_sim.specs.Results.{Results, AreThere, results_at}
+use Rattle.tta_sim.specs.Decoded.{IsDecoded}
+use Rattle.tta_sim.specs.Lines.{IsLineThere}
+use Rattle.tta_sim.specs.Ready.{FitsLine, KeepsOthers}
 use Rattle.tta_sim.specs.Controls.{underway, outcome_of}
 
 -- what is held where these are kept
@@ -32,7 +41,49 @@ Answers s next HadHalted = ⊥
 Answers s next Waits = next ≡ record s { outcome = Waiting }
 Answers s next (Faults number) = next.outcome ≡ Fault number s.cycle
 
+-- whether a cycle with this answer output nothing and took nothing, and did not wait
+abbrev pub is_silent : CycleStep → Bool
+is_silent (Ran word took) = is_none word && not took
+is_silent HadHalted = false
+is_silent Waits = false
+is_silent (Faults number) = true
+
 -- what is held stands for the next state, or for the same where the cycle waits, and this was answered
 pub record IsCarried (r : Results) (h : HeldState) (s next : State) (answer : CycleStep) : Type 0 where
   pub stands : GoesWith r h s next answer
   pub answers : Answers s next answer
+
+-- ---- what a cycle needs, and what it leaves
+
+-- what a run keeps: its words, its control, and the region that has its results
+pub record Kept : Type 0 where
+  pub store : Store
+  pub control : Control
+  pub region : Rings
+
+-- these three together
+abbrev pub kept_as : Store → Control → Rings → Kept
+kept_as store control region = record { store = store; control = control; region = region }
+
+-- A run that goes on can carry out a line, or can tell why not, where these are its units in the region.
+pub record IsAtLine (part : Part) (line : Line) (k : Kept) : Type 0 where
+  pub running : k.control.phase ≡ Running
+  pub units : AreThere (results_at part k.region)
+  pub there : IsLineThere part.count line
+  pub fitting : FitsLine k.store (results_at part k.region) line
+  pub few : k.store.cycle < 2 ^ 62
+  pub within : k.control.pc < 65536
+
+-- A cycle of a run with this line: the run stands for the state to which the cycle takes the one for which it stood, and answers
+-- what became of it. Where it waits, all stays. Every unit of the region that is none of the machine's stays.
+pub record IsCycle (U : Units) (part : Part) (delay : ℕ) (line : Line) (next : Option ℕ) (old new : Kept) (answer : CycleStep) : Type 0 where
+  pub carried : (m : Machine) (i : Instruction) (lines : List Line) (s : State) → IsDecoded m (old.control.pc + 1 + delay) i line
+      → part.count ≡ length m.units → delay ≡ m.control.delay
+      → StandsWith (results_at part old.region) (held_of lines old.store old.control) s → IsFed s.rest next
+      → IsCarried (results_at part new.region) (held_of lines new.store new.control) s (carry_out U m s (Some i)) answer
+  pub counted : new.store.cycle ≡ old.store.cycle + cycles_of answer
+  pub memory : length new.store.memory.items ≡ length old.store.memory.items
+  pub frame : length new.store.frame.items ≡ length old.store.frame.items
+  pub waits : (lines : List Line) → answer ≡ Waits → held_of lines new.store new.control ≡ held_of lines old.store old.control
+  pub stays : answer ≡ Waits → new.region ≡ old.region
+  pub others : KeepsOthers part old.region new.region

@@ -1,8 +1,8 @@
 -- What a decoded instruction reads and brings.
-use Rattle.std.specs.Prelude.{◌≡◌, ℕ, ◌≤◌, ◌%◌, ◌==◌, Bool, true, false, not, ◌&&◌, ◌||◌, nat_lt, if◌then◌else◌, List, Option, None, Some, is_none, is_some, option_map, option_to_list, filter, length, slice_index_or, IsTrue}
+use Rattle.std.specs.Prelude.{◌≡◌, ℕ, ◌≤◌, ◌%◌, ◌==◌, Bool, true, false, not, ◌&&◌, ◌||◌, nat_lt, if◌then◌else◌, List, Option, None, Some, is_none, is_some, option_map, option_to_list, length, slice_index_or, IsTrue}
 use Rattle.std.specs.Option.{option_map_or, option_or}
 use Rattle.std.specs.List.{list_any, filter_map, find, AllByRecursion}
-use Rattle.tta_arch.specs.Effects.{Kind, KeptOperand, Start, first_some, has_result}
+use Rattle.tta_arch.specs.Effects.{Kind, KeptOperand, Start, first_some}
 use Rattle.tta_sim.specs.declared.decoded.DecodedSource.{DecodedSource}
 use Rattle.tta_sim.specs.declared.decoded.DecodedSource.TheVariants as decoded
 use Rattle.tta_sim.specs.declared.decoded.DecodedGuard.{DecodedGuard}
@@ -14,7 +14,7 @@ use Rattle.tta_sim.specs.declared.decoded.Line.{Line}
 use Rattle.tta_sim.specs.declared.lines.Read.{Read}
 use Rattle.tta_sim.specs.declared.lines.Read.TheVariants.{Nothing, Word, Unset}
 use Rattle.tta_sim.specs.declared.lines.Write.{Write}
-use Rattle.tta_sim.specs.Decoded.{is_nil}
+use Rattle.tta_sim.specs.Decoded.{is_quiet}
 use Rattle.tta_sim.specs.Places.{is_place, number_of}
 use Rattle.tta_sim.specs.Results.{Results, shown_by}
 use Rattle.tta_sim.specs.Starts.{started, is_stopped, kind_of}
@@ -43,21 +43,13 @@ is_start_there units s = is_reading_there units s.reading && (is_place (KeptOper
 abbrev pub is_tell_there : (units : ℕ) → DecodedTell → Bool
 is_tell_there units t = is_reading_there units t.reading
 
--- whether a move starts an operation that shows no result
-abbrev pub is_store : DecodedStart → Bool
-is_store s = not (has_result s.does.op)
-
--- A line whose moves have ends that are there, no more of them than a machine can have buses. It knows which of its starts
--- are stores, and whether it has stores or control moves.
+-- A line whose moves have ends that are there, no more of them than a machine can have buses. It knows whether it is quiet.
 pub record IsLineThere (units : ℕ) (l : Line) : Type 0 where
   pub few_writes : length l.writes ≤ 17
   pub few_starts : length l.starts ≤ 16
-  pub few_stores : length l.stores ≤ 16
-  pub stored : l.stores ≡ filter is_store l.starts
-  pub quiet : l.quiet ≡ (is_nil l.stores && is_nil l.tells)
+  pub quiet : l.quiet ≡ is_quiet l.starts l.tells
   pub writes : AllByRecursion (λ w. IsTrue (is_write_there units w)) l.writes
   pub starts : AllByRecursion (λ s. IsTrue (is_start_there units s)) l.starts
-  pub stores : AllByRecursion (λ s. IsTrue (is_start_there units s)) l.stores
   pub tells : AllByRecursion (λ t. IsTrue (is_tell_there units t)) l.tells
 
 -- ---- what they read

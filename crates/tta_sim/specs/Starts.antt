@@ -3,13 +3,14 @@ use Rattle.std.specs.Prelude.{◌≡◌, ℕ, ◌==◌, Bool, true, false, not, 
 use Rattle.std.specs.Option.{option_or}
 use Rattle.std.specs.List.{list_any, filter_map, find, AllByRecursion}
 use Rattle.tta_ops.specs.Units.{Units}
+use Rattle.tta_arch.specs.declared.parts.Op.{Op}
 use Rattle.tta_arch.specs.declared.parts.Op.TheVariants.{Out}
 use Rattle.tta_arch.specs.declared.parts.UnitOp.{UnitOp}
 use Rattle.tta_arch.specs.declared.ends.Dest.{Dest}
 use Rattle.tta_arch.specs.declared.ends.Dest.TheVariants as dest
 use Rattle.tta_arch.specs.Machine.{Machine}
 use Rattle.tta_arch.specs.Rules.{are_different, same_op}
-use Rattle.tta_arch.specs.Effects.{KeptOperand, Start, Kind, Jumps, Calls, Halts, op_at, has_result, result_word, lacks_operand, first_some, control_of, is_port, has_unset}
+use Rattle.tta_arch.specs.Effects.{KeptOperand, Start, Kind, Jumps, Calls, Halts, op_at, has_result, takes_in, result_word, lacks_operand, first_some, control_of, is_port, has_unset}
 use Rattle.tta_code.specs.Cycle.{Result', first_fault}
 use Rattle.tta_code.specs.declared.code.Move.{Move}
 use Rattle.tta_sim.specs.declared.control.Told.{Told}
@@ -100,9 +101,14 @@ begun u now memory frame next t =
     then Some (due_of now t (result_word u memory frame next t t.does.op))
     else None
 
--- whether an operation shows no result: it stores its word or outputs it
-abbrev pub is_resultless : Start → Bool
-is_resultless t = not (has_result t.does.op)
+-- whether an operation does more than show a result of words that the machine has: it stores its word, outputs it, or takes
+-- one of the input
+abbrev pub is_loud_op : Op → Bool
+is_loud_op o = not (has_result o) || takes_in o
+
+-- whether an operation that starts does more than that
+abbrev pub is_loud : Start → Bool
+is_loud t = is_loud_op t.does.op
 
 -- whether an operation outputs its word
 abbrev pub puts : Start → Bool

@@ -1,26 +1,20 @@
 //! One instruction.
 
 ghost use Rattle.std.specs.Prelude.{◌≡◌, ◌+◌, ◌<◌, ◌^◌, ◌++◌, ◌&&◌, ℕ, None, Some, List, Bool};
-ghost use Rattle.std.specs.Prelude.{fold, length, is_none, true, false, is_some, option_map};
-ghost use Rattle.std.specs.Prelude.{filter, []};
+ghost use Rattle.std.specs.Prelude.{Option, fold, is_none, true, false, is_some, option_map};
 ghost use Rattle.std.specs.List.{find, AllByRecursion};
 ghost use Rattle.tta_ops.specs.Set.{stated};
-ghost use Rattle.tta_arch.specs.Machine.{Machine};
 ghost use Rattle.tta_arch.specs.Effects.{Written, store_data, store_frame};
-ghost use Rattle.tta_code.specs.declared.code.Instruction.{Instruction};
-ghost use Rattle.tta_code.specs.Cycle.{State, Result', carry_out};
+ghost use Rattle.tta_code.specs.Cycle.{Result'};
 ghost use Rattle.tta_sim.specs.Places.{HasWritten};
 ghost use Rattle.tta_sim.specs.Results.{AreResultsOf, AreThere, results_at, shown_by};
-ghost use Rattle.tta_sim.specs.Starts.{is_resultless, puts};
+ghost use Rattle.tta_sim.specs.Starts.{puts};
 ghost use Rattle.tta_sim.specs.Writing.{numbered, ArePlaces};
-ghost use Rattle.tta_sim.specs.Decoded.{IsDecoded};
 ghost use Rattle.tta_sim.specs.Lines.{is_ready, IsLineThere};
-ghost use Rattle.tta_sim.specs.Ready.{FitsLine, AreNoted, AreLeft, KeepsOthers};
+ghost use Rattle.tta_sim.specs.Ready.{AreNoted, AreLeft, KeepsOthers};
 ghost use Rattle.tta_sim.specs.Unset.{IsFaultOf};
-ghost use Rattle.tta_list.specs.Input.{IsFed};
-ghost use Rattle.tta_sim.specs.Held.{StandsWith, cycles_of};
-ghost use Rattle.tta_sim.specs.declared.answer.CycleStep.TheVariants.{Waiting};
-ghost use Rattle.tta_sim.specs.Kept.{held_of, IsCarried};
+ghost use Rattle.tta_sim.specs.declared.answer.CycleStep.TheVariants.{Fault};
+ghost use Rattle.tta_sim.specs.Kept.{kept_as, is_silent, IsAtLine, IsCycle};
 
 use crate::answer::CycleStep;
 use crate::begin::{any_takes, begin_all};
@@ -120,6 +114,16 @@ fn find_fault(
     Some(fault_of(doings, store, results, line))
 }
 
+/// Stops the run at a fault.
+#[inline(always)]
+fn stop(control: &mut Control, number: u8) -> CycleStep
+    ensures stopped { control.new ≡ record control.old { phase = Phase.Fault number } }
+    ensures answer { result ≡ Fault number }
+{
+    control.phase = Phase::Fault(number);
+    CycleStep::Fault(number)
+}
+
 /// Whether a cycle has to wait: it takes a word of the input, and none is left.
 #[inline(always)]
 fn is_stuck(took: bool, next: Option<u32>) -> bool
@@ -128,20 +132,15 @@ fn is_stuck(took: bool, next: Option<u32>) -> bool
     took && next.is_none()
 }
 
-/// Stores the words of a cycle's operations, and answers the word that they output, if any. Where
-/// the line is quiet, none of them stores or outputs a word.
+/// Stores the words of a cycle's operations, and answers the word that they output, if any.
 #[inline(always)]
-fn put_all(store: &mut Store, quiet: bool, starts: &[Start]) -> Option<u32>
-    requires { quiet ≡ true → filter is_resultless starts.now ≡ [] }
+fn put_all(store: &mut Store, starts: &[Start]) -> Option<u32>
     ensures places { store.new.places ≡ store.old.places }
     ensures cycle { store.new.cycle ≡ store.old.cycle }
     ensures data { store.new.memory.items ≡ fold store_data store.old.memory.items starts.now }
     ensures frame { store.new.frame.items ≡ fold store_frame store.old.frame.items starts.now }
     ensures put { result ≡ option_map (λ t. t.word) (find puts starts.now) }
 {
-    if quiet {
-        return None;
-    }
     store_all(&mut store.memory, &mut store.frame, starts);
     put_out(starts)
 }
@@ -167,6 +166,77 @@ fn go_on(store: &mut Store, region: &mut Region, part: Part, writes: &[Write])
     store.cycle += 1;
 }
 
+/// Carries out a cycle with a quiet line: it neither stores, outputs nor takes a word, and has no
+/// control move.
+#[inline(always)]
+pub fn carry_quietly(
+    store: &mut Store,
+    control: &mut Control,
+    doings: &mut Doings,
+    region: &mut Region,
+    part: Part,
+    line: &Line,
+    units: &UnitSet,
+) -> CycleStep
+    requires quiet { line.now.quiet ≡ true }
+    requires ready { IsAtLine part line.now (kept_as store.old control.old region.old) }
+    ensures silent { is_silent result ≡ true }
+    ensures cycle { (delay : ℕ) (next : Option ℕ) → let U = stated unit_meaning units.now in
+        let old = kept_as store.old control.old region.old in
+        let new = kept_as store.new control.new region.new in
+        IsCycle U part delay line.now next old new result }
+{
+    let results = Results::of(region, part);
+    if let Some(number) = find_fault(doings, store, &results, control, line) {
+        return stop(control, number);
+    }
+    let starts = doings.starts.as_slice();
+    begin_all(region, part, units, store, 0, starts);
+    go_on(store, region, part, doings.writes.as_slice());
+    control.advance(None, store.cycle, 0);
+    CycleStep::Ran {
+        put: None,
+        took: false,
+    }
+}
+
+/// Carries out a cycle with any line. A control move takes effect `delay` cycles after the next
+/// one.
+#[inline(always)]
+fn carry_loudly(
+    store: &mut Store,
+    control: &mut Control,
+    doings: &mut Doings,
+    region: &mut Region,
+    part: Part,
+    delay: u8,
+    line: &Line,
+    units: &UnitSet,
+    next: Option<u32>,
+) -> CycleStep
+    requires { IsAtLine part line.now (kept_as store.old control.old region.old) }
+    ensures { let U = stated unit_meaning units.now in
+        let old = kept_as store.old control.old region.old in
+        let new = kept_as store.new control.new region.new in
+        IsCycle U part delay line.now next old new result }
+{
+    let results = Results::of(region, part);
+    if let Some(number) = find_fault(doings, store, &results, control, line) {
+        return stop(control, number);
+    }
+    let starts = doings.starts.as_slice();
+    let took = any_takes(starts);
+    if is_stuck(took, next) {
+        return CycleStep::Waiting;
+    }
+    let told = told_in(&store.places, &results, line);
+    begin_all(region, part, units, store, next.unwrap_or(0), starts);
+    let put = put_all(store, starts);
+    go_on(store, region, part, doings.writes.as_slice());
+    control.advance(told, store.cycle, delay);
+    CycleStep::Ran { put, took }
+}
+
 /// Carries out a cycle of a run that goes on, with the line at its address, where `next` is the
 /// next word of the input, and these are the machine's units in the region. A control move takes
 /// effect `delay` cycles after the next one.
@@ -182,42 +252,16 @@ pub fn carry(
     units: &UnitSet,
     next: Option<u32>,
 ) -> CycleStep
-    requires running { control.old.phase ≡ Phase.Running }
-    requires units { AreThere (results_at part region.old) }
-    requires there { IsLineThere part.count line.now }
-    requires fitting { FitsLine store.old (results_at part region.old) line.now }
-    requires few { store.old.cycle < 2 ^ 62 }
-    requires within { control.old.pc < 65536 }
-    ensures others { KeepsOthers part region.old region.new }
-    ensures data { length store.new.memory.items ≡ length store.old.memory.items }
-    ensures frame { length store.new.frame.items ≡ length store.old.frame.items }
-    ensures counted { store.new.cycle ≡ store.old.cycle + cycles_of result }
-    ensures carried { let U = stated unit_meaning units.now in
-        (m : Machine) → (i : Instruction) → (lines : List Line) → (s : State)
-        → IsDecoded m (control.old.pc + 1 + delay) i line.now
-        → part.count ≡ length m.units → delay ≡ m.control.delay
-        → StandsWith (results_at part region.old) (held_of lines store.old control.old) s
-        → IsFed s.rest next
-        → IsCarried (results_at part region.new) (held_of lines store.new control.new) s
-        (carry_out U m s (Some i)) result }
-    ensures waits { (lines : List Line) → result ≡ Waiting
-        → held_of lines store.new control.new ≡ held_of lines store.old control.old }
-    ensures stays { result ≡ Waiting → region.new ≡ region.old }
+    requires { IsAtLine part line.now (kept_as store.old control.old region.old) }
+    ensures { let U = stated unit_meaning units.now in
+        let old = kept_as store.old control.old region.old in
+        let new = kept_as store.new control.new region.new in
+        IsCycle U part delay line.now next old new result }
 {
-    let results = Results::of(region, part);
-    if let Some(number) = find_fault(doings, store, &results, control, line) {
-        control.phase = Phase::Fault(number);
-        return CycleStep::Fault(number);
+    if line.quiet {
+        return carry_quietly(store, control, doings, region, part, line, units);
     }
-    let starts = doings.starts.as_slice();
-    let took = any_takes(starts);
-    if is_stuck(took, next) {
-        return CycleStep::Waiting;
-    }
-    let told = told_in(&store.places, &results, line);
-    begin_all(region, part, units, store, next.unwrap_or(0), starts);
-    let put = put_all(store, line.quiet, starts);
-    go_on(store, region, part, doings.writes.as_slice());
-    control.advance(told, store.cycle, delay);
-    CycleStep::Ran { put, took }
+    carry_loudly(
+        store, control, doings, region, part, delay, line, units, next,
+    )
 }

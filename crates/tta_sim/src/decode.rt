@@ -1,14 +1,15 @@
 //! How instructions are decoded.
 
-ghost use Rattle.std.specs.Prelude.{◌≡◌, ◌<◌, ◌≤◌, ◌+◌, ◌==◌, [], ◌∷◌, ◌++◌, ◌&&◌, true, None};
+ghost use Rattle.std.specs.Prelude.{◌≡◌, ◌<◌, ◌≤◌, ◌+◌, ◌==◌, [], ◌∷◌, ◌++◌, true, None};
 ghost use Rattle.std.specs.Prelude.{length};
 ghost use Rattle.std.specs.Prelude.{is_some, option_and_then, option_copied, option_map};
 ghost use Rattle.std.specs.Prelude.{option_to_list};
 ghost use Rattle.std.specs.Prelude.{IfOk, OnOk, IsTrue};
+ghost use Rattle.std.specs.List.{list_any};
 ghost use Rattle.tta_arch.specs.Effects.{KeptReg, KeptImm, KeptOperand, op_at, width_of};
 ghost use Rattle.tta_sim.specs.Places.{number_of};
 ghost use Rattle.tta_sim.specs.Decoded.{source_decoded, guard_decoded, reading_of, write_decoded};
-ghost use Rattle.tta_sim.specs.Decoded.{start_decoded, store_decoded, tell_decoded, is_nil};
+ghost use Rattle.tta_sim.specs.Decoded.{start_decoded, tell_decoded, is_loud_start, is_quiet};
 ghost use Rattle.tta_sim.specs.Decoded.{long_decoded, line_of, lines_from, with_move};
 
 use crate::control::Kind;
@@ -16,7 +17,7 @@ use crate::decoded::{
     DecodedGuard, DecodedSource, DecodedStart, DecodedTell, DecodedWrite, Line, Reading,
 };
 use crate::places::{IMMEDIATE_REGISTERS, IMMEDIATES, OPERANDS, REGISTERS, RETURN_ADDRESS};
-use crate::starts::has_result;
+use crate::starts::is_loud;
 use std::alloc::{AllocError, Global};
 use tta_arch::{Dest, GuardRef, Machine, Source, UnitOp};
 use tta_code::{Code, Instruction, Long, Move};
@@ -190,23 +191,12 @@ fn add<T: Drop>(list: &mut Items<T>, value: Option<T>) -> Result<(), AllocError>
     Ok(())
 }
 
-/// The start of a move, if it starts an operation that shows no result.
-fn store_in(m: &Machine, slot: &Option<Move>) -> Option<DecodedStart>
-    ensures { result ≡ option_and_then (store_decoded m.now) slot.now }
-{
-    match start_in(m, slot) {
-        Some(s) if !has_result(s.does.op) => Some(s),
-        _ => None,
-    }
-}
-
 /// Adds what a move does.
 fn add_move(line: &mut Line, m: &Machine, back: u32, slot: &Option<Move>) -> Result<(), AllocError>
     ensures { OnOk result (line.new ≡ with_move m.now back line.old slot.now) }
 {
     add(&mut line.writes, write_in(m, back, slot))?;
     add(&mut line.starts, start_in(m, slot))?;
-    add(&mut line.stores, store_in(m, slot))?;
     add(&mut line.tells, tell_in(slot))
 }
 
@@ -221,11 +211,23 @@ fn add_moves(line: &mut Line, m: &Machine, back: u32, i: &Instruction) -> Result
     add(&mut line.writes, write_long(m, i.long))
 }
 
-/// Whether there are neither stores nor control moves.
-fn are_none(stores: &Items<DecodedStart>, tells: &Items<DecodedTell>) -> bool
-    ensures { result ≡ (is_nil stores.now && is_nil tells.now) }
+/// Whether some operation stores, outputs or takes a word.
+fn any_loud(starts: &[DecodedStart]) -> bool
+    ensures { result ≡ list_any is_loud_start starts.now }
 {
-    stores.is_empty() && tells.is_empty()
+    for s in starts {
+        if is_loud(s.does.op) {
+            return true;
+        }
+    }
+    false
+}
+
+/// Whether no operation stores, outputs or takes a word, and there is no control move.
+fn is_quiet(starts: &Items<DecodedStart>, tells: &Items<DecodedTell>) -> bool
+    ensures { result ≡ is_quiet starts.now tells.now }
+{
+    !any_loud(starts.as_slice()) && tells.is_empty()
 }
 
 /// An instruction, decoded. Where it calls, `back` is the address to come back to.
@@ -235,7 +237,6 @@ fn line(alloc: Global, m: &Machine, back: u32, i: &Instruction) -> Result<Line, 
     let mut line = Line {
         writes: Items::new(alloc),
         starts: Items::new(alloc),
-        stores: Items::new(alloc),
         tells: Items::new(alloc),
         quiet: true,
     };
@@ -243,7 +244,7 @@ fn line(alloc: Global, m: &Machine, back: u32, i: &Instruction) -> Result<Line, 
         drop(line);
         return Err(AllocError);
     };
-    line.quiet = are_none(&line.stores, &line.tells);
+    line.quiet = is_quiet(&line.starts, &line.tells);
     Ok(line)
 }
 

@@ -59,9 +59,8 @@ pub struct DecodedTell {
 pub struct Line {
     pub writes: Items<DecodedWrite>,
     pub starts: Items<DecodedStart>,
-    /// Those of the starts whose operations show no result, but store or output a word.
-    pub stores: Items<DecodedStart>,
     pub tells: Items<DecodedTell>,
-    /// Whether there are neither stores nor control moves, as in most instructions.
+    /// Whether no operation stores, outputs or takes a word, and there is no control move, as in most
+    /// instructions.
     pub quiet: bool,
 }

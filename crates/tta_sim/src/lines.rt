@@ -24,7 +24,7 @@ use tta_arch::UnitOp;
 /// A word that is brought to a place.
 #[derive(Clone, Copy)]
 pub struct Write {
-    pub place: usize,
+    pub place: u32,
     pub word: u32,
 }
 
@@ -112,7 +112,7 @@ fn note_write(
         Read::Nothing => false,
         Read::Word(word) => {
             writes.push(Write {
-                place: w.place as usize,
+                place: w.place,
                 word: if w.narrow { word % 2 } else { word },
             });
             false
@@ -152,7 +152,7 @@ fn operand_after(writes: &[Write], places: &Places, unit: u8) -> Option<u32>
     requires { IsTrue (is_place (KeptOperand unit)) }
     ensures { result ≡ operand_in places.now writes.now unit }
 {
-    let place = OPERANDS as usize + usize::from(unit);
+    let place = OPERANDS + u32::from(unit);
     for w in writes {
         if w.place == place {
             return Some(w.word);

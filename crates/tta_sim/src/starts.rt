@@ -3,7 +3,7 @@
 ghost use Rattle.std.specs.Prelude.{◌≡◌, ◌<◌, if◌then◌else◌};
 ghost use Rattle.std.specs.List.{list_any};
 ghost use Rattle.tta_arch.specs.Effects.{has_result, lacks_operand};
-ghost use Rattle.tta_sim.specs.Starts.{clashes_at};
+ghost use Rattle.tta_sim.specs.Starts.{clashes_at, is_loud_op};
 
 use crate::fault::{CLASHING_RESULTS, MISSING_OPERAND};
 use crate::results::Results;
@@ -47,6 +47,17 @@ pub fn has_result(op: Op) -> bool
     match op {
         Op::Ldw | Op::Ldf | Op::Take | Op::Set(_) => true,
         Op::Stw | Op::Stf | Op::Out => false,
+    }
+}
+
+/// Whether an operation does more than show a result of words that the machine has: it stores its
+/// word, outputs it, or takes one of the input.
+pub fn is_loud(op: Op) -> bool
+    ensures { result ≡ is_loud_op op }
+{
+    match op {
+        Op::Stw | Op::Stf | Op::Out | Op::Take => true,
+        Op::Ldw | Op::Ldf | Op::Set(_) => false,
     }
 }
 

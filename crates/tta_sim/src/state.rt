@@ -1,7 +1,7 @@
 //! A run whose results are kept in a region that it is given.
 
-ghost use Rattle.std.specs.Prelude.{◌≡◌, ◌+◌, ◌<◌, ◌^◌, [], ℕ, List, length, slice_index};
-ghost use Rattle.std.specs.Prelude.{IfOk, IsTrue};
+ghost use Rattle.std.specs.Prelude.{◌≡◌, ◌+◌, ◌<◌, ◌≤◌, ◌^◌, [], ℕ, List, length, slice_index};
+ghost use Rattle.std.specs.Prelude.{IfOk, IsTrue, if◌then◌else◌};
 ghost use Rattle.tta_ops.specs.Set.{stated};
 ghost use Rattle.tta_arch.specs.Effects.{KeptReg, kept};
 ghost use Rattle.tta_code.specs.Cycle.{State, next as next_state, start};
@@ -10,12 +10,12 @@ ghost use Rattle.tta_flight.specs.Flight.{StayBeside};
 ghost use Rattle.tta_sim.specs.Places.{is_place};
 ghost use Rattle.tta_sim.specs.Results.{Results, AreResultsOf, AreKept, HasUnits, units_of};
 ghost use Rattle.tta_list.specs.Input.{IsFed};
-ghost use Rattle.tta_sim.specs.Held.{StandsWith, GoesWith, IsAnswer, IsStateOf, cycles_of};
+ghost use Rattle.tta_sim.specs.Held.{StandsWith, GoesWith, IsAnswer, IsQuiet, IsStateOf, cycles_of};
 ghost use Rattle.tta_sim.specs.Held.{is_halted, fault_number, ending_told};
 ghost use Rattle.tta_sim.specs.declared.answer.CycleStep.TheVariants.{Waiting};
 
 use crate::answer::CycleStep;
-use crate::carry::carry;
+use crate::carry::{carry, carry_quietly};
 use crate::control::{Control, Phase};
 use crate::decode::decode;
 use crate::decoded::Line;
@@ -155,6 +155,56 @@ impl SimState {
             units,
             next,
         )
+    }
+
+    /// Carries out one cycle of the code that was loaded, if the run goes on and the cycle's line is
+    /// quiet, so that it outputs nothing and takes nothing. It answers whether it did; else all
+    /// stays. It takes no memory.
+    #[inline(always)]
+    pub fn cycle_quietly(
+        &mut self,
+        region: &mut Region,
+        base: u8,
+        m: &Machine,
+        code: &Code,
+        units: &UnitSet,
+    ) -> bool
+        requires loaded { IsStateOf m.now code.now self.old }
+        requires has_units { HasUnits base m.now region.old }
+        requires few { self.old.cycle < 2 ^ 62 }
+        ensures loaded { IsStateOf m.now code.now self.new }
+        ensures kept { AreKept region.old region.new }
+        ensures beside { StayBeside base (length m.now.units) region.old region.new }
+        ensures counted { self.new.cycle ≤ self.old.cycle + (if result then 1 else 0) }
+        ensures next { let U = stated unit_meaning units.now in (s : State)
+            → StandsWith (units_of base m.now region.old) self.old s
+            → IsQuiet (StandsWith (units_of base m.now region.new) self.new) s
+            (if result then next_state U m.now code.now s else s) }
+    {
+        // So that it is known here that the machine's rules hold.
+        let _ = &m.control;
+        match self.control.phase {
+            Phase::Running => {}
+            Phase::Halted | Phase::Fault(_) => return false,
+        }
+        if self.control.pc as usize >= code.words.len() {
+            return false;
+        }
+        let line = &self.lines.as_slice()[self.control.pc as usize];
+        if !line.quiet {
+            return false;
+        }
+        let part = part_of(base, m);
+        carry_quietly(
+            &mut self.store,
+            &mut self.control,
+            &mut self.doings,
+            region,
+            part,
+            line,
+            units,
+        );
+        true
     }
 
     /// The word in a register of a file, `None` where none was ever written.

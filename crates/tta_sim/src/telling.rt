@@ -89,8 +89,5 @@ pub fn told_in(places: &Places, results: &Results<'_>, line: &Line) -> Option<To
     ensures { let tells = tell_brought places.now (shown_by results.now) in
         option_map told_of result ≡ first_some tells line.now.tells }
 {
-    if line.quiet {
-        return None;
-    }
     told_by(places, results, line.tells.as_slice())
 }

@@ -20,6 +20,6 @@ pub fn write_all(places: &mut Places, writes: &[Write])
     while i > 0 {
         i -= 1;
         let w = writes[i];
-        places.set(w.place, w.word);
+        places.set(w.place as usize, w.word);
     }
 }

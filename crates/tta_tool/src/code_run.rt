@@ -46,10 +46,9 @@ impl<'a> Run for CodeRun<'a> {
         }
     }
 
-    /// Each cycle is made by `go`.
     #[inline(always)]
-    fn go_on(&mut self, _units: &UnitSet, _most: u64) -> u64 {
-        0
+    fn go_on(&mut self, units: &UnitSet, most: u64) -> u64 {
+        self.sim.go_on(self.machine, self.code, units, most)
     }
 
     ghost grows = { λ u c. cycles_grow u c.machine c.code };

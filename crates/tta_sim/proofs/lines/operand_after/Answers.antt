@@ -14,4 +14,4 @@ operand_here places writes unit i d within before is =
 
 pub returns-then-w-place : goal.returns-then-w-place
 returns-then-w-place c =
-    operand_here c.args.places.now c.args.writes.now c.args.unit c.loop-w.w-index _ c.loop-w-test.true c.loop-w.invariant (omega (arith, c.if-w-place.true, c.from.ensures))
+    operand_here c.args.places.now c.args.writes.now c.args.unit c.loop-w.w-index _ c.loop-w-test.true c.loop-w.invariant (omega (arith, c.if-w-place.true, c.from-place.ensures))

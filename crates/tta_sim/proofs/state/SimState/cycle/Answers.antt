@@ -49,16 +49,8 @@ bounds-as_slice-self-inside g c =
     let many = ap length lines ∙ length-lines c.args.m.now (1 + c.args.m.now.control.delay) words in
     omega (arith, c.if-self-len.false, c.len.ensures, many)
 
-pub carry-requires-clause-within : goal.carry-requires-clause-within
-carry-requires-clause-within g c = omega (arith, c.if-self-len.false, c.len.ensures, c.requires.loaded.reached)
-
-pub carry-requires-clause-units : goal.carry-requires-clause-units
-carry-requires-clause-units g c =
-    let has = subst (λ p. HasUnits p.base c.args.m.now c.args.region.now) (sym c.part_of-part.ensures) c.requires.has_units in
-    units_there c.part_of-part.result c.args.m.now c.args.region.now has (ap (λ p. p.count) c.part_of-part.ensures)
-
-pub carry-requires-clause-there : goal.carry-requires-clause-there
-carry-requires-clause-there g c =
+pub carry-requires : goal.carry-requires
+carry-requires g c =
     let rules = subst IsMachine c.m.view_is c.m.invariant in
     let m = c.args.m.now in
     let part = c.part_of-part.result in
@@ -68,20 +60,14 @@ carry-requires-clause-there g c =
     let lines = c.as_slice.ensures ∙ ap (λ h. h.lines) c.self.view_is in
     let within : c.self.inside.control.pc < length c.args.code.now.words = omega (arith, c.if-self-len.false, c.len.ensures) in
     let here = line_here m c.args.code.now c.args.self.now rules c.requires.loaded c.self.inside.control.pc _ _ c.self.inside.store (results_at part c.args.region.now) _ within delay lines c.index-as_slice-self.is has size in
-    here.there
-
-pub carry-requires-clause-fitting : goal.carry-requires-clause-fitting
-carry-requires-clause-fitting g c =
-    let rules = subst IsMachine c.m.view_is c.m.invariant in
-    let m = c.args.m.now in
-    let part = c.part_of-part.result in
-    let size = ap (λ p. p.count) c.part_of-part.ensures in
-    let has = subst (λ p. HasUnits p.base m c.args.region.now) (sym c.part_of-part.ensures) c.requires.has_units in
-    let delay = ap (λ m. m.control.delay) c.m.view_is in
-    let lines = c.as_slice.ensures ∙ ap (λ h. h.lines) c.self.view_is in
-    let within : c.self.inside.control.pc < length c.args.code.now.words = omega (arith, c.if-self-len.false, c.len.ensures) in
-    let here = line_here m c.args.code.now c.args.self.now rules c.requires.loaded c.self.inside.control.pc _ _ c.self.inside.store (results_at part c.args.region.now) _ within delay lines c.index-as_slice-self.is has size in
-    here.fits
+    record {
+      running = c.in-Running.is;
+      units = units_there part m c.args.region.now has size;
+      there = here.there;
+      fitting = here.fits;
+      few = omega (arith, c.requires.few, ap (λ h. h.cycle) c.self.view_is);
+      within = omega (arith, c.if-self-len.false, c.len.ensures, c.requires.loaded.reached);
+    }
 
 pub returns-clause-next : goal.returns-clause-next
 returns-clause-next g c = λ s same fed.

@@ -1,7 +1,8 @@
 use Rattle.std.proofs.Common.{ap}
 use Rattle.tta_ops.specs.Set.{stated}
 use Rattle.tta_code.specs.Cycle.{State, next}
-use Rattle.tta_tool.proofs.CodeCycles.{halted_stays, fault_stays, fault_is_quiet}
+use Rattle.tta_sim.proofs.Silent.{fault_is_quiet}
+use Rattle.tta_tool.proofs.CodeCycles.{halted_stays, fault_stays}
 use Rattle.tta_tool.proofs.code_run.CodeRunRun.go.Goals as goal
 
 pub returns-in-Halted-clause-leaves : goal.returns-in-Halted-clause-leaves
@@ -20,6 +21,6 @@ returns-in-Fault-clause-leaves g c = λ s stands fed.
     let fault = c.in-Fault.ensures.answer s stands fed in
     record {
       stands = c.in-Fault.ensures.next s stands fed;
-      output = fault_is_quiet U m code s _ _ fault;
+      output = (fault_is_quiet U m code s _ _ fault).output;
       stays = fault_stays U m code (next U m code s) _ _ fault;
     }

@@ -1,0 +1,31 @@
+use Rattle.std.proofs.Common.{sym, ◌∙◌, subst}
+use Rattle.tta_sim.specs.Held.{Stands, IsRunOf}
+use Rattle.tta_sim.proofs.Owning.{own_run, own_stands, state_stands, state_run, units_still}
+use Rattle.tta_sim.proofs.sim.Sim.cycle_quietly.Goals as goal
+
+pub cycle_quietly-requires-clause-loaded : goal.cycle_quietly-requires-clause-loaded
+cycle_quietly-requires-clause-loaded g c =
+    let run = subst (IsRunOf c.args.m.now c.args.code.now) (sym c.self.view_is) c.requires.loaded in
+    state_run c.args.m.now c.args.code.now c.self.inside.state c.self.inside.region run
+
+pub cycle_quietly-requires-clause-has_units : goal.cycle_quietly-requires-clause-has_units
+cycle_quietly-requires-clause-has_units g c = (subst (IsRunOf c.args.m.now c.args.code.now) (sym c.self.view_is) c.requires.loaded).has_units
+
+pub returns-clause-loaded : goal.returns-clause-loaded
+returns-clause-loaded g c =
+    let run = subst (IsRunOf c.args.m.now c.args.code.now) (sym c.self.view_is) c.requires.loaded in
+    own_run c.args.m.now c.args.code.now c.cycle_quietly.new.self c.cycle_quietly.new.region (c.cycle_quietly.ensures.kept.units ∙ run.units) c.cycle_quietly.ensures.loaded
+    (units_still 0 c.args.m.now c.self.inside.region c.cycle_quietly.new.region run.has_units c.cycle_quietly.ensures.kept)
+
+pub returns-clause-next : goal.returns-clause-next
+returns-clause-next g c = λ s same.
+    let m = c.args.m.now in
+    let code = c.args.code.now in
+    let run = subst (IsRunOf m code) (sym c.self.view_is) c.requires.loaded in
+    let held = state_stands m code c.self.inside.state c.self.inside.region run.units s (subst (λ h. Stands h s) (sym c.self.view_is) same) in
+    let quiet = c.cycle_quietly.ensures.next s held in
+    record {
+      stands = own_stands m code c.cycle_quietly.new.self c.cycle_quietly.new.region (c.cycle_quietly.ensures.kept.units ∙ run.units) _ quiet.stands;
+      output = quiet.output;
+      rest = quiet.rest;
+    }

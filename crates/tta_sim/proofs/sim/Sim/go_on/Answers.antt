@@ -1,0 +1,23 @@
+use Rattle.std.proofs.Common.{◌≡◌, ◌+◌, suc, subst, arith}
+use Rattle.tta_list.specs.Iterate.{iterate}
+use Rattle.tta_ops.specs.Set.{stated}
+use Rattle.tta_code.specs.Cycle.{next}
+use Rattle.tta_sim.specs.Held.{Stands, IsQuiet}
+use Rattle.tta_sim.proofs.Silent.{quiet_more}
+use Rattle.tta_sim.proofs.sim.Sim.go_on.Goals as goal
+
+pub cycles-preserved : goal.cycles-preserved
+cycles-preserved g c =
+    let U = stated (λ v. (goal.OpUnit-dyn g v).unit_meaning v.1) c.args.units.now in
+    let step = next U c.args.m.now c.args.code.now in
+    let made = c.cycles.made in
+    let is : suc made ≡ made + 1 = omega arith in
+    let did = c.if-not-cycle_quietly.ensures in
+    record {
+      loaded = did.loaded;
+      within = omega (arith, c.cycles-test.true);
+      counted = omega (arith, did.counted, c.cycles.invariant.counted);
+      next = λ s same. subst (λ n. IsQuiet (Stands c.cycle_quietly.new.self) s (iterate n step s)) is
+          (quiet_more (Stands c.cycles.self) (Stands c.cycle_quietly.new.self) s (iterate made step s) (iterate (suc made) step s)
+          (c.cycles.invariant.next s same) (did.next (iterate made step s)));
+    }
