@@ -1,6 +1,6 @@
 -- Where files hold a pair that is accepted and has room, and no call on them fails, no cause of `build` but that of memory
 -- holds.
-use Rattle.std.proofs.Common.{◌≡◌, ℕ, List, Option, Some, None, Ok, Err, refl, sym, ◌∙◌, ap, subst, inl, inr, ◌⊎◌}
+use Rattle.std.proofs.Common.{◌≡◌, ℕ, List, Option, Some, None, Ok, refl, sym, ◌∙◌, ap, subst, inl, inr, ◌⊎◌}
 use Rattle.std.specs.Prelude.{Result}
 use Rattle.tta_ports.specs.declared.fault.Fault.{Fault}
 use Rattle.tta_ports.specs.Store.{Store}
@@ -13,14 +13,13 @@ use Rattle.tta_tac.specs.Text.{ProgramText}
 use Rattle.tta_build.specs.declared.error.BuildError.{BuildError}
 use Rattle.tta_build.specs.declared.error.BuildError.TheVariants as cause
 use Rattle.tta_build.specs.Statement.{HasCause}
-use Rattle.tta_build.specs.Completes.{IsRoomy}
 use Rattle.tta_build.proofs.Completes.{completes}
 use Rattle.tta_tool.specs.declared.status.Status.{Status}
 use Rattle.tta_tool.specs.declared.status.Status.TheVariants as status
 use Rattle.tta_tool.specs.World.{World, world, IsTooLong}
 use Rattle.tta_tool.specs.Stages.{IsBadMachine, IsBadProgram, IsOutside}
 use Rattle.tta_tool.specs.Contents.{HasMachine, HasProgram, HasText}
-use Rattle.tta_tool.specs.Build.{HasPair, HasOutside, IsRefused, Builds}
+use Rattle.tta_tool.specs.Build.{IsRefused, Builds}
 use Rattle.tta_tool.specs.Completes.{HasRoomyPair}
 use Rattle.tta_tool.proofs.OneProgram.{one_program, not_refused}
 use Rattle.tta_tool.proofs.TooLongs.{too_long_alone}

@@ -1,6 +1,6 @@
 -- A text is one program at most, and none where it is refused.
-use Rattle.std.proofs.Common.{◌≡◌, ℕ, List, Option, Some, None, Ok, Err, refl, sym, ◌∙◌, ap, subst}
-use Rattle.std.specs.Prelude.{Result, codes}
+use Rattle.std.proofs.Common.{◌≡◌, ℕ, List, Option, Some, None, Ok, refl, sym, ◌∙◌, ap, subst}
+use Rattle.std.specs.Prelude.{codes}
 use Rattle.tta_reading.specs.Names.{named_in}
 use Rattle.tta_ops.specs.Units.{Units}
 use Rattle.tta_program.specs.declared.program.Proc.{Proc}

@@ -1,5 +1,5 @@
 -- What becomes of a file and of its bytes is what becomes of what it holds.
-use Rattle.std.proofs.Common.{◌≡◌, ◌≤◌, ℕ, List, length, Option, Some, Result, Ok, Err, sym, subst, inl, inr}
+use Rattle.std.proofs.Common.{◌≡◌, ◌≤◌, ℕ, List, length, Option, Some, Result, Ok, Err, sym, subst, inr}
 use Rattle.tta_ops.specs.Units.{Units}
 use Rattle.tta_arch.specs.Machine.{Machine}
 use Rattle.tta_machine.specs.Text.{machine_of_text}

@@ -2,7 +2,7 @@
 use Rattle.std.proofs.Common.{ℕ, ◌≤◌, ◌<◌, List, length, Some, subst, arith}
 use Rattle.std.specs.Prelude.{IsSomeAnd}
 use Rattle.tta_ports.specs.Store.{Store}
-use Rattle.tta_ports.specs.Files.{Holds, HoldsMore}
+use Rattle.tta_ports.specs.Files.{HoldsMore}
 use Rattle.tta_tool.specs.World.{limit}
 use Rattle.tta_tool.specs.Contents.{HasText}
 

@@ -1,4 +1,4 @@
-use Rattle.std.proofs.Common.{ℕ, List, subst}
+use Rattle.std.proofs.Common.{subst}
 use Rattle.tta_ops.specs.Set.{stated}
 use Rattle.sha2.specs.Sha256.{sha256}
 use Rattle.tta_tool.specs.Asm.{WholeImageEnds}

@@ -1,4 +1,4 @@
-use Rattle.std.proofs.Common.{◌+◌, ◌*◌, ◌^◌, drop, refl, arith}
+use Rattle.std.proofs.Common.{◌+◌, ◌*◌, drop, refl, arith}
 use Rattle.std.proofs.lemmas.Grind.{common_steps}
 use Rattle.tta_text.specs.Numbers as spec
 use Rattle.tta_text.proofs.Values.{value_from, value_from-digit, value_from-other, value_from-over, value_from-nil}
