@@ -26,12 +26,16 @@ class Folder:
         with open(os.path.join(self.path, name), "w") as f:
             f.write(text)
 
-    def start(self, words):
-        return subprocess.Popen([self.program, *words], cwd=self.path, stdout=subprocess.DEVNULL, stderr=subprocess.PIPE)
+    def start(self, words, pad=0):
+        """Starts a command, whose stack begins so many bytes lower."""
+        environment = {**os.environ, "PADDING": pad * "x"}
+        return subprocess.Popen(
+            [self.program, *words], cwd=self.path, env=environment, stdout=subprocess.DEVNULL, stderr=subprocess.PIPE
+        )
 
-    def run(self, words, status=0):
+    def run(self, words, status=0, pad=0):
         """The seconds of the processor that a command takes, which ends with this status."""
-        return end(self.start(words), words, status)
+        return end(self.start(words, pad), words, status)
 
     def seconds(self, words, status):
         """The least of some runs: three at least, and more of a command that is short."""
