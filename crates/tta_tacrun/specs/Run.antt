@@ -130,6 +130,15 @@ is_quiet (Goto to) = true
 is_quiet (When rel a b d s) = true
 is_quiet step = false
 
+-- whether there is such a step
+abbrev pub is_quiet_there : Option Step → Bool
+is_quiet_there step = option_map_or is_quiet step false
+
+-- whether the innermost of these calls stands at such a step
+abbrev pub goes_quietly : Program → List Frame → Bool
+goes_quietly p [] = false
+goes_quietly p (f ∷ rest) = is_quiet_there (step_at p f.proc f.at)
+
 -- the variable that takes the value of a call, where a step is a call that has one
 abbrev pub destination : Step → Option ℕ
 destination (Invoke d callee args) = d

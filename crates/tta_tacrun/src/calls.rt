@@ -1,7 +1,7 @@
 //! The calls that are under way.
 
 ghost use Rattle.std.specs.Prelude.{◌≡◌, ◌+◌, ◌<◌, ◌≤◌, ◌^◌, ◌∷◌, [], length, map, replicate};
-ghost use Rattle.std.specs.Prelude.{if◌then◌else◌, slice_index, slice_set, IfOk, IsFalse};
+ghost use Rattle.std.specs.Prelude.{if◌then◌else◌, slice_get, slice_index, slice_set, IfOk, IsFalse};
 ghost use Rattle.std.specs.Prelude.{ℕ, List, is_some, true, false};
 ghost use Rattle.tta_list.specs.Iterate.{iterate};
 ghost use Rattle.tta_ops.specs.Set.{stated};
@@ -9,7 +9,7 @@ ghost use Rattle.tta_program.specs.Program.{Program};
 ghost use Rattle.tta_program.specs.Rules.{IsProgram};
 ghost use Rattle.tta_program.specs.Sequential.{carry_out, enter, next, operand, step_at, takes};
 ghost use Rattle.tta_tacrun.specs.Calls.{IsFresh, begun};
-ghost use Rattle.tta_tacrun.specs.Run.{frame, is_path, is_quiet, state_of, AreStepsOf};
+ghost use Rattle.tta_tacrun.specs.Run.{frame, is_path, is_quiet, is_quiet_there, state_of, AreStepsOf};
 
 use crate::entry::Entry;
 use crate::pass::{pass, value_of};
@@ -157,6 +157,8 @@ impl Calls {
         most: u64,
     ) -> u64
         ensures within { result ≤ most }
+        ensures stops { result < most
+            → is_quiet_there (slice_get steps.now self.new.top.at) ≡ false }
         ensures space { length memory.new ≡ length memory.old }
         ensures top { let f = frame self.old.top.proc self.new.top.at self.new.top.vars in
             self.new ≡ record self.old { top = f } }

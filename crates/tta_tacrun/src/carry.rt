@@ -1,7 +1,7 @@
 //! One step.
 
 ghost use Rattle.std.specs.Prelude.{◌≡◌, ℕ, List, ◌+◌, ◌<◌, ◌^◌, ◌∷◌, length};
-ghost use Rattle.std.specs.Prelude.{Some, IfSome, OnSome, IsSome, option_copied, slice_index, false};
+ghost use Rattle.std.specs.Prelude.{None, Some, MatchOption, OnSome, IsSome, option_copied, slice_index, false};
 ghost use Rattle.std.specs.Option.{option_map_or};
 ghost use Rattle.tta_ops.specs.Set.{stated};
 ghost use Rattle.tta_ops.specs.Units.{Units};
@@ -34,7 +34,8 @@ pub fn step_of(p: &Program, call: Entry) -> Option<&Step>
 
 /// The steps of a procedure, if there is one.
 pub fn steps_in(p: &Program, proc: usize) -> Option<&[Step]>
-    ensures steps { IfSome result (λ steps. AreStepsOf p.now proc steps.now) }
+    ensures steps { MatchOption result ((at : ℕ) → step_at p.now proc at ≡ None)
+        (λ steps. AreStepsOf p.now proc steps.now) }
     ensures rules { IsProgram p.now }
 {
     match p.procs.as_slice().get(proc) {

@@ -8,7 +8,7 @@ ghost use Rattle.tta_list.specs.Iterate.{iterate};
 ghost use Rattle.tta_program.specs.Program.{Program};
 ghost use Rattle.tta_program.specs.Rules.{IsProgram};
 ghost use Rattle.tta_program.specs.Sequential.{Frame, carry_out, holds, next, operand, step_at, takes};
-ghost use Rattle.tta_tacrun.specs.Run.{frame, going, is_path, is_quiet, AreStepsOf};
+ghost use Rattle.tta_tacrun.specs.Run.{frame, going, is_path, is_quiet, is_quiet_there, AreStepsOf};
 
 use crate::pass::value_of;
 use crate::relations::Relations;
@@ -141,6 +141,7 @@ pub fn go_on(
     leg: &mut Leg,
 )
     ensures within { leg.new.left ≤ leg.old.left }
+    ensures stops { 0 < leg.new.left → is_quiet_there (slice_get steps.now leg.new.at) ≡ false }
     ensures size { length vars.new ≡ length vars.old }
     ensures space { length memory.new ≡ length memory.old }
     ensures made { (p : Program) (proc : ℕ) (callers : List Frame) (rest output : List ℕ) (n : ℕ)

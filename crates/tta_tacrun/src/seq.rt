@@ -7,7 +7,7 @@ ghost use Rattle.tta_program.specs.Sequential.{State, Running, next, start};
 ghost use Rattle.tta_list.specs.Input.{IsFed};
 ghost use Rattle.tta_list.specs.Iterate.{iterate};
 ghost use Rattle.tta_tacrun.specs.Run.{Stands, IsAnswer, IsQuiet, GoesOn, IsRunOf};
-ghost use Rattle.tta_tacrun.specs.Run.{is_over, steps_of};
+ghost use Rattle.tta_tacrun.specs.Run.{is_over, steps_of, goes_quietly};
 ghost use Rattle.tta_tacrun.specs.declared.answer.SeqStep.TheVariants.{Waiting};
 
 use crate::answer::SeqStep;
@@ -116,6 +116,8 @@ impl Seq {
         ensures loaded { IsRunOf p.now self.new }
         ensures space { length self.new.memory ≡ length self.old.memory }
         ensures within { result ≤ most }
+        ensures stops { result < most → self.new.outcome ≡ Running
+            → goes_quietly p.now self.new.stack ≡ false }
         ensures counted { self.new.steps ≡ self.old.steps + result }
         ensures next { let U = stated unit_meaning units.now in (s : State)
             → Stands self.old s → IsQuiet self.new s (iterate result (next U p.now) s) }
