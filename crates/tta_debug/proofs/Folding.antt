@@ -1,6 +1,6 @@
 -- A script, line by line.
-use Rattle.std.proofs.Common.{◌≡◌, ℕ, ◌+◌, Bool, true, false, true≢false, not, if◌then◌else◌, List, [], ◌∷◌, ◌++◌, take, drop, length, refl, sym, ap, ◌∙◌, append_assoc, append-nil, subst, arith}
-use Rattle.std.specs.Prelude.{Result, Ok, Err, IsErr}
+use Rattle.std.proofs.Common.{◌≡◌, ℕ, Bool, true, false, true≢false, not, if◌then◌else◌, List, [], ◌∷◌, ◌++◌, take, drop, length, refl, sym, ap, ◌∙◌, append_assoc, append-nil, subst, arith}
+use Rattle.std.specs.Prelude.{Result, Ok, Err, IsErr, IfErr}
 use Rattle.std.specs.Io.KnownBytes.{append_known}
 use Rattle.std.proofs.Math.Seq.{take-append_seam}
 use Rattle.std.proofs.lemmas.List.{take-append-drop}
@@ -10,9 +10,12 @@ use Rattle.tta_ops.specs.Units.{Units}
 use Rattle.tta_arch.specs.Machine.{Machine}
 use Rattle.tta_code.specs.declared.code.Code.{Code}
 use Rattle.tta_print.proofs.Puts.{append_known-nil, append_known-twice}
-use Rattle.tta_debug.specs.Debugged.{Debugged, Done, texts, command, goes_on, saying_first, session}
-use Rattle.tta_debug.specs.Sessions.{Session', Output, Follows, IsPut, IsCut}
-use Rattle.tta_debug.specs.Scripts.{line_text, line_leaves, line_goes, TakesLine, TakesScript, lines_of}
+use Rattle.tta_print.specs.declared.reply.Reply.TheVariants as reply
+use Rattle.tta_print.specs.Replies.{reply_text}
+use Rattle.tta_debug.specs.Debugged.{Debugged, Said, Done, texts, command, goes_on, saying_first, session}
+use Rattle.tta_debug.specs.Sessions.{Session', Output, Follows, IsPut, IsCut, IsStopped}
+use Rattle.tta_debug.specs.Scripts.{line_text, line_says, line_leaves, line_goes, TakesLine, TakesScript, script_says, lines_of}
+use Rattle.tta_debug.proofs.Running.{texts_both, put_both}
 
 -- of the lines of a script from d on, these are left, from `now` on
 pub record Taken (u : Units) (m : Machine) (code : Code) (input : List ℕ) (all left : List (List ℕ)) (d : Debugged) (h : Session') (old new : Output) : Type 0 where
@@ -131,3 +134,84 @@ pub no_lines : (bytes : List ℕ) → length bytes ≡ 0 → lines_of bytes ≡ 
 unfolding lines_of
 no_lines [] is = refl
 no_lines (byte ∷ bytes) is = absurd (omega arith)
+
+-- ---- the lines that are put, each with what is under the debugger then
+
+-- of what a script puts from d on, these lines were put, and what it puts from `now` on is left
+pub record Replied (u : Units) (m : Machine) (code : Code) (input : List ℕ) (all left : List (List ℕ)) (d : Debugged) (h : Session') (old new : Output) : Type 0 where
+  pub says : List Said
+  pub now : Debugged
+  pub follows : Follows input h now
+  pub on : script_says u m code all d ≡ says ++ script_says u m code left now
+  pub put : IsPut (texts says) old new
+
+-- none was put yet
+pub replied_first : (u : Units) (m : Machine) (code : Code) (input : List ℕ) (all : List (List ℕ)) (d : Debugged) (h : Session') (out : Output)
+    → Follows input h d → Replied u m code input all all d h out out
+replied_first u m code input all d h out follows = record {
+  says = [];
+  now = d;
+  follows = follows;
+  on = refl;
+  put = record { taken = sym (append_known-nil out.taken); faults = refl };
+}
+
+-- what was put for a line, as lines
+line_put : (d : Debugged) (said : Result Done ℕ) (old new : Output) → IsPut (line_text said) old new → IsPut (texts (line_says d said)) old new
+line_put d (Err code) old new put = subst (λ t. IsPut t old new) (sym (append-nil (reply_text (reply.Refused code)))) put
+line_put d (Ok done) old new put = put
+
+module _ (u : Units) (m : Machine) (code : Code) (input : List ℕ) (all left more : List (List ℕ)) (line : List ℕ) (d : Debugged) (before h : Session')
+    (old mid new : Output) (is : left ≡ line ∷ more) (replied : Replied u m code input all left d before old mid) where
+  -- what the line does
+  abbrev said : Result Done ℕ
+  said = command u m code line replied.now
+
+  -- what is put after the line
+  abbrev rest : List Said
+  rest = if line_goes said then script_says u m code more (line_leaves replied.now said) else []
+
+  -- all, from the line on
+  replied_line : script_says u m code all d ≡ replied.says ++ (line_says replied.now said ++ rest)
+  replied_line = replied.on ∙ ap (λ ls. replied.says ++ script_says u m code ls replied.now) is
+
+  -- a line was taken, and others are taken after it
+  pub replied_on : TakesLine input replied.now (command u m code line replied.now) h mid new (Ok true) → Replied u m code input all more d h old new
+  replied_on does =
+      let says = line_says replied.now said in
+      let next = script_says u m code more (line_leaves replied.now said) in
+      record {
+        says = replied.says ++ says;
+        now = line_leaves replied.now said;
+        follows = does.1;
+        on = replied_line ∙ ap (λ b. replied.says ++ (says ++ (if b then next else []))) (sym does.0)
+            ∙ sym (append_assoc replied.says says next);
+        put = put_both replied.says says old mid new replied.put (line_put replied.now said mid new does.2);
+      }
+
+  -- the put of a line of a reply has failed
+  pub replied_stopped : IsStopped input (line_says replied.now (command u m code line replied.now)) h mid new
+      → IsStopped input (script_says u m code all d) h old new
+  replied_stopped stopped =
+      let begin = take stopped.count stopped.line.text in
+      record {
+        before = replied.says ++ stopped.before;
+        line = stopped.line;
+        later = stopped.later ++ rest;
+        parts = replied_line ∙ ap (λ l. replied.says ++ (l ++ rest)) stopped.parts
+            ∙ ap (λ l. replied.says ++ l) (append_assoc stopped.before (stopped.line ∷ stopped.later) rest)
+            ∙ sym (append_assoc replied.says stopped.before (stopped.line ∷ (stopped.later ++ rest)));
+        follows = stopped.follows;
+        count = stopped.count;
+        taken = stopped.taken ∙ ap (λ t. append_known t (texts stopped.before ++ begin)) replied.put.taken
+            ∙ append_known-twice old.taken (texts replied.says) (texts stopped.before ++ begin)
+            ∙ ap (append_known old.taken) (sym (append_assoc (texts replied.says) (texts stopped.before) begin)
+            ∙ ap (λ t. t ++ begin) (sym (texts_both replied.says stopped.before)));
+        rose = subst (λ f. Rose f new.faults) replied.put.faults stopped.rose;
+      }
+
+-- a script has stopped, by the answer
+pub script_stopped : (input : List ℕ) (says : List Said) (h : Session') (old new : Output) (r : Result (Unit {0}) Failed) → IsErr r
+    → IsStopped input says h old new → IfErr r (λ e. IsStopped input says h old new)
+script_stopped input says h old new (Ok v) is stopped = absurd (true≢false (sym is))
+script_stopped input says h old new (Err failed) is stopped = stopped

@@ -1,5 +1,5 @@
 -- What comes of a line of a script.
-use Rattle.std.proofs.Common.{◌≡◌, ◌+◌, ℕ, Bool, true, false, not, List, ◌∷◌, ◌++◌, length, take, refl, sym, ap, ◌∙◌, append_assoc, subst}
+use Rattle.std.proofs.Common.{◌≡◌, ℕ, true, false, not, List, [], ◌∷◌, ◌++◌, length, take, refl, sym, ap, ◌∙◌, append_assoc, subst}
 use Rattle.std.specs.Prelude.{Result, Ok, Err}
 use Rattle.std.specs.Io.KnownBytes.{append_known}
 use Rattle.std.proofs.Math.Seq.{take-append_seam}
@@ -10,9 +10,9 @@ use Rattle.tta_print.specs.declared.reply.Reply.TheVariants as reply
 use Rattle.tta_print.specs.Replies.{reply_text}
 use Rattle.tta_debug.specs.declared.told.Told.TheVariants.{More, Bye}
 use Rattle.tta_debug.specs.declared.told.CommandError.TheVariants.{Refused, SinkFailed}
-use Rattle.tta_debug.specs.Debugged.{Debugged, Said, Done, texts}
-use Rattle.tta_debug.specs.Sessions.{Session', Output, Follows, IsPut, IsCut, IsQuiet, IsStopped, Does, PutsLine}
-use Rattle.tta_debug.specs.Scripts.{line_text, line_leaves, line_goes, TakesLine}
+use Rattle.tta_debug.specs.Debugged.{Debugged, Done, texts}
+use Rattle.tta_debug.specs.Sessions.{Session', Output, Follows, IsPut, IsCut, IsQuiet, IsStopped, Does}
+use Rattle.tta_debug.specs.Scripts.{line_text, line_says, TakesLine}
 use Rattle.tta_debug.proofs.Running.{texts_both}
 
 -- a command that goes on
@@ -64,6 +64,29 @@ pub line_refused_cut : (input : List ℕ) (said : Result Done ℕ) (h : Session'
     → IsQuiet old mid → Does input said h old mid (Err (Refused code)) → IsCut (reply_text (reply.Refused code)) mid new → IsCut (line_text said) old new
 line_refused_cut input (Ok done) h old mid new code quiet does cut = absurd does
 line_refused_cut input (Err code') h old mid new code quiet does cut = record {
+  count = cut.count;
+  taken = cut.taken ∙ ap (λ t. append_known t (take cut.count (reply_text (reply.Refused code)))) quiet.taken
+      ∙ ap (λ c. append_known old.taken (take cut.count (reply_text (reply.Refused c)))) does;
+  rose = subst (λ f. Rose f new.faults) quiet.faults cut.rose;
+}
+
+-- a command whose reply was cut has stopped there
+pub line_stopped : (input : List ℕ) (d : Debugged) (said : Result Done ℕ) (h : Session') (old new : Output) → Does input said h old new (Err SinkFailed)
+    → IsStopped input (line_says d said) h old new
+line_stopped input d (Err code) h old new does = absurd does
+line_stopped input d (Ok done) h old new does = does
+
+-- a refused command whose refusal was cut has stopped there
+pub line_refused_stopped : (input : List ℕ) (d : Debugged) (said : Result Done ℕ) (before h : Session') (old mid new : Output) (code : ℕ)
+    → Follows input before d → h ≡ before → IsQuiet old mid → Does input said h old mid (Err (Refused code)) → IsCut (reply_text (reply.Refused code)) mid new
+    → IsStopped input (line_says d said) h old new
+line_refused_stopped input d (Ok done) before h old mid new code f same quiet does cut = absurd does
+line_refused_stopped input d (Err code') before h old mid new code f same quiet does cut = record {
+  before = [];
+  line = record { text = reply_text (reply.Refused code'); at = d };
+  later = [];
+  parts = refl;
+  follows = subst (λ h. Follows input h d) (sym same) f;
   count = cut.count;
   taken = cut.taken ∙ ap (λ t. append_known t (take cut.count (reply_text (reply.Refused code)))) quiet.taken
       ∙ ap (λ c. append_known old.taken (take cut.count (reply_text (reply.Refused c)))) does;

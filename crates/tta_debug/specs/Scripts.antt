@@ -1,10 +1,13 @@
 -- What a line of a script does, and what a script does.
-use Rattle.std.specs.Prelude.{◌≡◌, ◌==◌, ℕ, Bool, true, not, if◌then◌else◌, List, [], ◌∷◌, Result, Ok, Err}
+use Rattle.std.specs.Prelude.{◌≡◌, ◌==◌, ℕ, Bool, true, not, if◌then◌else◌, List, [], ◌∷◌, ◌++◌, Result, Ok, Err}
 use Rattle.std.specs.List.{prefix_len}
 use Rattle.tta_ports.specs.declared.error.Failed.{Failed}
 use Rattle.tta_print.specs.declared.reply.Reply.TheVariants as reply
 use Rattle.tta_print.specs.Replies.{reply_text}
-use Rattle.tta_debug.specs.Debugged.{Debugged, Done, texts}
+use Rattle.tta_ops.specs.Units.{Units}
+use Rattle.tta_arch.specs.Machine.{Machine}
+use Rattle.tta_code.specs.declared.code.Code.{Code}
+use Rattle.tta_debug.specs.Debugged.{Debugged, Said, Done, texts, say, command}
 use Rattle.tta_debug.specs.Sessions.{Session', Output, Follows, IsPut, IsCut}
 
 -- what is put for a line, by what comes of it
@@ -21,6 +24,11 @@ line_leaves d (Ok done) = done.after
 abbrev pub line_goes : Result Done ℕ → Bool
 line_goes (Err code) = true
 line_goes (Ok done) = not done.bye
+
+-- the lines that are put for a line, each with what is under the debugger then
+abbrev pub line_says : Debugged → Result Done ℕ → List Said
+line_says d (Err code) = say (reply.Refused code) d
+line_says d (Ok done) = done.says
 
 -- a line was taken, and all that is put for it, or a prefix of that
 abbrev pub TakesLine : (input : List ℕ) → Debugged → Result Done ℕ → Session' → (old new : Output) → Result Bool Failed → Type 0
@@ -42,6 +50,13 @@ onto_first byte (line ∷ lines) = (byte ∷ line) ∷ lines
 unfoldable pub lines_of : List ℕ → List (List ℕ)
 lines_of [] = []
 lines_of (byte ∷ bytes) = if byte == 10 then [] ∷ lines_of bytes else onto_first byte (lines_of bytes)
+
+-- the lines that are put for the lines of a script, up to one that ends the session, each with what is under the debugger then
+abbrev pub script_says : Units → Machine → Code → List (List ℕ) → Debugged → List Said
+script_says u m code [] d = []
+script_says u m code (line ∷ lines) d =
+    let said = command u m code line d in
+    line_says d said ++ (if line_goes said then script_says u m code lines (line_leaves d said) else [])
 
 -- a script was carried out, and all that it replies was put, or a prefix of that
 abbrev pub TakesScript : (input : List ℕ) → (said : List ℕ × Debugged) → Session' → (old new : Output) → Result (Unit {0}) Failed → Type 0

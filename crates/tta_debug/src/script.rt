@@ -1,12 +1,13 @@
 //! A script, line by line.
 
-ghost use Rattle.std.specs.Prelude.{◌≡◌, ◌+◌, ◌<◌, ◌≤◌, ◌^◌, ◌∷◌, length, is_err};
+ghost use Rattle.std.specs.Prelude.{◌≡◌, ◌+◌, ◌<◌, ◌≤◌, ◌^◌, ◌∷◌, length, is_err, IfErr};
 ghost use Rattle.tta_ops.specs.Set.{stated};
 ghost use Rattle.tta_sim.specs.Held.{IsRunOf};
 ghost use Rattle.tta_ports.specs.Faults.{CountsFault};
 ghost use Rattle.tta_debug.specs.Debugged.{Debugged, command, session as session_of};
-ghost use Rattle.tta_debug.specs.Sessions.{Follows, output};
+ghost use Rattle.tta_debug.specs.Sessions.{Follows, IsStopped, output};
 ghost use Rattle.tta_debug.specs.Scripts.{TakesLine, TakesScript, lines_of, line_len as len_of};
+ghost use Rattle.tta_debug.specs.Scripts.{line_says, script_says};
 
 use crate::say::put;
 use crate::session::Session;
@@ -38,6 +39,12 @@ fn take_line<S: Sink>(
         → TakesLine input.now d (command U m.now code.now line.now d) session.new
         (output (S.taken sink.old) (S.faults sink.old))
         (output (S.taken sink.new) (S.faults sink.new)) result }
+    ensures stopped { let U = stated unit_meaning units.now in
+        (d : Debugged) → Follows input.now session.old d
+        → IfErr result (λ e. IsStopped input.now
+        (line_says d (command U m.now code.now line.now d)) session.new
+        (output (S.taken sink.old) (S.faults sink.old))
+        (output (S.taken sink.new) (S.faults sink.new))) }
     ensures cause { CountsFault (is_err result) (S.faults sink.old) (S.faults sink.new) }
 {
     match session.command(line, m, code, units, input, sink) {
@@ -91,7 +98,7 @@ fn cut_line<'t>(bytes: &'t [u8]) -> Cut<'t>
 /// of all calls of the session. It takes no memory.
 ///
 /// It answers `Failed` at the first line of a reply at which the sink does, and only there: the
-/// sink's count of faults shows it.
+/// sink's count of faults shows it. The session is then as this line found it.
 pub fn run_script<S: Sink>(
     session: &mut Session,
     script: &[u8],
@@ -110,6 +117,12 @@ pub fn run_script<S: Sink>(
         → TakesScript input.now (session_of U m.now code.now (lines_of script.now) d) session.new
         (output (S.taken sink.old) (S.faults sink.old))
         (output (S.taken sink.new) (S.faults sink.new)) result }
+    ensures stopped { let U = stated unit_meaning units.now in
+        (d : Debugged) → Follows input.now session.old d
+        → IfErr result (λ e. IsStopped input.now
+        (script_says U m.now code.now (lines_of script.now) d) session.new
+        (output (S.taken sink.old) (S.faults sink.old))
+        (output (S.taken sink.new) (S.faults sink.new))) }
     ensures cause { CountsFault (is_err result) (S.faults sink.old) (S.faults sink.new) }
 {
     let mut rest = script;

@@ -4,7 +4,7 @@ use Rattle.tta_sim.specs.Held.{IsRunOf}
 use Rattle.tta_debug.specs.Debugged.{Debugged}
 use Rattle.tta_debug.specs.Sessions.{Follows, output}
 use Rattle.tta_debug.specs.Scripts.{lines_of}
-use Rattle.tta_debug.proofs.Folding.{Taken}
+use Rattle.tta_debug.proofs.Folding.{Taken, Replied}
 use Rattle.tta_debug.proofs.script.run_script.Given as goal
 
 abbrev pub decreases-lines : goal.decreases-lines
@@ -20,5 +20,8 @@ invariant-lines g l =
       faults : g.S.Sink.faults l.sink ≡ g.S.Sink.faults l.initial.sink;
       taken : (d : Debugged) → Follows l.input l.initial.session d
           → Taken U l.m l.code l.input (lines_of l.script) (lines_of l.rest) d l.session
+          (output (g.S.Sink.taken l.initial.sink) (g.S.Sink.faults l.initial.sink)) (output (g.S.Sink.taken l.sink) (g.S.Sink.faults l.sink));
+      replied : (d : Debugged) → Follows l.input l.initial.session d
+          → Replied U l.m l.code l.input (lines_of l.script) (lines_of l.rest) d l.session
           (output (g.S.Sink.taken l.initial.sink) (g.S.Sink.faults l.initial.sink)) (output (g.S.Sink.taken l.sink) (g.S.Sink.faults l.sink));
     }
