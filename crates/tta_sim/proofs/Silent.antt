@@ -1,6 +1,7 @@
 -- Cycles that output no word and take none.
-use Rattle.std.proofs.Common.{◌≡◌, ℕ, ◌+◌, ◌≤◌, ◌==◌, Bool, true, false, if◌then◌else◌, ◌++◌, Option, Some, None, refl, sym, ap, ◌∙◌, slice_get, true≢false, arith}
+use Rattle.std.proofs.Common.{◌≡◌, ℕ, zero, suc, ◌+◌, ◌<◌, ◌≤◌, ◌==◌, Bool, true, false, if◌then◌else◌, List, [], ◌∷◌, ◌++◌, length, get_or, Option, Some, None, refl, sym, ap, ◌∙◌, slice_get, true≢false, arith}
 use Rattle.std.specs.List.{filter_map}
+use Rattle.std.specs.Option.{option_map_or}
 use Rattle.std.proofs.lemmas.List.{append-nil}
 use Rattle.tta_ops.specs.Units.{Units}
 use Rattle.tta_arch.specs.Machine.{Machine}
@@ -9,6 +10,7 @@ use Rattle.tta_code.specs.declared.code.Code.{Code}
 use Rattle.tta_code.specs.declared.code.Instruction.{Instruction}
 use Rattle.tta_code.specs.Cycle.{State, Outcome, Running, Halted, Waiting, Fault, Pending, next, next_of, carry_out, or_fault, or_wait, waits, acts, lands, takes_effect, pending_after, effects_of, read_source, fault_of}
 use Rattle.tta_sim.specs.declared.answer.CycleStep.{CycleStep}
+use Rattle.tta_sim.specs.declared.decoded.Line.{Line}
 use Rattle.tta_sim.specs.declared.answer.CycleStep.TheVariants.{Ran, Halted as HadHalted, Waiting as Waits, Fault as Faults}
 use Rattle.tta_sim.specs.Results.{Results}
 use Rattle.tta_sim.specs.Held.{HeldState, StandsWith, GoesWith, IsAnswer, IsQuiet, is_fault, cycles_of}
@@ -87,6 +89,18 @@ silent_cycle u m code r h s answer is goes at =
     stands HadHalted is goes = goes
     stands Waits is goes = cc
     stands (Faults number) is goes = goes
+
+-- where a line is not quiet, and where there is none, a run does not go on quietly
+pub no_quiet_line : (lines : List Line) (k : ℕ) (l : Line) → k < length lines → l ≡ get_or lines k l → l.quiet ≡ false
+    → option_map_or (λ l. l.quiet) (slice_get lines k) false ≡ false
+no_quiet_line [] k l within at is = absurd (omega (arith, within))
+no_quiet_line (x ∷ lines) zero l within at is = ap (λ l. l.quiet) (sym at) ∙ is
+no_quiet_line (x ∷ lines) (suc k) l within at is = no_quiet_line lines k l (omega (arith, within)) at is
+
+pub no_line : (lines : List Line) (k : ℕ) → length lines ≤ k → option_map_or (λ l. l.quiet) (slice_get lines k) false ≡ false
+no_line [] k past = refl
+no_line (x ∷ lines) zero past = absurd (omega (arith, past))
+no_line (x ∷ lines) (suc k) past = no_line lines k (omega (arith, past))
 
 -- a call makes one cycle at most
 pub at_most_one : (answer : CycleStep) → cycles_of answer ≤ 1

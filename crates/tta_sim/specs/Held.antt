@@ -1,5 +1,6 @@
 -- What a simulator holds, and which state it stands for.
-use Rattle.std.specs.Prelude.{◌≡◌, ℕ, ◌+◌, ◌≤◌, Bool, true, false, List, ◌++◌, length, Option, None, Some, option_to_list}
+use Rattle.std.specs.Prelude.{◌≡◌, ℕ, ◌+◌, ◌≤◌, Bool, true, false, List, ◌++◌, length, Option, None, Some, option_to_list, slice_get}
+use Rattle.std.specs.Option.{option_map_or}
 use Rattle.tta_list.specs.Input.{left}
 use Rattle.tta_ops.specs.Units.{Units}
 use Rattle.tta_arch.specs.Machine.{Machine}
@@ -115,6 +116,11 @@ pub record IsQuiet (Stands : State → Type 0) (s t : State) : Type 0 where
   pub stands : Stands t
   pub output : t.output ≡ s.output
   pub rest : t.rest ≡ s.rest
+
+-- whether a run goes on with an instruction whose line is quiet
+abbrev pub goes_quietly : List Line → (pc : ℕ) → Outcome → Bool
+goes_quietly lines pc Running = option_map_or (λ l. l.quiet) (slice_get lines pc) false
+goes_quietly lines pc o = false
 
 -- The answer of a cycle from a state: Halted where the state has halted; the fault that the next state is at, now or since
 -- earlier; Waiting where the cycle makes it wait; and else the word that the cycle outputs, if any, and whether it takes a

@@ -193,6 +193,7 @@ pub fn carry_quietly(
     let starts = doings.starts.as_slice();
     begin_all(region, part, units, store, 0, starts);
     go_on(store, region, part, doings.writes.as_slice());
+    // No control move acted, so no delay is asked for.
     control.advance(None, store.cycle, 0);
     CycleStep::Ran {
         put: None,

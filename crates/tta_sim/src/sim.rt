@@ -1,7 +1,7 @@
 //! A run.
 
 ghost use Rattle.std.specs.Prelude.{◌≡◌, ◌+◌, ◌<◌, ◌≤◌, ◌^◌, [], ℕ, List, length};
-ghost use Rattle.std.specs.Prelude.{option_map, if◌then◌else◌};
+ghost use Rattle.std.specs.Prelude.{option_map, if◌then◌else◌, false};
 ghost use Rattle.std.specs.Prelude.{replicate, slice_index, IfOk, IsTrue};
 ghost use Rattle.tta_ops.specs.Set.{stated};
 ghost use Rattle.tta_arch.specs.Effects.{KeptReg, kept};
@@ -13,7 +13,7 @@ ghost use Rattle.tta_sim.specs.Results.{due_at, HasUnits, AreResultsOf, units_of
 ghost use Rattle.tta_list.specs.Input.{IsFed};
 ghost use Rattle.tta_list.specs.Iterate.{iterate};
 ghost use Rattle.tta_sim.specs.Held.{Stands, GoesTo, IsAnswer, IsQuiet, IsRunOf, cycles_of};
-ghost use Rattle.tta_sim.specs.Held.{is_halted, fault_number, ending_told};
+ghost use Rattle.tta_sim.specs.Held.{goes_quietly, is_halted, fault_number, ending_told};
 ghost use Rattle.tta_sim.specs.declared.answer.CycleStep.TheVariants.{Waiting};
 
 use crate::answer::CycleStep;
@@ -125,6 +125,8 @@ impl Sim {
         requires loaded { IsRunOf m.now code.now self.old }
         requires few { self.old.cycle < 2 ^ 62 }
         ensures loaded { IsRunOf m.now code.now self.new }
+        ensures stops { result ≡ false
+            → goes_quietly self.new.lines self.new.pc self.new.outcome ≡ false }
         ensures counted { self.new.cycle ≤ self.old.cycle + (if result then 1 else 0) }
         ensures next { let U = stated unit_meaning units.now in (s : State) → Stands self.old s
             → IsQuiet (Stands self.new) s (if result then next_state U m.now code.now s else s) }
@@ -133,15 +135,17 @@ impl Sim {
             .cycle_quietly(&mut self.region, 0, m, code, units)
     }
 
-    /// Carries out at most so many cycles of the code that was loaded, as long as none can output
-    /// or take a word, or make control act. It answers how many it carried out, one that faults among
-    /// them, which may be none. It takes no memory.
+    /// Carries out so many cycles of the code that was loaded, or as many as there are until a line
+    /// is not quiet, so that it may store, output or take a word, or make control act, or until the run
+    /// is over. It answers how many it carried out, one that faults among them. It takes no memory.
     #[inline(always)]
     pub fn go_on(&mut self, m: &Machine, code: &Code, units: &UnitSet, most: u64) -> u64
         requires loaded { IsRunOf m.now code.now self.old }
         requires few { self.old.cycle + most < 2 ^ 62 }
         ensures loaded { IsRunOf m.now code.now self.new }
         ensures within { result ≤ most }
+        ensures stops { result < most
+            → goes_quietly self.new.lines self.new.pc self.new.outcome ≡ false }
         ensures counted { self.new.cycle ≤ self.old.cycle + result }
         ensures next { let U = stated unit_meaning units.now in (s : State) → Stands self.old s
             → IsQuiet (Stands self.new) s (iterate result (next_state U m.now code.now) s) }

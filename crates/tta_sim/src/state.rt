@@ -1,7 +1,7 @@
 //! A run whose results are kept in a region that it is given.
 
 ghost use Rattle.std.specs.Prelude.{◌≡◌, ◌+◌, ◌<◌, ◌≤◌, ◌^◌, [], ℕ, List, length, slice_index};
-ghost use Rattle.std.specs.Prelude.{IfOk, IsTrue, if◌then◌else◌};
+ghost use Rattle.std.specs.Prelude.{IfOk, IsTrue, if◌then◌else◌, false};
 ghost use Rattle.tta_ops.specs.Set.{stated};
 ghost use Rattle.tta_arch.specs.Effects.{KeptReg, kept};
 ghost use Rattle.tta_code.specs.Cycle.{State, next as next_state, start};
@@ -11,7 +11,7 @@ ghost use Rattle.tta_sim.specs.Places.{is_place};
 ghost use Rattle.tta_sim.specs.Results.{Results, AreResultsOf, AreKept, HasUnits, units_of};
 ghost use Rattle.tta_list.specs.Input.{IsFed};
 ghost use Rattle.tta_sim.specs.Held.{StandsWith, GoesWith, IsAnswer, IsQuiet, IsStateOf, cycles_of};
-ghost use Rattle.tta_sim.specs.Held.{is_halted, fault_number, ending_told};
+ghost use Rattle.tta_sim.specs.Held.{goes_quietly, is_halted, fault_number, ending_told};
 ghost use Rattle.tta_sim.specs.declared.answer.CycleStep.TheVariants.{Waiting};
 
 use crate::answer::CycleStep;
@@ -175,6 +175,8 @@ impl SimState {
         ensures loaded { IsStateOf m.now code.now self.new }
         ensures kept { AreKept region.old region.new }
         ensures beside { StayBeside base (length m.now.units) region.old region.new }
+        ensures stops { result ≡ false
+            → goes_quietly self.new.lines self.new.pc self.new.outcome ≡ false }
         ensures counted { self.new.cycle ≤ self.old.cycle + (if result then 1 else 0) }
         ensures next { let U = stated unit_meaning units.now in (s : State)
             → StandsWith (units_of base m.now region.old) self.old s

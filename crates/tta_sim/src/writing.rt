@@ -19,7 +19,7 @@ pub fn write_all(places: &mut Places, writes: &[Write])
     let mut i = writes.len();
     while i > 0 {
         i -= 1;
-        let w = writes[i];
+        let w = &writes[i];
         places.set(w.place as usize, w.word);
     }
 }

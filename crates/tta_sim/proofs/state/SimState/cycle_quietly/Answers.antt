@@ -1,14 +1,15 @@
-use Rattle.std.proofs.Common.{◌+◌, ◌<◌, None, length, slice_get, refl, sym, ap, ◌∙◌, subst, arith}
+use Rattle.std.proofs.Common.{◌≡◌, ◌+◌, ◌<◌, false, get_or, None, length, slice_get, refl, sym, ap, ◌∙◌, subst, arith}
 use Rattle.tta_ops.specs.Set.{stated}
 use Rattle.tta_arch.specs.Rules.{IsMachine}
 use Rattle.tta_code.specs.Cycle.{next as next_state}
 use Rattle.tta_flight.specs.Flight.{StayBeside}
 use Rattle.tta_sim.specs.Results.{HasUnits, results_at}
-use Rattle.tta_sim.specs.Held.{StandsWith, IsQuiet}
+use Rattle.tta_sim.specs.Controls.{outcome_of}
+use Rattle.tta_sim.specs.Held.{StandsWith, IsQuiet, goes_quietly}
 use Rattle.tta_sim.specs.Kept.{held_of}
 use Rattle.tta_sim.proofs.Going.{goes_stands, goes_answer, length-lines, line_here}
 use Rattle.tta_sim.proofs.Owning.{units_there}
-use Rattle.tta_sim.proofs.Silent.{silent_cycle, at_most_one}
+use Rattle.tta_sim.proofs.Silent.{silent_cycle, at_most_one, no_quiet_line, no_line}
 use Rattle.tta_sim.proofs.state.SimState.cycle_quietly.Goals as goal
 
 pub bounds-as_slice-self-inside : goal.bounds-as_slice-self-inside
@@ -80,3 +81,25 @@ pub returns-clause-counted : goal.returns-clause-counted
 returns-clause-counted g c =
     let made = c.carry_quietly.ensures.cycle 0 None in
     omega (arith, made.counted, at_most_one c.carry_quietly.result, ap (λ h. h.cycle) c.self.view_is)
+
+-- ---- where it makes none
+
+pub returns-then-self-len-clause-stops : goal.returns-then-self-len-clause-stops
+returns-then-self-len-clause-stops g c = λ none.
+    let at = c.self.inside.control.pc in
+    let lines = ap (λ h. h.lines) c.self.view_is ∙ c.requires.loaded.decoded in
+    let many = ap length lines ∙ length-lines c.args.m.now (1 + c.args.m.now.control.delay) c.args.code.now.words in
+    subst (λ h. goes_quietly h.lines h.pc h.outcome ≡ false) c.self.view_is
+    (ap (λ p. goes_quietly c.self.inside.lines at (outcome_of c.self.inside.store.cycle p)) c.in-Running.is
+    ∙ no_line c.self.inside.lines at (omega (arith, c.if-self-len.true, c.len.ensures, many)))
+
+pub returns-then-not-line-clause-stops : goal.returns-then-not-line-clause-stops
+returns-then-not-line-clause-stops g c = λ none.
+    let at = c.self.inside.control.pc in
+    let lines = ap (λ h. h.lines) c.self.view_is ∙ c.requires.loaded.decoded in
+    let many = ap length lines ∙ length-lines c.args.m.now (1 + c.args.m.now.control.delay) c.args.code.now.words in
+    let line = c.index-as_slice-self.result in
+    subst (λ h. goes_quietly h.lines h.pc h.outcome ≡ false) c.self.view_is
+    (ap (λ p. goes_quietly c.self.inside.lines at (outcome_of c.self.inside.store.cycle p)) c.in-Running.is
+    ∙ no_quiet_line c.self.inside.lines at line (omega (arith, c.if-self-len.false, c.len.ensures, many))
+    (c.index-as_slice-self.is ∙ ap (λ ls. get_or ls at line) c.as_slice.ensures) c.if-not-line.true)
