@@ -1,10 +1,13 @@
 -- Sets of units, as words of bits.
 use Rattle.std.proofs.Common.{◌≡◌, ◌≢◌, ◌<◌, ◌≤◌, ◌/◌, ◌%◌, ◌*◌, ◌-◌, ◌^◌, ℕ, ◌+◌, zero, suc, Bool, true, false, List, length, get_or, set, refl, sym, ap, ◌∙◌, inl, inr, arith, min, max, w64}
-use Rattle.std.specs.Prelude.{◌==◌, ◌||◌, ◌&&◌, not, bit_and, bit_or, nat_le}
+use Rattle.std.specs.Prelude.{◌==◌, ◌||◌, ◌&&◌, not, bit_and, bit_or, nat_le, nat_lt}
 use Rattle.std.specs.Int.{bit_at, trailing_zeros}
 use Rattle.std.proofs.lemmas.Bool.{cases_eq, eq-eqb, ne_eqb}
-use Rattle.std.proofs.lemmas.Nat.Bits.{bit_at-zero, bit_at_and, bit_at_or, bit_at_not, bit_at-lt, bit_at-pow_same, bit_at-pow_other, bit_at_mask_inside, bit_at_mask_below, ones_shl, bit_at-trailing_zeros}
+use Rattle.std.proofs.lemmas.Nat.Bits.{bit_at-zero, bit_at_and, bit_at_or, bit_at_not, bit_at-lt, bit_at-pow_same, bit_at-pow_other, bit_at_mask_inside, bit_at_mask_below, bit_at_mask_above, bit_at-trailing_zeros}
 use Rattle.std.proofs.Common.{get_or-set_same, get_or-set_other}
+use Rattle.std.proofs.lemmas.Nat.{pow-add, pow_pos}
+use Rattle.std.proofs.Math.Nat.{mul-sub, mul_comm, mul-one, mod-eq_of_lt}
+use Rattle.std.proofs.Math.Pow.{pow_mono}
 use Rattle.std.proofs.Math.Bool.{or-false, and-true}
 
 -- ---- one word
@@ -16,19 +19,6 @@ min_one (suc (suc x)) small = absurd (omega arith)
 
 min_none : (x : ℕ) → min x 0 ≡ 0
 min_none x = grind arith
-
--- the bits from one on stay
-pub bits_stay : (word bit i : ℕ) → bit < 64 → bit ≤ i → i < 64
-    → bit_at (bit_and word (18446744073709551615 * 2 ^ bit % 18446744073709551616)) i ≡ bit_at word i
-bits_stay word bit i small from below =
-    ap (λ (n : ℕ). bit_at (bit_and word n) i) (ones_shl 64 bit (omega (arith, small))) ∙ bit_at_and word (2 ^ 64 - 2 ^ bit) i
-    ∙ ap (min (bit_at word i)) (bit_at_mask_inside bit 64 i from below) ∙ min_one (bit_at word i) (bit_at-lt word i)
-
--- the bits below it are gone
-pub low_bits_gone : (word bit i : ℕ) → bit < 64 → i < bit → bit_at (bit_and word (18446744073709551615 * 2 ^ bit % 18446744073709551616)) i ≡ 0
-low_bits_gone word bit i small below =
-    ap (λ (n : ℕ). bit_at (bit_and word n) i) (ones_shl 64 bit (omega (arith, small))) ∙ bit_at_and word (2 ^ 64 - 2 ^ bit) i
-    ∙ ap (min (bit_at word i)) (bit_at_mask_below bit 64 i below) ∙ min_none (bit_at word i)
 
 -- the least bit is one that is set
 pub least_is_set : (word : ℕ) → 0 < word → word < 2 ^ 64 → bit_at word (trailing_zeros w64 word) ≡ 1
@@ -139,3 +129,59 @@ module _ (words : List ℕ) (bit k one : ℕ) (below : bit / 64 < length words) 
       ∙ both_bits (bit_at (get_or words (bit / 64) 0) (k % 64)) (bit_at one (k % 64)) (bit_at-lt (get_or words (bit / 64) 0) (k % 64)) (bit_at-lt one (k % 64))
       ∙ ap (λ b. b && not (bit_at one (k % 64) == 1)) (had e) ∙ ap (λ b. bit_in words k && not b) (is_one e))
       (λ other. sym (ap (λ b. bit_in words k && not b) other ∙ and-true (bit_in words k)))
+
+-- ---- some bits of one word
+
+-- bits in a row are the difference of two powers
+pub one_to_many : (low high one : ℕ) → low ≤ high → high ≤ 64 → one ≡ 2 ^ (high - low) → (one - 1) * 2 ^ low % 18446744073709551616 ≡ 2 ^ high - 2 ^ low
+one_to_many low high one order last is =
+    let steps : high - low + low ≡ high = omega (arith, order) in
+    let product : 2 ^ low * one ≡ 2 ^ high = ap (λ n. 2 ^ low * n) is ∙ mul_comm (2 ^ low) (2 ^ (high - low)) ∙ sym (pow-add 2 (high - low) low) ∙ ap (λ n. 2 ^ n) steps in
+    let less : (one - 1) * 2 ^ low ≡ 2 ^ high - 2 ^ low =
+    mul_comm (one - 1) (2 ^ low) ∙ mul-sub (2 ^ low) one 1 ∙ ap (λ n. n - 2 ^ low * 1) product ∙ ap (λ n. 2 ^ high - n) (mul-one (2 ^ low)) in
+    let most : 2 ^ high ≤ 2 ^ 64 = pow_mono last in
+    let some : 0 < 2 ^ low = pow_pos low in
+    let least : 2 ^ low ≤ 2 ^ high = pow_mono order in
+    let small : 2 ^ high - 2 ^ low < 18446744073709551616 = omega (arith, most, some, least) in
+    ap (λ n. n % 18446744073709551616) less ∙ mod-eq_of_lt small
+
+module _ (words : List ℕ) (number from end k low high some : ℕ) (there : number < length words) (single : some ≡ 2 ^ high - 2 ^ low) (small : some < 2 ^ 64)
+    (first : from < 64 * number + 64) (last : 64 * number < end) (low_is : low ≡ from - 64 * number) (high_is : high ≡ min (end - 64 * number) 64) where
+  -- they are those of the units from one on and before an end
+  between : k / 64 ≡ number → (bit_at some (k % 64) == 1) ≡ (nat_le from k && nat_lt k end)
+  between here = elim (nat_le from k) as (λ b. nat_le from k ≡ b → (bit_at some (k % 64) == 1) ≡ (b && nat_lt k end)) [
+    | false ↦ λ is.
+        let before : k < from = grind (arith, is) in
+        let below : k % 64 < low = omega (arith, before, here, low_is) in
+        ap (λ n. n == 1) (ap (λ n. bit_at n (k % 64)) single ∙ bit_at_mask_below low high (k % 64) below)
+    | true ↦ λ is. elim (nat_lt k end) as (λ b. nat_lt k end ≡ b → (bit_at some (k % 64) == 1) ≡ b) [
+      | false ↦ λ past.
+          let after : end ≤ k = grind (arith, past) in
+          let above : high ≤ k % 64 = grind (arith, after, here, high_is) in
+          ap (λ n. n == 1) (ap (λ n. bit_at n (k % 64)) single ∙ bit_at_mask_above low high (k % 64) above)
+      | true ↦ λ within.
+          let from_it : low ≤ k % 64 = grind (arith, is, here, low_is) in
+          let to_it : k % 64 < high = grind (arith, within, here, high_is) in
+          ap (λ n. n == 1) (ap (λ n. bit_at n (k % 64)) single ∙ bit_at_mask_inside low high (k % 64) from_it to_it)
+    ] refl
+  ] refl
+
+  pub bits_removed : bit_in (set words number (bit_and (get_or words number 0) (18446744073709551615 - some))) k
+      ≡ (bit_in words k && not (k / 64 == number && nat_le from k && nat_lt k end))
+  bits_removed = elim (cases_eq (k / 64) number) [
+    | inl here ↦
+        let word : ℕ = bit_and (get_or words number 0) (18446744073709551615 - some) in
+        let old : ℕ = get_or words number 0 in
+        let is : (k / 64 == number) ≡ true = eq-eqb (k / 64) number here in
+        ap (λ n. bit_at n (k % 64) == 1) (ap (λ i. get_or (set words number word) i 0) here ∙ get_or-set_same words number word 0 there)
+        ∙ ap (λ n. n == 1) (bit_at_and old (18446744073709551615 - some) (k % 64))
+        ∙ ap (λ n. min (bit_at old (k % 64)) n == 1) (bit_at_not w64 some (k % 64) small (omega arith))
+        ∙ both_bits (bit_at old (k % 64)) (bit_at some (k % 64)) (bit_at-lt old (k % 64)) (bit_at-lt some (k % 64))
+        ∙ ap (λ b. b && not (bit_at some (k % 64) == 1)) (ap (λ i. bit_at (get_or words i 0) (k % 64) == 1) (sym here))
+        ∙ ap (λ b. bit_in words k && not b) (between here) ∙ ap (λ b. bit_in words k && not (b && nat_le from k && nat_lt k end)) (sym is)
+    | inr other ↦
+        let word : ℕ = bit_and (get_or words number 0) (18446744073709551615 - some) in
+        let is : (k / 64 == number) ≡ false = ne_eqb (k / 64) number other in
+        ap (λ n. bit_at n (k % 64) == 1) (get_or-set_other words number (k / 64) word 0 other)
+        ∙ sym (ap (λ b. bit_in words k && not (b && nat_le from k && nat_lt k end)) is ∙ and-true (bit_in words k))
+  ]

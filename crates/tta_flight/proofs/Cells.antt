@@ -1,9 +1,9 @@
 -- Cells that are written, and rings that are read.
-use Rattle.std.proofs.Common.{◌≡◌, ◌≢◌, ◌<◌, ◌≤◌, ℕ, true, false, eqb, List, length, Option, None, get_or, set, refl, sym, subst, arith}
+use Rattle.std.proofs.Common.{◌≡◌, ◌≢◌, ◌<◌, ◌≤◌, ◌+◌, ℕ, suc, true, false, eqb, List, length, Option, None, get_or, set, refl, ap, sym, subst, arith}
 use Rattle.std.specs.Prelude.{if◌then◌else◌, nat_le}
 use Rattle.std.proofs.lemmas.List.{get_or-set_same, get_or-set_other, get_or_read}
 use Rattle.tta_flight.specs.declared.ring.Ring.{Ring}
-use Rattle.tta_flight.specs.Rings.{Rings, AreApart, place_of, no_ring, ring_of, cell_of}
+use Rattle.tta_flight.specs.Rings.{Rings, AreApart, place_of, no_ring, ring_of, cell_of, later_in, due_in}
 use Rattle.tta_flight.proofs.Carved.{IsIn, carved_at}
 
 -- a cell stays where another place is written
@@ -22,7 +22,13 @@ cell_here cells ring d x soon within =
     let is : nat_le d ring.longest ≡ true = grind (arith, soon) in
     rw is (get_or-set_same cells (place_of ring d) x None within)
 
--- the cell of now
+-- what is due in some cycles is due so many after the next one
+pub due_later : (r : Rings) (unit past : ℕ) → due_in r unit (past + 1) ≡ later_in r unit past
+due_later r unit past =
+    let more : past + 1 ≡ suc past = omega arith in
+    ap (due_in r unit) more
+
+-- the cell of the next cycle
 pub cell_now : (cells : List (Option ℕ)) (ring : Ring) → cell_of cells ring 0 ≡ get_or cells (place_of ring 0) None
 cell_now cells ring =
     let is : nat_le 0 ring.longest ≡ true = grind arith in

@@ -3,9 +3,9 @@ use Rattle.std.proofs.Common.{◌≡◌, ◌≤◌, ℕ, zero, suc, true, false,
 use Rattle.std.specs.Prelude.{if◌then◌else◌, nat_le, replicate}
 use Rattle.std.proofs.lemmas.List.{length-replicate}
 use Rattle.tta_flight.specs.declared.ring.Ring.{Ring}
-use Rattle.tta_flight.specs.declared.moving.Moving.{Moving}
-use Rattle.tta_flight.specs.Rings.{Rings, rings_of, IsRegion, place_of, cell_of, ring_of, rings_from, size_of}
-use Rattle.tta_flight.specs.Moving.{has}
+use Rattle.tta_flight.specs.declared.marked.Marked.{Marked}
+use Rattle.tta_flight.specs.Rings.{Rings, rings_of, IsRegion, place_of, cell_of, ring_of, shown_in, due_in, rings_from, size_of}
+use Rattle.tta_flight.specs.Marked.{has}
 use Rattle.tta_flight.specs.Flight.{StandsFor}
 use Rattle.tta_flight.proofs.Coming.{never}
 use Rattle.tta_flight.proofs.Carved.{carved_from, length-rings_from, shown-rings_from, turns-rings_from}
@@ -24,9 +24,9 @@ none_due n ring d = elim (nat_le d ring.longest) as (λ b. (if b then get_or (no
   | false ↦ refl
 ]
 
-module _ (ls : List ℕ) (n : ℕ) (moving : Moving) where
+module _ (ls : List ℕ) (n : ℕ) (moving fresh : Marked) where
   abbrev first : Rings
-  first = rings_of (rings_from 0 ls) (no_cells n) moving
+  first = rings_of (rings_from 0 ls) (no_cells n) moving fresh
 
   pub first_region : n ≡ size_of 0 ls → n ≤ 65536 → length ls ≤ 256 → ((unit : ℕ) → has moving unit ≡ false) → IsRegion first
   first_region is few units clear = record {
@@ -45,5 +45,12 @@ module _ (ls : List ℕ) (n : ℕ) (moving : Moving) where
   pub first_stands : (moment : ℕ → ℕ) → StandsFor (record { started = []; moment = moment }) first
   first_stands moment = record {
     shown = λ u there. shown-rings_from 0 ls u;
-    coming = λ u d there. none_due n (ring_of first u) d;
+    coming = λ u d there. none u d;
   }
+    where
+      none : (u d : ℕ) → due_in first u d ≡ None
+      none u zero = elim (has fresh u) as (λ b. (if b then shown_in first u else None) ≡ None) [
+        | true ↦ shown-rings_from 0 ls u
+        | false ↦ refl
+      ]
+      none u (suc past) = none_due n (ring_of first u) past

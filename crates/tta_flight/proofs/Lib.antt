@@ -5,10 +5,12 @@ pub mod Among
 pub mod Coming
 pub mod Begun
 pub mod Turned
+pub mod Stepped
+pub mod Shown
 pub mod Advanced
 pub mod First
 pub mod Standing
 pub mod Parts
-pub mod Rested
 pub mod Walked
+pub mod Passed
 pub mod Rows

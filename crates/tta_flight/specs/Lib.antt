@@ -1,3 +1,3 @@
 pub mod Flight
 pub mod Rings
-pub mod Moving
+pub mod Marked

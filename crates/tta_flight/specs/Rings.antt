@@ -1,29 +1,31 @@
 -- Rings of cells in one row, and what the calls of a region do to them.
-use Rattle.std.specs.Prelude.{◌≡◌, ◌≢◌, ℕ, suc, ◌+◌, ◌-◌, ◌<◌, ◌≤◌, ◌==◌, Bool, true, false, ◌&&◌, nat_lt, nat_le, if◌then◌else◌, List, [], ◌∷◌, length, Option, None, Some, is_some, slice_index_or}
+use Rattle.std.specs.Prelude.{◌≡◌, ◌≢◌, ℕ, zero, suc, ◌+◌, ◌-◌, ◌<◌, ◌≤◌, ◌==◌, Bool, true, false, ◌&&◌, nat_lt, nat_le, if◌then◌else◌, List, [], ◌∷◌, length, Option, None, Some, is_some, slice_index_or}
 use Rattle.std.specs.Option.{option_or}
 use Rattle.tta_flight.specs.declared.ring.Ring.{Ring}
-use Rattle.tta_flight.specs.declared.moving.Moving.{Moving}
-use Rattle.tta_flight.specs.Moving.{has}
+use Rattle.tta_flight.specs.declared.marked.Marked.{Marked}
+use Rattle.tta_flight.specs.Marked.{has}
 
--- the rings of the units, the cells of all rings, and the units whose rings have to turn
+-- the rings of the units, the cells of all rings, the units whose rings have to turn, and those of which a result is due at this
+-- very moment: it is the one that shows
 pub record Rings : Type 0 where
   pub rings : List Ring
   pub cells : List (Option ℕ)
-  pub moving : Moving
+  pub moving : Marked
+  pub fresh : Marked
 
--- rings, cells and moving units together
-abbrev pub rings_of : List Ring → List (Option ℕ) → Moving → Rings
-rings_of rings cells moving = record { rings = rings; cells = cells; moving = moving }
+-- rings, cells and two sets of units together
+abbrev pub rings_of : List Ring → List (Option ℕ) → (moving fresh : Marked) → Rings
+rings_of rings cells moving fresh = record { rings = rings; cells = cells; moving = moving; fresh = fresh }
 
--- the cell of what is due in so many cycles
-abbrev pub place_of : Ring → (delay : ℕ) → ℕ
-place_of r delay = r.first + (if nat_le (r.at + delay) r.longest then r.at + delay else r.at + delay - suc r.longest)
+-- the cell of what is due so many cycles after the next one
+abbrev pub place_of : Ring → (past : ℕ) → ℕ
+place_of r past = r.first + (if nat_le (r.at + past) r.longest then r.at + past else r.at + past - suc r.longest)
 
--- how far after the first cell that of the next cycle is
+-- how far after the first cell that of the cycle after the next one is
 abbrev pub at_next : Ring → ℕ
 at_next r = if r.at == r.longest then 0 else r.at + 1
 
--- a ring in the next cycle, before what is due then shows
+-- a ring that has turned to the next cycle, before what is due then shows
 abbrev pub turned : Ring → Ring
 turned r = record r { at = at_next r; turns = r.turns - 1 }
 
@@ -47,13 +49,18 @@ turns_of r unit = (ring_of r unit).turns
 abbrev pub shown_in : Rings → (unit : ℕ) → Option ℕ
 shown_in r unit = (ring_of r unit).shown
 
--- what a ring has for a delay; nothing is due later than in its longest
-abbrev pub cell_of : List (Option ℕ) → Ring → (delay : ℕ) → Option ℕ
-cell_of cells ring delay = if nat_le delay ring.longest then slice_index_or cells (place_of ring delay) None else None
+-- what a ring has for so many cycles after the next one; nothing is due later than so many cycles after it as its longest delay
+abbrev pub cell_of : List (Option ℕ) → Ring → (past : ℕ) → Option ℕ
+cell_of cells ring past = if nat_le past ring.longest then slice_index_or cells (place_of ring past) None else None
+
+-- the result of a unit that is due so many cycles after the next one
+abbrev pub later_in : Rings → (unit past : ℕ) → Option ℕ
+later_in r unit past = cell_of r.cells (ring_of r unit) past
 
 -- the result of a unit that is due in so many cycles
 abbrev pub due_in : Rings → (unit delay : ℕ) → Option ℕ
-due_in r unit delay = cell_of r.cells (ring_of r unit) delay
+due_in r unit zero = if has r.fresh unit then shown_in r unit else None
+due_in r unit (suc past) = later_in r unit past
 
 -- ---- rings in a row
 
@@ -81,9 +88,9 @@ pub record AreApart (r : Rings) : Type 0 where
 -- the set needs no turn, and the ring of one in the set has a result for its last turn.
 pub record AreMoving (r : Rings) : Type 0 where
   pub few : length r.rings ≤ 256
-  pub empty : (unit delay : ℕ) → unit < length r.rings → turns_of r unit ≤ delay → due_in r unit delay ≡ None
+  pub empty : (unit past : ℕ) → unit < length r.rings → turns_of r unit ≤ past → later_in r unit past ≡ None
   pub still : (unit : ℕ) → unit < length r.rings → has r.moving unit ≡ false → turns_of r unit ≡ 0
-  pub needed : (unit : ℕ) → unit < length r.rings → has r.moving unit ≡ true → is_some (due_in r unit (turns_of r unit - 1)) ≡ true
+  pub needed : (unit : ℕ) → unit < length r.rings → has r.moving unit ≡ true → is_some (later_in r unit (turns_of r unit - 1)) ≡ true
 
 -- What a region keeps of its rings.
 pub record IsRegion (r : Rings) : Type 0 where
@@ -100,11 +107,11 @@ is_among base count unit = nat_le base unit && nat_lt unit (base + count)
 abbrev pub nearest : (base end unit : ℕ) → ℕ
 nearest base end unit = if nat_le unit base then base else if nat_le end unit then end else unit
 
--- A result was added: every other unit and every other delay is as before.
+-- A result was added, which shows if it is due at once: every other unit and every other delay is as before.
 pub record IsStarted (unit delay value : ℕ) (old new : Rings) : Type 0 where
   pub units : length new.rings ≡ length old.rings
   pub longest : (u : ℕ) → longest_of new u ≡ longest_of old u
-  pub shown : (u : ℕ) → shown_in new u ≡ shown_in old u
+  pub shown : (u : ℕ) → shown_in new u ≡ (if u == unit && delay == 0 then Some value else shown_in old u)
   pub here : due_in new unit delay ≡ Some value
   pub unit_apart : (u d : ℕ) → u < length old.rings → u ≢ unit → due_in new u d ≡ due_in old u d
   pub delay_apart : (d : ℕ) → d ≢ delay → due_in new unit d ≡ due_in old unit d
@@ -117,6 +124,24 @@ pub record IsAdvanced (base count : ℕ) (old new : Rings) : Type 0 where
       → shown_in new u ≡ (if is_among base count u then option_or (due_in old u 1) (shown_in old u) else shown_in old u)
   pub due : (u d : ℕ) → u < length old.rings
       → due_in new u d ≡ (if is_among base count u then due_in old u (d + 1) else due_in old u d)
+
+-- A unit's ring turned: what it has for each cycle to come is one cycle nearer, and what it had for the next one is taken out. All
+-- else is as before.
+pub record IsTurned (unit : ℕ) (old new : Rings) : Type 0 where
+  pub units : length new.rings ≡ length old.rings
+  pub longest : (u : ℕ) → longest_of new u ≡ longest_of old u
+  pub shown : (u : ℕ) → shown_in new u ≡ shown_in old u
+  pub now : (u : ℕ) → due_in new u 0 ≡ due_in old u 0
+  pub later : (past : ℕ) → later_in new unit past ≡ later_in old unit (past + 1)
+  pub unit_apart : (u past : ℕ) → u < length old.rings → u ≢ unit → later_in new u past ≡ later_in old u past
+
+-- What was due at this moment of some units is over. All else is as before.
+pub record AreOver (base count : ℕ) (old new : Rings) : Type 0 where
+  pub units : length new.rings ≡ length old.rings
+  pub longest : (u : ℕ) → longest_of new u ≡ longest_of old u
+  pub shown : (u : ℕ) → shown_in new u ≡ shown_in old u
+  pub now : (u : ℕ) → due_in new u 0 ≡ (if is_among base count u then None else due_in old u 0)
+  pub later : (u past : ℕ) → later_in new u past ≡ later_in old u past
 
 -- Nothing is due of the units from one on and before an end.
 abbrev pub AreEmpty : (from end : ℕ) → Rings → Type 0

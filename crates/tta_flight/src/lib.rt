@@ -1,9 +1,10 @@
 //! Results on their way to the result ports of units, in one region of rings.
 #![tactic(auto)]
 
-mod moving;
+mod marked;
 mod region;
 mod ring;
+mod turning;
 
 pub use region::Region;
 

@@ -5,26 +5,28 @@ ghost use Rattle.std.specs.Prelude.{◌-◌, ◌*◌, ◌/◌, ◌%◌, slice_in
 ghost use Rattle.std.specs.Int.{bit_at};
 ghost use Rattle.tta_flight.specs.Flight.{Flight, started, advanced, port_of, due_of, StandsFor};
 ghost use Rattle.tta_flight.specs.Flight.{StartsAmong, AdvancesAll, StayBeside};
-ghost use Rattle.tta_flight.specs.Rings.{IsStarted, IsAdvanced, ring_of};
-ghost use Rattle.tta_flight.specs.Rings.{longest_of, due_in, shown_in, place_of, turns_of};
+ghost use Rattle.tta_flight.specs.Rings.{IsStarted, IsAdvanced, IsTurned, AreOver, ring_of};
+ghost use Rattle.tta_flight.specs.Rings.{longest_of, due_in, later_in, shown_in, place_of};
 ghost use Rattle.tta_flight.specs.Rings.{nearest};
 
-use crate::moving::{Moving, least_bit, without_bit};
+use crate::marked::{Marked, least_bit, without_bit};
 use crate::ring::{Ring, carve, empty, size};
 use std::alloc::{AllocError, Global};
 use std::marker::Model;
 
 /// The results of units: those that show, and those that are still to come.
 ///
-/// Each unit has a ring of cells, one for each delay. No time is kept: a cycle turns the rings that
-/// have a result.
+/// Each unit has a ring of cells, one for each cycle to come. No time is kept: a cycle turns the rings
+/// that have a result.
 #[derive(Drop)]
 pub struct Region {
-    rings: Vec<Ring>,
+    pub(crate) rings: Vec<Ring>,
     /// The cells of all rings.
-    cells: Vec<Option<u32>>,
+    pub(crate) cells: Vec<Option<u32>>,
     /// The units whose rings have a result, and so have to turn.
-    moving: Moving,
+    pub(crate) moving: Marked,
+    /// The units of which a result is due at this very moment: it is the one that shows.
+    pub(crate) fresh: Marked,
 }
 
 impl Model for Region {
@@ -32,9 +34,9 @@ impl Model for Region {
 
     ghost Value = { Rings };
 
-    ghost view = { λ r. rings_of r.rings.items r.cells.items r.moving };
+    ghost view = { λ r. rings_of r.rings.items r.cells.items r.moving r.fresh };
 
-    ghost invariant = { λ r. IsRegion (rings_of r.rings.items r.cells.items r.moving) };
+    ghost invariant = { λ r. IsRegion (rings_of r.rings.items r.cells.items r.moving r.fresh) };
 }
 
 impl Region {
@@ -57,12 +59,13 @@ impl Region {
         Ok(Region {
             rings,
             cells,
-            moving: Moving::none(),
+            moving: Marked::none(),
+            fresh: Marked::none(),
         })
     }
 
     /// How many units there are.
-    fn units(&self) -> usize
+    pub(crate) fn units(&self) -> usize
         ensures all { result ≡ length self.now.rings }
         ensures few { result ≤ 256 }
     {
@@ -71,42 +74,55 @@ impl Region {
 
     /// The ring of a unit.
     #[inline(always)]
-    fn ring(&self, unit: usize) -> Ring
+    pub(crate) fn ring(&self, unit: usize) -> Ring
         requires { unit < length self.now.rings }
         ensures ring { result ≡ ring_of self.now unit }
         ensures at { result.at ≤ result.longest }
         ensures within { result.first + result.longest < length self.now.cells }
         ensures few { result.first + result.longest < 65536 }
-        ensures none { (delay : ℕ) → result.turns ≤ delay → due_in self.now unit delay ≡ None }
+        ensures none { (past : ℕ) → result.turns ≤ past → later_in self.now unit past ≡ None }
     {
         self.rings[unit]
     }
 
-    /// The cell of what is due of a unit in so many cycles.
+    /// The cell of what is due of a unit so many cycles after the next one.
     #[inline(always)]
-    fn place(&self, unit: u8, delay: u8) -> usize
+    fn place(&self, unit: u8, past: u8) -> usize
         requires unit { unit < length self.now.rings }
-        requires soon { delay ≤ longest_of self.now unit }
-        ensures place { result ≡ place_of (ring_of self.now unit) delay }
+        requires soon { past ≤ longest_of self.now unit }
+        ensures place { result ≡ place_of (ring_of self.now unit) past }
         ensures there { result < length self.now.cells }
     {
-        self.ring(usize::from(unit)).place(delay)
+        self.ring(usize::from(unit)).place(past)
     }
 
-    /// What is due of a unit in so many cycles. Nothing is due later than after its longest delay.
+    /// What is due of a unit at this very moment.
     #[inline(always)]
-    fn coming(&self, unit: u8, delay: u8) -> Option<u32>
+    fn fresh(&self, unit: u8) -> Option<u32>
         requires { unit < length self.now.rings }
-        ensures { result ≡ due_in self.now unit delay }
+        ensures { result ≡ due_in self.now unit 0 }
+    {
+        if !self.fresh.has(usize::from(unit)) {
+            return None;
+        }
+        self.rings[usize::from(unit)].shown
+    }
+
+    /// What is due of a unit so many cycles after the next one. Nothing is due later than so many
+    /// cycles after it as its longest delay.
+    #[inline(always)]
+    fn coming(&self, unit: u8, past: u8) -> Option<u32>
+        requires { unit < length self.now.rings }
+        ensures { result ≡ later_in self.now unit past }
     {
         let ring = self.ring(usize::from(unit));
-        if ring.turns <= u16::from(delay) {
+        if ring.turns <= u16::from(past) {
             return None;
         }
-        if delay > ring.longest {
+        if past > ring.longest {
             return None;
         }
-        self.cells[ring.place(delay)]
+        self.cells[ring.place(past)]
     }
 
     /// Whether a result of the unit is due in so many cycles.
@@ -120,11 +136,35 @@ impl Region {
         self.due(unit, delay).is_some()
     }
 
-    /// Adds a result that is due in so many cycles. Every other unit and every other due stays.
+    /// Adds a result that is due at once, and so shows.
+    #[inline(always)]
+    pub(crate) fn show(&mut self, unit: usize, value: u32)
+        requires { unit < length self.old.rings }
+        ensures { IsStarted unit 0 value self.old self.new }
+    {
+        self.rings[unit].show(value);
+        self.fresh.add(unit);
+    }
+
+    /// Adds a result that is due so many cycles after the next one.
+    #[inline(always)]
+    fn expect(&mut self, unit: u8, past: u8, value: u32)
+        requires unit { unit < length self.old.rings }
+        requires soon { past ≤ longest_of self.old unit }
+        ensures { IsStarted unit (past + 1) value self.old self.new }
+    {
+        let cell = self.place(unit, past);
+        let at = usize::from(unit);
+        self.cells[cell] = Some(value);
+        self.rings[at].expect(past);
+        self.moving.add(at);
+    }
+
+    /// Adds a result that is due in so many cycles. Where it is due at once, it shows. Every other
+    /// unit and every other due stays.
     #[inline(always)]
     pub fn start(&mut self, unit: u8, delay: u8, value: u32)
         requires unit { unit < length self.old.rings }
-        requires later { 0 < delay }
         requires soon { delay ≤ longest_of self.old unit }
         requires free { due_in self.old unit delay ≡ None }
         ensures held { IsStarted unit delay value self.old self.new }
@@ -132,134 +172,11 @@ impl Region {
             → StandsFor (started unit delay value f) self.new }
         ensures part { StartsAmong unit delay value self.old self.new }
     {
-        let cell = self.place(unit, delay);
-        let at = usize::from(unit);
-        self.cells[cell] = Some(value);
-        self.rings[at].expect(delay);
-        self.moving.add(at);
-    }
-
-    /// Goes to the next cycle of a unit of which nothing is coming.
-    #[inline(always)]
-    fn rest(&mut self, unit: usize)
-        requires unit { unit < length self.old.rings }
-        requires last { turns_of self.old unit ≤ 1 }
-        ensures { IsAdvanced unit 1 self.old self.new }
-    {
-        let now = self.ring(unit).now();
-        self.cells[now] = None;
-        self.rings[unit].rest();
-        self.moving.remove(unit);
-    }
-
-    /// Goes to the next cycle of a unit of which something is coming.
-    #[inline(always)]
-    fn turn(&mut self, unit: usize)
-        requires unit { unit < length self.old.rings }
-        requires more { 1 < turns_of self.old unit }
-        ensures { IsAdvanced unit 1 self.old self.new }
-    {
-        let ring = self.ring(unit);
-        let now = ring.now();
-        self.cells[now] = None;
-        let turned = ring.turned();
-        let due = self.cells[turned.now()];
-        self.rings[unit].follow(turned.showing(due));
-    }
-
-    /// Goes to a unit's next cycle.
-    #[inline(always)]
-    fn step(&mut self, unit: usize)
-        requires { unit < length self.old.rings }
-        ensures { IsAdvanced unit 1 self.old self.new }
-    {
-        if self.ring(unit).turns <= 1 {
-            self.rest(unit);
+        if delay == 0 {
+            self.show(usize::from(unit), value);
         } else {
-            self.turn(unit);
+            self.expect(unit, delay - 1, value);
         }
-    }
-
-    /// Goes to a unit's next cycle, if the unit is one of those from one on and before an end.
-    #[inline(always)]
-    fn step_among(&mut self, unit: usize, base: usize, end: usize)
-        requires order { base ≤ end }
-        requires there { end ≤ length self.old.rings }
-        ensures { let count = nearest base end (unit + 1) - nearest base end unit in
-            IsAdvanced (nearest base end unit) count self.old self.new }
-    {
-        if base <= unit && unit < end {
-            self.step(unit);
-        }
-    }
-
-    /// The bits of 64 units, from unit `64 * number` on. Where a bit is 0, nothing is coming.
-    #[inline(always)]
-    fn word(&self, number: usize) -> u64
-        requires { number < 4 }
-        ensures { (unit delay : ℕ) → unit < length self.now.rings → unit / 64 ≡ number
-            → bit_at result (unit % 64) ≡ 0 → due_in self.now unit delay ≡ None }
-    {
-        self.moving.word(number)
-    }
-
-    /// Goes to the next cycle of those units from one on and before an end whose bits this word of
-    /// the set has. Where nothing is coming, it looks at no ring.
-    #[inline(always)]
-    fn walk(&mut self, number: usize, base: usize, end: usize)
-        requires word { number < 4 }
-        requires order { base ≤ end }
-        requires there { end ≤ length self.old.rings }
-        ensures { let first = nearest base end (64 * number) in
-            IsAdvanced first (nearest base end (64 * number + 64) - first) self.old self.new }
-    {
-        let first = 64 * number;
-        let mut left = self.word(number);
-        let mut at = first;
-        'bits: while left != 0 {
-            let bit = least_bit(left);
-            self.step_among(first + bit, base, end);
-            at = first + bit + 1;
-            left = without_bit(left, bit);
-        }
-    }
-
-    /// Goes to the next cycle of so many units from one on, word by word of the set.
-    #[inline(always)]
-    fn steps(&mut self, base: usize, count: usize)
-        requires there { base + count ≤ length self.old.rings }
-        requires few { base + count < 2 ^ 64 }
-        ensures { IsAdvanced base count self.old self.new }
-    {
-        let end = self.units().min(base + count);
-        let mut number = base / 64;
-        'words: while 64 * number < end {
-            self.walk(number, base, end);
-            number += 1;
-        }
-    }
-
-    /// Goes to the next cycle.
-    pub fn advance(&mut self)
-        ensures held { IsAdvanced 0 (length self.old.rings) self.old self.new }
-        ensures same { (f : Flight) → StandsFor f self.old
-            → StandsFor (advanced 0 (length self.old.rings) f) self.new }
-    {
-        let count = self.units();
-        self.steps(0, count);
-    }
-
-    /// Goes to the next cycle of so many units from one on. Every other unit stays.
-    #[inline(always)]
-    pub fn advance_units(&mut self, base: u8, count: u8)
-        requires { base + count ≤ length self.old.rings }
-        ensures held { IsAdvanced base count self.old self.new }
-        ensures same { (f : Flight) → StandsFor f self.old
-            → StandsFor (advanced base count f) self.new }
-        ensures part { AdvancesAll base count self.old self.new }
-        ensures beside { StayBeside base count self.old self.new }
-    {
-        self.steps(usize::from(base), usize::from(count));
     }
 
     /// The word on a unit's result port, `None` where no result was due yet.
@@ -279,6 +196,9 @@ impl Region {
         ensures held { result ≡ due_in self.now unit delay }
         ensures due { (f : Flight) → StandsFor f self.now → result ≡ due_of f unit delay }
     {
-        self.coming(unit, delay)
+        if delay == 0 {
+            return self.fresh(unit);
+        }
+        self.coming(unit, delay - 1)
     }
 }

@@ -1,20 +1,20 @@
 //! The ring of one unit.
 
 ghost use Rattle.std.specs.Prelude.{◌≡◌, ◌<◌, ◌≤◌, ◌+◌, length, max, replicate};
-ghost use Rattle.std.specs.Prelude.{None, IfOk};
-ghost use Rattle.std.specs.Option.{option_or};
+ghost use Rattle.std.specs.Prelude.{None, Some, IfOk};
 ghost use Rattle.tta_flight.specs.Rings.{place_of, turned, rings_from, size_of};
 
 use std::alloc::{AllocError, Global};
 
-/// Where a unit's results are: a cell for each delay, from no cycle to its longest.
+/// Where a unit's results are: what shows, and a cell for each cycle to come, the next one and so many
+/// after it as its longest delay.
 #[derive(Clone, Copy)]
 pub struct Ring {
     /// The first of its cells.
     pub first: u32,
     /// The longest delay.
     pub longest: u8,
-    /// How far after the first cell that of this cycle is.
+    /// How far after the first cell that of the next cycle is.
     pub at: u8,
     /// After so many turns each of its cells is empty, if nothing is started.
     pub turns: u16,
@@ -23,15 +23,15 @@ pub struct Ring {
 }
 
 impl Ring {
-    /// The cell of what is due in so many cycles.
-    pub fn place(self, delay: u8) -> usize
-        requires soon { delay ≤ self.longest }
+    /// The cell of what is due so many cycles after the next one.
+    pub fn place(self, past: u8) -> usize
+        requires soon { past ≤ self.longest }
         requires at { self.at ≤ self.longest }
         requires few { self.first + self.longest < 65536 }
-        ensures { result ≡ place_of self delay }
+        ensures { result ≡ place_of self past }
     {
         let size = usize::from(self.longest) + 1;
-        let along = usize::from(self.at) + usize::from(delay);
+        let along = usize::from(self.at) + usize::from(past);
         if along < size {
             self.first as usize + along
         } else {
@@ -39,8 +39,8 @@ impl Ring {
         }
     }
 
-    /// The cell of what is due now.
-    pub fn now(self) -> usize
+    /// The cell of what is due in the next cycle.
+    pub fn next(self) -> usize
         requires at { self.at ≤ self.longest }
         requires few { self.first + self.longest < 65536 }
         ensures { result ≡ place_of self 0 }
@@ -48,7 +48,7 @@ impl Ring {
         self.first as usize + usize::from(self.at)
     }
 
-    /// The ring in the next cycle.
+    /// The ring once it has turned to the next cycle.
     pub fn turned(self) -> Ring
         requires { self.at ≤ self.longest }
         ensures ring { result ≡ turned self }
@@ -70,47 +70,29 @@ impl Ring {
         }
     }
 
-    /// The ring where this is due now, if anything is.
-    pub fn showing(self, due: Option<u32>) -> Ring
-        ensures { result ≡ record self { shown = option_or due self.shown } }
+    /// Turns to the next cycle. It is written field by field, so that the fields can be read again at
+    /// once.
+    pub fn turn(&mut self)
+        requires { self.old.at ≤ self.old.longest }
+        ensures { self.new ≡ turned self.old }
     {
-        let shown = match due {
-            Some(value) => Some(value),
-            None => self.shown,
-        };
-        Ring {
-            first: self.first,
-            longest: self.longest,
-            at: self.at,
-            turns: self.turns,
-            shown,
-        }
-    }
-
-    /// Takes over all that can change of a ring, of which the cells are the same. It is written field by
-    /// field, so that the fields can be read again at once.
-    pub fn follow(&mut self, next: Ring)
-        requires first { next.first ≡ self.old.first }
-        requires longest { next.longest ≡ self.old.longest }
-        ensures { self.new ≡ next }
-    {
+        let next = self.turned();
         self.at = next.at;
         self.turns = next.turns;
-        self.shown = next.shown;
     }
 
-    /// Expects a result that is due in so many cycles.
-    pub fn expect(&mut self, delay: u8)
-        ensures { self.new ≡ record self.old { turns = max self.old.turns (delay + 1) } }
+    /// Shows a result.
+    pub fn show(&mut self, value: u32)
+        ensures { self.new ≡ record self.old { shown = Some value } }
     {
-        self.turns = self.turns.max(u16::from(delay) + 1);
+        self.shown = Some(value);
     }
 
-    /// Expects nothing.
-    pub fn rest(&mut self)
-        ensures { self.new ≡ record self.old { turns = 0 } }
+    /// Expects a result that is due so many cycles after the next one.
+    pub fn expect(&mut self, past: u8)
+        ensures { self.new ≡ record self.old { turns = max self.old.turns (past + 1) } }
     {
-        self.turns = 0;
+        self.turns = self.turns.max(u16::from(past) + 1);
     }
 }
 

@@ -1,20 +1,21 @@
 -- Results that begin one by one.
-use Rattle.std.proofs.Common.{◌≡◌, ◌≢◌, ◌<◌, ◌≤◌, ◌+◌, ◌==◌, ◌&&◌, ◌||◌, not, ℕ, zero, suc, Bool, true, false, List, [], ◌∷◌, ◌++◌, length, take, get_or, Option, None, Some, refl, ap, sym, ◌∙◌, subst, arith, IsTrue, append-nil}
+use Rattle.std.proofs.Common.{◌≡◌, ◌≢◌, ◌<◌, ◌≤◌, ◌+◌, ◌-◌, ◌==◌, ◌&&◌, ◌||◌, not, ℕ, zero, suc, Bool, true, false, List, [], ◌∷◌, ◌++◌, length, take, get_or, Option, None, Some, refl, ap, sym, ◌∙◌, subst, arith, IsTrue, append-nil}
 use Rattle.std.specs.Prelude.{option_map, option_to_list, is_some, nat_lt, nat_le, if◌then◌else◌}
 use Rattle.std.specs.Option.{option_or}
 use Rattle.std.specs.List.{filter_map, cons_option, list_any, AllByRecursion}
-use Rattle.std.proofs.lemmas.Bool.{and_parts, ltb-true}
+use Rattle.std.proofs.lemmas.Bool.{and_parts, ltb-true, ne_eqb}
 use Rattle.std.proofs.lemmas.List.Folds.{find-append}
 use Rattle.tta_ops.specs.Units.{Units}
 use Rattle.tta_arch.specs.Rules.{are_different}
 use Rattle.tta_arch.specs.Effects.{Start, has_result, result_word}
 use Rattle.tta_code.specs.Cycle.{Result'}
-use Rattle.tta_flight.specs.Rings.{Rings, shown_in, due_in, is_among, IsStarted}
+use Rattle.tta_flight.specs.Flight.{StayBeside}
+use Rattle.tta_flight.specs.Rings.{Rings, shown_in, due_in, is_among, IsStarted, IsAdvanced}
 use Rattle.tta_sim.specs.declared.results.Part.{Part}
 use Rattle.tta_sim.specs.Results.{Results, AreThere, AreKept, CanBegin, HasBegun, results_at, due_by, longest_by, due_at, is_due, word_due}
 use Rattle.tta_sim.specs.Starts.{begun, due_of, clashes_with, is_fitting, CanStart}
 use Rattle.tta_sim.specs.Ready.{Begin, KeepsOthers}
-use Rattle.tta_sim.proofs.Showing.{results_more}
+use Rattle.tta_sim.proofs.Showing.{among_units, results_more}
 use Rattle.tta_sim.proofs.Lists.{filter_map-more}
 
 -- ---- lists of operations
@@ -41,13 +42,29 @@ all_at P (x ∷ xs) (suc k) d all within = all_at P xs k d all.1 (omega (arith, 
 
 -- ---- one after another
 
--- What is known when these results have begun in some units of a region: no port shows another word, and nothing else is due.
+-- What is known when these results have begun in some units of a region, and the next cycle has come: each port shows what is due in
+-- it, or what it showed, and nothing else is due.
 pub record AreBegun (now : ℕ) (r : Results) (new : List Result') (rings : Rings) : Type 0 where
   pub kept : AreKept r.rings rings
-  pub shown : (unit : ℕ) → shown_in rings unit ≡ shown_in r.rings unit
+  pub shown : (unit : ℕ) → unit < r.units → shown_in rings (r.base + unit)
+      ≡ option_or (word_due (due_at unit (now + 1) new)) (option_or (due_in r.rings (r.base + unit) 1) (shown_in r.rings (r.base + unit)))
   pub due : (unit delay : ℕ) → unit < r.units
-      → due_in rings (r.base + unit) delay ≡ option_or (word_due (due_at unit (now + delay) new)) (due_in r.rings (r.base + unit) delay)
-  pub beside : (unit delay : ℕ) → unit < length r.rings.rings → is_among r.base r.units unit ≡ false → due_in rings unit delay ≡ due_in r.rings unit delay
+      → due_in rings (r.base + unit) delay ≡ option_or (word_due (due_at unit (now + 1 + delay) new)) (due_in r.rings (r.base + unit) (delay + 1))
+  pub beside : StayBeside r.base r.units r.rings rings
+
+-- none has begun when the next cycle comes
+pub none_begun : (now : ℕ) (r : Results) (rings : Rings) → AreThere r → IsAdvanced r.base r.units r.rings rings → StayBeside r.base r.units r.rings rings
+    → AreBegun now r [] rings
+none_begun now r rings there is beside = record {
+  kept = record { units = is.units; longest = is.longest };
+  shown = λ unit less.
+      is.shown (r.base + unit) (omega (arith, less, there.there))
+      ∙ ap (λ b. if b then option_or (due_in r.rings (r.base + unit) 1) (shown_in r.rings (r.base + unit)) else shown_in r.rings (r.base + unit)) (among_units r.base r.units unit less);
+  due = λ unit delay less.
+      is.due (r.base + unit) delay (omega (arith, less, there.there))
+      ∙ ap (λ b. if b then due_in r.rings (r.base + unit) (delay + 1) else due_in r.rings (r.base + unit) delay) (among_units r.base r.units unit less);
+  beside = beside;
+}
 
 -- all elements are among so many
 pub take_past : {A : Type 0} (xs : List A) (k : ℕ) → length xs ≤ k → take k xs ≡ xs
@@ -74,48 +91,91 @@ not_among base count u n less beside = λ same.
 equal : (a b : ℕ) → (a == b) ≡ true → a ≡ b
 equal a b is = grind (arith, is)
 
-parts_of : (a b c d : ℕ) (n : ℕ) → (a == b && n + c == n + d) ≡ true → (a ≡ b) × (c ≡ d)
-parts_of a b c d n is = (grind (arith, is), grind (arith, is))
+-- a result after `latency` cycles is due so long after the next one
+delay_of : (latency delay now : ℕ) → (now + latency == now + 1 + delay) ≡ true → latency - 1 ≡ delay
+delay_of latency delay now is = grind (arith, is)
 
-other_delay : (a b c d : ℕ) (n : ℕ) → (a == b && n + c == n + d) ≡ false → (a == b) ≡ true → d ≢ c
-other_delay a b c d n not_both one = λ same. grind (arith, not_both, one, same)
+other_delay : (latency delay now : ℕ) → 0 < latency → (now + latency == now + 1 + delay) ≡ false → delay ≢ latency - 1
+other_delay latency delay now later other = λ same. grind (arith, later, other, same)
+
+same_port : (base a b : ℕ) → (base + b == base + a) ≡ (a == b)
+same_port base a b = elim (a == b) as (λ x. (a == b) ≡ x → (base + b == base + a) ≡ x) [
+  | true ↦ λ is. grind (arith, is)
+  | false ↦ λ is. grind (arith, is)
+] refl
+
+at_once : (latency now : ℕ) → 0 < latency → (latency - 1 == 0) ≡ (now + latency == now + 1)
+at_once latency now later = elim (now + latency == now + 1) as (λ x. (now + latency == now + 1) ≡ x → (latency - 1 == 0) ≡ x) [
+  | true ↦ λ is. grind (arith, is)
+  | false ↦ λ is. grind (arith, is, later)
+] refl
 
 module _ (now : ℕ) (r : Results) (there : AreThere r) (done : List Result') (t : Start) (within : t.unit < r.units) (old new : Rings) (was : AreBegun now r done old) where
   -- what is due of another unit, or at another time, stays
-  other_due : (value unit delay : ℕ) → IsStarted (r.base + t.unit) t.does.latency value old new → unit < r.units
-      → (t.unit == unit && now + t.does.latency == now + delay) ≡ false → due_in new (r.base + unit) delay ≡ due_in old (r.base + unit) delay
-  other_due value unit delay is less other = by (t.unit == unit) refl where
+  other_due : (value unit delay : ℕ) → 0 < t.does.latency → IsStarted (r.base + t.unit) (t.does.latency - 1) value old new → unit < r.units
+      → (t.unit == unit && now + t.does.latency == now + 1 + delay) ≡ false → due_in new (r.base + unit) delay ≡ due_in old (r.base + unit) delay
+  other_due value unit delay later is less other = by (t.unit == unit) refl where
     by : (b : Bool) → (t.unit == unit) ≡ b → due_in new (r.base + unit) delay ≡ due_in old (r.base + unit) delay
     by true here =
         let same : t.unit ≡ unit = equal t.unit unit here in
-        subst (λ n. due_in new (r.base + n) delay ≡ due_in old (r.base + n) delay) same (is.delay_apart delay (other_delay t.unit unit t.does.latency delay now other here))
+        let apart : (now + t.does.latency == now + 1 + delay) ≡ false = sym (ap (λ b. b && now + t.does.latency == now + 1 + delay) here) ∙ other in
+        subst (λ n. due_in new (r.base + n) delay ≡ due_in old (r.base + n) delay) same (is.delay_apart delay (other_delay t.does.latency delay now later apart))
     by false here = is.unit_apart (r.base + unit) delay (omega (arith, less, there.there, was.kept.units)) (differ t.unit unit r.base here)
 
   -- one more has begun, where none of its unit has
-  pub one_more : (value : Option ℕ) → HasBegun r.base t value old new → due_at t.unit (now + t.does.latency) done ≡ None
+  pub one_more : (value : Option ℕ) → (is_some value ≡ true → 0 < t.does.latency) → HasBegun r.base t value old new → due_at t.unit (now + t.does.latency) done ≡ None
       → AreBegun now r (done ++ option_to_list (option_map (due_of now t) value)) new
-  one_more None same none =
+  one_more None later same none =
       subst (λ rings. AreBegun now r (done ++ []) rings) (sym same) (subst (λ xs. AreBegun now r xs old) (sym (append-nil done)) was)
-  one_more (Some value) is none = record {
+  one_more (Some value) later is none = record {
     kept = record { units = is.units ∙ was.kept.units; longest = λ unit. is.longest unit ∙ was.kept.longest unit };
-    shown = λ unit. is.shown unit ∙ was.shown unit;
+    shown = λ unit less.
+        is.shown (r.base + unit)
+        ∙ ap (λ b. if b && t.does.latency - 1 == 0 then Some value else shown_in old (r.base + unit)) (same_port r.base t.unit unit)
+        ∙ ap (λ b. if t.unit == unit && b then Some value else shown_in old (r.base + unit)) (at_once t.does.latency now (later refl))
+        ∙ shows unit less (t.unit == unit && now + t.does.latency == now + 1) refl
+        ∙ ap (λ o. option_or (word_due o) (option_or (due_in r.rings (r.base + unit) 1) (shown_in r.rings (r.base + unit))))
+        (sym (find-append (is_due unit (now + 1)) done (due_of now t value ∷ [])));
     due = λ unit delay less.
-        by unit delay less (t.unit == unit && now + t.does.latency == now + delay) refl
-        ∙ ap (λ o. option_or (word_due o) (due_in r.rings (r.base + unit) delay)) (sym (find-append (is_due unit (now + delay)) done (due_of now t value ∷ [])));
-    beside = λ unit delay had other.
-        is.unit_apart unit delay (omega (arith, had, was.kept.units)) (not_among r.base r.units t.unit unit within other) ∙ was.beside unit delay had other;
+        by unit delay less (t.unit == unit && now + t.does.latency == now + 1 + delay) refl
+        ∙ ap (λ o. option_or (word_due o) (due_in r.rings (r.base + unit) (delay + 1))) (sym (find-append (is_due unit (now + 1 + delay)) done (due_of now t value ∷ [])));
+    beside = record {
+      shown = λ unit had other.
+          let apart : (unit == r.base + t.unit) ≡ false = ne_eqb unit (r.base + t.unit) (not_among r.base r.units t.unit unit within other) in
+          is.shown unit ∙ ap (λ b. if b && t.does.latency - 1 == 0 then Some value else shown_in old unit) apart ∙ was.beside.shown unit had other;
+      due = λ unit delay had other.
+          is.unit_apart unit delay (omega (arith, had, was.kept.units)) (not_among r.base r.units t.unit unit within other) ∙ was.beside.due unit delay had other;
+    };
   } where
-    by : (unit delay : ℕ) → unit < r.units → (b : Bool) → (t.unit == unit && now + t.does.latency == now + delay) ≡ b
+    -- no result of the unit has begun that is due then
+    first : (unit due : ℕ) → (t.unit == unit) ≡ true → (now + t.does.latency == due) ≡ true → due_at unit due done ≡ None
+    first unit due here then_due =
+        subst (λ n. due_at n due done ≡ None) (equal t.unit unit here) (subst (λ d. due_at t.unit d done ≡ None) (equal (now + t.does.latency) due then_due) none)
+
+    shows : (unit : ℕ) → unit < r.units → (b : Bool) → (t.unit == unit && now + t.does.latency == now + 1) ≡ b
+        → (if b then Some value else shown_in old (r.base + unit))
+        ≡ option_or (word_due (option_or (due_at unit (now + 1) done) (if b then Some (due_of now t value) else None)))
+        (option_or (due_in r.rings (r.base + unit) 1) (shown_in r.rings (r.base + unit)))
+    shows unit less true both =
+        let parts = and_parts (t.unit == unit) (now + t.does.latency == now + 1) both in
+        sym (ap (λ o. option_or (word_due (option_or o (Some (due_of now t value)))) (option_or (due_in r.rings (r.base + unit) 1) (shown_in r.rings (r.base + unit))))
+        (first unit (now + 1) parts.0 parts.1))
+    shows unit less false other =
+        was.shown unit less
+        ∙ ap (λ o. option_or (word_due o) (option_or (due_in r.rings (r.base + unit) 1) (shown_in r.rings (r.base + unit)))) (sym (or_none (due_at unit (now + 1) done)))
+
+    by : (unit delay : ℕ) → unit < r.units → (b : Bool) → (t.unit == unit && now + t.does.latency == now + 1 + delay) ≡ b
         → due_in new (r.base + unit) delay
-        ≡ option_or (word_due (option_or (due_at unit (now + delay) done) (if b then Some (due_of now t value) else None))) (due_in r.rings (r.base + unit) delay)
+        ≡ option_or (word_due (option_or (due_at unit (now + 1 + delay) done) (if b then Some (due_of now t value) else None))) (due_in r.rings (r.base + unit) (delay + 1))
     by unit delay less true both =
-        let parts = parts_of t.unit unit t.does.latency delay now both in
-        let here : due_in new (r.base + unit) delay ≡ Some value = subst (λ n. due_in new (r.base + n) delay ≡ Some value) parts.0 (subst (λ d. due_in new (r.base + t.unit) d ≡ Some value) parts.1 is.here) in
-        let first : due_at unit (now + delay) done ≡ None = subst (λ n. due_at n (now + delay) done ≡ None) parts.0 (subst (λ d. due_at t.unit (now + d) done ≡ None) parts.1 none) in
-        here ∙ sym (ap (λ o. option_or (word_due (option_or o (Some (due_of now t value)))) (due_in r.rings (r.base + unit) delay)) first)
+        let parts = and_parts (t.unit == unit) (now + t.does.latency == now + 1 + delay) both in
+        let here : due_in new (r.base + unit) delay ≡ Some value =
+        subst (λ n. due_in new (r.base + n) delay ≡ Some value) (equal t.unit unit parts.0)
+        (subst (λ d. due_in new (r.base + t.unit) d ≡ Some value) (delay_of t.does.latency delay now parts.1) is.here) in
+        here ∙ sym (ap (λ o. option_or (word_due (option_or o (Some (due_of now t value)))) (due_in r.rings (r.base + unit) (delay + 1))) (first unit (now + 1 + delay) parts.0 parts.1))
     by unit delay less false other =
-        other_due value unit delay is less other ∙ was.due unit delay less
-        ∙ ap (λ o. option_or (word_due o) (due_in r.rings (r.base + unit) delay)) (sym (or_none (due_at unit (now + delay) done)))
+        other_due value unit delay (later refl) is less other ∙ was.due unit delay less
+        ∙ ap (λ o. option_or (word_due o) (due_in r.rings (r.base + unit) (delay + 1))) (sym (or_none (due_at unit (now + 1 + delay) done)))
 
 -- a unit whose result fits is there, with room for it
 fits_there : (r : Results) (t : Start) → IsTrue (is_fitting r t) → t.unit < r.units
@@ -177,19 +237,24 @@ module _ (u : Units) (now : ℕ) (memory frame : List ℕ) (next : ℕ) where
           later = delay.0;
           soon = omega (arith, delay.1, was.kept.longest (r.base + t.unit));
           free =
-              was.due t.unit t.does.latency less ∙ ap (λ o. option_or (word_due o) (due_by r t.unit t.does.latency)) alone
-              ∙ none_due (due_by r t.unit t.does.latency) (has_result t.does.op) clash has;
+              let last : t.does.latency - 1 + 1 ≡ t.does.latency = omega (arith, delay.0) in
+              let then_due : now + 1 + (t.does.latency - 1) ≡ now + t.does.latency = omega (arith, delay.0) in
+              was.due t.unit (t.does.latency - 1) less
+              ∙ ap (λ n. option_or (word_due (due_at t.unit n (filter_map (begun u now memory frame next) (take k starts)))) (due_in r.rings (r.base + t.unit) (t.does.latency - 1 + 1))) then_due
+              ∙ ap (λ o. option_or (word_due o) (due_in r.rings (r.base + t.unit) (t.does.latency - 1 + 1))) alone
+              ∙ ap (λ n. due_in r.rings (r.base + t.unit) n) last ∙ none_due (due_by r t.unit t.does.latency) (has_result t.does.op) clash has;
         }
 
     -- one more has begun
-    pub begun_next : (value : Option ℕ) (new : Rings) → ((n : ℕ) → option_map (due_of n t) value ≡ begun u n memory frame next t) → HasBegun r.base t value old new
+    pub begun_next : (value : Option ℕ) (new : Rings) → is_some value ≡ has_result t.does.op → ((n : ℕ) → option_map (due_of n t) value ≡ begun u n memory frame next t) → HasBegun r.base t value old new
         → AreBegun now r (filter_map (begun u now memory frame next) (take (k + 1) starts)) new
-    begun_next value new begins is =
+    begun_next value new same begins is =
         let f = begun u now memory frame next in
         let more : filter_map f (take k starts) ++ option_to_list (option_map (due_of now t) value) ≡ filter_map f (take (k + 1) starts) =
         ap (λ o. filter_map f (take k starts) ++ option_to_list o) (begins now) ∙ ap (λ x. filter_map f (take k starts) ++ option_to_list (f x)) at
         ∙ filter_map-more f starts k d (filter_map f (take k starts)) (filter_map f (take k starts) ++ option_to_list (f (get_or starts k d))) within refl refl in
-        subst (λ xs. AreBegun now r xs new) more (one_more now r there (filter_map f (take k starts)) t (fits_there r t fits) old new was value is alone)
+        subst (λ xs. AreBegun now r xs new) more (one_more now r there (filter_map f (take k starts)) t (fits_there r t fits) old new was value
+        (λ some. (fits_delay r t fits (sym same ∙ some)).0) is alone)
 
   -- ---- all at once
 
@@ -208,11 +273,8 @@ module _ (u : Units) (now : ℕ) (memory frame : List ℕ) (next : ℕ) where
   pub all_begun : (r : Results) (starts : List Start) (rings : Rings) → CanStart r starts → AreBegun now r (filter_map (begun u now memory frame next) starts) rings
       → Begin (filter_map (begun u now memory frame next) starts) now r (record r { rings = rings })
   all_begun r starts rings can are = λ started same.
-      results_more started (filter_map (begun u now memory frame next) starts) now r rings same (begun_later r starts can.fitting) (λ unit. are.shown (r.base + unit)) are.due
+      results_more started (filter_map (begun u now memory frame next) starts) now r rings same (begun_later r starts can.fitting) are.shown are.due
 
 -- other machines' units stay
 pub others_begun : (now : ℕ) (part : Part) (old : Rings) (new : List Result') (rings : Rings) → AreBegun now (results_at part old) new rings → KeepsOthers part old rings
-others_begun now part old new rings are = record {
-  kept = are.kept;
-  beside = record { shown = λ unit had other. are.shown unit; due = λ unit delay had other. are.beside unit delay had other };
-}
+others_begun now part old new rings are = record { kept = are.kept; beside = are.beside }

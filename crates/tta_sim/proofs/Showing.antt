@@ -1,13 +1,13 @@
 -- Results that become due, and results that begin.
-use Rattle.std.proofs.Common.{◌≡◌, ◌<◌, ◌+◌, ℕ, true, false, List, [], ◌∷◌, ◌++◌, length, Option, None, Some, refl, ap, sym, ◌∙◌, arith}
-use Rattle.std.specs.Prelude.{if◌then◌else◌, fold, nat_le, nat_lt}
+use Rattle.std.proofs.Common.{◌≡◌, ◌<◌, ◌+◌, ℕ, true, false, List, [], ◌∷◌, ◌++◌, Option, None, Some, refl, ap, sym, ◌∙◌, arith}
+use Rattle.std.specs.Prelude.{fold, nat_le, nat_lt}
 use Rattle.std.specs.Option.{option_map_or, option_or}
 use Rattle.std.specs.List.{AllByRecursion}
 use Rattle.std.proofs.lemmas.List.Folds.{find-append}
 use Rattle.std.proofs.lemmas.List.Sums.{fold-append}
 use Rattle.tta_code.specs.Cycle.{Result', later}
-use Rattle.tta_flight.specs.Rings.{Rings, is_among, shown_in, due_in, IsAdvanced}
-use Rattle.tta_sim.specs.Results.{Results, AreResultsOf, AreThere, latest, is_due, due_at, word_due}
+use Rattle.tta_flight.specs.Rings.{Rings, is_among, shown_in, due_in}
+use Rattle.tta_sim.specs.Results.{Results, AreResultsOf, latest, is_due, due_at, word_due}
 
 -- ---- the port
 
@@ -74,37 +74,33 @@ among_units base units unit less =
     let most : nat_lt (base + unit) (base + units) ≡ true = grind (arith, less) in
     grind (arith, least, most)
 
-module _ (started : List Result') (now : ℕ) (r : Results) (there : AreThere r) (same : AreResultsOf started now r) where
-  -- the results of the next cycle
-  pub results_next : (rings : Rings) → IsAdvanced r.base r.units r.rings rings → AreResultsOf started (now + 1) (record r { rings = rings })
-  results_next rings is = record {
-    shown = λ unit less.
-        let had : r.base + unit < length r.rings.rings = omega (arith, less, there.there) in
-        is.shown (r.base + unit) had
-        ∙ ap (λ b. if b then option_or (due_in r.rings (r.base + unit) 1) (shown_in r.rings (r.base + unit)) else shown_in r.rings (r.base + unit)) (among_units r.base r.units unit less)
-        ∙ ap (λ o. option_or o (shown_in r.rings (r.base + unit))) (same.due unit 1 less) ∙ ap (option_or (word_due (due_at unit (now + 1) started))) (same.shown unit less)
-        ∙ word_either (due_at unit (now + 1) started) (latest unit now started) ∙ ap word_due (sym (latest-next unit now started));
-    due = λ unit delay less.
-        let had : r.base + unit < length r.rings.rings = omega (arith, less, there.there) in
-        let sum : now + (delay + 1) ≡ now + 1 + delay = omega arith in
-        is.due (r.base + unit) delay had
-        ∙ ap (λ b. if b then due_in r.rings (r.base + unit) (delay + 1) else due_in r.rings (r.base + unit) delay) (among_units r.base r.units unit less)
-        ∙ same.due unit (delay + 1) less ∙ ap (λ n. word_due (due_at unit n started)) sum;
-  }
+-- the first of three
+or_assoc : (a b c : Option Result') → option_or a (option_or b c) ≡ option_or (option_or a b) c
+or_assoc None b c = refl
+or_assoc (Some r) b c = refl
 
--- ---- more results
-
--- new results that are due later come beside the others
+-- results of the next cycle, where new ones that are due after this one stand beside the others
 pub results_more : (started new : List Result') (now : ℕ) (r : Results) (rings : Rings) → AreResultsOf started now r → AllByRecursion (λ q. now < q.due) new
-    → ((unit : ℕ) → shown_in rings (r.base + unit) ≡ shown_in r.rings (r.base + unit))
+    → ((unit : ℕ) → unit < r.units → shown_in rings (r.base + unit)
+    ≡ option_or (word_due (due_at unit (now + 1) new)) (option_or (due_in r.rings (r.base + unit) 1) (shown_in r.rings (r.base + unit))))
     → ((unit delay : ℕ) → unit < r.units
-    → due_in rings (r.base + unit) delay ≡ option_or (word_due (due_at unit (now + delay) new)) (due_in r.rings (r.base + unit) delay))
-    → AreResultsOf (new ++ started) now (record r { rings = rings })
+    → due_in rings (r.base + unit) delay ≡ option_or (word_due (due_at unit (now + 1 + delay) new)) (due_in r.rings (r.base + unit) (delay + 1)))
+    → AreResultsOf (new ++ started) (now + 1) (record r { rings = rings })
 results_more started new now r rings same after shown due = record {
   shown = λ unit less.
-      shown unit ∙ same.shown unit less
-      ∙ ap word_due (sym (fold-append (later unit now) None new started ∙ ap (λ best. fold (later unit now) best started) (latest-later unit now None new after)));
+      let here : Option Result' = due_at unit (now + 1) new in
+      let had : Option Result' = due_at unit (now + 1) started in
+      shown unit less ∙ ap (λ o. option_or (word_due here) (option_or o (shown_in r.rings (r.base + unit)))) (same.due unit 1 less)
+      ∙ ap (λ o. option_or (word_due here) (option_or (word_due had) o)) (same.shown unit less)
+      ∙ ap (option_or (word_due here)) (word_either had (latest unit now started)) ∙ word_either here (option_or had (latest unit now started))
+      ∙ ap word_due (or_assoc here had (latest unit now started)
+      ∙ ap (λ o. option_or o (latest unit now started)) (sym (find-append (is_due unit (now + 1)) new started)) ∙ ap (option_or (due_at unit (now + 1) (new ++ started))) (sym (skips unit))
+      ∙ sym (latest-next unit now (new ++ started)));
   due = λ unit delay less.
-      due unit delay less ∙ ap (option_or (word_due (due_at unit (now + delay) new))) (same.due unit delay less)
-      ∙ word_either (due_at unit (now + delay) new) (due_at unit (now + delay) started) ∙ ap word_due (sym (find-append (is_due unit (now + delay)) new started));
+      let sum : now + (delay + 1) ≡ now + 1 + delay = omega arith in
+      due unit delay less ∙ ap (option_or (word_due (due_at unit (now + 1 + delay) new))) (same.due unit (delay + 1) less ∙ ap (λ n. word_due (due_at unit n started)) sum)
+      ∙ word_either (due_at unit (now + 1 + delay) new) (due_at unit (now + 1 + delay) started) ∙ ap word_due (sym (find-append (is_due unit (now + 1 + delay)) new started));
 }
+  where
+    skips : (unit : ℕ) → latest unit now (new ++ started) ≡ latest unit now started
+    skips unit = fold-append (later unit now) None new started ∙ ap (λ best. fold (later unit now) best started) (latest-later unit now None new after)

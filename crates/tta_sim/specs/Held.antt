@@ -16,7 +16,7 @@ use Rattle.tta_sim.specs.Decoded.{lines_from}
 use Rattle.tta_sim.specs.Places.{HasWritten}
 use Rattle.tta_sim.specs.Results.{Results, AreResultsOf, HasUnits}
 use Rattle.tta_flight.specs.declared.ring.Ring.{Ring}
-use Rattle.tta_flight.specs.declared.moving.Moving.{Moving}
+use Rattle.tta_flight.specs.declared.marked.Marked.{Marked}
 use Rattle.tta_flight.specs.Rings.{Rings, rings_of}
 
 -- What a run holds but for its results: the code, decoded; the words of registers and operand ports in a row; the spaces; the
@@ -33,13 +33,15 @@ pub record HeldState : Type 0 where
   pub outcome : Outcome
 
 -- The same with the results: a ring for each unit, which has what the unit's result port shows, the cells of all rings with the
--- results that are due later, and the units whose rings have one. Every result that no port can show any more is not held.
+-- results that are due later, the units whose rings have one, and those of which one is due at this very moment. Every result that no
+-- port can show any more is not held.
 pub record Held : Type 0 where
   pub lines : List Line
   pub places : List (Option ℕ)
   pub shown : List Ring
   pub cells : List (Option ℕ)
-  pub moving : Moving
+  pub moving : Marked
+  pub fresh : Marked
   pub memory : List ℕ
   pub frame : List ℕ
   pub pc : ℕ
@@ -49,7 +51,7 @@ pub record Held : Type 0 where
 
 -- the rings of a run
 abbrev pub rings_held : Held → Rings
-rings_held h = rings_of h.shown h.cells h.moving
+rings_held h = rings_of h.shown h.cells h.moving h.fresh
 
 -- a run with these rings
 abbrev pub held_with : HeldState → Rings → Held
@@ -59,6 +61,7 @@ held_with h r = record {
   shown = r.rings;
   cells = r.cells;
   moving = r.moving;
+  fresh = r.fresh;
   memory = h.memory;
   frame = h.frame;
   pc = h.pc;

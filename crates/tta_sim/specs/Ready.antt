@@ -1,5 +1,5 @@
 -- What a line leaves that can be carried out.
-use Rattle.std.specs.Prelude.{◌≡◌, ℕ, false, List, ◌++◌, Option}
+use Rattle.std.specs.Prelude.{◌≡◌, ℕ, ◌+◌, false, List, ◌++◌, Option}
 use Rattle.std.specs.List.{filter_map, list_any}
 use Rattle.tta_ops.specs.Units.{Units}
 use Rattle.tta_arch.specs.Effects.{Start}
@@ -42,9 +42,9 @@ pub record AreLeft (store : Store) (r : Results) (l : Line) (doings : Doings) : 
 abbrev pub FitsLine : Store → Results → Line → Type 0
 FitsLine store r l = (operand : ℕ → Option ℕ) → AreFitting r (filter_map (start_brought store.places (shown_by r) operand) l.starts)
 
--- these results have begun in a cycle: they come beside all that were started before
+-- these results have begun in a cycle, and the next one has come: they stand beside all that were started before
 abbrev pub Begin : List Result' → (now : ℕ) → (old new : Results) → Type 0
-Begin new now old after = (started : List Result') → AreResultsOf started now old → AreResultsOf (new ++ started) now after
+Begin new now old after = (started : List Result') → AreResultsOf started now old → AreResultsOf (new ++ started) (now + 1) after
 
 -- The other units of a region stay, and each unit has the room that it had.
 pub record KeepsOthers (part : Part) (old new : Rings) : Type 0 where

@@ -38,19 +38,20 @@ fn result_of(
     }
 }
 
-/// Starts an operation's result, if it has one, where the machine's first unit is `base`.
+/// Starts an operation's result, if it has one, where the machine's first unit is `base` and its
+/// units are in the next cycle already, so that the result is due one cycle earlier from there.
 #[inline(always)]
 fn begin(region: &mut Region, base: u8, start: &Start, value: Option<u32>)
     requires { is_some value ≡ true → CanBegin base region.old start.now }
     ensures { HasBegun base start.now value region.old region.new }
 {
     if let Some(value) = value {
-        region.start(base + start.unit, start.does.latency, value);
+        region.start(base + start.unit, start.does.latency - 1, value);
     }
 }
 
-/// Starts the results of all operations of a machine with these units, where they can start at
-/// once and `next` is the next word of the input.
+/// Goes to the next cycle of a machine's units, and starts the results of all operations, where they
+/// can start at once and `next` is the next word of the input.
 #[inline(always)]
 pub fn begin_all(
     region: &mut Region,
@@ -67,6 +68,7 @@ pub fn begin_all(
         Begin new store.now.cycle (results_at part region.old) (results_at part region.new) }
     ensures others { KeepsOthers part region.old region.new }
 {
+    region.advance_units(part.base, part.count);
     let memory = store.memory.as_slice();
     let frame = store.frame.as_slice();
     for start in starts {

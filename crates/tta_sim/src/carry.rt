@@ -147,22 +147,16 @@ fn put_all(store: &mut Store, starts: &[Start]) -> Option<u32>
 
 /// Writes the words that were collected, and goes on to the next cycle.
 #[inline(always)]
-fn go_on(store: &mut Store, region: &mut Region, part: Part, writes: &[Write])
+fn go_on(store: &mut Store, writes: &[Write])
     requires writes { AllByRecursion (λ w. w.place < 609) writes.now }
     requires few { store.old.cycle + 256 < 2 ^ 64 }
-    requires there { AreThere (results_at part region.old) }
     ensures written { (new old : Written) → writes.now ≡ numbered new → ArePlaces new
         → HasWritten store.old.places old → HasWritten store.new.places (new ++ old) }
-    ensures results { (started : List Result') → (now : ℕ)
-        → AreResultsOf started now (results_at part region.old)
-        → AreResultsOf started (now + 1) (results_at part region.new) }
-    ensures others { KeepsOthers part region.old region.new }
     ensures cycle { store.new.cycle ≡ store.old.cycle + 1 }
     ensures data { store.new.memory.items ≡ store.old.memory.items }
     ensures frame { store.new.frame.items ≡ store.old.frame.items }
 {
     write_all(&mut store.places, writes);
-    region.advance_units(part.base, part.count);
     store.cycle += 1;
 }
 
@@ -192,7 +186,7 @@ pub fn carry_quietly(
     }
     let starts = doings.starts.as_slice();
     begin_all(region, part, units, store, 0, starts);
-    go_on(store, region, part, doings.writes.as_slice());
+    go_on(store, doings.writes.as_slice());
     // No control move acted, so no delay is asked for.
     control.advance(None, store.cycle, 0);
     CycleStep::Ran {
@@ -233,7 +227,7 @@ fn carry_loudly(
     let told = told_in(&store.places, &results, line);
     begin_all(region, part, units, store, next.unwrap_or(0), starts);
     let put = put_all(store, starts);
-    go_on(store, region, part, doings.writes.as_slice());
+    go_on(store, doings.writes.as_slice());
     control.advance(told, store.cycle, delay);
     CycleStep::Ran { put, took }
 }

@@ -175,6 +175,8 @@ impl SimState {
         ensures loaded { IsStateOf m.now code.now self.new }
         ensures kept { AreKept region.old region.new }
         ensures beside { StayBeside base (length m.now.units) region.old region.new }
+        ensures waits { result ≡ false → self.new ≡ self.old }
+        ensures stays { result ≡ false → region.new ≡ region.old }
         ensures stops { result ≡ false
             → goes_quietly self.new.lines self.new.pc self.new.outcome ≡ false }
         ensures counted { self.new.cycle ≤ self.old.cycle + (if result then 1 else 0) }

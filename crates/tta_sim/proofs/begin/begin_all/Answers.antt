@@ -4,8 +4,12 @@ use Rattle.std.specs.List.{filter_map}
 use Rattle.tta_ops.specs.Set.{stated}
 use Rattle.tta_sim.specs.Results.{results_at}
 use Rattle.tta_sim.specs.Starts.{begun, due_of}
-use Rattle.tta_sim.proofs.Beginning.{AreBegun, can_next, begun_next, all_begun, others_begun, take_past}
+use Rattle.tta_sim.proofs.Beginning.{AreBegun, none_begun, can_next, begun_next, all_begun, others_begun, take_past}
 use Rattle.tta_sim.proofs.begin.begin_all.Goals as goal
+
+pub loop-start-init : goal.loop-start-init
+loop-start-init g c =
+    none_begun c.args.store.now.cycle (results_at c.args.part c.args.region.now) c.advance_units.new.self c.requires.there c.advance_units.ensures.held c.advance_units.ensures.beside
 
 pub begin-requires : goal.begin-requires
 begin-requires g c =
@@ -23,7 +27,7 @@ loop-start-preserved g c =
     let begins = subst (λ ms. (n : ℕ) → option_map (due_of n t) value ≡ begun U n ms store.frame.items c.args.next t) c.as_slice-memory.ensures.value
     (subst (λ fs. (n : ℕ) → option_map (due_of n t) value ≡ begun U n c.as_slice-memory.result.now fs c.args.next t) c.as_slice-frame.ensures.value c.result_of-value.ensures.begun) in
     begun_next U store.cycle store.memory.items store.frame.items c.args.next (results_at c.args.part c.args.region.now) c.requires.there c.args.starts.now c.requires.can
-    c.loop-start.start-index _ t c.loop-start-test.true c.start-item.is c.loop-start.region c.loop-start.invariant value c.begin.new.region begins c.begin.ensures
+    c.loop-start.start-index _ t c.loop-start-test.true c.start-item.is c.loop-start.region c.loop-start.invariant value c.begin.new.region c.result_of-value.ensures.some begins c.begin.ensures
 
 pub returns-clause-begun : goal.returns-clause-begun
 returns-clause-begun g c =

@@ -15,7 +15,7 @@ use Rattle.tta_sim.specs.Kept.{kept_as}
 use Rattle.tta_sim.proofs.Facing.{placed, told_same}
 use Rattle.tta_sim.proofs.Cycles.{faulted}
 use Rattle.tta_sim.proofs.Leaving.{arrivals, starts, is_left, left_can, written_within}
-use Rattle.tta_sim.proofs.Owning.{there_still, others_same, others_join}
+use Rattle.tta_sim.proofs.Owning.{others_same}
 use Rattle.tta_sim.proofs.Acting.{carried_wait, carried_at}
 use Rattle.tta_sim.proofs.Writes.{length-stored, length-stored_frame}
 use Rattle.tta_sim.proofs.carry.carry_loudly.Goals as goal
@@ -41,9 +41,6 @@ go_on-requires-clause-writes g c =
 
 pub go_on-requires-clause-few : goal.go_on-requires-clause-few
 go_on-requires-clause-few g c = omega (arith, c.requires.few, c.put_all-put.ensures.cycle)
-
-pub go_on-requires-clause-there : goal.go_on-requires-clause-there
-go_on-requires-clause-there g c = there_still c.args.part c.args.region.now _ c.requires.units c.begin_all.ensures.others.kept
 
 pub advance-requires-clause-within : goal.advance-requires-clause-within
 advance-requires-clause-within g c = omega (arith, c.requires.within)
@@ -109,13 +106,13 @@ returns g c = record {
       let others = c.put_all-put.ensures.frame ∙ ap (fold store_frame store.frame.items) starts_are in
       let tells = c.told_in-told.ensures ∙ ap (λ r. first_some (tell_brought store.places (shown_by r)) line.tells) c.of-results.ensures in
       carried_at U m decoded.rules i decoded.legal lines store r c.args.control.now s size same
-      none c.requires.running c.go_on.new.store (results_at c.args.part c.go_on.new.region) c.advance.new.self brought begins c.put_all-put.result _ c.args.next c.any_takes-took.result fed took_is
+      none c.requires.running c.go_on.new.store (results_at c.args.part c.begin_all.new.region) c.advance.new.self brought begins c.put_all-put.result _ c.args.next c.any_takes-took.result fed took_is
       (sym c.is_stuck.ensures ∙ c.if-is_stuck.false) refl refl back _ _ refl delay refl
       (λ ws had.
       subst (HasWritten c.go_on.new.store.places) (append_assoc (filter_map (write_of m back) (map brought_of brought)) (long_writes m i.long) ws)
       (c.go_on.ensures.written _ ws (c.as_slice.ensures ∙ left.writes) (placed m decoded.rules i decoded.legal back line decoded.line store.places r p)
       (subst (λ ps. HasWritten ps ws) (sym c.put_all-put.ensures.places) had)))
-      (λ started before. c.go_on.ensures.results _ store.cycle (begun started before))
+      begun
       (c.go_on.ensures.cycle ∙ ap (λ n. n + 1) c.put_all-put.ensures.cycle)
       (c.go_on.ensures.data ∙ words) (c.go_on.ensures.frame ∙ others) (c.put_all-put.ensures.put ∙ ap (λ ts. option_map (λ t. t.word) (find puts ts)) starts_are)
       (tells ∙ told_same m decoded.rules i decoded.legal back line decoded.line store.places r p) c.advance.ensures;
@@ -124,5 +121,5 @@ returns g c = record {
   frame = ap length (c.go_on.ensures.frame ∙ c.put_all-put.ensures.frame) ∙ length-stored_frame c.args.store.now.frame.items c.as_slice-starts.result.now;
   waits = λ lines is. cc;
   stays = λ is. cc;
-  others = others_join c.args.part c.args.region.now _ _ c.begin_all.ensures.others c.go_on.ensures.others;
+  others = c.begin_all.ensures.others;
 }

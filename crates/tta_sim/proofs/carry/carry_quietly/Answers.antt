@@ -17,7 +17,6 @@ use Rattle.tta_sim.proofs.Facing.{placed, told_same}
 use Rattle.tta_sim.proofs.Leaving.{arrivals, starts, is_left, written_within}
 use Rattle.tta_sim.proofs.Cycles.{faulted}
 use Rattle.tta_sim.proofs.Quiet.{quiet_left, soft_memory, soft_frame, soft_puts, soft_takes, soft_begun}
-use Rattle.tta_sim.proofs.Owning.{others_join}
 use Rattle.tta_sim.proofs.Acting.{carried_at}
 use Rattle.tta_sim.proofs.carry.carry_quietly.Goals as goal
 
@@ -55,12 +54,12 @@ returns-clause-cycle g c = λ delay next. record {
       let tells = ap (first_some (tell_brought store.places (shown_by r))) (sym quiet.1)
       ∙ told_same m decoded.rules i decoded.legal back line decoded.line store.places r p in
       carried_at U m decoded.rules i decoded.legal lines store r c.args.control.now s size same
-      none c.requires.ready.running c.go_on.new.store (results_at c.args.part c.go_on.new.region) c.advance.new.self brought begins _ _ next false fed (sym (soft_takes begins soft))
+      none c.requires.ready.running c.go_on.new.store (results_at c.args.part c.begin_all.new.region) c.advance.new.self brought begins _ _ next false fed (sym (soft_takes begins soft))
       refl refl refl back delay _ refl delay_is refl
       (λ ws had.
       subst (HasWritten c.go_on.new.store.places) (append_assoc (filter_map (write_of m back) (map brought_of brought)) (long_writes m i.long) ws)
       (c.go_on.ensures.written _ ws (c.as_slice.ensures ∙ left.writes) (placed m decoded.rules i decoded.legal back line decoded.line store.places r p) had))
-      (λ started before. c.go_on.ensures.results _ store.cycle (begun started before))
+      begun
       c.go_on.ensures.cycle
       (c.go_on.ensures.data ∙ sym (soft_memory store.memory.items begins soft)) (c.go_on.ensures.frame ∙ sym (soft_frame store.frame.items begins soft))
       (ap (option_map (λ t. t.word)) (sym (soft_puts begins soft)))
@@ -70,5 +69,5 @@ returns-clause-cycle g c = λ delay next. record {
   frame = ap length c.go_on.ensures.frame;
   waits = λ lines is. cc;
   stays = λ is. cc;
-  others = others_join c.args.part c.args.region.now _ _ c.begin_all.ensures.others c.go_on.ensures.others;
+  others = c.begin_all.ensures.others;
 }

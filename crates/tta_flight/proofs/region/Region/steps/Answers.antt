@@ -11,6 +11,7 @@ words-init c =
     let order : base ≤ end = grind (arith, c.min-end.ensures, c.units.ensures.all, c.requires.there) in
     let from : nearest base end (64 * (base / 64)) ≡ base = nearest_low base end order (64 * (base / 64)) (omega arith) in
     record {
+      first = omega arith;
       near = omega arith;
       advanced = subst (λ n. IsAdvanced base (n - base) c.args.self.now c.args.self.now) (sym from) (advanced_none base c.args.self.now);
     }
@@ -23,6 +24,7 @@ words-preserved c =
     let start : ℕ = 64 * c.words.number in
     let next : start + 64 ≡ 64 * (c.words.number + 1) = omega arith in
     record {
+      first = omega (arith, c.words.invariant.first);
       near = omega (arith, c.words-test.true);
       advanced = subst (λ n. IsAdvanced base (nearest base end n - base) c.args.self.now c.walk.new.self) next
           (advanced_chain base (nearest base end start) (nearest base end (start + 64)) _ _ _ (nearest_first base end order start)

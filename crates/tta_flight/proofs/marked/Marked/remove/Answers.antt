@@ -1,6 +1,6 @@
 use Rattle.std.proofs.Common.{◌<◌, ◌/◌, length, rules}
 use Rattle.tta_flight.proofs.BitLemmas.{unset_bit}
-use Rattle.tta_flight.proofs.moving.Moving.remove.Goals as goal
+use Rattle.tta_flight.proofs.marked.Marked.remove.Goals as goal
 
 pub returns : goal.returns
 returns c = λ k.

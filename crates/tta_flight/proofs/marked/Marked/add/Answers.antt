@@ -1,6 +1,6 @@
 use Rattle.std.proofs.Common.{◌<◌, ◌/◌, length, rules}
 use Rattle.tta_flight.proofs.BitLemmas.{set_bit}
-use Rattle.tta_flight.proofs.moving.Moving.add.Goals as goal
+use Rattle.tta_flight.proofs.marked.Marked.add.Goals as goal
 
 pub returns : goal.returns
 returns c = λ k.
