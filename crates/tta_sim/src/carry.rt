@@ -22,7 +22,8 @@ use crate::control::{Control, Phase};
 use crate::decoded::Line;
 use crate::fault::{CONTROL_IN_DELAY, UNSET_PORT, UNSET_REGISTER};
 use crate::lines::{Missing, Write, note_starts, note_writes};
-use crate::results::{Part, Results};
+use crate::results::Results;
+use crate::run::{Context, Run};
 use crate::spaces::{put_out, store_all};
 use crate::starts;
 use crate::starts::Start;
@@ -31,7 +32,6 @@ use crate::telling::{tells_well, told_in};
 use crate::unset::reads_unset;
 use crate::writing::write_all;
 use tta_flight::Region;
-use tta_ops::UnitSet;
 
 /// Collects what a line writes and starts, and answers whether all of its moves can be carried out.
 #[inline(always)]
@@ -164,99 +164,95 @@ fn go_on(store: &mut Store, writes: &[Write])
 /// control move.
 #[inline(always)]
 pub fn carry_quietly(
-    store: &mut Store,
-    control: &mut Control,
-    doings: &mut Doings,
+    run: &mut Run,
     region: &mut Region,
-    part: Part,
+    context: &Context<'_>,
     line: &Line,
-    units: &UnitSet,
 ) -> CycleStep
     requires quiet { line.now.quiet ≡ true }
-    requires ready { IsAtLine part line.now (kept_as store.old control.old region.old) }
+    requires ready { let old = kept_as run.old.store run.old.control region.old in
+        IsAtLine context.now.part line.now old }
     ensures silent { is_silent result ≡ true }
-    ensures cycle { (delay : ℕ) (next : Option ℕ) → let U = stated unit_meaning units.now in
-        let old = kept_as store.old control.old region.old in
-        let new = kept_as store.new control.new region.new in
-        IsCycle U part delay line.now next old new result }
+    ensures cycle { (next : Option ℕ) → let U = stated unit_meaning context.now.units.now in
+        let old = kept_as run.old.store run.old.control region.old in
+        let new = kept_as run.new.store run.new.control region.new in
+        IsCycle U context.now.part context.now.delay line.now next old new result }
 {
-    let results = Results::of(region, part);
-    if let Some(number) = find_fault(doings, store, &results, control, line) {
-        return stop(control, number);
+    let results = Results::of(region, context.part);
+    if let Some(number) = find_fault(&mut run.doings, &run.store, &results, &run.control, line) {
+        return stop(&mut run.control, number);
     }
-    let starts = doings.starts.as_slice();
-    begin_all(region, part, units, store, 0, starts);
-    go_on(store, doings.writes.as_slice());
+    let starts = run.doings.starts.as_slice();
+    begin_all(region, context.part, context.units, &run.store, 0, starts);
+    go_on(&mut run.store, run.doings.writes.as_slice());
     // No control move acted, so no delay is asked for.
-    control.advance(None, store.cycle, 0);
+    run.control.advance(None, run.store.cycle, 0);
     CycleStep::Ran {
         put: None,
         took: false,
     }
 }
 
-/// Carries out a cycle with any line. A control move takes effect `delay` cycles after the next
-/// one.
+/// Carries out a cycle with any line.
 #[inline(always)]
 fn carry_loudly(
-    store: &mut Store,
-    control: &mut Control,
-    doings: &mut Doings,
+    run: &mut Run,
     region: &mut Region,
-    part: Part,
-    delay: u8,
+    context: &Context<'_>,
     line: &Line,
-    units: &UnitSet,
     next: Option<u32>,
 ) -> CycleStep
-    requires { IsAtLine part line.now (kept_as store.old control.old region.old) }
-    ensures { let U = stated unit_meaning units.now in
-        let old = kept_as store.old control.old region.old in
-        let new = kept_as store.new control.new region.new in
-        IsCycle U part delay line.now next old new result }
+    requires { let old = kept_as run.old.store run.old.control region.old in
+        IsAtLine context.now.part line.now old }
+    ensures { let U = stated unit_meaning context.now.units.now in
+        let old = kept_as run.old.store run.old.control region.old in
+        let new = kept_as run.new.store run.new.control region.new in
+        IsCycle U context.now.part context.now.delay line.now next old new result }
 {
-    let results = Results::of(region, part);
-    if let Some(number) = find_fault(doings, store, &results, control, line) {
-        return stop(control, number);
+    let results = Results::of(region, context.part);
+    if let Some(number) = find_fault(&mut run.doings, &run.store, &results, &run.control, line) {
+        return stop(&mut run.control, number);
     }
-    let starts = doings.starts.as_slice();
+    let starts = run.doings.starts.as_slice();
     let took = any_takes(starts);
     if is_stuck(took, next) {
         return CycleStep::Waiting;
     }
-    let told = told_in(&store.places, &results, line);
-    begin_all(region, part, units, store, next.unwrap_or(0), starts);
-    let put = put_all(store, starts);
-    go_on(store, doings.writes.as_slice());
-    control.advance(told, store.cycle, delay);
+    let told = told_in(&run.store.places, &results, line);
+    let word = next.unwrap_or(0);
+    begin_all(
+        region,
+        context.part,
+        context.units,
+        &run.store,
+        word,
+        starts,
+    );
+    let put = put_all(&mut run.store, starts);
+    go_on(&mut run.store, run.doings.writes.as_slice());
+    run.control.advance(told, run.store.cycle, context.delay);
     CycleStep::Ran { put, took }
 }
 
 /// Carries out a cycle of a run that goes on, with the line at its address, where `next` is the
-/// next word of the input, and these are the machine's units in the region. A control move takes
-/// effect `delay` cycles after the next one.
+/// next word of the input.
 #[inline(always)]
 pub fn carry(
-    store: &mut Store,
-    control: &mut Control,
-    doings: &mut Doings,
+    run: &mut Run,
     region: &mut Region,
-    part: Part,
-    delay: u8,
+    context: &Context<'_>,
     line: &Line,
-    units: &UnitSet,
     next: Option<u32>,
 ) -> CycleStep
-    requires { IsAtLine part line.now (kept_as store.old control.old region.old) }
-    ensures { let U = stated unit_meaning units.now in
-        let old = kept_as store.old control.old region.old in
-        let new = kept_as store.new control.new region.new in
-        IsCycle U part delay line.now next old new result }
+    requires { let old = kept_as run.old.store run.old.control region.old in
+        IsAtLine context.now.part line.now old }
+    ensures { let U = stated unit_meaning context.now.units.now in
+        let old = kept_as run.old.store run.old.control region.old in
+        let new = kept_as run.new.store run.new.control region.new in
+        IsCycle U context.now.part context.now.delay line.now next old new result }
 {
     if line.quiet {
-        return carry_quietly(store, control, doings, region, part, line, units);
+        return carry_quietly(run, region, context, line);
     }
-    carry_loudly(
-        store, control, doings, region, part, delay, line, units, next,
-    )
+    carry_loudly(run, region, context, line, next)
 }

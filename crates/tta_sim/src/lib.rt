@@ -11,6 +11,7 @@ mod fault;
 mod lines;
 mod places;
 mod results;
+mod run;
 mod short;
 mod sim;
 mod spaces;

@@ -21,6 +21,7 @@ use crate::decode::decode;
 use crate::decoded::Line;
 use crate::fault::NO_INSTRUCTION;
 use crate::results::Part;
+use crate::run::{Context, Run};
 use crate::spaces::load;
 use crate::store::{Doings, Store};
 use crate::told::Ending;
@@ -37,9 +38,7 @@ use tta_ops::UnitSet;
 /// output are not kept.
 #[derive(Drop)]
 pub struct SimState {
-    store: Store,
-    control: Control,
-    doings: Doings,
+    run: Run,
     /// The code that is run, decoded.
     lines: Items<Line>,
 }
@@ -50,7 +49,7 @@ impl Model for SimState {
 
     ghost Value = { HeldState };
 
-    ghost view = { λ s. held_of s.lines s.store s.control };
+    ghost view = { λ s. held_of s.lines s.run.store s.run.control };
 }
 
 /// The units of a machine in a region, where the first of them is `base`.
@@ -94,12 +93,13 @@ impl SimState {
             drop(lines);
             return Err(AllocError);
         };
-        Ok(SimState {
+        let control = Control::first();
+        let run = Run {
             store,
-            control: Control::first(),
+            control,
             doings,
-            lines,
-        })
+        };
+        Ok(SimState { run, lines })
     }
 
     /// Carries out one cycle of the code that was loaded, where `next` is the next word of the
@@ -133,28 +133,22 @@ impl SimState {
         ensures waits { result ≡ Waiting → self.new ≡ self.old }
         ensures stays { result ≡ Waiting → region.new ≡ region.old }
     {
-        match self.control.phase {
+        match self.run.control.phase {
             Phase::Running => {}
             Phase::Halted => return CycleStep::Halted,
             Phase::Fault(number) => return CycleStep::Fault(number),
         }
-        if self.control.pc as usize >= code.words.len() {
-            self.control.phase = Phase::Fault(NO_INSTRUCTION);
+        if self.run.control.pc as usize >= code.words.len() {
+            self.run.control.phase = Phase::Fault(NO_INSTRUCTION);
             return CycleStep::Fault(NO_INSTRUCTION);
         }
-        let line = &self.lines.as_slice()[self.control.pc as usize];
-        let part = part_of(base, m);
-        carry(
-            &mut self.store,
-            &mut self.control,
-            &mut self.doings,
-            region,
-            part,
-            m.control.delay,
-            line,
+        let line = &self.lines.as_slice()[self.run.control.pc as usize];
+        let context = Context {
+            part: part_of(base, m),
+            delay: m.control.delay,
             units,
-            next,
-        )
+        };
+        carry(&mut self.run, region, &context, line, next)
     }
 
     /// Carries out one cycle of the code that was loaded, if the run goes on and the cycle's line is
@@ -187,27 +181,23 @@ impl SimState {
     {
         // So that it is known here that the machine's rules hold.
         let _ = &m.control;
-        match self.control.phase {
+        match self.run.control.phase {
             Phase::Running => {}
             Phase::Halted | Phase::Fault(_) => return false,
         }
-        if self.control.pc as usize >= code.words.len() {
+        if self.run.control.pc as usize >= code.words.len() {
             return false;
         }
-        let line = &self.lines.as_slice()[self.control.pc as usize];
+        let line = &self.lines.as_slice()[self.run.control.pc as usize];
         if !line.quiet {
             return false;
         }
-        let part = part_of(base, m);
-        carry_quietly(
-            &mut self.store,
-            &mut self.control,
-            &mut self.doings,
-            region,
-            part,
-            line,
+        let context = Context {
+            part: part_of(base, m),
+            delay: m.control.delay,
             units,
-        );
+        };
+        carry_quietly(&mut self.run, region, &context, line);
         true
     }
 
@@ -217,7 +207,7 @@ impl SimState {
         ensures { (r : Results) (s : State) → StandsWith r self.now s
             → result ≡ kept s.written (KeptReg file index) }
     {
-        self.store.places.register(file, index)
+        self.run.store.places.register(file, index)
     }
 
     /// A data word.
@@ -225,35 +215,35 @@ impl SimState {
         requires { i < length self.now.memory }
         ensures { result ≡ slice_index self.now.memory i }
     {
-        load(self.store.memory.as_slice(), i)
+        load(self.run.store.memory.as_slice(), i)
     }
 
     /// All data words, from address 0 on.
     pub fn memory(&self) -> &[u32]
         ensures { result.now ≡ self.now.memory }
     {
-        self.store.memory.as_slice()
+        self.run.store.memory.as_slice()
     }
 
     /// The address of the next instruction.
     pub fn pc(&self) -> u32
         ensures { result ≡ self.now.pc }
     {
-        self.control.pc
+        self.run.control.pc
     }
 
     /// How many cycles were made.
     pub fn cycles(&self) -> u64
         ensures { result ≡ self.now.cycle }
     {
-        self.store.cycle
+        self.run.store.cycle
     }
 
     /// Whether the run has halted.
     pub fn halted(&self) -> bool
         ensures { result ≡ is_halted self.now.outcome }
     {
-        match self.control.phase {
+        match self.run.control.phase {
             Phase::Halted => true,
             Phase::Running | Phase::Fault(_) => false,
         }
@@ -263,7 +253,7 @@ impl SimState {
     pub fn fault(&self) -> Option<u8>
         ensures { result ≡ fault_number self.now.outcome }
     {
-        match self.control.phase {
+        match self.run.control.phase {
             Phase::Fault(number) => Some(number),
             Phase::Running | Phase::Halted => None,
         }
@@ -273,12 +263,12 @@ impl SimState {
     pub fn ending(&self) -> Ending
         ensures { ending_told result ≡ self.now.outcome }
     {
-        match self.control.phase {
+        match self.run.control.phase {
             Phase::Running => Ending::Running,
             Phase::Halted => Ending::Halted,
             Phase::Fault(number) => Ending::Fault {
                 number,
-                cycle: self.store.cycle,
+                cycle: self.run.store.cycle,
             },
         }
     }

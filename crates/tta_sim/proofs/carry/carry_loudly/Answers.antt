@@ -30,14 +30,14 @@ told_in-told-requires g c = subst (λ r. IsLineThere r.units c.args.line.now) (s
 
 pub begin_all-requires-clause-can : goal.begin_all-requires-clause-can
 begin_all-requires-clause-can g c =
-    let r = results_at c.args.part c.args.region.now in
-    let has = subst (λ r. AreLeft c.args.store.now r c.args.line.now c.find_fault.new.doings) c.of-results.ensures (c.find_fault.ensures.left c.in_default.is) in
-    left_can c.args.store.now r c.args.line.now _ _ c.requires.fitting has c.as_slice-starts.ensures
+    let r = results_at c.args.context.now.part c.args.region.now in
+    let has = subst (λ r. AreLeft c.args.run.now.store r c.args.line.now c.find_fault.new.doings) c.of-results.ensures (c.find_fault.ensures.left c.in_default.is) in
+    left_can c.args.run.now.store r c.args.line.now _ _ c.requires.fitting has c.as_slice-starts.ensures
 
 pub go_on-requires-clause-writes : goal.go_on-requires-clause-writes
 go_on-requires-clause-writes g c =
     subst (AllByRecursion (λ w. w.place < 609)) (sym (c.as_slice.ensures ∙ (c.find_fault.ensures.left c.in_default.is).writes))
-    (written_within _ c.args.store.now c.of-results.result c.args.line.now c.requires.there)
+    (written_within _ c.args.run.now.store c.of-results.result c.args.line.now c.requires.there)
 
 pub go_on-requires-clause-few : goal.go_on-requires-clause-few
 go_on-requires-clause-few g c = omega (arith, c.requires.few, c.put_all-put.ensures.cycle)
@@ -52,8 +52,8 @@ advance-requires-clause-few g c = omega (arith, c.requires.few, c.go_on.ensures.
 
 pub returns-in-Some : goal.returns-in-Some
 returns-in-Some g c =
-    let U = stated (λ v. (goal.OpUnit-dyn g v).unit_meaning v.1) c.args.units.now in
-    faulted U c.args.part c.args.delay c.args.line.now c.args.next (kept_as c.args.store.now c.args.control.now c.args.region.now) _ _ _
+    let U = stated (λ v. (goal.OpUnit-dyn g v).unit_meaning v.1) c.args.context.now.units.now in
+    faulted U c.args.context.now.part c.args.context.now.delay c.args.line.now c.args.next (kept_as c.args.run.now.store c.args.run.now.control c.args.region.now) _ _ _
     c.stop.new.control c.stop.result c.of-results.ensures c.find_fault.ensures.fault c.in-Some.is c.stop.ensures.stopped c.stop.ensures.answer
 
 -- ---- a cycle that waits
@@ -61,24 +61,24 @@ returns-in-Some g c =
 pub returns-then-is_stuck : goal.returns-then-is_stuck
 returns-then-is_stuck g c = record {
   carried = λ m i lines s decoded size delay same fed.
-      let U = stated (λ v. (goal.OpUnit-dyn g v).unit_meaning v.1) c.args.units.now in
-      let store = c.args.store.now in
-      let r = results_at c.args.part c.args.region.now in
-      let p = is_some c.args.control.now.pending in
-      let back = c.args.control.now.pc + 1 + c.args.delay in
+      let U = stated (λ v. (goal.OpUnit-dyn g v).unit_meaning v.1) c.args.context.now.units.now in
+      let store = c.args.run.now.store in
+      let r = results_at c.args.context.now.part c.args.region.now in
+      let p = is_some c.args.run.now.control.pending in
+      let back = c.args.run.now.control.pc + 1 + c.args.context.now.delay in
       let fault = subst (λ r. IsFaultOf store.places r p c.args.line.now c.find_fault.result) c.of-results.ensures c.find_fault.ensures.fault in
       let none = sym (fault m back i decoded size) ∙ c.in_default.is in
       let has = subst (λ r. AreLeft store r c.args.line.now c.find_fault.new.doings) c.of-results.ensures (c.find_fault.ensures.left c.in_default.is) in
       let left = is_left m i store r back c.args.line.now _ decoded p none has in
       let took_is = c.any_takes-took.ensures ∙ ap (list_any takes) (c.as_slice-starts.ensures ∙ left.starts_are) in
       let must = ap (λ b. b && is_none c.args.next) (sym took_is) ∙ sym c.is_stuck.ensures ∙ c.if-is_stuck.true in
-      carried_wait U m decoded.rules i decoded.legal lines store r c.args.control.now s size same none c.args.next fed must;
+      carried_wait U m decoded.rules i decoded.legal lines store r c.args.run.now.control s size same none c.args.next fed must;
   counted = omega arith;
   memory = refl;
   frame = refl;
   waits = λ lines is. refl;
   stays = λ is. refl;
-  others = others_same c.args.part c.args.region.now;
+  others = others_same c.args.context.now.part c.args.region.now;
 }
 
 -- ---- a cycle that is carried out
@@ -86,12 +86,12 @@ returns-then-is_stuck g c = record {
 pub returns : goal.returns
 returns g c = record {
   carried = λ m i lines s decoded size delay same fed.
-      let U = stated (λ v. (goal.OpUnit-dyn g v).unit_meaning v.1) c.args.units.now in
-      let store = c.args.store.now in
+      let U = stated (λ v. (goal.OpUnit-dyn g v).unit_meaning v.1) c.args.context.now.units.now in
+      let store = c.args.run.now.store in
       let line = c.args.line.now in
-      let r = results_at c.args.part c.args.region.now in
-      let p = is_some c.args.control.now.pending in
-      let back = c.args.control.now.pc + 1 + c.args.delay in
+      let r = results_at c.args.context.now.part c.args.region.now in
+      let p = is_some c.args.run.now.control.pending in
+      let back = c.args.run.now.control.pc + 1 + c.args.context.now.delay in
       let brought = arrivals m i store r in
       let begins = starts m i store r in
       let fault = subst (λ r. IsFaultOf store.places r p line c.find_fault.result) c.of-results.ensures c.find_fault.ensures.fault in
@@ -100,13 +100,13 @@ returns g c = record {
       let left = is_left m i store r back line _ decoded p none has in
       let starts_are = c.as_slice-starts.ensures ∙ left.starts_are in
       let took_is = c.any_takes-took.ensures ∙ ap (list_any takes) starts_are in
-      let new_is = ap (begun_in U c.unwrap_or.result store) starts_are ∙ ap {A = ℕ} (λ n. begun_in U n store begins) c.unwrap_or.ensures in
-      let begun = subst (λ new. Begin new store.cycle r (results_at c.args.part c.begin_all.new.region)) new_is c.begin_all.ensures.begun in
+      let new_is = ap (begun_in U c.unwrap_or-word.result store) starts_are ∙ ap {A = ℕ} (λ n. begun_in U n store begins) c.unwrap_or-word.ensures in
+      let begun = subst (λ new. Begin new store.cycle r (results_at c.args.context.now.part c.begin_all.new.region)) new_is c.begin_all.ensures.begun in
       let words = c.put_all-put.ensures.data ∙ ap (fold store_data store.memory.items) starts_are in
       let others = c.put_all-put.ensures.frame ∙ ap (fold store_frame store.frame.items) starts_are in
       let tells = c.told_in-told.ensures ∙ ap (λ r. first_some (tell_brought store.places (shown_by r)) line.tells) c.of-results.ensures in
-      carried_at U m decoded.rules i decoded.legal lines store r c.args.control.now s size same
-      none c.requires.running c.go_on.new.store (results_at c.args.part c.begin_all.new.region) c.advance.new.self brought begins c.put_all-put.result _ c.args.next c.any_takes-took.result fed took_is
+      carried_at U m decoded.rules i decoded.legal lines store r c.args.run.now.control s size same
+      none c.requires.running c.go_on.new.store (results_at c.args.context.now.part c.begin_all.new.region) c.advance.new.self brought begins c.put_all-put.result _ c.args.next c.any_takes-took.result fed took_is
       (sym c.is_stuck.ensures ∙ c.if-is_stuck.false) refl refl back _ _ refl delay refl
       (λ ws had.
       subst (HasWritten c.go_on.new.store.places) (append_assoc (filter_map (write_of m back) (map brought_of brought)) (long_writes m i.long) ws)
@@ -117,8 +117,8 @@ returns g c = record {
       (c.go_on.ensures.data ∙ words) (c.go_on.ensures.frame ∙ others) (c.put_all-put.ensures.put ∙ ap (λ ts. option_map (λ t. t.word) (find puts ts)) starts_are)
       (tells ∙ told_same m decoded.rules i decoded.legal back line decoded.line store.places r p) c.advance.ensures;
   counted = c.go_on.ensures.cycle ∙ ap (λ n. n + 1) c.put_all-put.ensures.cycle;
-  memory = ap length (c.go_on.ensures.data ∙ c.put_all-put.ensures.data) ∙ length-stored c.args.store.now.memory.items c.as_slice-starts.result.now;
-  frame = ap length (c.go_on.ensures.frame ∙ c.put_all-put.ensures.frame) ∙ length-stored_frame c.args.store.now.frame.items c.as_slice-starts.result.now;
+  memory = ap length (c.go_on.ensures.data ∙ c.put_all-put.ensures.data) ∙ length-stored c.args.run.now.store.memory.items c.as_slice-starts.result.now;
+  frame = ap length (c.go_on.ensures.frame ∙ c.put_all-put.ensures.frame) ∙ length-stored_frame c.args.run.now.store.frame.items c.as_slice-starts.result.now;
   waits = λ lines is. cc;
   stays = λ is. cc;
   others = c.begin_all.ensures.others;

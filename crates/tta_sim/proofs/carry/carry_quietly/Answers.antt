@@ -23,23 +23,23 @@ use Rattle.tta_sim.proofs.carry.carry_quietly.Goals as goal
 pub go_on-requires-clause-writes : goal.go_on-requires-clause-writes
 go_on-requires-clause-writes g c =
     subst (AllByRecursion (λ w. w.place < 609)) (sym (c.as_slice.ensures ∙ (c.find_fault.ensures.left c.in_default.is).writes))
-    (written_within _ c.args.store.now c.of-results.result c.args.line.now c.requires.ready.there)
+    (written_within _ c.args.run.now.store c.of-results.result c.args.line.now c.requires.ready.there)
 
 pub returns-in-Some-clause-cycle : goal.returns-in-Some-clause-cycle
-returns-in-Some-clause-cycle g c = λ delay next.
-    let U = stated (λ v. (goal.OpUnit-dyn g v).unit_meaning v.1) c.args.units.now in
-    faulted U c.args.part delay c.args.line.now next (kept_as c.args.store.now c.args.control.now c.args.region.now) _ _ _
+returns-in-Some-clause-cycle g c = λ next.
+    let U = stated (λ v. (goal.OpUnit-dyn g v).unit_meaning v.1) c.args.context.now.units.now in
+    faulted U c.args.context.now.part c.args.context.now.delay c.args.line.now next (kept_as c.args.run.now.store c.args.run.now.control c.args.region.now) _ _ _
     c.stop.new.control c.stop.result c.of-results.ensures c.find_fault.ensures.fault c.in-Some.is c.stop.ensures.stopped c.stop.ensures.answer
 
 pub returns-clause-cycle : goal.returns-clause-cycle
-returns-clause-cycle g c = λ delay next. record {
+returns-clause-cycle g c = λ next. record {
   carried = λ m i lines s decoded size delay_is same fed.
-      let U = stated (λ v. (goal.OpUnit-dyn g v).unit_meaning v.1) c.args.units.now in
-      let store = c.args.store.now in
+      let U = stated (λ v. (goal.OpUnit-dyn g v).unit_meaning v.1) c.args.context.now.units.now in
+      let store = c.args.run.now.store in
       let line = c.args.line.now in
-      let r = results_at c.args.part c.args.region.now in
-      let p = is_some c.args.control.now.pending in
-      let back : ℕ = c.args.control.now.pc + 1 + delay in
+      let r = results_at c.args.context.now.part c.args.region.now in
+      let p = is_some c.args.run.now.control.pending in
+      let back : ℕ = c.args.run.now.control.pc + 1 + c.args.context.now.delay in
       let brought = arrivals m i store r in
       let begins = starts m i store r in
       let fault = subst (λ r. IsFaultOf store.places r p line c.find_fault.result) c.of-results.ensures c.find_fault.ensures.fault in
@@ -47,15 +47,15 @@ returns-clause-cycle g c = λ delay next. record {
       let has = subst (λ r. AreLeft store r line c.find_fault.new.doings) c.of-results.ensures (c.find_fault.ensures.left c.in_default.is) in
       let left = is_left m i store r back line _ decoded p none has in
       let starts_are = c.as_slice-starts.ensures ∙ left.starts_are in
-      let quiet = quiet_left c.args.part.count store r line _ _ c.requires.ready.there has c.as_slice-starts.ensures c.requires.quiet in
+      let quiet = quiet_left c.args.context.now.part.count store r line _ _ c.requires.ready.there has c.as_slice-starts.ensures c.requires.quiet in
       let soft : list_any is_loud begins ≡ false = ap (list_any is_loud) (sym starts_are) ∙ quiet.0 in
       let new_is = ap (begun_in U 0 store) starts_are ∙ soft_begun U store.cycle store.memory.items store.frame.items 0 (unwrap_or next 0) begins soft in
-      let begun = subst (λ new. Begin new store.cycle r (results_at c.args.part c.begin_all.new.region)) new_is c.begin_all.ensures.begun in
+      let begun = subst (λ new. Begin new store.cycle r (results_at c.args.context.now.part c.begin_all.new.region)) new_is c.begin_all.ensures.begun in
       let tells = ap (first_some (tell_brought store.places (shown_by r))) (sym quiet.1)
       ∙ told_same m decoded.rules i decoded.legal back line decoded.line store.places r p in
-      carried_at U m decoded.rules i decoded.legal lines store r c.args.control.now s size same
-      none c.requires.ready.running c.go_on.new.store (results_at c.args.part c.begin_all.new.region) c.advance.new.self brought begins _ _ next false fed (sym (soft_takes begins soft))
-      refl refl refl back delay _ refl delay_is refl
+      carried_at U m decoded.rules i decoded.legal lines store r c.args.run.now.control s size same
+      none c.requires.ready.running c.go_on.new.store (results_at c.args.context.now.part c.begin_all.new.region) c.advance.new.self brought begins _ _ next false fed (sym (soft_takes begins soft))
+      refl refl refl back c.args.context.now.delay _ refl delay_is refl
       (λ ws had.
       subst (HasWritten c.go_on.new.store.places) (append_assoc (filter_map (write_of m back) (map brought_of brought)) (long_writes m i.long) ws)
       (c.go_on.ensures.written _ ws (c.as_slice.ensures ∙ left.writes) (placed m decoded.rules i decoded.legal back line decoded.line store.places r p) had))

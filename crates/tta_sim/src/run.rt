@@ -1,0 +1,26 @@
+//! What a run holds, and what its cycles need to know of the machine.
+
+use crate::control::Control;
+use crate::results::Part;
+use crate::store::{Doings, Store};
+use tta_ops::UnitSet;
+
+/// What a run holds but for its results and its code: its words, its control, and room for what a
+/// cycle does.
+#[derive(Drop)]
+pub struct Run {
+    pub store: Store,
+    pub control: Control,
+    pub doings: Doings,
+}
+
+/// What a cycle needs to know of its machine.
+#[derive(Drop)]
+pub struct Context<'a> {
+    /// The machine's units in the region.
+    pub part: Part,
+    /// A control move takes effect so many cycles after the next one.
+    pub delay: u8,
+    /// What operations mean.
+    pub units: &'a UnitSet,
+}
