@@ -8,6 +8,7 @@ pub mod LegalCode
 pub mod NameLists
 pub mod MachineNames
 pub mod SlotWalks
+pub mod ListedOps
 pub mod TemplateNames
 pub mod SlotTexts
 pub mod ShownItems

@@ -2,6 +2,8 @@
 use Rattle.std.specs.Prelude.{◌≡◌, ℕ, List, Option, length, slice_get}
 use Rattle.tta_reading.specs.Names.{Declared, named_in}
 use Rattle.tta_reading.specs.Steps.{◌>>?◌}
+use Rattle.tta_ops.specs.declared.set.UnitSet.{UnitSet}
+use Rattle.tta_ops.specs.Set.{stated}
 use Rattle.tta_ops.specs.Units.{Units}
 use Rattle.tta_arch.specs.Machine.{Machine}
 use Rattle.tta_asm.specs.declared.parts.Part.{Part}
@@ -36,3 +38,7 @@ pub record IsTableOf (u : Units) (m : Machine) (t : Table) : Type 0 where
   pub parts : NameTheSame t.parts (parts_of m)
   pub count : length t.ops ≡ length m.units
   pub ops : (unit : ℕ) (name : List ℕ) → named_at t.ops unit name ≡ op_named u m unit name
+
+-- what a set of units states where each operation gives 0, so that it tells what they are called and not what they mean
+abbrev pub listed : {I : Type 0} {V : I → Type 0} → UnitSet I V → Units
+listed s = stated (λ v op a b. 0) s

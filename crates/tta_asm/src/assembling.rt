@@ -2,7 +2,6 @@
 
 ghost use Rattle.std.specs.Prelude.{◌≡◌, ◌+◌, ◌<◌, ◌≤◌, ◌^◌, length, drop, [], IfOk};
 ghost use Rattle.tta_ops.specs.Set.{stated};
-ghost use Rattle.tta_connect.specs.Net.{IsNetOf};
 ghost use Rattle.tta_code.specs.Legal.{IsLegalCode};
 ghost use Rattle.tta_asm.specs.Assembly.{take_pieces, assembled_code, assembled};
 ghost use Rattle.tta_asm.specs.Drafts.{draft_seen, Takes};
@@ -10,7 +9,6 @@ ghost use Rattle.tta_asm.specs.Init.{data_from, behind_data};
 ghost use Rattle.tta_asm.specs.Labels.{labels_of};
 ghost use Rattle.tta_asm.specs.Pieces.{pieces_of};
 ghost use Rattle.tta_asm.specs.Refusals.{Answers};
-ghost use Rattle.tta_asm.specs.Table.{IsTableOf};
 ghost use Rattle.tta_code.specs.Legal.{IsLegalWhole};
 
 use crate::draft::Draft;
@@ -19,6 +17,7 @@ use crate::labels::{Label, collect_labels};
 use crate::pieces::{Close, Pieces, PlacedWord};
 use crate::refusal::AsmError;
 use crate::table::Table;
+use crate::target::Target;
 use std::alloc::Global;
 use tta_arch::Machine;
 use tta_code::{Code, Datum, Whole};
@@ -31,36 +30,23 @@ use tta_reading::Names;
 /// After an `Err` the draft is of no more use.
 fn take_rest<'t>(
     alloc: Global,
-    units: &UnitSet,
-    m: &Machine,
-    net: &Net,
-    table: &Table,
+    target: &Target,
     labels: &Names<Label>,
     pieces: &mut Pieces<'t>,
     words: &mut Vec<PlacedWord<'t>>,
     draft: &mut Draft<'t>,
 ) -> Result<(), AsmError>
-    requires few { length (draft_seen draft.old).words + length pieces.old ≤ 2 ^ 24 + 2 }
-    requires net { IsNetOf net.now m.now }
-    requires table { IsTableOf (stated unit_meaning units.now) m.now table.now }
-    ensures { Takes (draft_seen draft.new) result (take_pieces (stated unit_meaning units.now)
-        m.now labels.now (draft_seen draft.old) pieces.old) }
+    requires { length (draft_seen draft.old).words + length pieces.old ≤ 2 ^ 24 + 2 }
+    ensures { Takes (draft_seen draft.new) result
+        (take_pieces (stated unit_meaning target.now.units.now) target.now.machine.now
+        labels.now (draft_seen draft.old) pieces.old) }
 {
     loop {
         let closed = pieces.next_piece(words)?;
         if draft.is_over(words.as_slice(), closed) {
             return Ok(());
         }
-        draft.take_piece(
-            alloc,
-            units,
-            m,
-            net,
-            table,
-            labels,
-            words.as_slice(),
-            closed,
-        )?;
+        draft.take_piece(alloc, target, labels, words.as_slice(), closed)?;
         // What the end of the text closes is the last piece.
         if let Close::End = closed.close {
             return Ok(());
@@ -73,35 +59,20 @@ fn code_over(
     alloc: Global,
     text: &[u8],
     count: usize,
-    m: &Machine,
-    units: &UnitSet,
-    net: &Net,
-    table: &Table,
+    target: &Target,
     labels: &Names<Label>,
 ) -> Result<Code, AsmError>
     requires small { length text.now ≤ 2 ^ 24 }
     requires few { count < length (pieces_of text.now) }
-    requires net { IsNetOf net.now m.now }
-    requires table { IsTableOf (stated unit_meaning units.now) m.now table.now }
     requires labels { labels.now ≡ labels_of (drop count (pieces_of text.now)) }
-    ensures answers { Answers result (assembled_code (stated unit_meaning units.now) m.now
-        (drop count (pieces_of text.now))) }
-    ensures legal { IfOk result (λ code. IsLegalCode m.now code) }
+    ensures answers { Answers result (assembled_code (stated unit_meaning target.now.units.now)
+        target.now.machine.now (drop count (pieces_of text.now))) }
+    ensures legal { IfOk result (λ code. IsLegalCode target.now.machine.now code) }
 {
     let mut words = Vec::new(alloc);
     let mut pieces = Pieces::behind(text, count, &mut words)?;
     let mut draft = Draft::new(alloc);
-    match take_rest(
-        alloc,
-        units,
-        m,
-        net,
-        table,
-        labels,
-        &mut pieces,
-        &mut words,
-        &mut draft,
-    ) {
+    match take_rest(alloc, target, labels, &mut pieces, &mut words, &mut draft) {
         Ok(()) => Ok(Code { words: draft.words }),
         Err(e) => {
             drop(draft);
@@ -111,26 +82,16 @@ fn code_over(
 }
 
 /// The code of a text after so many pieces, or its first refusal.
-fn code_of(
-    alloc: Global,
-    text: &[u8],
-    count: usize,
-    m: &Machine,
-    units: &UnitSet,
-    net: &Net,
-    table: &Table,
-) -> Result<Code, AsmError>
+fn code_of(alloc: Global, text: &[u8], count: usize, target: &Target) -> Result<Code, AsmError>
     requires small { length text.now ≤ 2 ^ 24 }
     requires few { count < length (pieces_of text.now) }
     requires behind { drop count (pieces_of text.now) ≡ behind_data (pieces_of text.now) }
-    requires net { IsNetOf net.now m.now }
-    requires table { IsTableOf (stated unit_meaning units.now) m.now table.now }
-    ensures answers { Answers result (assembled_code (stated unit_meaning units.now) m.now
-        (behind_data (pieces_of text.now))) }
-    ensures legal { IfOk result (λ code. IsLegalCode m.now code) }
+    ensures answers { Answers result (assembled_code (stated unit_meaning target.now.units.now)
+        target.now.machine.now (behind_data (pieces_of text.now))) }
+    ensures legal { IfOk result (λ code. IsLegalCode target.now.machine.now code) }
 {
     let labels = collect_labels(alloc, text, count)?;
-    code_over(alloc, text, count, m, units, net, table, &labels)
+    code_over(alloc, text, count, target, &labels)
 }
 
 /// The data that a text begins with, or the refusal of its first declaration that is refused.
@@ -153,22 +114,14 @@ fn data_of(alloc: Global, text: &[u8], m: &Machine) -> Result<Items<Datum>, AsmE
 
 /// The code of a text with its data, or its first refusal.
 #[tactic(auto, unfolding(crate::specs::Assembly::assembled))]
-fn whole_of(
-    alloc: Global,
-    text: &[u8],
-    m: &Machine,
-    units: &UnitSet,
-    net: &Net,
-    table: &Table,
-) -> Result<Whole, AsmError>
-    requires small { length text.now ≤ 2 ^ 24 }
-    requires net { IsNetOf net.now m.now }
-    requires table { IsTableOf (stated unit_meaning units.now) m.now table.now }
-    ensures answers { Answers result (assembled (stated unit_meaning units.now) m.now text.now) }
-    ensures legal { IfOk result (λ whole. IsLegalWhole m.now whole) }
+fn whole_of(alloc: Global, text: &[u8], target: &Target) -> Result<Whole, AsmError>
+    requires { length text.now ≤ 2 ^ 24 }
+    ensures answers { Answers result
+        (assembled (stated unit_meaning target.now.units.now) target.now.machine.now text.now) }
+    ensures legal { IfOk result (λ whole. IsLegalWhole target.now.machine.now whole) }
 {
-    let init = data_of(alloc, text, m)?;
-    match code_of(alloc, text, init.len(), m, units, net, table) {
+    let init = data_of(alloc, text, target.machine)?;
+    match code_of(alloc, text, init.len(), target) {
         Ok(code) => Ok(Whole { code, init }),
         Err(e) => {
             drop(init);
@@ -191,7 +144,13 @@ pub fn assemble(alloc: Global, text: &[u8], m: &Machine, units: &UnitSet) -> Res
     let net = Net::of(alloc, m)?;
     match Table::of(alloc, m, units) {
         Ok(table) => {
-            let whole = whole_of(alloc, text, m, units, &net, &table);
+            let target = Target {
+                units,
+                machine: m,
+                net: &net,
+                table: &table,
+            };
+            let whole = whole_of(alloc, text, &target);
             // The whole stands for itself, so both are given back before it is reported.
             drop(table);
             drop(net);

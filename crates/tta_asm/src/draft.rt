@@ -2,27 +2,22 @@
 
 ghost use Rattle.std.specs.Prelude.{◌≡◌, ◌+◌, ◌<◌, ◌≤◌, ◌^◌, [], length, option_map, OnOk};
 ghost use Rattle.tta_ops.specs.Set.{stated};
-ghost use Rattle.tta_connect.specs.Net.{IsNetOf};
 ghost use Rattle.tta_asm.specs.Assembly.{Draft as SeenDraft, nothing};
 ghost use Rattle.tta_asm.specs.Assembly.{take_label, take_slot, take_piece, is_over};
 ghost use Rattle.tta_asm.specs.Drafts.{draft_seen, end_instruction, Takes};
 ghost use Rattle.tta_asm.specs.LabelsSeen.{label_seen};
 ghost use Rattle.tta_asm.specs.Seen.{form_seen, long_seen, piece_seen};
-ghost use Rattle.tta_asm.specs.Table.{IsTableOf};
 
 use crate::forms::{LongForm, PieceForm, SlotForm};
-use crate::instruction::instruction_of;
+use crate::instruction::{Position, instruction_of};
 use crate::labels::{Label, LabelWord, label_of};
 use crate::pieces::{Close, Closed, PlacedWord};
 use crate::refusal::{AsmError, AsmRefusal};
 use crate::syntax::piece_form;
-use crate::table::Table;
+use crate::target::Target;
 use std::alloc::Global;
-use tta_arch::Machine;
 use tta_code::Instruction;
-use tta_connect::Net;
 use tta_list::Items;
-use tta_ops::UnitSet;
 use tta_reading::Names;
 
 /// What was read of a text: the slots of an instruction that has not ended, and the instructions.
@@ -58,28 +53,21 @@ impl<'t> Draft<'t> {
     fn end_instruction(
         &mut self,
         alloc: Global,
-        units: &UnitSet,
-        m: &Machine,
-        net: &Net,
-        table: &Table,
+        target: &Target,
         labels: &Names<Label>,
         line: u32,
         long: Option<LongForm>,
     ) -> Result<(), AsmError>
-        requires net { IsNetOf net.now m.now }
-        requires table { IsTableOf (stated unit_meaning units.now) m.now table.now }
-        requires few { length (draft_seen self.old).words < 2 ^ 32 }
+        requires { length (draft_seen self.old).words < 2 ^ 32 }
         ensures takes { Takes (draft_seen self.new) result
-            (end_instruction (stated unit_meaning units.now) m.now labels.now (draft_seen self.old)
-            line (option_map long_seen long.entry)) }
+            (end_instruction (stated unit_meaning target.now.units.now) target.now.machine.now
+            labels.now (draft_seen self.old) line (option_map long_seen long.entry)) }
         ensures grows { OnOk result
             (length (draft_seen self.new).words ≤ length (draft_seen self.old).words + 1) }
     {
         let before = self.words.len() as u32;
-        let slots = self.slots.as_slice();
-        match instruction_of(
-            alloc, units, m, net, table, labels, line, before, slots, long,
-        ) {
+        let at = Position { line, before };
+        match instruction_of(alloc, target, labels, at, self.slots.as_slice(), long) {
             Ok(i) => {
                 self.words.push(i)?;
                 self.slots.clear();
@@ -94,27 +82,23 @@ impl<'t> Draft<'t> {
     fn take_slot(
         &mut self,
         alloc: Global,
-        units: &UnitSet,
-        m: &Machine,
-        net: &Net,
-        table: &Table,
+        target: &Target,
         labels: &Names<Label>,
         closed: Closed,
         form: &PieceForm<'t>,
     ) -> Result<(), AsmError>
-        requires net { IsNetOf net.now m.now }
-        requires table { IsTableOf (stated unit_meaning units.now) m.now table.now }
-        requires few { length (draft_seen self.old).words < 2 ^ 32 }
+        requires { length (draft_seen self.old).words < 2 ^ 32 }
         ensures takes { Takes (draft_seen self.new) result
-            (take_slot (stated unit_meaning units.now) m.now labels.now (draft_seen self.old)
-            (piece_seen [] closed.close closed.line) (form_seen form.now)) }
+            (take_slot (stated unit_meaning target.now.units.now) target.now.machine.now
+            labels.now (draft_seen self.old) (piece_seen [] closed.close closed.line)
+            (form_seen form.now)) }
         ensures grows { OnOk result
             (length (draft_seen self.new).words ≤ length (draft_seen self.old).words + 1) }
     {
         self.slots.push(form.slot)?;
         match closed.close {
             Close::Semicolon => {
-                self.end_instruction(alloc, units, m, net, table, labels, closed.line, form.long)
+                self.end_instruction(alloc, target, labels, closed.line, form.long)
             }
             _ => Ok(()),
         }
@@ -128,20 +112,15 @@ impl<'t> Draft<'t> {
     pub fn take_piece(
         &mut self,
         alloc: Global,
-        units: &UnitSet,
-        m: &Machine,
-        net: &Net,
-        table: &Table,
+        target: &Target,
         labels: &Names<Label>,
         words: &[PlacedWord<'t>],
         closed: Closed,
     ) -> Result<(), AsmError>
-        requires net { IsNetOf net.now m.now }
-        requires table { IsTableOf (stated unit_meaning units.now) m.now table.now }
-        requires few { length (draft_seen self.old).words < 2 ^ 32 }
+        requires { length (draft_seen self.old).words < 2 ^ 32 }
         ensures takes { Takes (draft_seen self.new) result
-            (take_piece (stated unit_meaning units.now) m.now labels.now (draft_seen self.old)
-            (piece_seen words.now closed.close closed.line)) }
+            (take_piece (stated unit_meaning target.now.units.now) target.now.machine.now
+            labels.now (draft_seen self.old) (piece_seen words.now closed.close closed.line)) }
         ensures grows { OnOk result
             (length (draft_seen self.new).words ≤ length (draft_seen self.old).words + 1) }
     {
@@ -149,7 +128,7 @@ impl<'t> Draft<'t> {
             return check_label(labels, &word);
         }
         match piece_form(words, closed.close, closed.line) {
-            Ok(form) => self.take_slot(alloc, units, m, net, table, labels, closed, &form),
+            Ok(form) => self.take_slot(alloc, target, labels, closed, &form),
             Err(line) => Err(AsmRefusal::Syntax.at(line)),
         }
     }

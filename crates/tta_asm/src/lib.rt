@@ -23,6 +23,7 @@ mod refusal;
 mod resolving;
 mod syntax;
 mod table;
+mod target;
 
 pub use assembling::assemble;
 pub use laws::{assembles_legal, reads_back};

@@ -6,14 +6,12 @@ ghost use Rattle.tta_reading.specs.Names.{named_in};
 ghost use Rattle.tta_reading.specs.Steps.{◌>>?◌, refuse_if};
 ghost use Rattle.tta_ops.specs.Set.{stated};
 ghost use Rattle.tta_arch.specs.Joins.{joins};
-ghost use Rattle.tta_connect.specs.Net.{IsNetOf};
 ghost use Rattle.tta_code.specs.Legal.{is_long};
 ghost use Rattle.tta_asm.specs.declared.refusal.AsmRefusal.TheVariants.{NoConnection, Range};
 ghost use Rattle.tta_asm.specs.Parts.{parts_of};
 ghost use Rattle.tta_asm.specs.Resolving.{guard_at, guard_of, fits_bus, move_of, action_of};
 ghost use Rattle.tta_asm.specs.Resolving.{template_at, long_of};
 ghost use Rattle.tta_asm.specs.Seen.{guard_seen, move_seen, long_seen};
-ghost use Rattle.tta_asm.specs.Table.{NameTheSame, IsTableOf};
 
 mod dests;
 mod sources;
@@ -25,11 +23,9 @@ use crate::places::{bus_at, file_at};
 use crate::refusal::AsmRefusal;
 use crate::resolving::dests::dest_of;
 use crate::resolving::sources::{source_of, word_of};
-use crate::table::Table;
+use crate::target::Target;
 use tta_arch::{GuardRef, Machine, Source};
 use tta_code::{Long, Move};
-use tta_connect::Net;
-use tta_ops::UnitSet;
 use tta_reading::Names;
 
 /// The register of a guard, where the part is a file of width 1 that has it.
@@ -52,15 +48,14 @@ fn guard_at(m: &Machine, form: &GuardForm, part: Part) -> Option<GuardRef>
 }
 
 /// The guard of a form, if there is one, where the machine has its register.
-fn guard_of(m: &Machine, table: &Table, form: &Option<GuardForm>) -> Option<Option<GuardRef>>
-    requires { NameTheSame table.now.parts (parts_of m.now) }
-    ensures { result ≡ guard_of m.now (option_map guard_seen form.now) }
+fn guard_of(target: &Target, form: &Option<GuardForm>) -> Option<Option<GuardRef>>
+    ensures { result ≡ guard_of target.now.machine.now (option_map guard_seen form.now) }
 {
     let Some(g) = form else {
         return Some(None);
     };
-    let part = table.part(m, g.file)?;
-    let on = guard_at(m, g, part)?;
+    let part = target.part(g.file)?;
+    let on = guard_at(target.machine, g, part)?;
     Some(Some(on))
 }
 
@@ -79,15 +74,18 @@ fn fits_bus(m: &Machine, bus: u8, src: Source) -> bool
 
 /// A move, unless its word does not fit this bus, which is refused as `Range`, or the bus does not
 /// join its ends or does not have its guard, which is refused as `NoConnection`.
-fn checked(m: &Machine, net: &Net, bus: u8, v: Move) -> Result<Move, AsmRefusal>
-    requires { IsNetOf net.now m.now }
-    ensures { result ≡ refuse_if (not (fits_bus m.now bus v.src)) Range
-        (refuse_if (not (joins m.now bus v.src v.dst v.guard)) NoConnection (Ok v)) }
+fn checked(target: &Target, bus: u8, v: Move) -> Result<Move, AsmRefusal>
+    ensures { let m = target.now.machine.now in
+        result ≡ refuse_if (not (fits_bus m bus v.src)) Range
+        (refuse_if (not (joins m bus v.src v.dst v.guard)) NoConnection (Ok v)) }
 {
-    if !fits_bus(m, bus, v.src) {
+    if !fits_bus(target.machine, bus, v.src) {
         return Err(AsmRefusal::Range);
     }
-    if !net.joins(m, bus, &v.src, &v.dst, &v.guard) {
+    if !target
+        .net
+        .joins(target.machine, bus, &v.src, &v.dst, &v.guard)
+    {
         return Err(AsmRefusal::NoConnection);
     }
     Ok(v)
@@ -101,49 +99,39 @@ fn checked(m: &Machine, net: &Net, bus: u8, v: Move) -> Result<Move, AsmRefusal>
 /// not have the guard.
 #[tactic(auto, unfolding(crate::specs::Resolving::move_of))]
 fn move_of(
-    units: &UnitSet,
-    m: &Machine,
-    net: &Net,
-    table: &Table,
+    target: &Target,
     labels: &Names<Label>,
     bus: u8,
     form: &MoveForm,
 ) -> Result<Move, AsmRefusal>
-    requires net { IsNetOf net.now m.now }
-    requires table { IsTableOf (stated unit_meaning units.now) m.now table.now }
-    ensures { result ≡ move_of (stated unit_meaning units.now) m.now labels.now bus
-        (move_seen form.now) }
+    ensures { result ≡ move_of (stated unit_meaning target.now.units.now)
+        target.now.machine.now labels.now bus (move_seen form.now) }
 {
-    let guard = guard_of(m, table, &form.guard);
-    let dst = dest_of(units, m, table, &form.dst);
+    let guard = guard_of(target, &form.guard);
+    let dst = dest_of(target, &form.dst);
     let (Some(guard), Some(dst)) = (guard, dst) else {
         return Err(AsmRefusal::Unknown);
     };
-    match source_of(m, table, labels, &form.src) {
-        Ok(src) => checked(m, net, bus, Move { guard, src, dst }),
+    match source_of(target, labels, &form.src) {
+        Ok(src) => checked(target, bus, Move { guard, src, dst }),
         Err(refusal) => Err(refusal),
     }
 }
 
 /// The move of a slot on this bus, if it has one. It is refused as `move_of` refuses it.
 pub fn action_of(
-    units: &UnitSet,
-    m: &Machine,
-    net: &Net,
-    table: &Table,
+    target: &Target,
     labels: &Names<Label>,
     bus: u8,
     form: &Option<MoveForm>,
 ) -> Result<Option<Move>, AsmRefusal>
-    requires net { IsNetOf net.now m.now }
-    requires table { IsTableOf (stated unit_meaning units.now) m.now table.now }
-    ensures { result ≡ action_of (stated unit_meaning units.now) m.now labels.now bus
-        (option_map move_seen form.now) }
+    ensures { result ≡ action_of (stated unit_meaning target.now.units.now)
+        target.now.machine.now labels.now bus (option_map move_seen form.now) }
 {
     let Some(form) = form else {
         return Ok(None);
     };
-    match move_of(units, m, net, table, labels, bus, form) {
+    match move_of(target, labels, bus, form) {
         Ok(v) => Ok(Some(v)),
         Err(refusal) => Err(refusal),
     }
@@ -160,29 +148,24 @@ fn template_at(part: Part) -> Option<u8>
 }
 
 /// The template of this name.
-fn template_named(m: &Machine, table: &Table, name: &[u8]) -> Option<u8>
-    requires { NameTheSame table.now.parts (parts_of m.now) }
-    ensures value { result ≡ (named_in (parts_of m.now) name.now >>? template_at) }
-    ensures there { IfSome result (λ k. is_some (slice_get m.now.templates k) ≡ true) }
+fn template_named(target: &Target, name: &[u8]) -> Option<u8>
+    ensures value { result
+        ≡ (named_in (parts_of target.now.machine.now) name.now >>? template_at) }
+    ensures there { IfSome result
+        (λ k. is_some (slice_get target.now.machine.now.templates k) ≡ true) }
 {
-    let part = table.part(m, name)?;
+    let part = target.part(name)?;
     template_at(part)
 }
 
 /// The long immediate of a form. It is refused as `Unknown` where the machine has no such
 /// template, and as `Label` where a name that stands for the word is no label.
 #[tactic(auto, unfolding(crate::specs::Resolving::long_of))]
-pub fn long_of(
-    m: &Machine,
-    table: &Table,
-    labels: &Names<Label>,
-    form: &LongForm,
-) -> Result<Long, AsmRefusal>
-    requires { NameTheSame table.now.parts (parts_of m.now) }
-    ensures value { result ≡ long_of m.now labels.now (long_seen form.now) }
-    ensures long { IfOk result (λ l. is_long m.now l ≡ true) }
+pub fn long_of(target: &Target, labels: &Names<Label>, form: &LongForm) -> Result<Long, AsmRefusal>
+    ensures value { result ≡ long_of target.now.machine.now labels.now (long_seen form.now) }
+    ensures long { IfOk result (λ l. is_long target.now.machine.now l ≡ true) }
 {
-    let template = template_named(m, table, form.template).ok_or(AsmRefusal::Unknown)?;
+    let template = template_named(target, form.template).ok_or(AsmRefusal::Unknown)?;
     let value = word_of(labels, &form.value)?;
     Ok(Long { template, value })
 }

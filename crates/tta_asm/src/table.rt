@@ -20,8 +20,7 @@ impl Table {
     ghost use Rattle.std.specs.Prelude.{◌≡◌, IfOk};
     ghost use Rattle.tta_reading.specs.Names.{named_in};
     ghost use Rattle.tta_ops.specs.Set.{stated};
-    ghost use Rattle.tta_asm.specs.Parts.{parts_of};
-    ghost use Rattle.tta_asm.specs.Table.{NameTheSame, IsTableOf, op_named};
+    ghost use Rattle.tta_asm.specs.Table.{IsTableOf, named_at};
 
     /// The table of a machine. It fails only where there is no memory.
     pub fn of(alloc: Global, m: &Machine, units: &UnitSet) -> Result<Table, AllocError>
@@ -37,18 +36,16 @@ impl Table {
         }
     }
 
-    /// The part of the machine that has this name.
-    pub fn part(&self, m: &Machine, name: &[u8]) -> Option<Part>
-        requires { NameTheSame self.now.parts (parts_of m.now) }
-        ensures { result ≡ named_in (parts_of m.now) name.now }
+    /// The part that has this name.
+    pub fn part(&self, name: &[u8]) -> Option<Part>
+        ensures { result ≡ named_in self.now.parts name.now }
     {
         self.parts.get(name)
     }
 
     /// The operation of a unit that has this name, by its place in the unit.
-    pub fn op(&self, units: &UnitSet, m: &Machine, unit: u8, name: &[u8]) -> Option<u8>
-        requires { IsTableOf (stated unit_meaning units.now) m.now self.now }
-        ensures { result ≡ op_named (stated unit_meaning units.now) m.now unit name.now }
+    pub fn op(&self, unit: u8, name: &[u8]) -> Option<u8>
+        ensures { result ≡ named_at self.now.ops unit name.now }
     {
         self.ops.as_slice().get(usize::from(unit))?.get(name)
     }

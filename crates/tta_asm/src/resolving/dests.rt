@@ -8,14 +8,12 @@ ghost use Rattle.tta_asm.specs.Parts.{parts_of};
 ghost use Rattle.tta_asm.specs.Resolving.{register_at, operand_of, trigger_of, control_of};
 ghost use Rattle.tta_asm.specs.Resolving.{dest_of};
 ghost use Rattle.tta_asm.specs.Seen.{dest_seen};
-ghost use Rattle.tta_asm.specs.Table.{NameTheSame, IsTableOf};
 
 use crate::forms::DestForm;
 use crate::parts::Part;
 use crate::places::{file_at, index_below, unit_at};
-use crate::table::Table;
+use crate::target::Target;
 use tta_arch::{Dest, Machine};
-use tta_ops::UnitSet;
 
 /// The register of a file that has this index.
 fn register_at(m: &Machine, index: u32, part: Part) -> Option<Dest>
@@ -45,14 +43,14 @@ fn operand_of(m: &Machine, part: Part) -> Option<Dest>
 }
 
 /// The operation of a unit that has this name.
-fn trigger_of(units: &UnitSet, m: &Machine, table: &Table, name: &[u8], part: Part) -> Option<Dest>
-    requires { IsTableOf (stated unit_meaning units.now) m.now table.now }
-    ensures { result ≡ trigger_of (stated unit_meaning units.now) m.now name.now part }
+fn trigger_of(target: &Target, name: &[u8], part: Part) -> Option<Dest>
+    ensures { result ≡ trigger_of (stated unit_meaning target.now.units.now)
+        target.now.machine.now name.now part }
 {
     let Part::Unit(unit) = part else {
         return None;
     };
-    let op = table.op(units, m, unit, name)?;
+    let op = target.op(unit, name)?;
     Some(Dest::Trigger { unit, op })
 }
 
@@ -73,52 +71,45 @@ fn control_of(op: &[u8]) -> Option<Dest>
 }
 
 /// The register of this index in the file of this name.
-fn register_named(m: &Machine, table: &Table, name: &[u8], index: u32) -> Option<Dest>
-    requires { NameTheSame table.now.parts (parts_of m.now) }
-    ensures { result ≡ (named_in (parts_of m.now) name.now >>? register_at m.now index) }
+fn register_named(target: &Target, name: &[u8], index: u32) -> Option<Dest>
+    ensures { result ≡ (named_in (parts_of target.now.machine.now) name.now
+        >>? register_at target.now.machine.now index) }
 {
-    let part = table.part(m, name)?;
-    register_at(m, index, part)
+    let part = target.part(name)?;
+    register_at(target.machine, index, part)
 }
 
 /// The operand port of the unit of this name.
-fn operand_named(m: &Machine, table: &Table, name: &[u8]) -> Option<Dest>
-    requires { NameTheSame table.now.parts (parts_of m.now) }
-    ensures { result ≡ (named_in (parts_of m.now) name.now >>? operand_of m.now) }
+fn operand_named(target: &Target, name: &[u8]) -> Option<Dest>
+    ensures { result ≡ (named_in (parts_of target.now.machine.now) name.now
+        >>? operand_of target.now.machine.now) }
 {
-    let part = table.part(m, name)?;
-    operand_of(m, part)
+    let part = target.part(name)?;
+    operand_of(target.machine, part)
 }
 
 /// The operation of this name of the unit of this name.
-fn trigger_named(
-    units: &UnitSet,
-    m: &Machine,
-    table: &Table,
-    unit: &[u8],
-    op: &[u8],
-) -> Option<Dest>
-    requires { IsTableOf (stated unit_meaning units.now) m.now table.now }
-    ensures { result ≡ (named_in (parts_of m.now) unit.now
-        >>? trigger_of (stated unit_meaning units.now) m.now op.now) }
+fn trigger_named(target: &Target, unit: &[u8], op: &[u8]) -> Option<Dest>
+    ensures { result ≡ (named_in (parts_of target.now.machine.now) unit.now
+        >>? trigger_of (stated unit_meaning target.now.units.now) target.now.machine.now op.now) }
 {
-    let part = table.part(m, unit)?;
-    trigger_of(units, m, table, op, part)
+    let part = target.part(unit)?;
+    trigger_of(target, op, part)
 }
 
 /// The destination of a form, where the machine has it.
-pub fn dest_of(units: &UnitSet, m: &Machine, table: &Table, form: &DestForm) -> Option<Dest>
-    requires { IsTableOf (stated unit_meaning units.now) m.now table.now }
-    ensures { result ≡ dest_of (stated unit_meaning units.now) m.now (dest_seen form.now) }
+pub fn dest_of(target: &Target, form: &DestForm) -> Option<Dest>
+    ensures { result ≡ dest_of (stated unit_meaning target.now.units.now)
+        target.now.machine.now (dest_seen form.now) }
 {
     match *form {
-        DestForm::Place { name, index } => register_named(m, table, name, index),
-        DestForm::Operand { unit } => operand_named(m, table, unit),
+        DestForm::Place { name, index } => register_named(target, name, index),
+        DestForm::Operand { unit } => operand_named(target, unit),
         DestForm::Trigger { unit, op } => {
             if unit == b"gcu".as_slice() {
                 control_of(op)
             } else {
-                trigger_named(units, m, table, unit, op)
+                trigger_named(target, unit, op)
             }
         }
     }

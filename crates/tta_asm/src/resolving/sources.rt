@@ -8,14 +8,13 @@ ghost use Rattle.tta_asm.specs.declared.parts.Part.TheVariants.{File, Imm};
 ghost use Rattle.tta_asm.specs.Parts.{parts_of};
 ghost use Rattle.tta_asm.specs.Resolving.{word_of, source_at, result_of, source_of};
 ghost use Rattle.tta_asm.specs.Seen.{value_seen, source_seen};
-ghost use Rattle.tta_asm.specs.Table.{NameTheSame};
 
 use crate::forms::{SourceForm, ValueForm};
 use crate::labels::Label;
 use crate::parts::Part;
 use crate::places::{file_at, imm_at, index_below, unit_at};
 use crate::refusal::AsmRefusal;
-use crate::table::Table;
+use crate::target::Target;
 use tta_arch::{Machine, Source};
 use tta_reading::Names;
 
@@ -79,33 +78,31 @@ fn result_of(m: &Machine, part: Part) -> Option<Source>
 }
 
 /// The register of this index in the file or immediate unit of this name.
-fn source_named(m: &Machine, table: &Table, name: &[u8], index: u32) -> Option<Source>
-    requires { NameTheSame table.now.parts (parts_of m.now) }
-    ensures { result ≡ (named_in (parts_of m.now) name.now >>? source_at m.now index) }
+fn source_named(target: &Target, name: &[u8], index: u32) -> Option<Source>
+    ensures { result ≡ (named_in (parts_of target.now.machine.now) name.now
+        >>? source_at target.now.machine.now index) }
 {
-    let part = table.part(m, name)?;
-    source_at(m, index, part)
+    let part = target.part(name)?;
+    source_at(target.machine, index, part)
 }
 
 /// The result port of the unit of this name.
-fn result_named(m: &Machine, table: &Table, name: &[u8]) -> Option<Source>
-    requires { NameTheSame table.now.parts (parts_of m.now) }
-    ensures { result ≡ (named_in (parts_of m.now) name.now >>? result_of m.now) }
+fn result_named(target: &Target, name: &[u8]) -> Option<Source>
+    ensures { result ≡ (named_in (parts_of target.now.machine.now) name.now
+        >>? result_of target.now.machine.now) }
 {
-    let part = table.part(m, name)?;
-    result_of(m, part)
+    let part = target.part(name)?;
+    result_of(target.machine, part)
 }
 
 /// The source of a form. It is refused as `Label` where a name that stands for a word is no label,
 /// and as `Unknown` where the machine has no such source.
 pub fn source_of(
-    m: &Machine,
-    table: &Table,
+    target: &Target,
     labels: &Names<Label>,
     form: &SourceForm,
 ) -> Result<Source, AsmRefusal>
-    requires { NameTheSame table.now.parts (parts_of m.now) }
-    ensures { result ≡ source_of m.now labels.now (source_seen form.now) }
+    ensures { result ≡ source_of target.now.machine.now labels.now (source_seen form.now) }
 {
     match *form {
         SourceForm::Value(value) => match word_of(labels, &value) {
@@ -113,10 +110,10 @@ pub fn source_of(
             Err(refusal) => Err(refusal),
         },
         SourceForm::Place { name, index } => {
-            source_named(m, table, name, index).ok_or(AsmRefusal::Unknown)
+            source_named(target, name, index).ok_or(AsmRefusal::Unknown)
         }
-        SourceForm::Shown { unit } => result_named(m, table, unit).ok_or(AsmRefusal::Unknown),
-        SourceForm::Ra => return_address(m).ok_or(AsmRefusal::Unknown),
+        SourceForm::Shown { unit } => result_named(target, unit).ok_or(AsmRefusal::Unknown),
+        SourceForm::Ra => return_address(target.machine).ok_or(AsmRefusal::Unknown),
     }
 }
 

@@ -5,14 +5,14 @@ use Rattle.tta_asm.proofs.assembling.whole_of.Goals as goal
 -- as many pieces stand before the code as data were read
 pub code_of-requires-clause-behind : goal.code_of-requires-clause-behind
 code_of-requires-clause-behind g c =
-    rw c.len.ensures (front_behind c.args.m.now (pieces_of c.args.text.now) c.in_ok-init.init c.in_ok-init.ensures.answers)
+    rw c.len.ensures (front_behind c.args.target.now.machine.now (pieces_of c.args.text.now) c.in_ok-init.init c.in_ok-init.ensures.answers)
 
 -- data that were read ascend
 pub invariant_of-result : goal.invariant_of-result
 invariant_of-result g c =
-    (front_legal c.args.m.now (pieces_of c.args.text.now) c.in_ok-init.init c.in-Ok.code c.in_ok-init.ensures.answers c.in-Ok.ensures.legal).rises
+    (front_legal c.args.target.now.machine.now (pieces_of c.args.text.now) c.in_ok-init.init c.in-Ok.code c.in_ok-init.ensures.answers c.in-Ok.ensures.legal).rises
 
 -- and lie in the data space
 pub returns-in-Ok-clause-legal : goal.returns-in-Ok-clause-legal
 returns-in-Ok-clause-legal g c =
-    front_legal c.args.m.now (pieces_of c.args.text.now) c.in_ok-init.init c.in-Ok.code c.in_ok-init.ensures.answers c.in-Ok.ensures.legal
+    front_legal c.args.target.now.machine.now (pieces_of c.args.text.now) c.in_ok-init.init c.in-Ok.code c.in_ok-init.ensures.answers c.in-Ok.ensures.legal

@@ -12,7 +12,7 @@ counted a b e = search rules
 pub returns-clause-answer : goal.returns-clause-answer
 returns-clause-answer g c =
     let same = c.if-slots-len.false ∙ c.len.ensures ∙ ap (λ (m : Machine). length m.buses) c.m.view_is in
-    let met = counted (length (map slot_seen c.args.slots.now)) (length c.args.m.now.buses) (rw length-map same) in
+    let met = counted (length (map slot_seen c.args.slots.now)) (length c.args.target.now.machine.now.buses) (rw length-map same) in
     rw met c.moves_of.ensures.answer
 
 pub returns-clause-count : goal.returns-clause-count
@@ -20,5 +20,5 @@ returns-clause-count g c =
     let same = c.if-slots-len.false ∙ c.len.ensures ∙ ap (λ (m : Machine). length m.buses) c.m.view_is in
     rw same at c.moves_of.ensures.count
 
-pub moves_of-requires-clause-few : goal.moves_of-requires-clause-few
-moves_of-requires-clause-few g c = rw (c.if-slots-len.false, c.len.ensures) c.m.invariant.limits.buses
+pub moves_of-requires : goal.moves_of-requires
+moves_of-requires g c = rw (c.if-slots-len.false, c.len.ensures) c.m.invariant.limits.buses

@@ -8,19 +8,19 @@ use Rattle.tta_asm.proofs.instruction.moves_of.Goals as goal
 
 pub loop-bus-preserved : goal.loop-bus-preserved
 loop-bus-preserved g c =
-    let U = stated (λ v. (goal.OpUnit-dyn g v).unit_meaning v.1) c.args.units.now in
+    let U = stated (λ v. (goal.OpUnit-dyn g v).unit_meaning v.1) c.args.target.now.units.now in
     let none : SlotForm = record { line = 0; action = None } in
     record {
       count = let was = c.loop-bus.invariant.count in rw c.in_ok-push.ensures.ok (rw length-append (omega arith));
-      read = slot_read U c.args.m.now c.args.labels.now c.args.slots.now c.loop-bus.bus none c.loop-bus.moves c.push.new.self c.in-Ok.action
-          (moves_of U c.args.m.now c.args.labels.now 0 (map slot_seen c.args.slots.now))
+      read = slot_read U c.args.target.now.machine.now c.args.labels.now c.args.slots.now c.loop-bus.bus none c.loop-bus.moves c.push.new.self c.in-Ok.action
+          (moves_of U c.args.target.now.machine.now c.args.labels.now 0 (map slot_seen c.args.slots.now))
           c.loop-bus-test.true c.in-Ok.ensures c.in_ok-push.ensures.ok c.loop-bus.invariant.read;
     }
 
 pub returns-in-Err-clause-answer : goal.returns-in-Err-clause-answer
 returns-in-Err-clause-answer g c =
-    let U = stated (λ v. (goal.OpUnit-dyn g v).unit_meaning v.1) c.args.units.now in
+    let U = stated (λ v. (goal.OpUnit-dyn g v).unit_meaning v.1) c.args.target.now.units.now in
     let none : SlotForm = record { line = 0; action = None } in
-    slot_refused U c.args.m.now c.args.labels.now c.args.slots.now c.loop-bus.bus none c.loop-bus.moves c.in-Err.e
-    (moves_of U c.args.m.now c.args.labels.now 0 (map slot_seen c.args.slots.now))
+    slot_refused U c.args.target.now.machine.now c.args.labels.now c.args.slots.now c.loop-bus.bus none c.loop-bus.moves c.in-Err.e
+    (moves_of U c.args.target.now.machine.now c.args.labels.now 0 (map slot_seen c.args.slots.now))
     c.loop-bus-test.true c.in-Err.ensures c.loop-bus.invariant.read

@@ -7,8 +7,8 @@ use Rattle.tta_asm.proofs.instruction.moves_of.Given as goal
 
 abbrev pub invariant-loop-bus : goal.invariant-loop-bus
 invariant-loop-bus g l =
-    let U = stated (λ v. (goal.OpUnit-dyn g v).unit_meaning v.1) l.units in
+    let U = stated (λ v. (goal.OpUnit-dyn g v).unit_meaning v.1) l.target.units.now in
     record {
       count : length l.moves ≡ l.bus;
-      read : with_front l.moves (moves_of U l.m l.labels l.bus (map slot_seen (drop l.bus l.slots))) ≡ moves_of U l.m l.labels 0 (map slot_seen l.slots);
+      read : with_front l.moves (moves_of U l.target.machine.now l.labels l.bus (map slot_seen (drop l.bus l.slots))) ≡ moves_of U l.target.machine.now l.labels 0 (map slot_seen l.slots);
     }

@@ -6,6 +6,6 @@ use Rattle.tta_asm.proofs.TemplateNames.{template_found}
 use Rattle.tta_asm.proofs.resolving.template_named.Goals as goal
 
 pub returns-clause-there : goal.returns-clause-there
-returns-clause-there c =
-    template_found c.args.m.now c.args.name.now c.template_at.result
+returns-clause-there g c =
+    template_found c.args.target.now.machine.now c.args.name.now c.template_at.result
     (c.template_at.ensures ∙ ap (λ (o : Option Part). o >>? template_at) c.in_ok-part.ensures)
