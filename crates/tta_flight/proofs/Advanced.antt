@@ -109,13 +109,5 @@ pub advanced_to : (base at next : ℕ) (a b : Rings) → base ≤ at → at ≤ 
     → IsAdvanced base (next - base) a b
 advanced_to base at next a b order later first empty = advanced_chain base at next a b b order later first (advanced_from at next b later empty)
 
--- and past that unit
-pub advanced_past : (base at unit : ℕ) (a b c : Rings) → base ≤ at → at ≤ unit → IsAdvanced base (at - base) a b → AreEmpty at unit b
-    → IsAdvanced unit 1 b c → IsAdvanced base (unit + 1 - base) a c
-advanced_past base at unit a b c order later first empty one =
-    let count : 1 ≡ unit + 1 - unit = omega arith in
-    advanced_chain base unit (unit + 1) a b c (omega (arith, order, later)) (omega arith) (advanced_to base at unit a b order later first empty)
-    (subst (λ n. IsAdvanced unit n b c) count one)
-
 pub advanced_none : (base : ℕ) (r : Rings) → IsAdvanced base (base - base) r r
 advanced_none base r = advanced_from base base r (omega arith) (λ u d least most. absurd (omega (arith, least, most)))

@@ -28,12 +28,6 @@ due_later r unit past =
     let more : past + 1 ≡ suc past = omega arith in
     ap (due_in r unit) more
 
--- the cell of the next cycle
-pub cell_now : (cells : List (Option ℕ)) (ring : Ring) → cell_of cells ring 0 ≡ get_or cells (place_of ring 0) None
-cell_now cells ring =
-    let is : nat_le 0 ring.longest ≡ true = grind arith in
-    rw is refl
-
 -- a ring that was read
 pub ring_read : (r : Rings) (apart : AreApart r) (u : ℕ) (x : Ring) → u < length r.rings → x ≡ get_or r.rings u x
     → (x ≡ ring_of r u) × IsIn 0 (length r.cells) x

@@ -14,10 +14,6 @@ zero_by (suc n) zero_if = zero_if (omega arith)
 pub never : {A : Type 0} → true ≡ false → A
 never e = absurd cc
 
--- the ring of a unit that is not in the set is empty
-pub empty_off : (r : Rings) (u d : ℕ) → AreMoving r → u < length r.rings → has r.moving u ≡ false → later_in r u d ≡ None
-empty_off r u d moving had off = moving.empty u d had (omega (arith, moving.still u had off))
-
 -- ---- a ring that turned
 
 module _ (r new : Rings) (unit : ℕ) (moving : AreMoving r) (there : unit < length r.rings) (is : IsTurned unit r new)

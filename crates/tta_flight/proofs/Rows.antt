@@ -22,3 +22,7 @@ other = refl
 -- started later by its own moment
 own : due_of (started 1 3 4 (advanced 1 1 two)) 1 3 ≡ Some 4
 own = refl
+
+-- due at once
+at_once : port_of (started 0 0 3 two) 0 ≡ Some 3
+at_once = refl

@@ -29,10 +29,6 @@ use Rattle.tta_sim.specs.Held.{Held, HeldState, rings_held, held_with, StandsWit
 pub units_there : (part : Part) (m : Machine) (rings : Rings) → HasUnits part.base m rings → part.count ≡ length m.units → AreThere (results_at part rings)
 units_there part m rings has count = record { few = omega (arith, has.few, count); there = omega (arith, has.there, count) }
 
--- where each has the room that it had, they are still there
-pub there_still : (part : Part) (old new : Rings) → AreThere (results_at part old) → AreKept old new → AreThere (results_at part new)
-there_still part old new are kept = record { few = are.few; there = omega (arith, are.there, kept.units) }
-
 pub units_still : (base : ℕ) (m : Machine) (old new : Rings) → HasUnits base m old → AreKept old new → HasUnits base m new
 units_still base m old new has kept = record {
   few = has.few;
@@ -49,15 +45,6 @@ pub others_same : (part : Part) (r : Rings) → KeepsOthers part r r
 others_same part r = record {
   kept = record { units = refl; longest = λ unit. refl };
   beside = record { shown = λ u had other. refl; due = λ u d had other. refl };
-}
-
-pub others_join : (part : Part) (a b c : Rings) → KeepsOthers part a b → KeepsOthers part b c → KeepsOthers part a c
-others_join part a b c one two = record {
-  kept = record { units = two.kept.units ∙ one.kept.units; longest = λ unit. two.kept.longest unit ∙ one.kept.longest unit };
-  beside = record {
-    shown = λ u had other. two.beside.shown u (omega (arith, had, one.kept.units)) other ∙ one.beside.shown u had other;
-    due = λ u d had other. two.beside.due u d (omega (arith, had, one.kept.units)) other ∙ one.beside.due u d had other;
-  };
 }
 
 -- ---- a region of its own
