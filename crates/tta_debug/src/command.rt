@@ -9,6 +9,7 @@ ghost use Rattle.tta_debug.specs.Debugged.{with_stop, without_stop, seen as seen
 ghost use Rattle.tta_debug.specs.Sessions.{Follows, Does, Keeps, output};
 
 use crate::asked::{Asked, Query, read_asked};
+use crate::basis::Basis;
 use crate::flight::put_flight;
 use crate::query::seen;
 use crate::run::run;
@@ -119,19 +120,17 @@ fn flight<S: Sink>(
 fn carry_out<S: Sink>(
     session: &mut Session,
     asked: &Asked,
-    m: &Machine,
-    code: &Code,
-    units: &UnitSet,
-    input: &[u32],
+    basis: &Basis<'_>,
     sink: &mut S,
 ) -> Result<Told, CommandError>
-    requires loaded { IsRunOf m.now code.now session.old.held }
+    requires loaded { IsRunOf basis.now.m.now basis.now.code.now session.old.held }
     requires few { session.old.held.cycle < 2 ^ 61 }
-    ensures loaded { IsRunOf m.now code.now session.new.held }
+    ensures loaded { IsRunOf basis.now.m.now basis.now.code.now session.new.held }
     ensures counted { session.new.held.cycle < session.old.held.cycle + 2 ^ 32 }
-    ensures does { let U = stated unit_meaning units.now in
-        (d : Debugged) → Follows input.now session.old d
-        → Does input.now (answer U m.now code.now d (plain_asked asked.now)) session.new
+    ensures does { let on = basis.now in
+        let U = stated unit_meaning on.units.now in
+        (d : Debugged) → Follows on.input.now session.old d
+        → Does on.input.now (answer U on.m.now on.code.now d (plain_asked asked.now)) session.new
         (output (S.taken sink.old) (S.faults sink.old))
         (output (S.taken sink.new) (S.faults sink.new)) result }
     ensures keeps { Keeps session.old session.new
@@ -140,12 +139,12 @@ fn carry_out<S: Sink>(
 {
     match asked {
         Asked::Nothing => Ok(Told::More),
-        Asked::Break { address } => break_at(session, code, sink, *address),
+        Asked::Break { address } => break_at(session, basis.code, sink, *address),
         Asked::Delete { address } => delete_at(session, sink, *address),
-        Asked::Step { count } => run(session, m, code, units, input, sink, *count, false),
-        Asked::Go { count } => run(session, m, code, units, input, sink, *count, true),
-        Asked::Flight => flight(session, m, code, sink),
-        Asked::Ask(query) => ask(session, m, code, sink, query),
+        Asked::Step { count } => run(session, basis, sink, *count, false),
+        Asked::Go { count } => run(session, basis, sink, *count, true),
+        Asked::Flight => flight(session, basis.m, basis.code, sink),
+        Asked::Ask(query) => ask(session, basis.m, basis.code, sink, query),
         Asked::Quit => say(sink, &Reply::Bye, Told::Bye),
     }
 }
@@ -184,6 +183,12 @@ impl Session {
         let Some(asked) = read_asked(line) else {
             return Err(CommandError::Refused(70));
         };
-        carry_out(self, &asked, m, code, units, input, sink)
+        let basis = Basis {
+            m,
+            code,
+            units,
+            input,
+        };
+        carry_out(self, &asked, &basis, sink)
     }
 }

@@ -3,6 +3,7 @@
 #![tactic(auto)]
 
 mod asked;
+mod basis;
 mod command;
 mod flight;
 mod law;

@@ -12,13 +12,11 @@ ghost use Rattle.tta_debug.specs.Debugged.{Debugged, cycles, is_at_stop, ran, st
 ghost use Rattle.tta_debug.specs.Sessions.{Does, Keeps};
 ghost use Rattle.tta_debug.specs.Sessions.{output, Follows, Cycles, PutsWord, Runs};
 
+use crate::basis::Basis;
 use crate::query::standing;
 use crate::say::{put, say};
 use crate::session::Session;
 use crate::told::{CommandError, Told};
-use tta_arch::Machine;
-use tta_code::Code;
-use tta_ops::UnitSet;
 use tta_ports::{Failed, Sink};
 use tta_print::Reply;
 use tta_sim::CycleStep;
@@ -69,34 +67,30 @@ fn put_word<S: Sink>(sink: &mut S, word: Option<u32>) -> Result<(), Failed>
 }
 
 /// Carries out one cycle, and puts its word, if any.
-fn cycle<S: Sink>(
-    session: &mut Session,
-    m: &Machine,
-    code: &Code,
-    units: &UnitSet,
-    input: &[u32],
-    sink: &mut S,
-) -> Result<After, Failed>
-    requires loaded { IsRunOf m.now code.now session.old.held }
+fn cycle<S: Sink>(session: &mut Session, basis: &Basis<'_>, sink: &mut S) -> Result<After, Failed>
+    requires loaded { IsRunOf basis.now.m.now basis.now.code.now session.old.held }
     requires few { session.old.held.cycle < 2 ^ 62 }
-    ensures loaded { IsRunOf m.now code.now session.new.held }
+    ensures loaded { IsRunOf basis.now.m.now basis.now.code.now session.new.held }
     ensures counted { session.new.held.cycle ≤ session.old.held.cycle + 1 }
-    ensures cycles { let U = stated unit_meaning units.now in
-        (d : Debugged) → Follows input.now session.old d
-        → Cycles input.now (next_state U m.now code.now) d session.new
+    ensures cycles { let on = basis.now in
+        let step = next_state (stated unit_meaning on.units.now) on.m.now on.code.now in
+        (d : Debugged) → Follows on.input.now session.old d
+        → Cycles on.input.now step d session.new
         (output (S.taken sink.old) (S.faults sink.old))
         (output (S.taken sink.new) (S.faults sink.new)) result }
     ensures cause { CountsFault (is_err result) (S.faults sink.old) (S.faults sink.new) }
 {
-    match session
-        .sim
-        .cycle(m, code, units, next_of(input, session.taken))
-    {
+    match session.sim.cycle(
+        basis.m,
+        basis.code,
+        basis.units,
+        next_of(basis.input, session.taken),
+    ) {
         CycleStep::Halted => Ok(After::Over),
         CycleStep::Fault(_) => Ok(After::Over),
         CycleStep::Waiting => Ok(After::Waits),
         CycleStep::Ran { put: word, took } => {
-            session.taken = count_taken(session.taken, took, input);
+            session.taken = count_taken(session.taken, took, basis.input);
             match put_word(sink, word) {
                 Ok(()) => Ok(After::On),
                 Err(failed) => Err(failed),
@@ -110,28 +104,26 @@ fn cycle<S: Sink>(
 /// breakpoint. Each word is put on a line of its own as it comes.
 pub fn run_cycles<S: Sink>(
     session: &mut Session,
-    m: &Machine,
-    code: &Code,
-    units: &UnitSet,
-    input: &[u32],
+    basis: &Basis<'_>,
     sink: &mut S,
     count: u32,
     to_stop: bool,
 ) -> Result<bool, Failed>
-    requires loaded { IsRunOf m.now code.now session.old.held }
+    requires loaded { IsRunOf basis.now.m.now basis.now.code.now session.old.held }
     requires few { session.old.held.cycle < 2 ^ 61 }
-    ensures loaded { IsRunOf m.now code.now session.new.held }
+    ensures loaded { IsRunOf basis.now.m.now basis.now.code.now session.new.held }
     ensures counted { session.new.held.cycle ≤ session.old.held.cycle + count }
-    ensures runs { let step = next_state (stated unit_meaning units.now) m.now code.now in
-        (d : Debugged) → Follows input.now session.old d
-        → Runs input.now (cycles step (λ e. to_stop && is_at_stop e) count d) session.new
+    ensures runs { let on = basis.now in
+        let step = next_state (stated unit_meaning on.units.now) on.m.now on.code.now in
+        (d : Debugged) → Follows on.input.now session.old d
+        → Runs on.input.now (cycles step (λ e. to_stop && is_at_stop e) count d) session.new
         (output (S.taken sink.old) (S.faults sink.old))
         (output (S.taken sink.new) (S.faults sink.new)) result }
     ensures cause { CountsFault (is_err result) (S.faults sink.old) (S.faults sink.new) }
 {
     let mut left = count;
     'cycles: while left > 0 {
-        match cycle(session, m, code, units, input, sink)? {
+        match cycle(session, basis, sink)? {
             After::Over => return Ok(false),
             After::Waits => return Ok(true),
             After::On => {}
@@ -161,28 +153,26 @@ fn stopped_at(session: &Session, waits: bool) -> Reply
 /// Carries out at most so many cycles, puts their words, and then how the run stands.
 pub fn run<S: Sink>(
     session: &mut Session,
-    m: &Machine,
-    code: &Code,
-    units: &UnitSet,
-    input: &[u32],
+    basis: &Basis<'_>,
     sink: &mut S,
     count: u32,
     to_stop: bool,
 ) -> Result<Told, CommandError>
-    requires loaded { IsRunOf m.now code.now session.old.held }
+    requires loaded { IsRunOf basis.now.m.now basis.now.code.now session.old.held }
     requires few { session.old.held.cycle < 2 ^ 61 }
-    ensures loaded { IsRunOf m.now code.now session.new.held }
+    ensures loaded { IsRunOf basis.now.m.now basis.now.code.now session.new.held }
     ensures counted { session.new.held.cycle ≤ session.old.held.cycle + count }
-    ensures does { let step = next_state (stated unit_meaning units.now) m.now code.now in
-        (d : Debugged) → Follows input.now session.old d
-        → Does input.now (Ok (ran (cycles step (λ e. to_stop && is_at_stop e) count d)))
+    ensures does { let on = basis.now in
+        let step = next_state (stated unit_meaning on.units.now) on.m.now on.code.now in
+        (d : Debugged) → Follows on.input.now session.old d
+        → Does on.input.now (Ok (ran (cycles step (λ e. to_stop && is_at_stop e) count d)))
         session.new (output (S.taken sink.old) (S.faults sink.old))
         (output (S.taken sink.new) (S.faults sink.new)) result }
     ensures keeps { Keeps session.old session.new
         (output (S.taken sink.old) (S.faults sink.old))
         (output (S.taken sink.new) (S.faults sink.new)) result }
 {
-    match run_cycles(session, m, code, units, input, sink, count, to_stop) {
+    match run_cycles(session, basis, sink, count, to_stop) {
         Ok(waits) => say(sink, &stopped_at(session, waits), Told::More),
         Err(Failed) => Err(CommandError::SinkFailed),
     }

@@ -9,6 +9,7 @@ ghost use Rattle.tta_debug.specs.Sessions.{Follows, IsStopped, output};
 ghost use Rattle.tta_debug.specs.Scripts.{TakesLine, TakesScript, lines_of, line_len as len_of};
 ghost use Rattle.tta_debug.specs.Scripts.{line_says, script_says};
 
+use crate::basis::Basis;
 use crate::say::put;
 use crate::session::Session;
 use crate::told::{CommandError, Told};
@@ -23,31 +24,30 @@ use tta_print::Reply;
 fn take_line<S: Sink>(
     session: &mut Session,
     line: &[u8],
-    m: &Machine,
-    code: &Code,
-    units: &UnitSet,
-    input: &[u32],
+    basis: &Basis<'_>,
     sink: &mut S,
 ) -> Result<bool, Failed>
-    requires loaded { IsRunOf m.now code.now session.old.held }
+    requires loaded { IsRunOf basis.now.m.now basis.now.code.now session.old.held }
     requires few { session.old.held.cycle < 2 ^ 61 }
     requires short { length line.now ≤ 2 ^ 24 }
-    ensures loaded { IsRunOf m.now code.now session.new.held }
+    ensures loaded { IsRunOf basis.now.m.now basis.now.code.now session.new.held }
     ensures counted { session.new.held.cycle < session.old.held.cycle + 2 ^ 32 }
-    ensures told { let U = stated unit_meaning units.now in
-        (d : Debugged) → Follows input.now session.old d
-        → TakesLine input.now d (command U m.now code.now line.now d) session.new
+    ensures told { let on = basis.now in
+        let U = stated unit_meaning on.units.now in
+        (d : Debugged) → Follows on.input.now session.old d
+        → TakesLine on.input.now d (command U on.m.now on.code.now line.now d) session.new
         (output (S.taken sink.old) (S.faults sink.old))
         (output (S.taken sink.new) (S.faults sink.new)) result }
-    ensures stopped { let U = stated unit_meaning units.now in
-        (d : Debugged) → Follows input.now session.old d
-        → IfErr result (λ e. IsStopped input.now
-        (line_says d (command U m.now code.now line.now d)) session.new
+    ensures stopped { let on = basis.now in
+        let U = stated unit_meaning on.units.now in
+        (d : Debugged) → Follows on.input.now session.old d
+        → IfErr result (λ e. IsStopped on.input.now
+        (line_says d (command U on.m.now on.code.now line.now d)) session.new
         (output (S.taken sink.old) (S.faults sink.old))
         (output (S.taken sink.new) (S.faults sink.new))) }
     ensures cause { CountsFault (is_err result) (S.faults sink.old) (S.faults sink.new) }
 {
-    match session.command(line, m, code, units, input, sink) {
+    match session.command(line, basis.m, basis.code, basis.units, basis.input, sink) {
         Ok(Told::More) => Ok(true),
         Ok(Told::Bye) => Ok(false),
         Err(CommandError::SinkFailed) => Err(Failed),
@@ -93,6 +93,44 @@ fn cut_line<'t>(bytes: &'t [u8]) -> Cut<'t>
     }
 }
 
+// Carries out the lines of a script up to a line that is `quit` or to the script's end, and puts
+// their replies and refusals.
+fn take_lines<S: Sink>(
+    session: &mut Session,
+    script: &[u8],
+    basis: &Basis<'_>,
+    sink: &mut S,
+) -> Result<(), Failed>
+    requires loaded { IsRunOf basis.now.m.now basis.now.code.now session.old.held }
+    requires few { session.old.held.cycle < 2 ^ 60 }
+    requires short { length script.now ≤ 2 ^ 24 }
+    ensures loaded { IsRunOf basis.now.m.now basis.now.code.now session.new.held }
+    ensures replies { let on = basis.now in
+        let said = session_of (stated unit_meaning on.units.now) on.m.now on.code.now in
+        (d : Debugged) → Follows on.input.now session.old d
+        → TakesScript on.input.now (said (lines_of script.now) d) session.new
+        (output (S.taken sink.old) (S.faults sink.old))
+        (output (S.taken sink.new) (S.faults sink.new)) result }
+    ensures stopped { let on = basis.now in
+        let says = script_says (stated unit_meaning on.units.now) on.m.now on.code.now in
+        (d : Debugged) → Follows on.input.now session.old d
+        → IfErr result (λ e. IsStopped on.input.now (says (lines_of script.now) d) session.new
+        (output (S.taken sink.old) (S.faults sink.old))
+        (output (S.taken sink.new) (S.faults sink.new))) }
+    ensures cause { CountsFault (is_err result) (S.faults sink.old) (S.faults sink.new) }
+{
+    let mut rest = script;
+    'lines: while !rest.is_empty() {
+        let cut = cut_line(rest);
+        let goes = take_line(session, cut.line, basis, sink)?;
+        if !goes {
+            return Ok(());
+        }
+        rest = cut.rest;
+    }
+    Ok(())
+}
+
 /// Carries out the lines of a script, each of which is a command and ends at a newline, and puts
 /// their replies and refusals, up to a line that is `quit` or to the script's end. The input is that
 /// of all calls of the session. It takes no memory.
@@ -125,14 +163,11 @@ pub fn run_script<S: Sink>(
         (output (S.taken sink.new) (S.faults sink.new))) }
     ensures cause { CountsFault (is_err result) (S.faults sink.old) (S.faults sink.new) }
 {
-    let mut rest = script;
-    'lines: while !rest.is_empty() {
-        let cut = cut_line(rest);
-        let goes = take_line(session, cut.line, m, code, units, input, sink)?;
-        if !goes {
-            return Ok(());
-        }
-        rest = cut.rest;
-    }
-    Ok(())
+    let basis = Basis {
+        m,
+        code,
+        units,
+        input,
+    };
+    take_lines(session, script, &basis, sink)
 }

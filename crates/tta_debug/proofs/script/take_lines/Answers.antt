@@ -6,7 +6,7 @@ use Rattle.tta_debug.specs.Debugged.{command, session}
 use Rattle.tta_debug.specs.Sessions.{output}
 use Rattle.tta_debug.specs.Scripts.{TakesLine, lines_of, script_says}
 use Rattle.tta_debug.proofs.Folding.{taken_first, taken_on, taken_bye, taken_cut, taken_last, script_cut, no_lines, replied_first, replied_on, replied_stopped, script_stopped}
-use Rattle.tta_debug.proofs.script.run_script.Goals as goal
+use Rattle.tta_debug.proofs.script.take_lines.Goals as goal
 
 pub lines-init : goal.lines-init
 lines-init g c =
@@ -23,36 +23,36 @@ lines-init g c =
 
 pub returns-in_err-goes-clause-replies : goal.returns-in_err-goes-clause-replies
 returns-in_err-goes-clause-replies g c = λ d f.
-    let U = stated (λ v. (goal.OpUnit-dyn g v).unit_meaning v.1) c.args.units.now in
+    let U = stated (λ v. (goal.OpUnit-dyn g v).unit_meaning v.1) c.args.basis.now.units.now in
     let old = output (g.S.Sink.taken c.args.sink.now) (g.S.Sink.faults c.args.sink.now) in
     let mid = output (g.S.Sink.taken c.lines.sink) (g.S.Sink.faults c.lines.sink) in
     let new = output (g.S.Sink.taken c.take_line.new.sink) (g.S.Sink.faults c.take_line.new.sink) in
     let taken = c.lines.invariant.taken d f in
-    script_cut c.args.input.now (session U c.args.m.now c.args.code.now (lines_of c.args.script.now) d) c.take_line.new.session old new c.from_residual.result c.from_residual.ensures.0
-    (taken_cut U c.args.m.now c.args.code.now c.args.input.now _ _ _ _ d c.lines.session c.take_line.new.session old mid new c.cut_line-cut.ensures.cut taken
+    script_cut c.args.basis.now.input.now (session U c.args.basis.now.m.now c.args.basis.now.code.now (lines_of c.args.script.now) d) c.take_line.new.session old new c.from_residual.result c.from_residual.ensures.0
+    (taken_cut U c.args.basis.now.m.now c.args.basis.now.code.now c.args.basis.now.input.now _ _ _ _ d c.lines.session c.take_line.new.session old mid new c.cut_line-cut.ensures.cut taken
     (c.in_err-goes.ensures.told taken.now taken.follows))
 
 pub returns-in_err-goes-clause-stopped : goal.returns-in_err-goes-clause-stopped
 returns-in_err-goes-clause-stopped g c = λ d f.
-    let U = stated (λ v. (goal.OpUnit-dyn g v).unit_meaning v.1) c.args.units.now in
+    let U = stated (λ v. (goal.OpUnit-dyn g v).unit_meaning v.1) c.args.basis.now.units.now in
     let old = output (g.S.Sink.taken c.args.sink.now) (g.S.Sink.faults c.args.sink.now) in
     let mid = output (g.S.Sink.taken c.lines.sink) (g.S.Sink.faults c.lines.sink) in
     let new = output (g.S.Sink.taken c.take_line.new.sink) (g.S.Sink.faults c.take_line.new.sink) in
     let replied = c.lines.invariant.replied d f in
-    script_stopped c.args.input.now (script_says U c.args.m.now c.args.code.now (lines_of c.args.script.now) d) c.take_line.new.session old new c.from_residual.result c.from_residual.ensures.0
-    (replied_stopped U c.args.m.now c.args.code.now c.args.input.now _ _ _ _ d c.lines.session c.take_line.new.session old mid new c.cut_line-cut.ensures.cut replied
+    script_stopped c.args.basis.now.input.now (script_says U c.args.basis.now.m.now c.args.basis.now.code.now (lines_of c.args.script.now) d) c.take_line.new.session old new c.from_residual.result c.from_residual.ensures.0
+    (replied_stopped U c.args.basis.now.m.now c.args.basis.now.code.now c.args.basis.now.input.now _ _ _ _ d c.lines.session c.take_line.new.session old mid new c.cut_line-cut.ensures.cut replied
     (c.in_err-goes.ensures.stopped replied.now replied.follows))
 
 pub returns-then-not-goes-clause-replies : goal.returns-then-not-goes-clause-replies
 returns-then-not-goes-clause-replies g c = λ d f.
-    let U = stated (λ v. (goal.OpUnit-dyn g v).unit_meaning v.1) c.args.units.now in
+    let U = stated (λ v. (goal.OpUnit-dyn g v).unit_meaning v.1) c.args.basis.now.units.now in
     let old = output (g.S.Sink.taken c.args.sink.now) (g.S.Sink.faults c.args.sink.now) in
     let mid = output (g.S.Sink.taken c.lines.sink) (g.S.Sink.faults c.lines.sink) in
     let new = output (g.S.Sink.taken c.take_line.new.sink) (g.S.Sink.faults c.take_line.new.sink) in
     let taken = c.lines.invariant.taken d f in
-    let said = command U c.args.m.now c.args.code.now c.cut_line-cut.result.line.now taken.now in
-    taken_bye U c.args.m.now c.args.code.now c.args.input.now _ _ _ _ d c.lines.session c.take_line.new.session old mid new c.cut_line-cut.ensures.cut taken
-    (subst (λ b. TakesLine c.args.input.now taken.now said c.take_line.new.session mid new (Ok b)) c.if-not-goes.true (c.in_ok-goes.ensures.told taken.now taken.follows))
+    let said = command U c.args.basis.now.m.now c.args.basis.now.code.now c.cut_line-cut.result.line.now taken.now in
+    taken_bye U c.args.basis.now.m.now c.args.basis.now.code.now c.args.basis.now.input.now _ _ _ _ d c.lines.session c.take_line.new.session old mid new c.cut_line-cut.ensures.cut taken
+    (subst (λ b. TakesLine c.args.basis.now.input.now taken.now said c.take_line.new.session mid new (Ok b)) c.if-not-goes.true (c.in_ok-goes.ensures.told taken.now taken.follows))
 
 pub lines-preserved : goal.lines-preserved
 lines-preserved g c =
@@ -66,23 +66,23 @@ lines-preserved g c =
       short = omega arith;
       faults = c.in_ok-goes.ensures.cause ∙ c.lines.invariant.faults;
       taken = λ d f.
-          let U = stated (λ v. (goal.OpUnit-dyn g v).unit_meaning v.1) c.args.units.now in
+          let U = stated (λ v. (goal.OpUnit-dyn g v).unit_meaning v.1) c.args.basis.now.units.now in
           let old = output (g.S.Sink.taken c.args.sink.now) (g.S.Sink.faults c.args.sink.now) in
           let mid = output (g.S.Sink.taken c.lines.sink) (g.S.Sink.faults c.lines.sink) in
           let new = output (g.S.Sink.taken c.take_line.new.sink) (g.S.Sink.faults c.take_line.new.sink) in
           let taken = c.lines.invariant.taken d f in
-          let said = command U c.args.m.now c.args.code.now c.cut_line-cut.result.line.now taken.now in
-          taken_on U c.args.m.now c.args.code.now c.args.input.now _ _ _ _ d c.lines.session c.take_line.new.session old mid new c.cut_line-cut.ensures.cut taken
-          (subst (λ b. TakesLine c.args.input.now taken.now said c.take_line.new.session mid new (Ok b)) c.if-not-goes.false (c.in_ok-goes.ensures.told taken.now taken.follows));
+          let said = command U c.args.basis.now.m.now c.args.basis.now.code.now c.cut_line-cut.result.line.now taken.now in
+          taken_on U c.args.basis.now.m.now c.args.basis.now.code.now c.args.basis.now.input.now _ _ _ _ d c.lines.session c.take_line.new.session old mid new c.cut_line-cut.ensures.cut taken
+          (subst (λ b. TakesLine c.args.basis.now.input.now taken.now said c.take_line.new.session mid new (Ok b)) c.if-not-goes.false (c.in_ok-goes.ensures.told taken.now taken.follows));
       replied = λ d f.
-          let U = stated (λ v. (goal.OpUnit-dyn g v).unit_meaning v.1) c.args.units.now in
+          let U = stated (λ v. (goal.OpUnit-dyn g v).unit_meaning v.1) c.args.basis.now.units.now in
           let old = output (g.S.Sink.taken c.args.sink.now) (g.S.Sink.faults c.args.sink.now) in
           let mid = output (g.S.Sink.taken c.lines.sink) (g.S.Sink.faults c.lines.sink) in
           let new = output (g.S.Sink.taken c.take_line.new.sink) (g.S.Sink.faults c.take_line.new.sink) in
           let replied = c.lines.invariant.replied d f in
-          let said = command U c.args.m.now c.args.code.now c.cut_line-cut.result.line.now replied.now in
-          replied_on U c.args.m.now c.args.code.now c.args.input.now _ _ _ _ d c.lines.session c.take_line.new.session old mid new c.cut_line-cut.ensures.cut replied
-          (subst (λ b. TakesLine c.args.input.now replied.now said c.take_line.new.session mid new (Ok b)) c.if-not-goes.false (c.in_ok-goes.ensures.told replied.now replied.follows));
+          let said = command U c.args.basis.now.m.now c.args.basis.now.code.now c.cut_line-cut.result.line.now replied.now in
+          replied_on U c.args.basis.now.m.now c.args.basis.now.code.now c.args.basis.now.input.now _ _ _ _ d c.lines.session c.take_line.new.session old mid new c.cut_line-cut.ensures.cut replied
+          (subst (λ b. TakesLine c.args.basis.now.input.now replied.now said c.take_line.new.session mid new (Ok b)) c.if-not-goes.false (c.in_ok-goes.ensures.told replied.now replied.follows));
     }
 
 pub returns-clause-replies : goal.returns-clause-replies
