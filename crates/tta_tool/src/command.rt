@@ -1,6 +1,6 @@
 //! The commands.
 
-ghost use Rattle.std.specs.Prelude.{◌≡◌, ◌<◌, ◌^◌, map, option_map, option_and_then};
+ghost use Rattle.std.specs.Prelude.{◌≡◌, map, option_map, option_and_then};
 ghost use Rattle.std.specs.String.{string_bytes};
 ghost use Rattle.tta_ops.specs.Set.{stated};
 ghost use Rattle.tta_tool.specs.World.{world};
@@ -16,6 +16,7 @@ use crate::debugging::debug_image;
 use crate::dis::show_image;
 use crate::exec::exec_program;
 use crate::numbers::{bound_of, lines_of, seed_of};
+use crate::request::{RunRequest, RunWords, SampleRequest, SessionRequest, ShortWords};
 use crate::running::run_image;
 use crate::sampling::sample_on;
 use crate::status::Status;
@@ -23,26 +24,30 @@ use std::alloc::Global;
 use tta_ops::UnitSet;
 use tta_ports::{Files, Sink};
 
-// Carries out the command of this name whose last word is a file that it writes. The output is not
-// touched.
+// Carries out the command of these words whose last word is a file that it writes. The output is
+// not touched.
 fn run_writing<F: Files, S: Sink>(
     alloc: Global,
     units: &UnitSet,
     files: &mut F,
     sink: &S,
-    word: &str,
-    machine: &str,
-    second: &str,
-    out: &str,
+    words: &ShortWords<'_>,
 ) -> Status
     ensures { Ends (stated unit_meaning units.now)
-        (writing_request word.now machine.now second.now out.now)
+        (writing_request words.now.word.now words.now.first.now words.now.second.now
+        words.now.third.now)
         (world (F.contents files.old) (F.faults files.old) (F.latest files.old))
         (world (F.contents files.new) (F.faults files.new) (F.latest files.new))
         (output (S.taken sink.now) (S.faults sink.now))
         (output (S.taken sink.now) (S.faults sink.now))
         result }
 {
+    let ShortWords {
+        word,
+        first: machine,
+        second,
+        third: out,
+    } = *words;
     if word == "build" {
         return build_image(alloc, units, files, machine, second, out);
     }
@@ -56,76 +61,75 @@ fn run_writing<F: Files, S: Sink>(
 }
 
 // Makes a sample by its seed and its number of body lines, for the machine of a file, and compares
-// it with its code.
+// it with its code: these are the words after the command's name.
 fn run_sample<F: Files, S: Sink>(
     alloc: Global,
     units: &UnitSet,
     files: &mut F,
     sink: &mut S,
-    seed: &str,
-    lines: &str,
-    machine: &str,
+    words: &ShortWords<'_>,
 ) -> Status
     ensures { Ends (stated unit_meaning units.now)
-        (sample_request seed.now lines.now machine.now)
+        (sample_request words.now.first.now words.now.second.now words.now.third.now)
         (world (F.contents files.old) (F.faults files.old) (F.latest files.old))
         (world (F.contents files.new) (F.faults files.new) (F.latest files.new))
         (output (S.taken sink.old) (S.faults sink.old))
         (output (S.taken sink.new) (S.faults sink.new))
         result }
 {
-    match seed_of(seed.as_bytes()) {
-        Some(seed) => match lines_of(lines.as_bytes()) {
-            Some(lines) => sample_on(alloc, units, files, sink, seed, lines, machine),
+    let machine = words.third;
+    match seed_of(words.first.as_bytes()) {
+        Some(seed) => match lines_of(words.second.as_bytes()) {
+            Some(lines) => {
+                let request = SampleRequest {
+                    seed,
+                    lines,
+                    machine,
+                };
+                sample_on(alloc, units, files, sink, &request)
+            }
             None => Status::Usage,
         },
         None => Status::Usage,
     }
 }
 
-// Carries out the command of this name with three words.
+// Carries out the command of these words, which has three words after its name.
 fn run_short<F: Files, S: Sink>(
     alloc: Global,
     units: &UnitSet,
     files: &mut F,
     sink: &mut S,
-    word: &str,
-    first: &str,
-    second: &str,
-    third: &str,
+    words: &ShortWords<'_>,
 ) -> Status
     ensures { Ends (stated unit_meaning units.now)
-        (short_request word.now first.now second.now third.now)
+        (short_request words.now.word.now words.now.first.now words.now.second.now
+        words.now.third.now)
         (world (F.contents files.old) (F.faults files.old) (F.latest files.old))
         (world (F.contents files.new) (F.faults files.new) (F.latest files.new))
         (output (S.taken sink.old) (S.faults sink.old))
         (output (S.taken sink.new) (S.faults sink.new))
         result }
 {
-    if word == "sample" {
-        return run_sample(alloc, units, files, sink, first, second, third);
+    if words.word == "sample" {
+        return run_sample(alloc, units, files, sink, words);
     }
-    run_writing(alloc, units, files, &*sink, word, first, second, third)
+    run_writing(alloc, units, files, &*sink, words)
 }
 
-// Carries out the command of this name with a bound, after which the file of an input may be
-// named.
+// Carries out the command of this name, which makes the run that is asked for.
 fn run_bounded<F: Files, S: Sink>(
     alloc: Global,
     units: &UnitSet,
     files: &mut F,
     sink: &mut S,
     word: &str,
-    machine: &str,
-    second: &str,
-    input: &str,
-    stream: Option<&str>,
-    bound: u64,
+    request: &RunRequest<'_>,
 ) -> Status
-    requires { bound < 2 ^ 48 }
-    ensures { Ends (stated unit_meaning units.now)
-        (bounded_request word.now machine.now second.now input.now
-        (option_map (λ s. s.now) stream.entry) bound)
+    ensures { let names = request.now.names in
+        Ends (stated unit_meaning units.now)
+        (bounded_request word.now names.machine.now names.second.now names.input.now
+        (option_map (λ s. s.now) names.stream) request.now.bound)
         (world (F.contents files.old) (F.faults files.old) (F.latest files.old))
         (world (F.contents files.new) (F.faults files.new) (F.latest files.new))
         (output (S.taken sink.old) (S.faults sink.old))
@@ -133,87 +137,70 @@ fn run_bounded<F: Files, S: Sink>(
         result }
 {
     if word == "exec" {
-        return exec_program(
-            alloc, units, files, sink, machine, second, input, stream, bound,
-        );
+        return exec_program(alloc, units, files, sink, request);
     }
     if word == "run" {
-        return run_image(
-            alloc, units, files, sink, machine, second, input, stream, bound,
-        );
+        return run_image(alloc, units, files, sink, request);
     }
     Status::Usage
 }
 
-// The same where the bound is a word, which may be none.
+// Carries out the command of these words, whose fourth word is the bound of a run, or none.
 fn run_to_bound<F: Files, S: Sink>(
     alloc: Global,
     units: &UnitSet,
     files: &mut F,
     sink: &mut S,
-    word: &str,
-    machine: &str,
-    second: &str,
-    input: &str,
-    stream: Option<&str>,
-    bound: &[u8],
+    words: &RunWords<'_>,
 ) -> Status
-    ensures { Ends (stated unit_meaning units.now)
-        (option_and_then (bounded_request word.now machine.now second.now input.now
-        (option_map (λ s. s.now) stream.entry)) (spec.bound_of bound.now))
+    ensures { let names = words.now.names in
+        Ends (stated unit_meaning units.now)
+        (option_and_then (bounded_request words.now.word.now names.machine.now names.second.now
+        names.input.now (option_map (λ s. s.now) names.stream)) (spec.bound_of words.now.last.now))
         (world (F.contents files.old) (F.faults files.old) (F.latest files.old))
         (world (F.contents files.new) (F.faults files.new) (F.latest files.new))
         (output (S.taken sink.old) (S.faults sink.old))
         (output (S.taken sink.new) (S.faults sink.new))
         result }
 {
-    match bound_of(bound) {
-        Some(bound) => run_bounded(
-            alloc, units, files, sink, word, machine, second, input, stream, bound,
-        ),
+    match bound_of(words.last.as_bytes()) {
+        Some(bound) => {
+            let request = RunRequest {
+                names: words.names,
+                bound,
+            };
+            run_bounded(alloc, units, files, sink, words.word, &request)
+        }
         None => Status::Usage,
     }
 }
 
-// Carries out the command of this name whose fourth word is a script, or the bound of a run.
+// Carries out the command of these words, whose fourth word is a script, or the bound of a run.
 fn run_running<F: Files, S: Sink>(
     alloc: Global,
     units: &UnitSet,
     files: &mut F,
     sink: &mut S,
-    word: &str,
-    machine: &str,
-    second: &str,
-    input: &str,
-    last: &str,
-    stream: Option<&str>,
+    words: &RunWords<'_>,
 ) -> Status
-    ensures { Ends (stated unit_meaning units.now)
-        (running_request word.now machine.now second.now input.now last.now
-        (option_map (λ s. s.now) stream.entry))
+    ensures { let names = words.now.names in
+        Ends (stated unit_meaning units.now)
+        (running_request words.now.word.now names.machine.now names.second.now names.input.now
+        words.now.last.now (option_map (λ s. s.now) names.stream))
         (world (F.contents files.old) (F.faults files.old) (F.latest files.old))
         (world (F.contents files.new) (F.faults files.new) (F.latest files.new))
         (output (S.taken sink.old) (S.faults sink.old))
         (output (S.taken sink.new) (S.faults sink.new))
         result }
 {
-    if word == "debug" {
-        return debug_image(
-            alloc, units, files, sink, machine, second, input, last, stream,
-        );
+    if words.word == "debug" {
+        let request = SessionRequest {
+            names: words.names,
+            script: words.last,
+        };
+        return debug_image(alloc, units, files, sink, &request);
     }
-    run_to_bound(
-        alloc,
-        units,
-        files,
-        sink,
-        word,
-        machine,
-        second,
-        input,
-        stream,
-        last.as_bytes(),
-    )
+    run_to_bound(alloc, units, files, sink, words)
 }
 
 /// Carries out the command that the words ask for, the first of them the command's name, over these
@@ -259,40 +246,19 @@ pub fn tool<F: Files, S: Sink>(
         result }
 {
     match words.as_slice() {
-        [word, first, second, third] => run_short(
-            alloc,
-            units,
-            files,
-            sink,
-            word.as_str(),
-            first.as_str(),
-            second.as_str(),
-            third.as_str(),
-        ),
-        [word, machine, second, input, last] => run_running(
-            alloc,
-            units,
-            files,
-            sink,
-            word.as_str(),
-            machine.as_str(),
-            second.as_str(),
-            input.as_str(),
-            last.as_str(),
-            None,
-        ),
-        [word, machine, second, input, last, stream] => run_running(
-            alloc,
-            units,
-            files,
-            sink,
-            word.as_str(),
-            machine.as_str(),
-            second.as_str(),
-            input.as_str(),
-            last.as_str(),
-            Some(stream.as_str()),
-        ),
+        [word, first, second, third] => {
+            let words = ShortWords::of(word, first, second, third);
+            run_short(alloc, units, files, sink, &words)
+        }
+        [word, machine, second, input, last] => {
+            let words = RunWords::of(word, machine, second, input, last, None);
+            run_running(alloc, units, files, sink, &words)
+        }
+        [word, machine, second, input, last, stream] => {
+            let stream = Some(stream.as_str());
+            let words = RunWords::of(word, machine, second, input, last, stream);
+            run_running(alloc, units, files, sink, &words)
+        }
         _ => Status::Usage,
     }
 }

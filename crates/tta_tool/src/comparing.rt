@@ -28,6 +28,14 @@ use tta_sim::Sim;
 use tta_tac::{Program, lay_lines};
 use tta_tacrun::Seq;
 
+/// A program, and the code that it is compiled to for a machine.
+#[derive(Clone, Copy)]
+pub struct Compiled<'a> {
+    pub machine: &'a Machine,
+    pub program: &'a Program,
+    pub whole: &'a Whole,
+}
+
 // How many steps a program has.
 fn count_steps(program: &Program) -> u64
     ensures { result ≡ step_count program.now }
@@ -159,27 +167,27 @@ fn compare_code<S: Sink>(
     alloc: Global,
     units: &UnitSet,
     sink: &mut S,
-    machine: &Machine,
-    program: &Program,
-    whole: &Whole,
+    compiled: &Compiled<'_>,
     ran: &KeptProgram,
 ) -> Status
-    requires legal { IsLegalCode machine.now whole.now.code }
+    requires legal { IsLegalCode compiled.now.machine.now compiled.now.whole.now.code }
     requires few { ran.now.seq.steps < 2 ^ 24 }
     ensures { let U = stated unit_meaning units.now in
-        let space = machine.now.data_words in
-        (bound : ℕ) → IsBuilt U machine.now program.now whole.now
-        → HasRun U program.now space bound ran.now.seq ran.now.kept.output.items false
+        let machine = compiled.now.machine.now in
+        let program = compiled.now.program.now in
+        let whole = compiled.now.whole.now in
+        (bound : ℕ) → IsBuilt U machine program whole
+        → HasRun U program machine.data_words bound ran.now.seq ran.now.kept.output.items false
         → ran.now.seq.outcome ≡ sequential.Halted
-        → CompareEnds U machine.now program.now whole.now bound
+        → CompareEnds U machine program whole bound
         (output (S.taken sink.old) (S.faults sink.old))
         (output (S.taken sink.new) (S.faults sink.new))
         result }
 {
-    let bound = count_words(machine, whole) * (ran.seq.steps() + 1);
-    match run_code(alloc, units, machine, whole, bound) {
+    let bound = count_words(compiled.machine, compiled.whole) * (ran.seq.steps() + 1);
+    match run_code(alloc, units, compiled.machine, compiled.whole, bound) {
         Ok(cycled) => {
-            let status = put_summary(sink, program, whole, ran, &cycled);
+            let status = put_summary(sink, compiled.program, compiled.whole, ran, &cycled);
             drop(cycled);
             status
         }
@@ -193,25 +201,26 @@ pub fn compare<S: Sink>(
     alloc: Global,
     units: &UnitSet,
     sink: &mut S,
-    machine: &Machine,
-    program: &Program,
-    whole: &Whole,
+    compiled: &Compiled<'_>,
     bound: u64,
 ) -> Status
     requires bound { bound < 2 ^ 24 }
-    requires built { IsBuilt (stated unit_meaning units.now) machine.now program.now whole.now }
+    requires built { IsBuilt (stated unit_meaning units.now)
+        compiled.now.machine.now compiled.now.program.now compiled.now.whole.now }
     ensures { let U = stated unit_meaning units.now in
-        CompareEnds U machine.now program.now whole.now bound
+        CompareEnds U
+        compiled.now.machine.now compiled.now.program.now compiled.now.whole.now bound
         (output (S.taken sink.old) (S.faults sink.old))
         (output (S.taken sink.new) (S.faults sink.new))
         result }
 {
-    match run_program(alloc, units, program, data_words(machine), bound) {
+    let space = data_words(compiled.machine);
+    match run_program(alloc, units, compiled.program, space, bound) {
         Ok(ran) => {
             let status = if ran.kept.waits {
                 Status::Waiting
             } else if ran.seq.halted() {
-                compare_code(alloc, units, sink, machine, program, whole, &ran)
+                compare_code(alloc, units, sink, compiled, &ran)
             } else {
                 Status::Running
             };

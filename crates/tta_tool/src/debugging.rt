@@ -15,6 +15,7 @@ ghost use Rattle.tta_tool.specs.Debug.{DebugFileEnds, Debugs};
 
 use crate::contents::{MachineFile, machine_file, read_file};
 use crate::given::stream_file;
+use crate::request::SessionRequest;
 use crate::running::{Beginning, begin_with, load_laid};
 use crate::status::Status;
 use std::alloc::Global;
@@ -57,14 +58,12 @@ fn asked_files<F: Files>(
     }
 }
 
-/// What a session begins with: code with data, the data words, the words of the input, and the
-/// script.
+/// What a session begins with: code with data, the data words, and what it is asked.
 #[derive(Drop)]
 struct SessionStart {
     whole: Whole,
     memory: Vec<u32>,
-    words: Vec<u32>,
-    script: Vec<u8>,
+    asked: Asked,
 }
 
 // The code with data that word 2 names, the data words that word 3 names, the script that word 4
@@ -72,37 +71,29 @@ struct SessionStart {
 fn begin_session<F: Files>(
     alloc: Global,
     files: &mut F,
-    image: &str,
-    input: &str,
-    script: &str,
-    stream: Option<&str>,
+    request: &SessionRequest<'_>,
     file: &MachineFile,
 ) -> Result<SessionStart, Status>
-    ensures ends { (u : Units)
-        → BeginSessionEnds u file.now.machine file.now.text.items image.now input.now script.now
-        (option_map (λ s. s.now) stream.entry)
+    ensures ends { (u : Units) → BeginSessionEnds u file.now.machine file.now.text.items
+        request.now.names.second.now request.now.names.input.now request.now.script.now
+        (option_map (λ s. s.now) request.now.names.stream)
         (world (F.contents files.old) (F.faults files.old) (F.latest files.old))
         (world (F.contents files.new) (F.faults files.new) (F.latest files.new))
-        (λ b. b.whole) (λ b. b.memory.items) (λ b. b.words.items) (λ b. b.script.items) result }
+        (λ b. b.whole) (λ b. b.memory.items) (λ b. b.asked.words.items)
+        (λ b. b.asked.script.items) result }
     ensures size { IfOk result (λ b. length b.memory.items ≡ file.now.machine.data_words) }
-    ensures short { IfOk result (λ b. length b.script.items ≤ 2 ^ 24) }
+    ensures short { IfOk result (λ b. length b.asked.script.items ≤ 2 ^ 24) }
     ensures legal { IfOk result (λ b. IsLegalCode file.now.machine b.whole.code) }
 {
-    match begin_with(alloc, files, image, input, None, file) {
-        Ok(beginning) => match asked_files(alloc, files, script, stream) {
+    let names = &request.names;
+    match begin_with(alloc, files, names.second, names.input, None, file) {
+        Ok(beginning) => match asked_files(alloc, files, request.script, names.stream) {
             Ok(asked) => {
-                let Beginning {
-                    whole,
-                    memory,
-                    words: none,
-                } = beginning;
-                drop(none);
-                let Asked { script, words } = asked;
+                let Beginning { whole, memory, .. } = beginning;
                 Ok(SessionStart {
                     whole,
                     memory,
-                    words,
-                    script,
+                    asked,
                 })
             }
             Err(status) => {
@@ -135,55 +126,22 @@ fn script_to_status<S: Sink>(
     code: &Code,
     units: &UnitSet,
     session: &mut Session,
-    words: &[u32],
-    script: &[u8],
+    asked: &Asked,
 ) -> Status
     requires loaded { IsRunOf machine.now code.now session.old.held }
     requires few { session.old.held.cycle < 2 ^ 60 }
-    requires short { length script.now ≤ 2 ^ 24 }
+    requires short { length asked.now.script.items ≤ 2 ^ 24 }
     ensures { let U = stated unit_meaning units.now in
-        (d : Debugged) → Follows words.now session.old d
-        → SessionEnds (replies_of U machine.now code.now (lines_of script.now) d)
+        (d : Debugged) → Follows asked.now.words.items session.old d
+        → SessionEnds (replies_of U machine.now code.now (lines_of asked.now.script.items) d)
         (output (S.taken sink.old) (S.faults sink.old))
         (output (S.taken sink.new) (S.faults sink.new)) result }
 {
+    let script = asked.script.as_slice();
+    let words = asked.words.as_slice();
     match run_script(session, script, machine, code, units, words, sink) {
         Ok(()) => status_of(session.sim()),
         Err(Failed) => Status::WriteFault,
-    }
-}
-
-// Carries out a script over the run of code from data words, with its data laid over them and with
-// an input.
-fn debug_code<S: Sink>(
-    alloc: Global,
-    units: &UnitSet,
-    sink: &mut S,
-    machine: &Machine,
-    whole: &Whole,
-    memory: Vec<u32>,
-    words: &[u32],
-    script: &[u8],
-) -> Status
-    requires size { length memory.items ≡ machine.now.data_words }
-    requires short { length script.now ≤ 2 ^ 24 }
-    requires legal { IsLegalCode machine.now whole.now.code }
-    ensures { let U = stated unit_meaning units.now in
-        let first = at_first U machine.now whole.now memory.items words.now in
-        SessionEnds (replies_of U machine.now whole.now.code (lines_of script.now) first)
-        (output (S.taken sink.old) (S.faults sink.old))
-        (output (S.taken sink.new) (S.faults sink.new)) result }
-{
-    match load_laid(alloc, machine, whole, memory) {
-        Ok(sim) => {
-            let mut session = Session::new(sim);
-            let code = &whole.code;
-            let status = script_to_status(sink, machine, code, units, &mut session, words, script);
-            // Dropped here as a whole, so that no part of it is left to drop at the end.
-            drop(session);
-            status
-        }
-        Err(_) => Status::NoMemory,
     }
 }
 
@@ -196,85 +154,80 @@ fn carry_out<S: Sink>(
     start: SessionStart,
 ) -> Status
     requires size { length start.memory.items ≡ machine.now.data_words }
-    requires short { length start.script.items ≤ 2 ^ 24 }
+    requires short { length start.asked.script.items ≤ 2 ^ 24 }
     requires legal { IsLegalCode machine.now start.whole.code }
     ensures { let U = stated unit_meaning units.now in
-        let first = at_first U machine.now start.whole start.memory.items start.words.items in
-        SessionEnds (replies_of U machine.now start.whole.code (lines_of start.script.items) first)
+        let asked = start.asked in
+        let first = at_first U machine.now start.whole start.memory.items asked.words.items in
+        SessionEnds (replies_of U machine.now start.whole.code (lines_of asked.script.items) first)
         (output (S.taken sink.old) (S.faults sink.old))
         (output (S.taken sink.new) (S.faults sink.new)) result }
 {
     let SessionStart {
         whole,
         memory,
-        words,
-        script,
+        asked,
     } = start;
-    debug_code(
-        alloc,
-        units,
-        sink,
-        machine,
-        &whole,
-        memory,
-        words.as_slice(),
-        script.as_slice(),
-    )
+    match load_laid(alloc, machine, &whole, memory) {
+        Ok(sim) => {
+            let mut session = Session::new(sim);
+            let code = &whole.code;
+            let status = script_to_status(sink, machine, code, units, &mut session, &asked);
+            // Dropped here as a whole, so that no part of it is left to drop at the end.
+            drop(session);
+            status
+        }
+        Err(_) => Status::NoMemory,
+    }
 }
 
-// Debugs the code that word 2 names on a machine that was read.
+// Debugs the code of a session on a machine that was read.
 fn debug_file<F: Files, S: Sink>(
     alloc: Global,
     units: &UnitSet,
     files: &mut F,
     sink: &mut S,
+    request: &SessionRequest<'_>,
     file: &MachineFile,
-    image: &str,
-    input: &str,
-    script: &str,
-    stream: Option<&str>,
 ) -> Status
-    ensures { DebugFileEnds (stated unit_meaning units.now) file.now.machine file.now.text.items
-        image.now input.now script.now (option_map (λ s. s.now) stream.entry)
+    ensures { let names = request.now.names in
+        DebugFileEnds (stated unit_meaning units.now) file.now.machine file.now.text.items
+        names.second.now names.input.now request.now.script.now
+        (option_map (λ s. s.now) names.stream)
         (world (F.contents files.old) (F.faults files.old) (F.latest files.old))
         (world (F.contents files.new) (F.faults files.new) (F.latest files.new))
         (output (S.taken sink.old) (S.faults sink.old))
         (output (S.taken sink.new) (S.faults sink.new))
         result }
 {
-    match begin_session(alloc, files, image, input, script, stream, file) {
+    match begin_session(alloc, files, request, file) {
         Ok(start) => carry_out(alloc, units, sink, &file.machine, start),
         Err(status) => status,
     }
 }
 
-/// Carries out the script of the file `script` over the run of the image of the file `image` on the
-/// machine of the file `machine`, from the data words of the file `input` and with the words of the
-/// file `stream`, where it is named, as the input, and puts its replies.
+/// Carries out the session that is asked for: the script over the run of the image on the machine
+/// of the file `machine`, from the data words of the file `input` and with the words of the file
+/// `stream`, where it is named, as the input. It puts the replies.
 pub fn debug_image<F: Files, S: Sink>(
     alloc: Global,
     units: &UnitSet,
     files: &mut F,
     sink: &mut S,
-    machine: &str,
-    image: &str,
-    input: &str,
-    script: &str,
-    stream: Option<&str>,
+    request: &SessionRequest<'_>,
 ) -> Status
-    ensures { Debugs (stated unit_meaning units.now) machine.now image.now input.now script.now
-        (option_map (λ s. s.now) stream.entry)
+    ensures { let names = request.now.names in
+        Debugs (stated unit_meaning units.now) names.machine.now names.second.now names.input.now
+        request.now.script.now (option_map (λ s. s.now) names.stream)
         (world (F.contents files.old) (F.faults files.old) (F.latest files.old))
         (world (F.contents files.new) (F.faults files.new) (F.latest files.new))
         (output (S.taken sink.old) (S.faults sink.old))
         (output (S.taken sink.new) (S.faults sink.new))
         result }
 {
-    match machine_file(alloc, units, files, machine) {
+    match machine_file(alloc, units, files, request.names.machine) {
         Ok(file) => {
-            let status = debug_file(
-                alloc, units, files, sink, &file, image, input, script, stream,
-            );
+            let status = debug_file(alloc, units, files, sink, request, &file);
             // Dropped here as a whole, so that no part of it is left to drop at the end.
             drop(file);
             status

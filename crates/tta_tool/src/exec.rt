@@ -11,6 +11,7 @@ use crate::contents::{data_words, machine_file, program_file};
 use crate::given::{Given, given_files};
 use crate::program_run::ProgramRun;
 use crate::report::run_to_status;
+use crate::request::{RunFiles, RunRequest};
 use crate::status::Status;
 use std::alloc::Global;
 use tta_ops::UnitSet;
@@ -32,20 +33,18 @@ fn begin_with<F: Files>(
     alloc: Global,
     units: &UnitSet,
     files: &mut F,
-    program: &str,
-    input: &str,
-    stream: Option<&str>,
+    names: &RunFiles<'_>,
     space: u32,
 ) -> Result<Beginning, Status>
-    ensures ends { BeginWithEnds (stated unit_meaning units.now) program.now input.now
-        (option_map (λ s. s.now) stream.entry) space
+    ensures ends { BeginWithEnds (stated unit_meaning units.now) names.now.second.now
+        names.now.input.now (option_map (λ s. s.now) names.now.stream) space
         (world (F.contents files.old) (F.faults files.old) (F.latest files.old))
         (world (F.contents files.new) (F.faults files.new) (F.latest files.new))
         (λ b. b.program) (λ b. b.memory.items) (λ b. b.words.items) result }
     ensures short { IfOk result (λ b. length b.memory.items < 2 ^ 32) }
 {
-    match program_file(alloc, units, files, program, space) {
-        Ok(program) => match given_files(alloc, files, input, stream, space) {
+    match program_file(alloc, units, files, names.second, space) {
+        Ok(program) => match given_files(alloc, files, names.input, names.stream, space) {
             Ok(given) => {
                 let Given { memory, words } = given;
                 Ok(Beginning {
@@ -68,57 +67,23 @@ fn begin<F: Files>(
     alloc: Global,
     units: &UnitSet,
     files: &mut F,
-    machine: &str,
-    program: &str,
-    input: &str,
-    stream: Option<&str>,
+    names: &RunFiles<'_>,
 ) -> Result<Beginning, Status>
-    ensures ends { BeginEnds (stated unit_meaning units.now) machine.now program.now input.now
-        (option_map (λ s. s.now) stream.entry)
+    ensures ends { BeginEnds (stated unit_meaning units.now)
+        names.now.machine.now names.now.second.now names.now.input.now
+        (option_map (λ s. s.now) names.now.stream)
         (world (F.contents files.old) (F.faults files.old) (F.latest files.old))
         (world (F.contents files.new) (F.faults files.new) (F.latest files.new))
         (λ b. b.program) (λ b. b.memory.items) (λ b. b.words.items) result }
     ensures short { IfOk result (λ b. length b.memory.items < 2 ^ 32) }
 {
-    match machine_file(alloc, units, files, machine) {
+    match machine_file(alloc, units, files, names.machine) {
         Ok(file) => {
             let space = data_words(&file.machine);
             drop(file);
-            begin_with(alloc, units, files, program, input, stream, space)
+            begin_with(alloc, units, files, names, space)
         }
         Err(status) => Err(status),
-    }
-}
-
-// Runs a program from data words, with an input, and outputs its text.
-fn run_program<S: Sink>(
-    alloc: Global,
-    units: &UnitSet,
-    sink: &mut S,
-    program: &Program,
-    memory: Vec<u32>,
-    words: &[u32],
-    bound: u64,
-) -> Status
-    requires bound { bound < 2 ^ 48 }
-    requires short { length memory.items < 2 ^ 32 }
-    ensures { let U = stated unit_meaning units.now in
-        RunEnds (program_at U program.now memory.items words.now bound)
-        (output (S.taken sink.old) (S.faults sink.old))
-        (output (S.taken sink.new) (S.faults sink.new))
-        result }
-{
-    let mut laid = memory;
-    lay_lines(program, &mut laid);
-    match Seq::load(alloc, program, laid) {
-        Ok(seq) => {
-            let mut ran = ProgramRun { program, seq };
-            let status = run_to_status(sink, &mut ran, units, words, bound);
-            // Dropped here as a whole, so that no part of it is left to drop at the end.
-            drop(ran);
-            status
-        }
-        Err(_) => Status::NoMemory,
     }
 }
 
@@ -144,42 +109,42 @@ fn carry_out<S: Sink>(
         memory,
         words,
     } = beginning;
-    run_program(
-        alloc,
-        units,
-        sink,
-        &program,
-        memory,
-        words.as_slice(),
-        bound,
-    )
+    let mut laid = memory;
+    lay_lines(&program, &mut laid);
+    match Seq::load(alloc, &program, laid) {
+        Ok(seq) => {
+            let program = &program;
+            let mut ran = ProgramRun { program, seq };
+            let status = run_to_status(sink, &mut ran, units, words.as_slice(), bound);
+            // Dropped here as a whole, so that no part of it is left to drop at the end.
+            drop(ran);
+            status
+        }
+        Err(_) => Status::NoMemory,
+    }
 }
 
-/// Runs the program of the file `program` for at most so many steps, from the data words of the
-/// file `input` for the data space of the machine of the file `machine` and with the words of the
-/// file `stream`, where it is named, as the input, and outputs its text.
+/// Makes the run that is asked for of a program: for at most so many steps, from the data words of
+/// the file `input` for the data space of the machine of the file `machine`, and with the words of
+/// the file `stream`, where it is named, as the input. It outputs the run's text.
 pub fn exec_program<F: Files, S: Sink>(
     alloc: Global,
     units: &UnitSet,
     files: &mut F,
     sink: &mut S,
-    machine: &str,
-    program: &str,
-    input: &str,
-    stream: Option<&str>,
-    bound: u64,
+    request: &RunRequest<'_>,
 ) -> Status
-    requires { bound < 2 ^ 48 }
-    ensures { Execs (stated unit_meaning units.now) machine.now program.now input.now
-        (option_map (λ s. s.now) stream.entry) bound
+    ensures { let names = request.now.names in
+        Execs (stated unit_meaning units.now) names.machine.now names.second.now names.input.now
+        (option_map (λ s. s.now) names.stream) request.now.bound
         (world (F.contents files.old) (F.faults files.old) (F.latest files.old))
         (world (F.contents files.new) (F.faults files.new) (F.latest files.new))
         (output (S.taken sink.old) (S.faults sink.old))
         (output (S.taken sink.new) (S.faults sink.new))
         result }
 {
-    match begin(alloc, units, files, machine, program, input, stream) {
-        Ok(beginning) => carry_out(alloc, units, sink, beginning, bound),
+    match begin(alloc, units, files, &request.names) {
+        Ok(beginning) => carry_out(alloc, units, sink, beginning, request.bound),
         Err(status) => status,
     }
 }

@@ -16,6 +16,7 @@ mod laws;
 mod numbers;
 mod program_run;
 mod report;
+mod request;
 mod running;
 mod sampling;
 mod status;

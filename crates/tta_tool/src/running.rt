@@ -17,6 +17,7 @@ use crate::code_run::CodeRun;
 use crate::contents::{MachineFile, data_words, machine_file, whole_file};
 use crate::cycle_report::code_to_status;
 use crate::given::{Given, given_files};
+use crate::request::RunRequest;
 use crate::status::Status;
 use sha2::{Digest, Sha256};
 use std::alloc::{AllocError, Global};
@@ -92,40 +93,6 @@ pub fn load_laid(
     Sim::load(alloc, machine, &whole.code, laid)
 }
 
-// Runs code from data words, with its data laid over them and with an input, and outputs its text.
-fn run_code<S: Sink>(
-    alloc: Global,
-    units: &UnitSet,
-    sink: &mut S,
-    machine: &Machine,
-    whole: &Whole,
-    memory: Vec<u32>,
-    words: &[u32],
-    bound: u64,
-) -> Status
-    requires bound { bound < 2 ^ 48 }
-    requires size { length memory.items ≡ machine.now.data_words }
-    requires short { length memory.items < 2 ^ 32 }
-    requires legal { IsLegalCode machine.now whole.now.code }
-    ensures { let U = stated unit_meaning units.now in
-        RunEnds (code_at U machine.now whole.now memory.items words.now bound)
-        (output (S.taken sink.old) (S.faults sink.old))
-        (output (S.taken sink.new) (S.faults sink.new))
-        result }
-{
-    match load_laid(alloc, machine, whole, memory) {
-        Ok(sim) => {
-            let code = &whole.code;
-            let mut ran = CodeRun { machine, code, sim };
-            let status = code_to_status(sink, &mut ran, units, words, bound);
-            // Dropped here as a whole, so that no part of it is left to drop at the end.
-            drop(ran);
-            status
-        }
-        Err(_) => Status::NoMemory,
-    }
-}
-
 // Runs what a run begins with, and outputs its text.
 fn carry_out<S: Sink>(
     alloc: Global,
@@ -151,73 +118,66 @@ fn carry_out<S: Sink>(
         memory,
         words,
     } = beginning;
-    run_code(
-        alloc,
-        units,
-        sink,
-        machine,
-        &whole,
-        memory,
-        words.as_slice(),
-        bound,
-    )
+    match load_laid(alloc, machine, &whole, memory) {
+        Ok(sim) => {
+            let code = &whole.code;
+            let mut ran = CodeRun { machine, code, sim };
+            let status = code_to_status(sink, &mut ran, units, words.as_slice(), bound);
+            // Dropped here as a whole, so that no part of it is left to drop at the end.
+            drop(ran);
+            status
+        }
+        Err(_) => Status::NoMemory,
+    }
 }
 
-// Runs the code that word 2 names on a machine that was read.
+// Makes the run that is asked for of code on a machine that was read.
 fn run_file<F: Files, S: Sink>(
     alloc: Global,
     units: &UnitSet,
     files: &mut F,
     sink: &mut S,
+    request: &RunRequest<'_>,
     file: &MachineFile,
-    image: &str,
-    input: &str,
-    stream: Option<&str>,
-    bound: u64,
 ) -> Status
-    requires { bound < 2 ^ 48 }
-    ensures { RunFileEnds (stated unit_meaning units.now) file.now.machine file.now.text.items
-        image.now input.now (option_map (λ s. s.now) stream.entry) bound
+    ensures { let names = request.now.names in
+        RunFileEnds (stated unit_meaning units.now) file.now.machine file.now.text.items
+        names.second.now names.input.now (option_map (λ s. s.now) names.stream) request.now.bound
         (world (F.contents files.old) (F.faults files.old) (F.latest files.old))
         (world (F.contents files.new) (F.faults files.new) (F.latest files.new))
         (output (S.taken sink.old) (S.faults sink.old))
         (output (S.taken sink.new) (S.faults sink.new))
         result }
 {
-    match begin_with(alloc, files, image, input, stream, file) {
-        Ok(beginning) => carry_out(alloc, units, sink, &file.machine, beginning, bound),
+    let names = &request.names;
+    match begin_with(alloc, files, names.second, names.input, names.stream, file) {
+        Ok(beginning) => carry_out(alloc, units, sink, &file.machine, beginning, request.bound),
         Err(status) => status,
     }
 }
 
-/// Runs the image of the file `image` on the machine of the file `machine` for at most so many
-/// cycles, from the data words of the file `input` and with the words of the file `stream`, where
-/// it is named, as the input, and outputs its text.
+/// Makes the run that is asked for of an image on the machine of the file `machine`: for at most so
+/// many cycles, from the data words of the file `input`, and with the words of the file `stream`,
+/// where it is named, as the input. It outputs the run's text.
 pub fn run_image<F: Files, S: Sink>(
     alloc: Global,
     units: &UnitSet,
     files: &mut F,
     sink: &mut S,
-    machine: &str,
-    image: &str,
-    input: &str,
-    stream: Option<&str>,
-    bound: u64,
+    request: &RunRequest<'_>,
 ) -> Status
-    requires { bound < 2 ^ 48 }
-    ensures { Runs (stated unit_meaning units.now) machine.now image.now input.now
-        (option_map (λ s. s.now) stream.entry) bound
+    ensures { let names = request.now.names in
+        Runs (stated unit_meaning units.now) names.machine.now names.second.now names.input.now
+        (option_map (λ s. s.now) names.stream) request.now.bound
         (world (F.contents files.old) (F.faults files.old) (F.latest files.old))
         (world (F.contents files.new) (F.faults files.new) (F.latest files.new))
         (output (S.taken sink.old) (S.faults sink.old))
         (output (S.taken sink.new) (S.faults sink.new))
         result }
 {
-    match machine_file(alloc, units, files, machine) {
+    match machine_file(alloc, units, files, request.names.machine) {
         Ok(file) => {
-            let status = run_file(
-                alloc, units, files, sink, &file, image, input, stream, bound,
-            );
+            let status = run_file(alloc, units, files, sink, request, &file);
             // Dropped here as a whole, so that no part of it is left to drop at the end.
             drop(file);
             status

@@ -12,8 +12,9 @@ ghost use Rattle.tta_tool.specs.Stages.{ProgramEnds};
 ghost use Rattle.tta_tool.specs.Sample.{CompileEnds, SampleForEnds, Samples};
 
 use crate::build::ending_of;
-use crate::comparing::compare;
+use crate::comparing::{Compiled, compare};
 use crate::contents::{data_words, described, program_of, read_file};
+use crate::request::SampleRequest;
 use crate::status::Status;
 use std::alloc::Global;
 use tta_build::build;
@@ -44,7 +45,12 @@ fn compile_and_compare<S: Sink>(
 {
     match build(alloc, machine, program, units) {
         Ok(built) => {
-            let status = compare(alloc, units, sink, machine, program, &built.whole, bound);
+            let compiled = Compiled {
+                machine,
+                program,
+                whole: &built.whole,
+            };
+            let status = compare(alloc, units, sink, &compiled, bound);
             drop(built);
             status
         }
@@ -102,27 +108,25 @@ fn sample_for<S: Sink>(
     }
 }
 
-/// Makes the program of a seed with so many body lines, compiles it for the machine of the file that
-/// word 3 names, runs both from data words of 0 and without an input, and puts a summary.
+/// Makes the sample that is asked for, compiles it for the machine of the file that word 3 names,
+/// runs both from data words of 0 and without an input, and puts a summary.
 pub fn sample_on<F: Files, S: Sink>(
     alloc: Global,
     units: &UnitSet,
     files: &mut F,
     sink: &mut S,
-    seed: u32,
-    lines: u32,
-    machine: &str,
+    request: &SampleRequest<'_>,
 ) -> Status
-    requires some { 1 ≤ lines }
-    requires few { lines ≤ 20000 }
-    ensures { Samples (stated unit_meaning units.now) seed lines machine.now
+    ensures { Samples (stated unit_meaning units.now)
+        request.now.seed request.now.lines request.now.machine.now
         (world (F.contents files.old) (F.faults files.old) (F.latest files.old))
         (world (F.contents files.new) (F.faults files.new) (F.latest files.new))
         (output (S.taken sink.old) (S.faults sink.old))
         (output (S.taken sink.new) (S.faults sink.new))
         result }
 {
-    match read_file(files, machine, 3) {
+    let SampleRequest { seed, lines, .. } = *request;
+    match read_file(files, request.machine, 3) {
         Ok(text) => match described(alloc, units, text) {
             Ok(file) => {
                 let status = sample_for(alloc, units, sink, seed, lines, &file.machine);

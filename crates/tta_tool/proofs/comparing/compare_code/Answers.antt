@@ -9,9 +9,9 @@ pub returns-in-Ok : goal.returns-in-Ok
 returns-in-Ok g c = λ bound built run halted.
     let U = stated (λ v. (goal.OpUnit-dyn g v).unit_meaning v.1) c.args.units.now in
     let sink = g.S.Sink in
-    let m = c.args.machine.now in
-    let p = c.args.program.now in
-    let whole = c.args.whole.now in
+    let m = c.args.compiled.now.machine.now in
+    let p = c.args.compiled.now.program.now in
+    let whole = c.args.compiled.now.whole.now in
     let r = c.args.ran.now.seq in
     let words = c.args.ran.now.kept.output.items in
     let cycled = c.in-Ok.cycled in

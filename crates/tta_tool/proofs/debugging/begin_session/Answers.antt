@@ -13,7 +13,7 @@ returns-in-Ok-asked_files-clause-ends g c =
     let file = c.args.file.now in
     let run = c.in-Ok.beginning in
     let asked = c.in-Ok-asked_files.asked in
-    λ u. begins_session file.machine (sha256 file.text.items) c.args.image.now c.args.input.now c.args.script.now (option_map (λ s. s.now) c.args.stream)
+    λ u. begins_session file.machine (sha256 file.text.items) c.args.request.now.names.second.now c.args.request.now.names.input.now c.args.request.now.script.now (option_map (λ s. s.now) c.args.request.now.names.stream)
     run.whole run.memory.items run.words.items asked.words.items asked.script.items before between after
     (c.in-Ok.ensures.ends u) c.in-Ok-asked_files.ensures.ends
 
@@ -25,7 +25,7 @@ returns-in-Err-asked_files-clause-ends g c =
     let after = world (f.contents c.asked_files.new.files) (f.faults c.asked_files.new.files) (f.latest c.asked_files.new.files) in
     let file = c.args.file.now in
     let run = c.in-Ok.beginning in
-    λ u. not_asked u file.machine file.text.items c.args.image.now c.args.input.now c.args.script.now (option_map (λ s. s.now) c.args.stream)
+    λ u. not_asked u file.machine file.text.items c.args.request.now.names.second.now c.args.request.now.names.input.now c.args.request.now.script.now (option_map (λ s. s.now) c.args.request.now.names.stream)
     run.whole run.memory.items run.words.items before between after c.in-Err-asked_files.status
     (c.in-Ok.ensures.ends u) c.in-Err-asked_files.ensures.ends
 

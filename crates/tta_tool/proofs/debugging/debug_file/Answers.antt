@@ -16,8 +16,8 @@ returns-in-Ok g c =
     let new = output (sink.taken c.carry_out.new.sink) (sink.faults c.carry_out.new.sink) in
     let file = c.args.file.now in
     let start = c.in-Ok.start in
-    session_ends U file.machine file.text.items c.args.image.now c.args.input.now c.args.script.now (option_map (λ s. s.now) c.args.stream)
-    start.whole start.memory.items start.words.items start.script.items
+    session_ends U file.machine file.text.items c.args.request.now.names.second.now c.args.request.now.names.input.now c.args.request.now.script.now (option_map (λ s. s.now) c.args.request.now.names.stream)
+    start.whole start.memory.items start.asked.words.items start.asked.script.items
     before after old new c.carry_out.result (c.in-Ok.ensures.ends U) c.carry_out.ensures
 
 pub returns-in-Err : goal.returns-in-Err

@@ -17,7 +17,7 @@ returns-in-Ok g c =
     let old = output (sink.taken c.args.sink.now) (sink.faults c.args.sink.now) in
     let new = output (sink.taken c.debug_file-status.new.sink) (sink.faults c.debug_file-status.new.sink) in
     let file = c.in-Ok.file in
-    debugs_ends U c.args.machine.now c.args.image.now c.args.input.now c.args.script.now (option_map (λ s. s.now) c.args.stream) file.text.items file.machine
+    debugs_ends U c.args.request.now.names.machine.now c.args.request.now.names.second.now c.args.request.now.names.input.now c.args.request.now.script.now (option_map (λ s. s.now) c.args.request.now.names.stream) file.text.items file.machine
     before between after old new c.debug_file-status.result c.in-Ok.ensures c.debug_file-status.ensures
 
 pub returns-in-Err : goal.returns-in-Err

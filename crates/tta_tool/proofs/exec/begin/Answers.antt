@@ -13,10 +13,10 @@ returns-in-Ok-clause-ends g c =
     let between = world (f.contents c.machine_file.new.files) (f.faults c.machine_file.new.files) (f.latest c.machine_file.new.files) in
     let after = world (f.contents c.begin_with.new.files) (f.faults c.begin_with.new.files) (f.latest c.begin_with.new.files) in
     let file = c.in-Ok.file in
-    let stream = option_map (λ s. s.now) c.args.stream in
-    let Ends : ℕ → Type 0 = λ n. BeginWithEnds U c.args.program.now c.args.input.now stream n between after
+    let stream = option_map (λ s. s.now) c.args.names.now.stream in
+    let Ends : ℕ → Type 0 = λ n. BeginWithEnds U c.args.names.now.second.now c.args.names.now.input.now stream n between after
     (λ b. b.program) (λ b. b.memory.items) (λ b. b.words.items) c.begin_with.result in
-    begin_ends U c.args.machine.now c.args.program.now c.args.input.now stream file.text.items file.machine before between after
+    begin_ends U c.args.names.now.machine.now c.args.names.now.second.now c.args.names.now.input.now stream file.text.items file.machine before between after
     (λ b. b.program) (λ b. b.memory.items) (λ b. b.words.items) c.begin_with.result c.in-Ok.ensures
     (subst Ends c.data_words-space.ensures c.begin_with.ensures.ends)
 

@@ -12,7 +12,7 @@ returns-in-Ok-given_files-clause-ends g c =
     let between = world (f.contents c.program_file.new.files) (f.faults c.program_file.new.files) (f.latest c.program_file.new.files) in
     let after = world (f.contents c.given_files.new.files) (f.faults c.given_files.new.files) (f.latest c.given_files.new.files) in
     let given = c.in-Ok-given_files.given in
-    begins_with U c.args.program.now c.args.input.now (option_map (λ s. s.now) c.args.stream) c.args.space c.in-Ok.program given.memory.items given.words.items
+    begins_with U c.args.names.now.second.now c.args.names.now.input.now (option_map (λ s. s.now) c.args.names.now.stream) c.args.space c.in-Ok.program given.memory.items given.words.items
     before between after c.in-Ok.ensures c.in-Ok-given_files.ensures.ends
 
 pub returns-in-Err-given_files-clause-ends : goal.returns-in-Err-given_files-clause-ends
@@ -22,7 +22,7 @@ returns-in-Err-given_files-clause-ends g c =
     let before = world (f.contents c.args.files.now) (f.faults c.args.files.now) (f.latest c.args.files.now) in
     let between = world (f.contents c.program_file.new.files) (f.faults c.program_file.new.files) (f.latest c.program_file.new.files) in
     let after = world (f.contents c.given_files.new.files) (f.faults c.given_files.new.files) (f.latest c.given_files.new.files) in
-    given_refused U c.args.program.now c.args.input.now (option_map (λ s. s.now) c.args.stream) c.args.space c.in-Ok.program before between after _
+    given_refused U c.args.names.now.second.now c.args.names.now.input.now (option_map (λ s. s.now) c.args.names.now.stream) c.args.space c.in-Ok.program before between after _
     c.in-Ok.ensures c.in-Err-given_files.ensures.ends
 
 pub returns-in-Err-clause-ends : goal.returns-in-Err-clause-ends

@@ -14,9 +14,9 @@ returns-in-Ok g c =
     let after = world (f.contents c.begin.new.files) (f.faults c.begin.new.files) (f.latest c.begin.new.files) in
     let old = output (sink.taken c.args.sink.now) (sink.faults c.args.sink.now) in
     let new = output (sink.taken c.carry_out.new.sink) (sink.faults c.carry_out.new.sink) in
-    exec_ends U c.args.machine.now c.args.program.now c.args.input.now (option_map (λ s. s.now) c.args.stream)
+    exec_ends U c.args.request.now.names.machine.now c.args.request.now.names.second.now c.args.request.now.names.input.now (option_map (λ s. s.now) c.args.request.now.names.stream)
     c.in-Ok.beginning.program c.in-Ok.beginning.memory.items c.in-Ok.beginning.words.items
-    c.args.bound before after old new c.carry_out.result c.in-Ok.ensures.ends c.carry_out.ensures
+    c.args.request.now.bound before after old new c.carry_out.result c.in-Ok.ensures.ends c.carry_out.ensures
 
 pub returns-in-Err : goal.returns-in-Err
 returns-in-Err g c = not_begun _ _ _ _ _ _ _ _ _ _ c.in-Err.ensures.ends

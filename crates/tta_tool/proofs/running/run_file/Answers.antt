@@ -15,9 +15,9 @@ returns-in-Ok g c =
     let old = output (sink.taken c.args.sink.now) (sink.faults c.args.sink.now) in
     let new = output (sink.taken c.carry_out.new.sink) (sink.faults c.carry_out.new.sink) in
     let file = c.args.file.now in
-    run_ends U file.machine file.text.items c.args.image.now c.args.input.now (option_map (λ s. s.now) c.args.stream)
+    run_ends U file.machine file.text.items c.args.request.now.names.second.now c.args.request.now.names.input.now (option_map (λ s. s.now) c.args.request.now.names.stream)
     c.in-Ok.beginning.whole c.in-Ok.beginning.memory.items c.in-Ok.beginning.words.items
-    c.args.bound before after old new c.carry_out.result (c.in-Ok.ensures.ends U) c.carry_out.ensures
+    c.args.request.now.bound before after old new c.carry_out.result (c.in-Ok.ensures.ends U) c.carry_out.ensures
 
 pub returns-in-Err : goal.returns-in-Err
 returns-in-Err g c =

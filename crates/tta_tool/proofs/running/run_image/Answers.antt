@@ -16,7 +16,7 @@ returns-in-Ok g c =
     let old = output (sink.taken c.args.sink.now) (sink.faults c.args.sink.now) in
     let new = output (sink.taken c.run_file-status.new.sink) (sink.faults c.run_file-status.new.sink) in
     let file = c.in-Ok.file in
-    runs_ends U c.args.machine.now c.args.image.now c.args.input.now (option_map (λ s. s.now) c.args.stream) file.text.items file.machine c.args.bound before between after old new
+    runs_ends U c.args.request.now.names.machine.now c.args.request.now.names.second.now c.args.request.now.names.input.now (option_map (λ s. s.now) c.args.request.now.names.stream) file.text.items file.machine c.args.request.now.bound before between after old new
     c.run_file-status.result c.in-Ok.ensures c.run_file-status.ensures
 
 pub returns-in-Err : goal.returns-in-Err

@@ -13,5 +13,5 @@ returns-in-Ok-described g c =
     let after = world (f.contents c.read_file.new.files) (f.faults c.read_file.new.files) (f.latest c.read_file.new.files) in
     let old = output (sink.taken c.args.sink.now) (sink.faults c.args.sink.now) in
     let new = output (sink.taken c.sample_for-status.new.sink) (sink.faults c.sample_for-status.new.sink) in
-    sample_ends U c.args.seed c.args.lines c.args.machine.now before after c.in-Ok.text.items c.in-Ok.ensures
+    sample_ends U c.args.request.now.seed c.args.request.now.lines c.args.request.now.machine.now before after c.in-Ok.text.items c.in-Ok.ensures
     c.in-Ok-described.file.machine c.in-Ok-described.ensures.1 old new c.sample_for-status.result c.sample_for-status.ensures
