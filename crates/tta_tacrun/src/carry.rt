@@ -169,6 +169,13 @@ fn carry_loudly(calls: &mut Calls, p: &Program, step: &Step, next: u32) -> (Phas
     }
 }
 
+/// What steps stand on: the program, and the units that say what its operations mean.
+#[derive(Clone, Copy)]
+pub struct Basis<'a> {
+    pub p: &'a Program,
+    pub units: &'a UnitSet,
+}
+
 /// Carries out a step, where `next` is the next word of the input. It answers whether the run goes
 /// on, and the word that is output, if any.
 #[inline(always)]
@@ -176,26 +183,25 @@ pub fn carry(
     calls: &mut Calls,
     memory: &mut Words,
     relations: &mut Relations,
-    p: &Program,
-    units: &UnitSet,
+    basis: &Basis<'_>,
     step: &Step,
     next: u32,
 ) -> (Phase, Option<u32>)
-    requires rules { IsProgram p.now }
-    requires loaded { AreCallsOf p.now calls.old }
-    requires at { step_at p.now calls.old.top.proc calls.old.top.at ≡ Some step.now }
+    requires rules { IsProgram basis.now.p.now }
+    requires loaded { AreCallsOf basis.now.p.now calls.old }
+    requires at { step_at basis.now.p.now calls.old.top.proc calls.old.top.at ≡ Some step.now }
     requires more { calls.old.top.at + 1 < 2 ^ 64 }
-    ensures loaded { AreCallsOf p.now calls.new }
+    ensures loaded { AreCallsOf basis.now.p.now calls.new }
     ensures space { length memory.new ≡ length memory.old }
     ensures carried { (rest output : List ℕ) (steps : ℕ) → slice_index rest 0 ≡ next
-        → let U = stated unit_meaning units.now in
+        → let U = stated unit_meaning basis.now.units.now in
         let s = state_of Phase.Running calls.old memory.old rest output steps in
         let after = left (takes step.now) rest in
         state_of result.0 calls.new memory.new after (put output result.1) steps
-        ≡ carry_out U p.now s calls.old.top calls.old.below step.now }
+        ≡ carry_out U basis.now.p.now s calls.old.top calls.old.below step.now }
 {
-    if calls.go_quietly(memory, relations, units, step) {
+    if calls.go_quietly(memory, relations, basis.units, step) {
         return (Phase::Running, None);
     }
-    carry_loudly(calls, p, step, next)
+    carry_loudly(calls, basis.p, step, next)
 }

@@ -12,7 +12,7 @@ ghost use Rattle.tta_tacrun.specs.declared.answer.SeqStep.TheVariants.{Waiting};
 
 use crate::answer::SeqStep;
 use crate::calls::Calls;
-use crate::carry::{carry, step_of, steps_in, takes};
+use crate::carry::{Basis, carry, step_of, steps_in, takes};
 use crate::phase::Phase;
 use crate::relations::Relations;
 use crate::words::Words;
@@ -93,12 +93,12 @@ impl Seq {
         if is_stuck(took, next) {
             return SeqStep::Waiting;
         }
+        let basis = Basis { p, units };
         let (phase, put) = carry(
             &mut self.calls,
             &mut self.memory,
             &mut self.relations,
-            p,
-            units,
+            &basis,
             step,
             next.unwrap_or(0),
         );
