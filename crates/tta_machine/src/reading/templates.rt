@@ -14,7 +14,6 @@ ghost use Rattle.tta_machine.specs.Templates.{with_template};
 
 use crate::reading::draft::{Draft, Named};
 use crate::reading::limits::is_too_long;
-use crate::reading::lookups::add_part;
 use crate::reading::refusal::{LineError, Refusal};
 use crate::reading::syntax;
 use std::alloc::Global;
@@ -59,8 +58,13 @@ impl Draft {
         if form.index >= u32::from(size) || is_too_long(form.name) || self.templates.len() >= 8 {
             return Err(LineError::Refused(Refusal::Range));
         }
-        let reg = form.index as u8;
-        self.add_template(alloc, line, form.name, imm, reg, buses)
+        let template = Template {
+            name: Name::new(alloc, form.name)?,
+            imm,
+            reg: form.index as u8,
+            buses,
+        };
+        self.add_template(alloc, line, template)
     }
 
     // puts a template after the others, with its line and its name
@@ -68,33 +72,18 @@ impl Draft {
         &mut self,
         alloc: Global,
         line: u32,
-        name: &[u8],
-        imm: u8,
-        reg: u8,
-        buses: u16,
+        template: Template,
     ) -> Result<(), LineError>
-        requires free { is_taken self.old name.now ≡ false }
+        requires free { is_taken self.old template.name ≡ false }
         requires few { length self.old.templates < 8 }
-        ensures added { OnOk result
-            (self.new ≡ with_template self.old line name.now imm reg buses) }
+        ensures added { OnOk result (self.new ≡ with_template self.old line template) }
         ensures memory { IfErr result (λ e. e ≡ NoMemory) }
     {
         self.template_lines.push(line)?;
         let place = Named::Template(self.templates.len() as u8);
-        let template = Template {
-            name: Name::new(alloc, name)?,
-            imm,
-            reg,
-            buses,
-        };
-        add_part(
-            alloc,
-            &mut self.names,
-            &mut self.templates,
-            name,
-            place,
-            template,
-        )
+        self.names.add(alloc, template.name.as_bytes(), place)?;
+        self.templates.push(template)?;
+        Ok(())
     }
 }
 
