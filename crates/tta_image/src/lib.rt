@@ -12,6 +12,7 @@ mod search;
 mod sink;
 mod slots;
 mod starts;
+mod target;
 mod words;
 mod write;
 

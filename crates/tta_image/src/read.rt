@@ -3,8 +3,6 @@
 ghost use Rattle.std.specs.Prelude.{◌≡◌, ◌≢◌, ◌+◌, ◌*◌, ◌<◌, ◌≤◌, ◌^◌, length, drop, IfOk, IfErr};
 ghost use Rattle.std.specs.Prelude.{IsTrue};
 ghost use Rattle.std.specs.List.{list_any};
-ghost use Rattle.tta_arch.specs.Layout.{layout_of};
-ghost use Rattle.tta_connect.specs.Net.{IsNetOf};
 ghost use Rattle.tta_image.specs.Decoding.{bits_in};
 ghost use Rattle.tta_image.specs.Image.{Image, IsNoImage};
 ghost use Rattle.tta_image.specs.Reading.{decoded_word, decoded_words, decoded_image, body_in};
@@ -16,6 +14,7 @@ use crate::bits::number_at;
 use crate::header::{read_header, section_length};
 use crate::pairs::read_data;
 use crate::refusal::{ImageError, ImageRefusal};
+use crate::target::Target;
 use crate::words::read_instruction;
 use std::alloc::Global;
 use tta_arch::{Layout, Machine};
@@ -27,24 +26,21 @@ use tta_list::Items;
 #[tactic(auto, using(crate::proofs::DecodedRules::is_decoded))]
 fn read_word(
     alloc: Global,
-    m: &Machine,
-    layout: &Layout,
-    net: &Net,
+    target: &Target,
     bytes: &[u8],
     at: usize,
     word: u32,
 ) -> Result<Instruction, ImageError>
-    requires layout { layout.now ≡ layout_of m.now }
-    requires net { IsNetOf net.now m.now }
     requires few { 8 * length bytes.now < 2 ^ 64 }
-    requires room { at + layout.now.width ≤ 8 * length bytes.now }
-    ensures { Answers result (decoded_word m.now layout.now word (drop at (bits_in bytes.now))) }
+    requires room { at + target.now.layout.now.width ≤ 8 * length bytes.now }
+    ensures { Answers result (decoded_word target.now.machine.now target.now.layout.now word
+        (drop at (bits_in bytes.now))) }
 {
-    let i = match read_instruction(alloc, m, layout, bytes, at, word) {
+    let i = match read_instruction(alloc, target.machine, target.layout, bytes, at, word) {
         Ok(i) => i,
         Err(e) => return Err(e),
     };
-    match legal(m, net, &i) {
+    match legal(target.machine, target.net, &i) {
         Ok(()) => Ok(i),
         Err(_) => {
             drop(i);
@@ -66,24 +62,21 @@ fn has_set_bit(bytes: &[u8], at: usize) -> bool
 /// The instructions of so many words.
 fn read_words(
     alloc: Global,
-    m: &Machine,
-    layout: &Layout,
-    net: &Net,
+    target: &Target,
     bytes: &[u8],
     count: u32,
 ) -> Result<Items<Instruction>, ImageError>
-    requires layout { layout.now ≡ layout_of m.now }
-    requires net { IsNetOf net.now m.now }
     requires few { 8 * length bytes.now < 2 ^ 64 }
-    requires room { count * layout.now.width ≤ 8 * length bytes.now }
-    requires short { 8 * length bytes.now < count * layout.now.width + 8 }
-    ensures { Answers result (decoded_words m.now layout.now count 0 (bits_in bytes.now)) }
+    requires room { count * target.now.layout.now.width ≤ 8 * length bytes.now }
+    requires short { 8 * length bytes.now < count * target.now.layout.now.width + 8 }
+    ensures { Answers result (decoded_words target.now.machine.now target.now.layout.now count 0
+        (bits_in bytes.now)) }
 {
     // What was taken so far is dropped by name, so that a way out is left with nothing.
     let mut words = Items::new(alloc);
     let mut at: usize = 0;
     for word in 0..count {
-        let i = match read_word(alloc, m, layout, net, bytes, at, word) {
+        let i = match read_word(alloc, target, bytes, at, word) {
             Ok(i) => i,
             Err(e) => {
                 drop(words);
@@ -94,7 +87,7 @@ fn read_words(
             drop(words);
             return Err(ImageError::NoMemory);
         };
-        at += layout.width as usize;
+        at += target.layout.width as usize;
     }
     if has_set_bit(bytes, at) {
         drop(words);
@@ -112,25 +105,24 @@ fn body_of(bytes: &[u8]) -> &[u8]
     &bytes[48 + section_length(bytes) as usize..]
 }
 
-/// The code of an image with its data, whose machine has this layout and this net.
+/// The code of an image with its data, read for this target.
 fn read_whole(
     alloc: Global,
     bytes: &[u8],
-    m: &Machine,
-    layout: &Layout,
-    net: &Net,
+    target: &Target,
     digest: &[u8; 32],
 ) -> Result<Whole, ImageError>
-    requires layout { layout.now ≡ layout_of m.now }
-    requires net { IsNetOf net.now m.now }
-    ensures decoded { Answers result (decoded_image m.now digest.now bytes.now) }
-    ensures image { IfOk result (λ whole. Image m.now digest.now whole bytes.now) }
+    ensures decoded { Answers result
+        (decoded_image target.now.machine.now digest.now bytes.now) }
+    ensures image { IfOk result
+        (λ whole. Image target.now.machine.now digest.now whole bytes.now) }
     ensures refused { IfErr result
-        (λ e. e ≢ NoMemory → IsNoImage m.now digest.now bytes.now) }
+        (λ e. e ≢ NoMemory → IsNoImage target.now.machine.now digest.now bytes.now) }
 {
+    let m = target.machine;
     // An address has at most 16 bits by the rules of a machine, so the words are few.
     let _control = &m.control;
-    let count = match read_header(m, layout.width(), digest, bytes) {
+    let count = match read_header(m, target.layout.width(), digest, bytes) {
         Ok(count) => count,
         Err(e) => return Err(e),
     };
@@ -138,7 +130,7 @@ fn read_whole(
         Ok(init) => init,
         Err(e) => return Err(e),
     };
-    match read_words(alloc, m, layout, net, body_of(bytes), count) {
+    match read_words(alloc, target, body_of(bytes), count) {
         Ok(words) => Ok(Whole {
             code: Code { words },
             init,
@@ -172,7 +164,12 @@ pub fn read_image(
         drop(layout);
         return Err(ImageError::NoMemory);
     };
-    let whole = read_whole(alloc, bytes, m, &layout, &net, digest);
+    let target = Target {
+        machine: m,
+        layout: &layout,
+        net: &net,
+    };
+    let whole = read_whole(alloc, bytes, &target, digest);
     drop(layout);
     drop(net);
     whole

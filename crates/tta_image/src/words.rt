@@ -19,6 +19,13 @@ use tta_arch::{BusFields, Layout, Machine, has_bus};
 use tta_code::{Instruction, Long, Move};
 use tta_list::Items;
 
+/// A word whose template is read: which word it is, and the buses that the template takes.
+#[derive(Clone, Copy)]
+struct Word {
+    number: u32,
+    taken: u16,
+}
+
 /// Whether the short field of a bus is signed.
 fn is_signed(m: &Machine, bus: usize) -> bool
     ensures { result ≡ is_signed m.now bus }
@@ -155,21 +162,21 @@ fn read_bus(
     fields: &BusFields,
     bytes: &[u8],
     at: usize,
-    word: u32,
-    taken: u16,
+    word: Word,
     bus: u8,
 ) -> Result<Option<Move>, ImageError>
     requires narrow { IsNarrow fields.now }
     requires few { 8 * length bytes.now < 2 ^ 64 }
     requires room { at + fields.now.width ≤ 8 * length bytes.now }
-    ensures { result ≡ decoded_bus m.now word taken bus fields.now (drop at (bits_in bytes.now)) }
+    ensures { result ≡ decoded_bus m.now word.number word.taken bus fields.now
+        (drop at (bits_in bytes.now)) }
 {
-    if has_bus(taken, usize::from(bus)) {
+    if has_bus(word.taken, usize::from(bus)) {
         return Ok(None);
     }
     match slot_at(fields, is_signed(m, usize::from(bus)), bytes, at) {
         Some(slot) => Ok(slot),
-        None => Err(ImageRefusal::Field.of_word(word, bus)),
+        None => Err(ImageRefusal::Field.of_word(word.number, bus)),
     }
 }
 
@@ -180,21 +187,20 @@ fn read_slots(
     layout: &Layout,
     bytes: &[u8],
     at: usize,
-    word: u32,
-    taken: u16,
+    word: Word,
 ) -> Result<Items<Option<Move>>, ImageError>
     requires narrow { AreNarrow layout.now.buses }
     requires few { 8 * length bytes.now < 2 ^ 64 }
     requires room { at + sum_by (λ f. f.width) layout.now.buses ≤ 8 * length bytes.now }
     requires buses { length layout.now.buses ≤ 16 }
-    ensures { Answers result
-        (decoded_slots m.now word taken 0 layout.now.buses (drop at (bits_in bytes.now))) }
+    ensures { Answers result (decoded_slots m.now word.number word.taken 0 layout.now.buses
+        (drop at (bits_in bytes.now))) }
 {
     // What was taken so far is dropped by name, so that a way out is left with nothing.
     let mut moves = Items::new(alloc);
     let mut at = at;
     for (bus, fields) in layout.buses.as_slice().iter().enumerate() {
-        let slot = match read_bus(m, fields, bytes, at, word, taken, bus as u8) {
+        let slot = match read_bus(m, fields, bytes, at, word, bus as u8) {
             Ok(slot) => slot,
             Err(e) => {
                 drop(moves);
@@ -236,7 +242,11 @@ pub fn read_instruction(
         Err(e) => return Err(e),
     };
     let taken = taken_by(m, template);
-    match read_slots(alloc, m, layout, bytes, at, word, taken) {
+    let word = Word {
+        number: word,
+        taken,
+    };
+    match read_slots(alloc, m, layout, bytes, at, word) {
         Ok(moves) => Ok(Instruction { moves, long }),
         Err(e) => Err(e),
     }

@@ -8,29 +8,29 @@ use Rattle.tta_image.proofs.read.read_words.Goals as goal
 
 pub loop-word-preserved : goal.loop-word-preserved
 loop-word-preserved c =
-    let l = c.args.layout.now in let word = c.loop-word.word in let bits = bits_in c.args.bytes.now in
+    let l = c.args.target.now.layout.now in let word = c.loop-word.word in let bits = bits_in c.args.bytes.now in
     let more : (word + 1) * l.width ≡ word * l.width + l.width = grind arith in
     let left : c.args.count - word ≡ suc (c.args.count - (word + 1)) = omega arith in
     record {
       at = let was = c.loop-word.invariant.at in omega arith;
-      decoded = ap (λ (b : List Bool). with_front c.push.new.self (decoded_words c.args.m.now l (c.args.count - (word + 1)) (word + 1) b)) (sym (drop-drop l.width c.loop-word.at bits))
-          ∙ words_more c.args.m.now l (c.args.count - word) (c.args.count - (word + 1)) word (drop c.loop-word.at bits) c.in-Ok.i c.loop-word.words c.push.new.self _ left
+      decoded = ap (λ (b : List Bool). with_front c.push.new.self (decoded_words c.args.target.now.machine.now l (c.args.count - (word + 1)) (word + 1) b)) (sym (drop-drop l.width c.loop-word.at bits))
+          ∙ words_more c.args.target.now.machine.now l (c.args.count - word) (c.args.count - (word + 1)) word (drop c.loop-word.at bits) c.in-Ok.i c.loop-word.words c.push.new.self _ left
           c.in-Ok.ensures c.in-Ok-push.ensures.ok c.loop-word.invariant.decoded;
     }
 
 pub returns : goal.returns
 returns c =
-    words_end c.args.m.now c.args.layout.now (c.args.count - c.loop-word.word) c.loop-word.word (drop c.loop-word.at (bits_in c.args.bytes.now)) c.loop-word.words _ (omega arith)
+    words_end c.args.target.now.machine.now c.args.target.now.layout.now (c.args.count - c.loop-word.word) c.loop-word.word (drop c.loop-word.at (bits_in c.args.bytes.now)) c.loop-word.words _ (omega arith)
     (sym c.has_set_bit.ensures ∙ c.if-has_set_bit.false) c.loop-word.invariant.decoded
 
 pub returns-in-Err : goal.returns-in-Err
 returns-in-Err c =
     let word = c.loop-word.word in
     let left : c.args.count - word ≡ suc (c.args.count - (word + 1)) = omega arith in
-    words_refused c.args.m.now c.args.layout.now (c.args.count - word) (c.args.count - (word + 1)) word (drop c.loop-word.at (bits_in c.args.bytes.now)) c.in-Err.e c.loop-word.words _ left
+    words_refused c.args.target.now.machine.now c.args.target.now.layout.now (c.args.count - word) (c.args.count - (word + 1)) word (drop c.loop-word.at (bits_in c.args.bytes.now)) c.in-Err.e c.loop-word.words _ left
     c.in-Err.ensures c.loop-word.invariant.decoded
 
 pub returns-then-has_set_bit : goal.returns-then-has_set_bit
 returns-then-has_set_bit c =
-    rw c.of_all.ensures (words_filled c.args.m.now c.args.layout.now (c.args.count - c.loop-word.word) c.loop-word.word (drop c.loop-word.at (bits_in c.args.bytes.now)) c.loop-word.words _ (omega arith)
+    rw c.of_all.ensures (words_filled c.args.target.now.machine.now c.args.target.now.layout.now (c.args.count - c.loop-word.word) c.loop-word.word (drop c.loop-word.at (bits_in c.args.bytes.now)) c.loop-word.words _ (omega arith)
     (sym c.has_set_bit.ensures ∙ c.if-has_set_bit.true) c.loop-word.invariant.decoded)

@@ -6,7 +6,7 @@ use Rattle.tta_image.proofs.read.read_words.Given as goal
 
 abbrev pub invariant-loop-word : goal.invariant-loop-word
 invariant-loop-word l = record {
-  at : l.at ≡ l.word * l.layout.width;
-  decoded : with_front l.words (decoded_words l.m l.layout (l.count - l.word) l.word (drop l.at (bits_in l.bytes)))
-      ≡ decoded_words l.m l.layout l.count 0 (bits_in l.bytes);
+  at : l.at ≡ l.word * l.target.layout.now.width;
+  decoded : with_front l.words (decoded_words l.target.machine.now l.target.layout.now (l.count - l.word) l.word (drop l.at (bits_in l.bytes)))
+      ≡ decoded_words l.target.machine.now l.target.layout.now l.count 0 (bits_in l.bytes);
 }

@@ -11,8 +11,8 @@ returns-in-Err c =
     let bits = drop c.loop-bus.at (bits_in c.args.bytes.now) in
     let is = item_read c.as_slice-fields-items.result.now fs bus f c.as_slice-fields-items.ensures c.fields-item.is in
     let inside : bus < length fs = let e = ap length c.as_slice-fields-items.ensures in omega arith in
-    answers_same _ _ (slots_stop c.args.m.now c.args.word c.args.taken bus f (drop (bus + 1) fs) bits c.in-Err.e c.loop-bus.moves _ (sym c.in-Err.ensures)
-    (ap (λ (l : List BusFields). with_front c.loop-bus.moves (decoded_slots c.args.m.now c.args.word c.args.taken bus l bits)) (sym (fields_step fs bus f inside is))
+    answers_same _ _ (slots_stop c.args.m.now c.args.word.number c.args.word.taken bus f (drop (bus + 1) fs) bits c.in-Err.e c.loop-bus.moves _ (sym c.in-Err.ensures)
+    (ap (λ (l : List BusFields). with_front c.loop-bus.moves (decoded_slots c.args.m.now c.args.word.number c.args.word.taken bus l bits)) (sym (fields_step fs bus f inside is))
     ∙ c.loop-bus.invariant.decoded))
 
 pub loop-bus-preserved : goal.loop-bus-preserved
@@ -23,10 +23,10 @@ loop-bus-preserved c =
     let inside : bus < length fs = let e = ap length c.as_slice-fields-items.ensures in omega arith in
     record {
       room = width_step fs bus f c.loop-bus.at _ inside is c.loop-bus.invariant.room;
-      decoded = ap (λ (l : List Bool). with_front c.push.new.self (decoded_slots c.args.m.now c.args.word c.args.taken (bus + 1) (drop (bus + 1) fs) l)) (sym (drop-drop f.width c.loop-bus.at bits))
-          ∙ slots_more c.args.m.now c.args.word c.args.taken bus f (drop (bus + 1) fs) (drop c.loop-bus.at bits) c.in-Ok.slot c.loop-bus.moves c.push.new.self _
+      decoded = ap (λ (l : List Bool). with_front c.push.new.self (decoded_slots c.args.m.now c.args.word.number c.args.word.taken (bus + 1) (drop (bus + 1) fs) l)) (sym (drop-drop f.width c.loop-bus.at bits))
+          ∙ slots_more c.args.m.now c.args.word.number c.args.word.taken bus f (drop (bus + 1) fs) (drop c.loop-bus.at bits) c.in-Ok.slot c.loop-bus.moves c.push.new.self _
           (sym c.in-Ok.ensures) c.in-Ok-push.ensures.ok
-          (ap (λ (l : List BusFields). with_front c.loop-bus.moves (decoded_slots c.args.m.now c.args.word c.args.taken bus l (drop c.loop-bus.at bits))) (sym (fields_step fs bus f inside is))
+          (ap (λ (l : List BusFields). with_front c.loop-bus.moves (decoded_slots c.args.m.now c.args.word.number c.args.word.taken bus l (drop c.loop-bus.at bits))) (sym (fields_step fs bus f inside is))
           ∙ c.loop-bus.invariant.decoded);
     }
 
@@ -34,7 +34,7 @@ pub returns : goal.returns
 returns c =
     let fs = c.args.layout.now.buses in
     let past : length fs ≤ c.loop-bus.bus = let e = ap length c.as_slice-fields-items.ensures in omega arith in
-    answers_same _ _ (slots_end c.args.m.now c.args.word c.args.taken c.loop-bus.bus (drop c.loop-bus.bus fs) (drop c.loop-bus.at (bits_in c.args.bytes.now)) c.loop-bus.moves _
+    answers_same _ _ (slots_end c.args.m.now c.args.word.number c.args.word.taken c.loop-bus.bus (drop c.loop-bus.bus fs) (drop c.loop-bus.at (bits_in c.args.bytes.now)) c.loop-bus.moves _
     (drop_all c.loop-bus.bus fs past) c.loop-bus.invariant.decoded)
 
 pub read_bus-requires-clause-room : goal.read_bus-requires-clause-room
