@@ -7,7 +7,7 @@ use Rattle.tta_flight.specs.declared.marked.Marked.{Marked}
 use Rattle.tta_flight.specs.Rings.{Rings, rings_of, AreApart, AreCarved, place_of, no_ring, ring_of, longest_of, shown_in, turns_of, cell_of, later_in, due_in, IsStarted, IsRegion}
 use Rattle.tta_flight.proofs.Carved.{IsIn, place_within, place_differs, carved_at, carved_set, units_differ}
 use Rattle.tta_flight.specs.Marked.{has}
-use Rattle.tta_flight.proofs.Cells.{cell_other, cell_here, due_later, by_unit}
+use Rattle.tta_flight.proofs.Cells.{cell_other, cell_here, due_later, part_stays}
 use Rattle.tta_flight.proofs.Coming.{IsExpected, moving_begun}
 
 module _ (r : Rings) (apart : AreApart r) (unit past turns : ℕ) (cell : Option ℕ) (moving : Marked) (there : unit < length r.rings) (soon : past ≤ longest_of r unit) where
@@ -56,10 +56,10 @@ module _ (r : Rings) (apart : AreApart r) (unit past turns : ℕ) (cell : Option
   later_now = ap (λ q. cell_of (set r.cells place cell) q past) this_ring ∙ cell_here r.cells (ring_of r unit) past cell soon place_there
 
   pub longest_stays : (u : ℕ) → longest_of after u ≡ longest_of r u
-  longest_stays = by_unit unit (λ u. longest_of after u ≡ longest_of r u) (ap (λ q. q.longest) this_ring) (λ u other. ap (λ q. q.longest) (other_ring u other))
+  longest_stays = part_stays (λ q. q.longest) r.rings unit expecting there refl
 
   pub shown_stays : (u : ℕ) → shown_in after u ≡ shown_in r u
-  shown_stays = by_unit unit (λ u. shown_in after u ≡ shown_in r u) (ap (λ q. q.shown) this_ring) (λ u other. ap (λ q. q.shown) (other_ring u other))
+  shown_stays = part_stays (λ q. q.shown) r.rings unit expecting there refl
 
   pub is_expected : (value : ℕ) → cell ≡ Some value → IsExpected unit past value r after
   is_expected value is = record {

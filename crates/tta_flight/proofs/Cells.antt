@@ -1,5 +1,5 @@
 -- Cells that are written, and rings that are read.
-use Rattle.std.proofs.Common.{◌≡◌, ◌≢◌, ◌<◌, ◌≤◌, ◌+◌, ℕ, suc, true, false, eqb, List, length, Option, None, get_or, set, refl, ap, sym, subst, arith}
+use Rattle.std.proofs.Common.{◌≡◌, ◌≢◌, ◌<◌, ◌≤◌, ◌+◌, ℕ, suc, true, false, eqb, List, length, Option, None, get_or, set, refl, ap, sym, ◌∙◌, subst, arith}
 use Rattle.std.specs.Prelude.{if◌then◌else◌, nat_le}
 use Rattle.std.proofs.lemmas.List.{get_or-set_same, get_or-set_other, get_or_read}
 use Rattle.tta_flight.specs.declared.ring.Ring.{Ring}
@@ -41,3 +41,10 @@ by_unit unit P here others u = elim (eqb unit u) as (λ b. eqb unit u ≡ b → 
   | true ↦ λ same. subst P (grind (arith, same)) here
   | false ↦ λ other. others u (λ same. grind (arith, other, same))
 ] refl
+
+-- what a ring has in common with the one in whose place it stands is as before for every unit
+pub part_stays : {A : Type 0} (part : Ring → A) (rings : List Ring) (unit : ℕ) (ring : Ring) → unit < length rings → part ring ≡ part (get_or rings unit no_ring)
+    → (u : ℕ) → part (get_or (set rings unit ring) u no_ring) ≡ part (get_or rings u no_ring)
+part_stays part rings unit ring there same =
+    by_unit unit (λ u. part (get_or (set rings unit ring) u no_ring) ≡ part (get_or rings u no_ring))
+    (ap part (get_or-set_same rings unit ring no_ring there) ∙ same) (λ u other. ap part (get_or-set_other rings unit u ring no_ring other))

@@ -9,7 +9,7 @@ use Rattle.tta_flight.specs.declared.marked.Marked.{Marked}
 use Rattle.tta_flight.specs.Marked.{has}
 use Rattle.tta_flight.specs.Rings.{Rings, rings_of, AreApart, AreMoving, no_ring, ring_of, longest_of, turns_of, shown_in, cell_of, later_in, due_in, IsStarted, IsRegion}
 use Rattle.tta_flight.proofs.Carved.{carved_at, carved_set}
-use Rattle.tta_flight.proofs.Cells.{by_unit}
+use Rattle.tta_flight.proofs.Cells.{by_unit, part_stays}
 
 module _ (r : Rings) (region : IsRegion r) (unit value : ℕ) (there : unit < length r.rings) (fresh : Marked)
     (sets : (k : ℕ) → has fresh k ≡ (has r.fresh k || unit == k)) where
@@ -26,14 +26,13 @@ module _ (r : Rings) (region : IsRegion r) (unit value : ℕ) (there : unit < le
   other_ring u other = get_or-set_other r.rings unit u showing no_ring other
 
   longest_stays : (u : ℕ) → longest_of after u ≡ longest_of r u
-  longest_stays = by_unit unit (λ u. longest_of after u ≡ longest_of r u) (ap (λ q. q.longest) this_ring) (λ u other. ap (λ q. q.longest) (other_ring u other))
+  longest_stays = part_stays (λ q. q.longest) r.rings unit showing there refl
 
   turns_stay : (u : ℕ) → turns_of after u ≡ turns_of r u
-  turns_stay = by_unit unit (λ u. turns_of after u ≡ turns_of r u) (ap (λ q. q.turns) this_ring) (λ u other. ap (λ q. q.turns) (other_ring u other))
+  turns_stay = part_stays (λ q. q.turns) r.rings unit showing there refl
 
   later_stays : (past u : ℕ) → later_in after u past ≡ later_in r u past
-  later_stays past = by_unit unit (λ u. later_in after u past ≡ later_in r u past)
-      (ap (λ q. cell_of r.cells q past) this_ring) (λ u other. ap (λ q. cell_of r.cells q past) (other_ring u other))
+  later_stays past = part_stays (λ q. cell_of r.cells q past) r.rings unit showing there refl
 
   shown_with : (u : ℕ) (b : Bool) → (u == unit) ≡ b → shown_in after u ≡ (if b && true then Some value else shown_in r u)
   shown_with = by_unit unit (λ u. (b : Bool) → (u == unit) ≡ b → shown_in after u ≡ (if b && true then Some value else shown_in r u))

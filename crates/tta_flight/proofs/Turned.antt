@@ -9,7 +9,7 @@ use Rattle.tta_flight.specs.declared.marked.Marked.{Marked}
 use Rattle.tta_flight.specs.Marked.{has}
 use Rattle.tta_flight.specs.Rings.{Rings, rings_of, AreApart, AreCarved, place_of, turned, no_ring, ring_of, longest_of, shown_in, turns_of, cell_of, later_in, IsTurned, IsRegion}
 use Rattle.tta_flight.proofs.Carved.{IsIn, place_within, place_differs, carved_at, carved_set, units_differ}
-use Rattle.tta_flight.proofs.Cells.{cell_other, by_unit}
+use Rattle.tta_flight.proofs.Cells.{cell_other, part_stays}
 use Rattle.tta_flight.proofs.Coming.{moving_turned}
 
 -- ---- a ring
@@ -83,10 +83,10 @@ module _ (r : Rings) (apart : AreApart r) (unit : ℕ) (moving : Marked) (there 
   this_ring = get_or-set_same r.rings unit (turned ring) no_ring there
 
   longest_stays : (u : ℕ) → longest_of after u ≡ longest_of r u
-  longest_stays = by_unit unit (λ u. longest_of after u ≡ longest_of r u) (ap (λ q. q.longest) this_ring) (λ u other. ap (λ q. q.longest) (other_ring u other))
+  longest_stays = part_stays (λ q. q.longest) r.rings unit (turned ring) there refl
 
   shown_stays : (u : ℕ) → shown_in after u ≡ shown_in r u
-  shown_stays = by_unit unit (λ u. shown_in after u ≡ shown_in r u) (ap (λ q. q.shown) this_ring) (λ u other. ap (λ q. q.shown) (other_ring u other))
+  shown_stays = part_stays (λ q. q.shown) r.rings unit (turned ring) there refl
 
   later_other : (u past : ℕ) → u < length r.rings → u ≢ unit → later_in after u past ≡ later_in r u past
   later_other u past had other =
