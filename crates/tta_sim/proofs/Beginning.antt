@@ -1,24 +1,23 @@
 -- Results that begin one by one.
-use Rattle.std.proofs.Common.{◌≡◌, ◌≢◌, ◌<◌, ◌≤◌, ◌+◌, ◌-◌, ◌==◌, ◌&&◌, ◌||◌, not, ℕ, zero, suc, Bool, true, false, List, [], ◌∷◌, ◌++◌, length, take, get_or, Option, None, Some, refl, ap, sym, ◌∙◌, subst, arith, IsTrue, append-nil}
-use Rattle.std.specs.Prelude.{option_map, option_to_list, is_some, nat_lt, nat_le, if◌then◌else◌}
+use Rattle.std.proofs.Common.{◌≡◌, ◌≢◌, ◌<◌, ◌≤◌, ◌+◌, ◌-◌, ◌==◌, ◌&&◌, ℕ, zero, suc, Bool, true, false, List, [], ◌∷◌, ◌++◌, length, map, take, get_or, Option, None, Some, refl, ap, sym, ◌∙◌, subst, arith}
+use Rattle.std.specs.Prelude.{is_some, nat_lt, nat_le, if◌then◌else◌}
 use Rattle.std.specs.Option.{option_or}
-use Rattle.std.specs.List.{filter_map, cons_option, list_any, AllByRecursion}
-use Rattle.std.proofs.lemmas.Bool.{and_parts, ltb-true, ne_eqb}
+use Rattle.std.specs.List.{list_any, AllByRecursion}
+use Rattle.std.proofs.lemmas.Bool.{and_parts, ne_eqb}
+use Rattle.std.proofs.lemmas.List.{map-append, take_more}
 use Rattle.std.proofs.lemmas.List.Folds.{find-append}
-use Rattle.tta_ops.specs.Units.{Units}
 use Rattle.tta_arch.specs.Rules.{are_different}
-use Rattle.tta_arch.specs.Effects.{Start, has_result, result_word}
 use Rattle.tta_code.specs.Cycle.{Result'}
 use Rattle.tta_flight.specs.Flight.{StayBeside}
-use Rattle.tta_flight.specs.Rings.{Rings, shown_in, due_in, is_among, IsStarted, IsAdvanced}
+use Rattle.tta_flight.specs.Rings.{Rings, shown_in, due_in, is_among, IsAdvanced}
 use Rattle.tta_sim.specs.declared.results.Part.{Part}
-use Rattle.tta_sim.specs.Results.{Results, AreThere, AreKept, CanBegin, HasBegun, results_at, due_by, longest_by, due_at, is_due, word_due}
-use Rattle.tta_sim.specs.Starts.{begun, due_of, clashes_with, is_fitting, CanStart}
+use Rattle.tta_sim.specs.declared.dues.Due.{Due}
+use Rattle.tta_sim.specs.Results.{Results, AreThere, AreKept, results_at, due_by, due_at, is_due, word_due}
+use Rattle.tta_sim.specs.Dues.{started_at, IsFittingDue, CanAllBegin, CanBegin, HasBegun}
 use Rattle.tta_sim.specs.Ready.{Begin, KeepsOthers}
 use Rattle.tta_sim.proofs.Showing.{among_units, results_more}
-use Rattle.tta_sim.proofs.Lists.{filter_map-more}
 
--- ---- lists of operations
+-- ---- lists
 
 -- a test that none passes
 pub none_at : {A : Type 0} (p : A → Bool) (xs : List A) (k : ℕ) (d : A) → list_any p xs ≡ false → k < length xs → p (get_or xs k d) ≡ false
@@ -26,7 +25,7 @@ none_at p [] k d none within = absurd (omega (arith, within))
 none_at p (x ∷ xs) zero d none within = grind (arith, none)
 none_at p (x ∷ xs) (suc k) d none within = none_at p xs k d (grind (arith, none)) (omega (arith, within))
 
--- operations before one differ from it
+-- elements before one differ from it
 pub apart_at : {A : Type 0} (same : A → A → Bool) (xs : List A) (k : ℕ) (d : A) → are_different same xs ≡ true → k < length xs
     → AllByRecursion (λ a. same a (get_or xs k d) ≡ false) (take k xs)
 apart_at same xs zero d apart within = tt
@@ -110,170 +109,130 @@ at_once latency now later = elim (now + latency == now + 1) as (λ x. (now + lat
   | false ↦ λ is. grind (arith, is, later)
 ] refl
 
-module _ (now : ℕ) (r : Results) (there : AreThere r) (done : List Result') (t : Start) (within : t.unit < r.units) (old new : Rings) (was : AreBegun now r done old) where
+module _ (now : ℕ) (r : Results) (there : AreThere r) (done : List Result') (d : Due) (fits : IsFittingDue r d) (old new : Rings) (was : AreBegun now r done old)
+    (is : HasBegun r.base d old new) where
   -- what is due of another unit, or at another time, stays
-  other_due : (value unit delay : ℕ) → 0 < t.does.latency → IsStarted (r.base + t.unit) (t.does.latency - 1) value old new → unit < r.units
-      → (t.unit == unit && now + t.does.latency == now + 1 + delay) ≡ false → due_in new (r.base + unit) delay ≡ due_in old (r.base + unit) delay
-  other_due value unit delay later is less other = by (t.unit == unit) refl where
-    by : (b : Bool) → (t.unit == unit) ≡ b → due_in new (r.base + unit) delay ≡ due_in old (r.base + unit) delay
+  other_due : (unit delay : ℕ) → unit < r.units → (d.unit == unit && now + d.latency == now + 1 + delay) ≡ false
+      → due_in new (r.base + unit) delay ≡ due_in old (r.base + unit) delay
+  other_due unit delay less other = by (d.unit == unit) refl where
+    by : (b : Bool) → (d.unit == unit) ≡ b → due_in new (r.base + unit) delay ≡ due_in old (r.base + unit) delay
     by true here =
-        let same : t.unit ≡ unit = equal t.unit unit here in
-        let apart : (now + t.does.latency == now + 1 + delay) ≡ false = sym (ap (λ b. b && now + t.does.latency == now + 1 + delay) here) ∙ other in
-        subst (λ n. due_in new (r.base + n) delay ≡ due_in old (r.base + n) delay) same (is.delay_apart delay (other_delay t.does.latency delay now later apart))
-    by false here = is.unit_apart (r.base + unit) delay (omega (arith, less, there.there, was.kept.units)) (differ t.unit unit r.base here)
+        let same : d.unit ≡ unit = equal d.unit unit here in
+        let apart : (now + d.latency == now + 1 + delay) ≡ false = sym (ap (λ b. b && now + d.latency == now + 1 + delay) here) ∙ other in
+        subst (λ n. due_in new (r.base + n) delay ≡ due_in old (r.base + n) delay) same (is.delay_apart delay (other_delay d.latency delay now fits.later apart))
+    by false here = is.unit_apart (r.base + unit) delay (omega (arith, less, there.there, was.kept.units)) (differ d.unit unit r.base here)
 
   -- one more has begun, where none of its unit has
-  pub one_more : (value : Option ℕ) → (is_some value ≡ true → 0 < t.does.latency) → HasBegun r.base t value old new → due_at t.unit (now + t.does.latency) done ≡ None
-      → AreBegun now r (done ++ option_to_list (option_map (due_of now t) value)) new
-  one_more None later same none =
-      subst (λ rings. AreBegun now r (done ++ []) rings) (sym same) (subst (λ xs. AreBegun now r xs old) (sym (append-nil done)) was)
-  one_more (Some value) later is none = record {
+  pub one_more : due_at d.unit (now + d.latency) done ≡ None → AreBegun now r (done ++ started_at now d ∷ []) new
+  one_more none = record {
     kept = record { units = is.units ∙ was.kept.units; longest = λ unit. is.longest unit ∙ was.kept.longest unit };
     shown = λ unit less.
         is.shown (r.base + unit)
-        ∙ ap (λ b. if b && t.does.latency - 1 == 0 then Some value else shown_in old (r.base + unit)) (same_port r.base t.unit unit)
-        ∙ ap (λ b. if t.unit == unit && b then Some value else shown_in old (r.base + unit)) (at_once t.does.latency now (later refl))
-        ∙ shows unit less (t.unit == unit && now + t.does.latency == now + 1) refl
+        ∙ ap (λ b. if b && d.latency - 1 == 0 then Some d.value else shown_in old (r.base + unit)) (same_port r.base d.unit unit)
+        ∙ ap (λ b. if d.unit == unit && b then Some d.value else shown_in old (r.base + unit)) (at_once d.latency now fits.later)
+        ∙ shows unit less (d.unit == unit && now + d.latency == now + 1) refl
         ∙ ap (λ o. option_or (word_due o) (option_or (due_in r.rings (r.base + unit) 1) (shown_in r.rings (r.base + unit))))
-        (sym (find-append (is_due unit (now + 1)) done (due_of now t value ∷ [])));
+        (sym (find-append (is_due unit (now + 1)) done (started_at now d ∷ [])));
     due = λ unit delay less.
-        by unit delay less (t.unit == unit && now + t.does.latency == now + 1 + delay) refl
-        ∙ ap (λ o. option_or (word_due o) (due_in r.rings (r.base + unit) (delay + 1))) (sym (find-append (is_due unit (now + 1 + delay)) done (due_of now t value ∷ [])));
+        by unit delay less (d.unit == unit && now + d.latency == now + 1 + delay) refl
+        ∙ ap (λ o. option_or (word_due o) (due_in r.rings (r.base + unit) (delay + 1))) (sym (find-append (is_due unit (now + 1 + delay)) done (started_at now d ∷ [])));
     beside = record {
       shown = λ unit had other.
-          let apart : (unit == r.base + t.unit) ≡ false = ne_eqb unit (r.base + t.unit) (not_among r.base r.units t.unit unit within other) in
-          is.shown unit ∙ ap (λ b. if b && t.does.latency - 1 == 0 then Some value else shown_in old unit) apart ∙ was.beside.shown unit had other;
+          let apart : (unit == r.base + d.unit) ≡ false = ne_eqb unit (r.base + d.unit) (not_among r.base r.units d.unit unit fits.unit other) in
+          is.shown unit ∙ ap (λ b. if b && d.latency - 1 == 0 then Some d.value else shown_in old unit) apart ∙ was.beside.shown unit had other;
       due = λ unit delay had other.
-          is.unit_apart unit delay (omega (arith, had, was.kept.units)) (not_among r.base r.units t.unit unit within other) ∙ was.beside.due unit delay had other;
+          is.unit_apart unit delay (omega (arith, had, was.kept.units)) (not_among r.base r.units d.unit unit fits.unit other) ∙ was.beside.due unit delay had other;
     };
   } where
     -- no result of the unit has begun that is due then
-    first : (unit due : ℕ) → (t.unit == unit) ≡ true → (now + t.does.latency == due) ≡ true → due_at unit due done ≡ None
+    first : (unit due : ℕ) → (d.unit == unit) ≡ true → (now + d.latency == due) ≡ true → due_at unit due done ≡ None
     first unit due here then_due =
-        subst (λ n. due_at n due done ≡ None) (equal t.unit unit here) (subst (λ d. due_at t.unit d done ≡ None) (equal (now + t.does.latency) due then_due) none)
+        subst (λ n. due_at n due done ≡ None) (equal d.unit unit here) (subst (λ k. due_at d.unit k done ≡ None) (equal (now + d.latency) due then_due) none)
 
-    shows : (unit : ℕ) → unit < r.units → (b : Bool) → (t.unit == unit && now + t.does.latency == now + 1) ≡ b
-        → (if b then Some value else shown_in old (r.base + unit))
-        ≡ option_or (word_due (option_or (due_at unit (now + 1) done) (if b then Some (due_of now t value) else None)))
+    shows : (unit : ℕ) → unit < r.units → (b : Bool) → (d.unit == unit && now + d.latency == now + 1) ≡ b
+        → (if b then Some d.value else shown_in old (r.base + unit))
+        ≡ option_or (word_due (option_or (due_at unit (now + 1) done) (if b then Some (started_at now d) else None)))
         (option_or (due_in r.rings (r.base + unit) 1) (shown_in r.rings (r.base + unit)))
     shows unit less true both =
-        let parts = and_parts (t.unit == unit) (now + t.does.latency == now + 1) both in
-        sym (ap (λ o. option_or (word_due (option_or o (Some (due_of now t value)))) (option_or (due_in r.rings (r.base + unit) 1) (shown_in r.rings (r.base + unit))))
+        let parts = and_parts (d.unit == unit) (now + d.latency == now + 1) both in
+        sym (ap (λ o. option_or (word_due (option_or o (Some (started_at now d)))) (option_or (due_in r.rings (r.base + unit) 1) (shown_in r.rings (r.base + unit))))
         (first unit (now + 1) parts.0 parts.1))
     shows unit less false other =
         was.shown unit less
         ∙ ap (λ o. option_or (word_due o) (option_or (due_in r.rings (r.base + unit) 1) (shown_in r.rings (r.base + unit)))) (sym (or_none (due_at unit (now + 1) done)))
 
-    by : (unit delay : ℕ) → unit < r.units → (b : Bool) → (t.unit == unit && now + t.does.latency == now + 1 + delay) ≡ b
+    by : (unit delay : ℕ) → unit < r.units → (b : Bool) → (d.unit == unit && now + d.latency == now + 1 + delay) ≡ b
         → due_in new (r.base + unit) delay
-        ≡ option_or (word_due (option_or (due_at unit (now + 1 + delay) done) (if b then Some (due_of now t value) else None))) (due_in r.rings (r.base + unit) (delay + 1))
+        ≡ option_or (word_due (option_or (due_at unit (now + 1 + delay) done) (if b then Some (started_at now d) else None))) (due_in r.rings (r.base + unit) (delay + 1))
     by unit delay less true both =
-        let parts = and_parts (t.unit == unit) (now + t.does.latency == now + 1 + delay) both in
-        let here : due_in new (r.base + unit) delay ≡ Some value =
-        subst (λ n. due_in new (r.base + n) delay ≡ Some value) (equal t.unit unit parts.0)
-        (subst (λ d. due_in new (r.base + t.unit) d ≡ Some value) (delay_of t.does.latency delay now parts.1) is.here) in
-        here ∙ sym (ap (λ o. option_or (word_due (option_or o (Some (due_of now t value)))) (due_in r.rings (r.base + unit) (delay + 1))) (first unit (now + 1 + delay) parts.0 parts.1))
+        let parts = and_parts (d.unit == unit) (now + d.latency == now + 1 + delay) both in
+        let here : due_in new (r.base + unit) delay ≡ Some d.value =
+        subst (λ n. due_in new (r.base + n) delay ≡ Some d.value) (equal d.unit unit parts.0)
+        (subst (λ k. due_in new (r.base + d.unit) k ≡ Some d.value) (delay_of d.latency delay now parts.1) is.here) in
+        here ∙ sym (ap (λ o. option_or (word_due (option_or o (Some (started_at now d)))) (due_in r.rings (r.base + unit) (delay + 1))) (first unit (now + 1 + delay) parts.0 parts.1))
     by unit delay less false other =
-        other_due value unit delay (later refl) is less other ∙ was.due unit delay less
+        other_due unit delay less other ∙ was.due unit delay less
         ∙ ap (λ o. option_or (word_due o) (due_in r.rings (r.base + unit) (delay + 1))) (sym (or_none (due_at unit (now + 1 + delay) done)))
 
--- a unit whose result fits is there, with room for it
-fits_there : (r : Results) (t : Start) → IsTrue (is_fitting r t) → t.unit < r.units
-fits_there r t fits = ltb-true t.unit r.units (and_parts (nat_lt t.unit r.units) (not (has_result t.does.op) || (nat_lt 0 t.does.latency && nat_le t.does.latency (longest_by r t.unit))) fits).0
-
-fits_delay : (r : Results) (t : Start) → IsTrue (is_fitting r t) → has_result t.does.op ≡ true → (0 < t.does.latency) × (t.does.latency ≤ longest_by r t.unit)
-fits_delay r t fits has =
-    let second = (and_parts (nat_lt t.unit r.units) (not (has_result t.does.op) || (nat_lt 0 t.does.latency && nat_le t.does.latency (longest_by r t.unit))) fits).1 in
-    let both : (nat_lt 0 t.does.latency && nat_le t.does.latency (longest_by r t.unit)) ≡ true =
-    sym (ap (λ b. not b || (nat_lt 0 t.does.latency && nat_le t.does.latency (longest_by r t.unit))) has) ∙ second in
-    let parts = and_parts (nat_lt 0 t.does.latency) (nat_le t.does.latency (longest_by r t.unit)) both in
-    (at_least t.does.latency parts.0, at_most t.does.latency (longest_by r t.unit) parts.1)
-  where
-    at_least : (n : ℕ) → nat_lt 0 n ≡ true → 0 < n
-    at_least n is = grind (arith, is)
-
-    at_most : (n k : ℕ) → nat_le n k ≡ true → n ≤ k
-    at_most n k is = grind (arith, is)
-
 -- a result that does not clash is due at the time of no other
-none_due : (o : Option ℕ) (has : Bool) → (has && is_some o) ≡ false → has ≡ true → o ≡ None
-none_due None has free is = refl
-none_due (Some x) true free is = cc
-none_due (Some x) false free is = cc
+none_due : (o : Option ℕ) → is_some o ≡ false → o ≡ None
+none_due None free = refl
+none_due (Some x) free = cc
 
-module _ (u : Units) (now : ℕ) (memory frame : List ℕ) (next : ℕ) where
-  -- other units' results are none of this one's
-  no_result : (unit due : ℕ) (starts : List Start) → AllByRecursion (λ a. (a.unit == unit) ≡ false) starts
-      → due_at unit due (filter_map (begun u now memory frame next) starts) ≡ None
-  no_result unit due [] others = refl
-  no_result unit due (t ∷ starts) others =
-      let rest = no_result unit due starts others.1 in
-      let q : Result' = due_of now t (result_word u memory frame next t t.does.op) in
-      elim (has_result t.does.op) as (λ b. due_at unit due (cons_option (if b then Some q else None) (filter_map (begun u now memory frame next) starts)) ≡ None) [
-        | true ↦ grind (arith, rest, others.0)
-        | false ↦ rest
-      ]
+-- other units' results are none of this one's
+no_result : (now unit due : ℕ) (dues : List Due) → AllByRecursion (λ a. (a.unit == unit) ≡ false) dues → due_at unit due (map (started_at now) dues) ≡ None
+no_result now unit due [] others = refl
+no_result now unit due (d ∷ dues) others = let rest = no_result now unit due dues others.1 in grind (arith, rest, others.0)
 
-  module _ (r : Results) (there : AreThere r) (starts : List Start) (can : CanStart r starts) (k : ℕ) (d t : Start) (within : k < length starts) (at : t ≡ get_or starts k d)
-      (old : Rings) (was : AreBegun now r (filter_map (begun u now memory frame next) (take k starts)) old) where
-    fits : IsTrue (is_fitting r t)
-    fits = subst (λ x. IsTrue (is_fitting r x)) (sym at) (all_at (λ x. IsTrue (is_fitting r x)) starts k d can.fitting within)
+module _ (now : ℕ) (r : Results) (there : AreThere r) (dues : List Due) (can : CanAllBegin r dues) (k : ℕ) (z d : Due) (within : k < length dues) (at : d ≡ get_or dues k z)
+    (old : Rings) (was : AreBegun now r (map (started_at now) (take k dues)) old) where
+  fits : IsFittingDue r d
+  fits = subst (IsFittingDue r) (sym at) (all_at (IsFittingDue r) dues k z can.fitting within)
 
-    alone : due_at t.unit (now + t.does.latency) (filter_map (begun u now memory frame next) (take k starts)) ≡ None
-    alone =
-        no_result t.unit (now + t.does.latency) (take k starts)
-        (subst (λ x. AllByRecursion (λ a. (a.unit == x.unit) ≡ false) (take k starts)) (sym at) (apart_at (λ a b. a.unit == b.unit) starts k d can.apart within))
+  alone : due_at d.unit (now + d.latency) (map (started_at now) (take k dues)) ≡ None
+  alone =
+      no_result now d.unit (now + d.latency) (take k dues)
+      (subst (λ x. AllByRecursion (λ a. (a.unit == x.unit) ≡ false) (take k dues)) (sym at) (apart_at (λ a b. a.unit == b.unit) dues k z can.apart within))
 
-    -- the next operation's result can begin
-    pub can_next : (value : Option ℕ) → is_some value ≡ has_result t.does.op → is_some value ≡ true → CanBegin r.base old t
-    can_next value same some =
-        let less = fits_there r t fits in
-        let has = sym same ∙ some in
-        let delay = fits_delay r t fits has in
-        let clash : clashes_with r t ≡ false = ap (clashes_with r) at ∙ none_at (clashes_with r) starts k d can.free within in
-        record {
-          few = omega (arith, less, there.few);
-          there = omega (arith, less, there.there, was.kept.units);
-          later = delay.0;
-          soon = omega (arith, delay.1, was.kept.longest (r.base + t.unit));
-          free =
-              let last : t.does.latency - 1 + 1 ≡ t.does.latency = omega (arith, delay.0) in
-              let then_due : now + 1 + (t.does.latency - 1) ≡ now + t.does.latency = omega (arith, delay.0) in
-              was.due t.unit (t.does.latency - 1) less
-              ∙ ap (λ n. option_or (word_due (due_at t.unit n (filter_map (begun u now memory frame next) (take k starts)))) (due_in r.rings (r.base + t.unit) (t.does.latency - 1 + 1))) then_due
-              ∙ ap (λ o. option_or (word_due o) (due_in r.rings (r.base + t.unit) (t.does.latency - 1 + 1))) alone
-              ∙ ap (λ n. due_in r.rings (r.base + t.unit) n) last ∙ none_due (due_by r t.unit t.does.latency) (has_result t.does.op) clash has;
-        }
+  -- the next result can begin
+  pub can_next : CanBegin r.base old d
+  can_next =
+      let free : is_some (due_by r d.unit d.latency) ≡ false =
+      ap (λ x. is_some (due_by r x.unit x.latency)) at ∙ none_at (λ x. is_some (due_by r x.unit x.latency)) dues k z can.free within in
+      record {
+        few = omega (arith, fits.unit, there.few);
+        there = omega (arith, fits.unit, there.there, was.kept.units);
+        later = fits.later;
+        soon = omega (arith, fits.soon, was.kept.longest (r.base + d.unit));
+        free =
+            let last : d.latency - 1 + 1 ≡ d.latency = omega (arith, fits.later) in
+            let then_due : now + 1 + (d.latency - 1) ≡ now + d.latency = omega (arith, fits.later) in
+            was.due d.unit (d.latency - 1) fits.unit
+            ∙ ap (λ n. option_or (word_due (due_at d.unit n (map (started_at now) (take k dues)))) (due_in r.rings (r.base + d.unit) (d.latency - 1 + 1))) then_due
+            ∙ ap (λ o. option_or (word_due o) (due_in r.rings (r.base + d.unit) (d.latency - 1 + 1))) alone
+            ∙ ap (λ n. due_in r.rings (r.base + d.unit) n) last ∙ none_due (due_by r d.unit d.latency) free;
+      }
 
-    -- one more has begun
-    pub begun_next : (value : Option ℕ) (new : Rings) → is_some value ≡ has_result t.does.op → ((n : ℕ) → option_map (due_of n t) value ≡ begun u n memory frame next t) → HasBegun r.base t value old new
-        → AreBegun now r (filter_map (begun u now memory frame next) (take (k + 1) starts)) new
-    begun_next value new same begins is =
-        let f = begun u now memory frame next in
-        let more : filter_map f (take k starts) ++ option_to_list (option_map (due_of now t) value) ≡ filter_map f (take (k + 1) starts) =
-        ap (λ o. filter_map f (take k starts) ++ option_to_list o) (begins now) ∙ ap (λ x. filter_map f (take k starts) ++ option_to_list (f x)) at
-        ∙ filter_map-more f starts k d (filter_map f (take k starts)) (filter_map f (take k starts) ++ option_to_list (f (get_or starts k d))) within refl refl in
-        subst (λ xs. AreBegun now r xs new) more (one_more now r there (filter_map f (take k starts)) t (fits_there r t fits) old new was value
-        (λ some. (fits_delay r t fits (sym same ∙ some)).0) is alone)
+  -- one more has begun
+  pub begun_next : (new : Rings) → HasBegun r.base d old new → AreBegun now r (map (started_at now) (take (k + 1) dues)) new
+  begun_next new is =
+      let more : map (started_at now) (take k dues) ++ started_at now d ∷ [] ≡ map (started_at now) (take (k + 1) dues) =
+      ap (λ x. map (started_at now) (take k dues) ++ started_at now x ∷ []) at
+      ∙ sym (map-append (started_at now) (take k dues) (get_or dues k z ∷ [])) ∙ ap (map (started_at now)) (sym (take_more dues k z within)) in
+      subst (λ xs. AreBegun now r xs new) more (one_more now r there (map (started_at now) (take k dues)) d fits old new was is alone)
 
-  -- ---- all at once
+-- ---- all at once
 
-  -- a result shows in a later cycle
-  begun_later : (r : Results) (starts : List Start) → AllByRecursion (λ t. IsTrue (is_fitting r t)) starts → AllByRecursion (λ q. now < q.due) (filter_map (begun u now memory frame next) starts)
-  begun_later r [] fit = tt
-  begun_later r (t ∷ starts) fit =
-      let rest = begun_later r starts fit.1 in
-      let q : Result' = due_of now t (result_word u memory frame next t t.does.op) in
-      elim (has_result t.does.op) as (λ b. has_result t.does.op ≡ b → AllByRecursion (λ q. now < q.due) (cons_option (if b then Some q else None) (filter_map (begun u now memory frame next) starts))) [
-        | true ↦ λ is. (omega (arith, (fits_delay r t fit.0 is).0), rest)
-        | false ↦ λ is. rest
-      ] refl
+-- a result shows in a later cycle
+begun_later : (now : ℕ) (r : Results) (dues : List Due) → AllByRecursion (IsFittingDue r) dues → AllByRecursion (λ q. now < q.due) (map (started_at now) dues)
+begun_later now r [] fit = tt
+begun_later now r (d ∷ dues) fit = (omega (arith, fit.0.later), begun_later now r dues fit.1)
 
-  -- the results of all operations come beside the others
-  pub all_begun : (r : Results) (starts : List Start) (rings : Rings) → CanStart r starts → AreBegun now r (filter_map (begun u now memory frame next) starts) rings
-      → Begin (filter_map (begun u now memory frame next) starts) now r (record r { rings = rings })
-  all_begun r starts rings can are = λ started same.
-      results_more started (filter_map (begun u now memory frame next) starts) now r rings same (begun_later r starts can.fitting) are.shown are.due
+-- the results of all operations come beside the others
+pub all_begun : (now : ℕ) (r : Results) (dues : List Due) (rings : Rings) → CanAllBegin r dues → AreBegun now r (map (started_at now) dues) rings
+    → Begin (map (started_at now) dues) now r (record r { rings = rings })
+all_begun now r dues rings can are = λ started same.
+    results_more started (map (started_at now) dues) now r rings same (begun_later now r dues can.fitting) are.shown are.due
 
 -- other machines' units stay
 pub others_begun : (now : ℕ) (part : Part) (old : Rings) (new : List Result') (rings : Rings) → AreBegun now (results_at part old) new rings → KeepsOthers part old rings

@@ -1,8 +1,9 @@
 -- What a line leaves is what the instruction does that it was decoded from.
-use Rattle.std.proofs.Common.{◌≡◌, ℕ, ◌<◌, true, IsTrue, List, [], ◌∷◌, ◌++◌, map, Option, Some, None, refl, sym, ap, ◌∙◌, subst}
+use Rattle.std.proofs.Common.{◌≡◌, ℕ, ◌<◌, ◌≤◌, true, IsTrue, List, [], ◌∷◌, ◌++◌, length, map, Option, Some, None, refl, sym, ap, ◌∙◌, subst, arith}
 use Rattle.std.specs.Prelude.{◌%◌, Bool, is_none, nat_lt, option_map, if◌then◌else◌}
-use Rattle.std.specs.List.{filter_map, cons_option, list_any, AllByRecursion}
+use Rattle.std.specs.List.{filter_map, cons_option, AllByRecursion}
 use Rattle.std.proofs.lemmas.Bool.{and_parts, ltb-true}
+use Rattle.tta_ops.specs.Units.{Units}
 use Rattle.tta_arch.specs.Machine.{Machine}
 use Rattle.tta_arch.specs.Effects.{Start, write_of}
 use Rattle.tta_code.specs.declared.code.Instruction.{Instruction}
@@ -13,12 +14,16 @@ use Rattle.tta_sim.specs.declared.store.Store.{Store}
 use Rattle.tta_sim.specs.declared.store.Doings.{Doings}
 use Rattle.tta_sim.specs.Results.{Results, shown_by}
 use Rattle.tta_sim.specs.Moves.{Arrival, reads_of, arrivals_of, brought_of}
-use Rattle.tta_sim.specs.Starts.{starts_of, fault_in, clashes_with, AreFitting, CanStart}
+use Rattle.tta_sim.specs.declared.dues.Due.{Due}
+use Rattle.tta_sim.specs.Starts.{starts_of, fault_in, AreFitting}
+use Rattle.tta_sim.specs.Dues.{shown_from, CanAllBegin}
 use Rattle.tta_sim.specs.Writing.{long_writes, numbered}
 use Rattle.tta_sim.specs.Decoded.{IsDecoded}
-use Rattle.tta_sim.specs.Lines.{is_reading_there, is_write_there, word_read, write_brought, operand_in, is_ready, IsLineThere}
-use Rattle.tta_sim.specs.Ready.{writes_in, FitsLine, AreLeft}
+use Rattle.tta_sim.specs.Lines.{is_reading_there, is_write_there, word_read, write_brought, start_brought, operand_in, is_ready, IsLineThere}
+use Rattle.tta_sim.specs.Ready.{writes_in, starts_in, FitsLine, AreLeft, AreDue}
 use Rattle.tta_sim.proofs.Facing.{ready_same, writes_same, starts_same}
+use Rattle.tta_sim.proofs.Lists.{length-filter_map}
+use Rattle.tta_sim.proofs.Shown.{dues_can}
 
 module _ (m : Machine) (i : Instruction) (old : Store) (r : Results) where
   -- the words that the moves of an instruction bring, and the operations that they start
@@ -61,9 +66,26 @@ written_within units store r l there = each l.writes there.writes where
     by None within rest = rest
     by (Some word) within rest = (within, rest)
 
--- the operations that are left can start at once
-pub left_can : (store : Store) (r : Results) (l : Line) (doings : Doings) (ts : List Start) → FitsLine store r l → AreLeft store r l doings → ts ≡ doings.starts
-    → CanStart r ts
-left_can store r l doings ts fits left same =
-    let fit = subst (AreFitting r) (sym (same ∙ left.starts)) (fits (operand_in store.places (writes_in store r l))) in
-    record { fitting = fit.fitting; apart = fit.apart; free = ap (list_any (clashes_with r)) same ∙ left.free }
+-- the results of the operations that are left can begin at once
+pub left_can : (u : Units) (next : ℕ) (store : Store) (r : Results) (l : Line) (doings : Doings) (dues : List Due) → FitsLine store r l → AreLeft store r l doings
+    → dues ≡ filter_map (shown_from u next store) doings.starts → CanAllBegin r dues
+left_can u next store r l doings dues fits left are =
+    let fit = subst (AreFitting r) (sym left.starts) (fits (operand_in store.places (writes_in store r l))) in
+    subst (CanAllBegin r) (sym are) (dues_can u store.memory.items store.frame.items next r doings.starts fit left.free)
+
+-- no more operations are left than the line has
+pub left_few : (units : ℕ) (store : Store) (r : Results) (l : Line) (doings : Doings) (ts : List Start) → IsLineThere units l → AreLeft store r l doings
+    → ts ≡ doings.starts → length ts ≤ 16
+left_few units store r l doings ts there left same =
+    let brought = start_brought store.places (shown_by r) (operand_in store.places (writes_in store r l)) in
+    omega (arith, ap length (same ∙ left.starts), length-filter_map brought l.starts, there.few_starts)
+
+-- ---- quiet lines
+
+-- what a quiet line leaves, with its operations
+abbrev pub with_starts : Store → Results → Line → Doings → Doings
+with_starts store r l doings = record doings { starts = starts_in store r (writes_in store r l) l.starts }
+
+-- the operations are left of which the results are
+pub due_left : (u : Units) (store : Store) (r : Results) (l : Line) (doings : Doings) → AreDue u store r l doings → AreLeft store r l (with_starts store r l doings)
+due_left u store r l doings due = record { writes = due.writes; starts = refl; free = due.free }

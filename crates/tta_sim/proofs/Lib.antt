@@ -8,6 +8,7 @@ pub mod Possible
 pub mod Quiet
 pub mod Rows
 pub mod Showing
+pub mod Shown
 pub mod Silent
 pub mod Starting
 pub mod Writes

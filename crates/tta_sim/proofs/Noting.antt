@@ -12,6 +12,7 @@ use Rattle.tta_sim.specs.Results.{Results, shown_by}
 use Rattle.tta_sim.specs.Decoded.{is_nil}
 use Rattle.tta_sim.specs.Starts.{clashes_with, is_stopped}
 use Rattle.tta_sim.specs.Lines.{is_unread, write_brought, start_brought, operand_in, cannot_start, tells_well, is_ready}
+use Rattle.tta_sim.specs.Ready.{AreNoted}
 
 -- a list without elements
 pub nothing_in : {A : Type 0} (xs : List A) → is_nil xs ≡ true → xs ≡ []
@@ -45,6 +46,14 @@ free_in places r operand (s ∷ moves) none = by (start_brought places (shown_by
 pub none_stopped : (places : List (Option ℕ)) (r : Results) (operand : ℕ → Option ℕ) (moves : List DecodedStart) (can : Bool)
     → can ≡ not (list_any (cannot_start places r operand) moves) → can ≡ true → list_any (clashes_with r) (filter_map (start_brought places (shown_by r) operand) moves) ≡ false
 none_stopped places r operand moves can is could = free_in places r operand moves (not-true (list_any (cannot_start places r operand) moves) (sym is ∙ could))
+
+-- what was noted of a line's writes is what they bring, where all of them can be read
+pub are_noted : (places : List (Option ℕ)) (r : Results) (l : Line) (noted : List Write) (ws : List DecodedWrite) (read : Bool) → ws ≡ l.writes
+    → read ≡ not (list_any (λ w. is_unread places (shown_by r) w.reading) ws)
+    → (read ≡ true → noted ≡ filter_map (write_brought places (shown_by r)) ws) → AreNoted places (shown_by r) l noted
+are_noted places r l noted ws read ws_are reads brings = λ could.
+    let all : read ≡ true = reads ∙ ap (λ xs. not (list_any (λ w. is_unread places (shown_by r) w.reading) xs)) ws_are ∙ ap not could in
+    brings all ∙ ap (filter_map (write_brought places (shown_by r))) ws_are
 
 module _ (places : List (Option ℕ)) (r : Results) (p : Bool) (l : Line) (noted writes : List Write) (ws : List DecodedWrite)
     (ws_are : ws ≡ l.writes) (writes_are : noted ≡ writes) (read : Bool)

@@ -1,5 +1,5 @@
 -- Lines that are quiet: their operations show results, and do nothing else.
-use Rattle.std.proofs.Common.{◌≡◌, ℕ, true, false, not, ◌||◌, List, [], ◌∷◌, Option, None, Some, refl, ap, ◌∙◌}
+use Rattle.std.proofs.Common.{◌≡◌, ℕ, Bool, true, false, not, ◌||◌, List, [], ◌∷◌, Option, None, Some, refl, ap, ◌∙◌}
 use Rattle.std.specs.Prelude.{fold, option_map, if◌then◌else◌}
 use Rattle.std.specs.List.{find, filter_map, cons_option, list_any}
 use Rattle.std.proofs.lemmas.Bool.{or_parts, or_from, not-true}
@@ -14,7 +14,7 @@ use Rattle.tta_sim.specs.declared.store.Doings.{Doings}
 use Rattle.tta_sim.specs.Results.{Results, shown_by}
 use Rattle.tta_sim.specs.Starts.{started, begun, is_loud, is_loud_op, puts}
 use Rattle.tta_sim.specs.Decoded.{is_loud_start, is_nil}
-use Rattle.tta_sim.specs.Lines.{word_read, start_brought, operand_in, IsLineThere}
+use Rattle.tta_sim.specs.Lines.{word_read, start_brought, operand_in, tells_well, IsLineThere}
 use Rattle.tta_sim.specs.Ready.{writes_in, AreLeft}
 use Rattle.tta_sim.proofs.Noting.{nothing_in, quiet_parts}
 
@@ -94,12 +94,24 @@ soft_starts places shown operand (s ∷ ss) none =
     by None here rest = rest
     by (Some word) here rest = or_from (is_loud_start s) (list_any is_loud (filter_map (start_brought places shown operand) ss)) here rest
 
+-- a quiet line has no control moves
+pub quiet_tells : (units : ℕ) (l : Line) → IsLineThere units l → l.quiet ≡ true → l.tells ≡ []
+quiet_tells units l there quiet = nothing_in l.tells (quiet_parts l.quiet (not (list_any is_loud_start l.starts)) (is_nil l.tells) there.quiet quiet).1
+
+-- so they can act
+pub quiet_told : (units : ℕ) (l : Line) (places : List (Option ℕ)) (shown : ℕ → Option ℕ) (is_pending : Bool) → IsLineThere units l → l.quiet ≡ true
+    → tells_well places shown is_pending l.tells ≡ true
+quiet_told units l places shown is_pending there quiet = ap (tells_well places shown is_pending) (quiet_tells units l there quiet) ∙ by is_pending where
+  by : (b : Bool) → tells_well places shown b [] ≡ true
+  by true = refl
+  by false = refl
+
 -- what is left of a quiet line
-pub quiet_left : (units : ℕ) (store : Store) (r : Results) (l : Line) (doings : Doings) (ts : List Start) → IsLineThere units l → AreLeft store r l doings → ts ≡ doings.starts
-    → l.quiet ≡ true → (list_any is_loud ts ≡ false) × (l.tells ≡ [])
-quiet_left units store r l doings ts there left same quiet =
+pub quiet_left : (units : ℕ) (store : Store) (r : Results) (l : Line) (doings : Doings) → IsLineThere units l → AreLeft store r l doings → l.quiet ≡ true
+    → (list_any is_loud doings.starts ≡ false) × (l.tells ≡ [])
+quiet_left units store r l doings there left quiet =
     let parts = quiet_parts l.quiet (not (list_any is_loud_start l.starts)) (is_nil l.tells) there.quiet quiet in
     let soft : list_any is_loud_start l.starts ≡ false = not-true (list_any is_loud_start l.starts) parts.0 in (
-      ap (list_any is_loud) (same ∙ left.starts) ∙ soft_starts store.places (shown_by r) (operand_in store.places (writes_in store r l)) l.starts soft,
-      nothing_in l.tells parts.1,
+      ap (list_any is_loud) left.starts ∙ soft_starts store.places (shown_by r) (operand_in store.places (writes_in store r l)) l.starts soft,
+      quiet_tells units l there quiet,
     )

@@ -1,5 +1,6 @@
 pub mod Controls
 pub mod Decoded
+pub mod Dues
 pub mod Held
 pub mod Kept
 pub mod Lines

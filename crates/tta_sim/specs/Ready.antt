@@ -15,6 +15,7 @@ use Rattle.tta_sim.specs.declared.results.Part.{Part}
 use Rattle.tta_flight.specs.Rings.{Rings}
 use Rattle.tta_flight.specs.Flight.{StayBeside}
 use Rattle.tta_sim.specs.Starts.{begun, clashes_with, AreFitting}
+use Rattle.tta_sim.specs.Dues.{shown_from}
 
 -- the words that the moves of a line write
 abbrev pub writes_in : Store → Results → Line → List Write
@@ -37,6 +38,13 @@ pub record AreLeft (store : Store) (r : Results) (l : Line) (doings : Doings) : 
   pub writes : doings.writes ≡ writes_in store r l
   pub starts : doings.starts ≡ starts_in store r (writes_in store r l) l.starts
   pub free : list_any (clashes_with r) doings.starts ≡ false
+
+-- What is left of a quiet line: the words to write, and the results that its operations show, none of which would be due at the time
+-- of another.
+pub record AreDue (u : Units) (store : Store) (r : Results) (l : Line) (doings : Doings) : Type 0 where
+  pub writes : doings.writes ≡ writes_in store r l
+  pub dues : doings.dues ≡ filter_map (shown_from u 0 store) (starts_in store r (writes_in store r l) l.starts)
+  pub free : list_any (clashes_with r) (starts_in store r (writes_in store r l) l.starts) ≡ false
 
 -- the operations of a line fit, whatever their operands are
 abbrev pub FitsLine : Store → Results → Line → Type 0

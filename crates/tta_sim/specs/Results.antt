@@ -1,10 +1,10 @@
 -- The results of units: those that show, and those that are still to come.
-use Rattle.std.specs.Prelude.{◌≡◌, ℕ, ◌+◌, ◌-◌, ◌<◌, ◌≤◌, ◌==◌, Bool, ◌&&◌, List, length, fold, Option, None, Some, option_map, IfSome}
+use Rattle.std.specs.Prelude.{◌≡◌, ℕ, ◌+◌, ◌<◌, ◌≤◌, ◌==◌, Bool, ◌&&◌, List, length, fold, Option, None, option_map, IfSome}
 use Rattle.std.specs.List.{find}
 use Rattle.tta_arch.specs.Machine.{Machine}
-use Rattle.tta_arch.specs.Effects.{Start, op_at}
+use Rattle.tta_arch.specs.Effects.{op_at}
 use Rattle.tta_code.specs.Cycle.{Result', later}
-use Rattle.tta_flight.specs.Rings.{Rings, shown_in, due_in, longest_of, IsStarted}
+use Rattle.tta_flight.specs.Rings.{Rings, shown_in, due_in, longest_of}
 use Rattle.tta_sim.specs.declared.results.Part.{Part}
 
 -- the latest result of a unit that is due by now
@@ -75,17 +75,3 @@ pub record AreResultsOf (started : List Result') (now : ℕ) (r : Results) : Typ
 pub record AreKept (old new : Rings) : Type 0 where
   pub units : length new.rings ≡ length old.rings
   pub longest : (unit : ℕ) → longest_of new unit ≡ longest_of old unit
-
--- An operation's result can begin, where its unit is in the next cycle already: its unit and its latency are there, and no result is
--- due then.
-pub record CanBegin (base : ℕ) (r : Rings) (t : Start) : Type 0 where
-  pub few : base + t.unit < 256
-  pub there : base + t.unit < length r.rings
-  pub later : 0 < t.does.latency
-  pub soon : t.does.latency ≤ longest_of r (base + t.unit)
-  pub free : due_in r (base + t.unit) (t.does.latency - 1) ≡ None
-
--- an operation's result, if it has one, has begun
-abbrev pub HasBegun : (base : ℕ) → Start → Option ℕ → (old new : Rings) → Type 0
-HasBegun base t None old new = new ≡ old
-HasBegun base t (Some value) old new = IsStarted (base + t.unit) (t.does.latency - 1) value old new

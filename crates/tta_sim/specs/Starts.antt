@@ -118,12 +118,6 @@ puts t = same_op t.does.op Out
 abbrev pub is_fitting : Results → Start → Bool
 is_fitting r t = nat_lt t.unit r.units && (not (has_result t.does.op) || (nat_lt 0 t.does.latency && nat_le t.does.latency (longest_by r t.unit)))
 
--- Operations that can start at once: each fits, no unit starts two, and no result is due at the time of another.
-pub record CanStart (r : Results) (starts : List Start) : Type 0 where
-  pub fitting : AllByRecursion (λ t. IsTrue (is_fitting r t)) starts
-  pub apart : are_different (λ a b. a.unit == b.unit) starts ≡ true
-  pub free : list_any (clashes_with r) starts ≡ false
-
 -- Operations that fit, no two of them of one unit.
 pub record AreFitting (r : Results) (starts : List Start) : Type 0 where
   pub fitting : AllByRecursion (λ t. IsTrue (is_fitting r t)) starts

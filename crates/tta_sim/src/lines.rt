@@ -6,6 +6,7 @@ ghost use Rattle.std.specs.List.{filter_map, list_any, AllByRecursion};
 ghost use Rattle.tta_arch.specs.Effects.{KeptOperand};
 ghost use Rattle.tta_sim.specs.Places.{is_place};
 ghost use Rattle.tta_sim.specs.Results.{shown_by};
+ghost use Rattle.tta_sim.specs.Starts.{started};
 ghost use Rattle.tta_sim.specs.Lines.{source_word, word_read, is_unread, word_of, is_unset};
 ghost use Rattle.tta_sim.specs.Lines.{is_source_there, is_reading_there, is_write_there};
 ghost use Rattle.tta_sim.specs.Lines.{is_start_there};
@@ -17,7 +18,7 @@ use crate::decoded::{DecodedSource, DecodedStart, DecodedWrite, Reading};
 use crate::places::{OPERANDS, Places};
 use crate::results::Results;
 use crate::short::Short;
-use crate::starts::{Start, clashes};
+use crate::starts::{Start, stops};
 use crate::truth::either;
 use tta_arch::UnitOp;
 
@@ -163,7 +164,7 @@ fn operand_after(writes: &[Write], places: &Places, unit: u8) -> Option<u32>
 
 /// The operand that an operation starts with, 0 where it takes none.
 #[inline(always)]
-pub fn operand_of(writes: &[Write], places: &Places, unit: u8, does: &UnitOp) -> Option<u32>
+fn operand_of(writes: &[Write], places: &Places, unit: u8, does: &UnitOp) -> Option<u32>
     requires { IsTrue (is_place (KeptOperand unit)) }
     ensures { let operand = operand_in places.now writes.now in
         result ≡ (if does.now.arity == 2 then operand unit else Some 0) }
@@ -172,6 +173,21 @@ pub fn operand_of(writes: &[Write], places: &Places, unit: u8, does: &UnitOp) ->
         operand_after(writes, places, unit)
     } else {
         Some(0)
+    }
+}
+
+/// The operation that a word starts.
+#[inline(always)]
+pub fn start_of(writes: &[Write], places: &Places, s: &DecodedStart, word: u32) -> Start
+    requires { IsTrue (is_place (KeptOperand s.now.unit)) }
+    ensures { let operand = operand_in places.now writes.now in
+        result ≡ started operand s.now.unit s.now.does word }
+{
+    Start {
+        unit: s.unit,
+        does: s.does,
+        operand: operand_of(writes, places, s.unit, &s.does),
+        word,
     }
 }
 
@@ -195,14 +211,9 @@ fn note_start(
     match read_move(places, results, &s.reading) {
         Read::Nothing => false,
         Read::Word(word) => {
-            let operand = operand_of(writes, places, s.unit, &s.does);
-            let stopped = operand.is_none() || clashes(results, s.unit, &s.does);
-            starts.push(Start {
-                unit: s.unit,
-                does: s.does,
-                operand,
-                word,
-            });
+            let start = start_of(writes, places, s, word);
+            let stopped = stops(results, &start);
+            starts.push(start);
             stopped
         }
         Read::Unset(_) => true,

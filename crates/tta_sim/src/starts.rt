@@ -2,8 +2,8 @@
 
 ghost use Rattle.std.specs.Prelude.{◌≡◌, ◌<◌, if◌then◌else◌};
 ghost use Rattle.std.specs.List.{list_any};
-ghost use Rattle.tta_arch.specs.Effects.{has_result, lacks_operand};
-ghost use Rattle.tta_sim.specs.Starts.{clashes_at, is_loud_op};
+ghost use Rattle.tta_arch.specs.Effects.{has_result, lacks_operand, takes};
+ghost use Rattle.tta_sim.specs.Starts.{clashes_at, is_loud_op, is_stopped};
 
 use crate::fault::{CLASHING_RESULTS, MISSING_OPERAND};
 use crate::results::Results;
@@ -63,11 +63,34 @@ pub fn is_loud(op: Op) -> bool
 
 /// Whether a unit's result of an operation would be due at the time of another one.
 #[inline(always)]
-pub fn clashes(results: &Results<'_>, unit: u8, does: &UnitOp) -> bool
+fn clashes(results: &Results<'_>, unit: u8, does: &UnitOp) -> bool
     requires { unit < results.now.units }
     ensures { result ≡ clashes_at results.now unit does.now }
 {
     results.clashes(unit, does.latency) && has_result(does.op)
+}
+
+/// Whether an operation cannot start: it lacks its operand, or its result would be due at the time of
+/// another one of its unit.
+#[inline(always)]
+pub fn stops(results: &Results<'_>, start: &Start) -> bool
+    requires { start.now.unit < results.now.units }
+    ensures { result ≡ is_stopped results.now start.now }
+{
+    start.operand.is_none() || clashes(results, start.unit, &start.does)
+}
+
+/// Whether some of the operations takes a word of the input.
+#[inline(always)]
+pub fn any_takes(starts: &[Start]) -> bool
+    ensures { result ≡ list_any takes starts.now }
+{
+    for start in starts {
+        if let Op::Take = start.does.op {
+            return true;
+        }
+    }
+    false
 }
 
 /// Whether some operation lacks its operand.

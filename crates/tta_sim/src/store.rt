@@ -3,6 +3,7 @@
 ghost use Rattle.std.specs.Prelude.{◌≡◌, [], replicate, IfOk};
 ghost use Rattle.tta_sim.specs.Places.{HasWritten};
 
+use crate::dues::Due;
 use crate::lines::Write;
 use crate::places::Places;
 use crate::short::Short;
@@ -56,6 +57,8 @@ impl Store {
 pub struct Doings {
     pub writes: Short<Write>,
     pub starts: Short<Start>,
+    /// The results that the operations show.
+    pub dues: Short<Due>,
 }
 
 impl Doings {
@@ -69,6 +72,15 @@ impl Doings {
             drop(writes);
             return Err(AllocError);
         };
-        Ok(Doings { writes, starts })
+        let Ok(dues) = Short::new(alloc) else {
+            drop(writes);
+            drop(starts);
+            return Err(AllocError);
+        };
+        Ok(Doings {
+            writes,
+            starts,
+            dues,
+        })
     }
 }

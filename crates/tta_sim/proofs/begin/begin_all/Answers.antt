@@ -1,43 +1,29 @@
-use Rattle.std.proofs.Common.{◌≡◌, ℕ, ◌≤◌, length, subst, arith}
-use Rattle.std.specs.Prelude.{option_map}
-use Rattle.std.specs.List.{filter_map}
-use Rattle.tta_ops.specs.Set.{stated}
+use Rattle.std.proofs.Common.{◌≤◌, length, map, refl, subst, arith}
 use Rattle.tta_sim.specs.Results.{results_at}
-use Rattle.tta_sim.specs.Starts.{begun, due_of}
+use Rattle.tta_sim.specs.Dues.{started_at}
 use Rattle.tta_sim.proofs.Beginning.{AreBegun, none_begun, can_next, begun_next, all_begun, others_begun, take_past}
 use Rattle.tta_sim.proofs.begin.begin_all.Goals as goal
 
-pub loop-start-init : goal.loop-start-init
-loop-start-init g c =
-    none_begun c.args.store.now.cycle (results_at c.args.part c.args.region.now) c.advance_units.new.self c.requires.there c.advance_units.ensures.held c.advance_units.ensures.beside
+pub loop-due-init : goal.loop-due-init
+loop-due-init c = λ now.
+    none_begun now (results_at c.args.part c.args.region.now) c.advance_units.new.self c.requires.there c.advance_units.ensures.held c.advance_units.ensures.beside
 
 pub begin-requires : goal.begin-requires
-begin-requires g c =
-    let U = stated (λ v. (goal.OpUnit-dyn g v).unit_meaning v.1) c.args.units.now in
-    let store = c.args.store.now in
-    can_next U store.cycle store.memory.items store.frame.items c.args.next (results_at c.args.part c.args.region.now) c.requires.there c.args.starts.now c.requires.can
-    c.loop-start.start-index _ _ c.loop-start-test.true c.start-item.is c.loop-start.region c.loop-start.invariant c.result_of-value.result c.result_of-value.ensures.some
+begin-requires c =
+    can_next 0 (results_at c.args.part c.args.region.now) c.requires.there c.args.dues.now c.requires.can
+    c.loop-due.due-index _ _ c.loop-due-test.true refl c.loop-due.region (c.loop-due.invariant 0)
 
-pub loop-start-preserved : goal.loop-start-preserved
-loop-start-preserved g c =
-    let U = stated (λ v. (goal.OpUnit-dyn g v).unit_meaning v.1) c.args.units.now in
-    let store = c.args.store.now in
-    let t = c.start-item.result in
-    let value = c.result_of-value.result in
-    let begins = subst (λ ms. (n : ℕ) → option_map (due_of n t) value ≡ begun U n ms store.frame.items c.args.next t) c.as_slice-memory.ensures.value
-    (subst (λ fs. (n : ℕ) → option_map (due_of n t) value ≡ begun U n c.as_slice-memory.result.now fs c.args.next t) c.as_slice-frame.ensures.value c.result_of-value.ensures.begun) in
-    begun_next U store.cycle store.memory.items store.frame.items c.args.next (results_at c.args.part c.args.region.now) c.requires.there c.args.starts.now c.requires.can
-    c.loop-start.start-index _ t c.loop-start-test.true c.start-item.is c.loop-start.region c.loop-start.invariant value c.begin.new.region c.result_of-value.ensures.some begins c.begin.ensures
+pub loop-due-preserved : goal.loop-due-preserved
+loop-due-preserved c = λ now.
+    begun_next now (results_at c.args.part c.args.region.now) c.requires.there c.args.dues.now c.requires.can
+    c.loop-due.due-index _ _ c.loop-due-test.true refl c.loop-due.region (c.loop-due.invariant now) c.begin.new.region c.begin.ensures
 
 pub returns-clause-begun : goal.returns-clause-begun
-returns-clause-begun g c =
-    let U = stated (λ v. (goal.OpUnit-dyn g v).unit_meaning v.1) c.args.units.now in
-    let store = c.args.store.now in
+returns-clause-begun c = λ now.
     let r = results_at c.args.part c.args.region.now in
-    let begins = begun U store.cycle store.memory.items store.frame.items c.args.next in
-    let all : length c.args.starts.now ≤ c.loop-start.start-index = omega (arith, c.loop-start-test.false) in
-    all_begun U store.cycle store.memory.items store.frame.items c.args.next r c.args.starts.now c.loop-start.region c.requires.can
-    (subst (λ ts. AreBegun store.cycle r (filter_map begins ts) c.loop-start.region) (take_past c.args.starts.now c.loop-start.start-index all) c.loop-start.invariant)
+    let all : length c.args.dues.now ≤ c.loop-due.due-index = omega (arith, c.loop-due-test.false) in
+    all_begun now r c.args.dues.now c.loop-due.region c.requires.can
+    (subst (λ ds. AreBegun now r (map (started_at now) ds) c.loop-due.region) (take_past c.args.dues.now c.loop-due.due-index all) (c.loop-due.invariant now))
 
 pub returns-clause-others : goal.returns-clause-others
-returns-clause-others g c = others_begun _ c.args.part c.args.region.now _ c.loop-start.region c.loop-start.invariant
+returns-clause-others c = others_begun 0 c.args.part c.args.region.now _ c.loop-due.region (c.loop-due.invariant 0)

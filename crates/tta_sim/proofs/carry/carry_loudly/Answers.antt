@@ -9,12 +9,14 @@ use Rattle.tta_sim.specs.Moves.{brought_of}
 use Rattle.tta_sim.specs.Starts.{puts}
 use Rattle.tta_sim.specs.Writing.{long_writes}
 use Rattle.tta_sim.specs.Lines.{tell_brought, IsLineThere}
+use Rattle.tta_sim.specs.Dues.{shown_from, started_at}
 use Rattle.tta_sim.specs.Ready.{begun_in, AreLeft, Begin}
 use Rattle.tta_sim.specs.Unset.{IsFaultOf}
 use Rattle.tta_sim.specs.Kept.{kept_as}
 use Rattle.tta_sim.proofs.Facing.{placed, told_same}
 use Rattle.tta_sim.proofs.Cycles.{faulted}
-use Rattle.tta_sim.proofs.Leaving.{arrivals, starts, is_left, left_can, written_within}
+use Rattle.tta_sim.proofs.Leaving.{arrivals, starts, is_left, left_can, left_few, written_within}
+use Rattle.tta_sim.proofs.Shown.{dues_begun}
 use Rattle.tta_sim.proofs.Owning.{others_same}
 use Rattle.tta_sim.proofs.Acting.{carried_wait, carried_at}
 use Rattle.tta_sim.proofs.Writes.{length-stored, length-stored_frame}
@@ -28,15 +30,24 @@ find_fault-requires g c = subst (λ r. IsLineThere r.units c.args.line.now) (sym
 pub told_in-told-requires : goal.told_in-told-requires
 told_in-told-requires g c = subst (λ r. IsLineThere r.units c.args.line.now) (sym c.of-results.ensures) c.requires.there
 
-pub begin_all-requires-clause-can : goal.begin_all-requires-clause-can
-begin_all-requires-clause-can g c =
+pub note_results-requires : goal.note_results-requires
+note_results-requires g c =
     let r = results_at c.args.context.now.part c.args.region.now in
     let has = subst (λ r. AreLeft c.args.run.now.store r c.args.line.now c.find_fault.new.doings) c.of-results.ensures (c.find_fault.ensures.left c.in_default.is) in
-    left_can c.args.run.now.store r c.args.line.now _ _ c.requires.fitting has c.as_slice-starts.ensures
+    left_few c.args.context.now.part.count c.args.run.now.store r c.args.line.now _ _ c.requires.there has c.as_slice-starts.ensures
+
+pub begin_all-requires-clause-can : goal.begin_all-requires-clause-can
+begin_all-requires-clause-can g c =
+    let U = stated (λ v. (goal.OpUnit-dyn g v).unit_meaning v.1) c.args.context.now.units.now in
+    let store = c.args.run.now.store in
+    let r = results_at c.args.context.now.part c.args.region.now in
+    let has = subst (λ r. AreLeft store r c.args.line.now c.find_fault.new.doings) c.of-results.ensures (c.find_fault.ensures.left c.in_default.is) in
+    let dues_are = c.as_slice.ensures ∙ c.note_results.ensures ∙ ap (filter_map (shown_from U c.unwrap_or-word.result store)) c.as_slice-starts.ensures in
+    left_can U c.unwrap_or-word.result store r c.args.line.now _ _ c.requires.fitting has dues_are
 
 pub go_on-requires-clause-writes : goal.go_on-requires-clause-writes
 go_on-requires-clause-writes g c =
-    subst (AllByRecursion (λ w. w.place < 609)) (sym (c.as_slice.ensures ∙ (c.find_fault.ensures.left c.in_default.is).writes))
+    subst (AllByRecursion (λ w. w.place < 609)) (sym (c.as_slice-2.ensures ∙ (c.find_fault.ensures.left c.in_default.is).writes))
     (written_within _ c.args.run.now.store c.of-results.result c.args.line.now c.requires.there)
 
 pub go_on-requires-clause-few : goal.go_on-requires-clause-few
@@ -101,7 +112,9 @@ returns g c = record {
       let starts_are = c.as_slice-starts.ensures ∙ left.starts_are in
       let took_is = c.any_takes-took.ensures ∙ ap (list_any takes) starts_are in
       let new_is = ap (begun_in U c.unwrap_or-word.result store) starts_are ∙ ap {A = ℕ} (λ n. begun_in U n store begins) c.unwrap_or-word.ensures in
-      let begun = subst (λ new. Begin new store.cycle r (results_at c.args.context.now.part c.begin_all.new.region)) new_is c.begin_all.ensures.begun in
+      let dues_are = ap (map (started_at store.cycle)) (c.as_slice.ensures ∙ c.note_results.ensures)
+      ∙ dues_begun U store.memory.items store.frame.items c.unwrap_or-word.result store.cycle c.as_slice-starts.result.now ∙ new_is in
+      let begun = subst (λ new. Begin new store.cycle r (results_at c.args.context.now.part c.begin_all.new.region)) dues_are (c.begin_all.ensures.begun store.cycle) in
       let words = c.put_all-put.ensures.data ∙ ap (fold store_data store.memory.items) starts_are in
       let others = c.put_all-put.ensures.frame ∙ ap (fold store_frame store.frame.items) starts_are in
       let tells = c.told_in-told.ensures ∙ ap (λ r. first_some (tell_brought store.places (shown_by r)) line.tells) c.of-results.ensures in
@@ -110,7 +123,7 @@ returns g c = record {
       (sym c.is_stuck.ensures ∙ c.if-is_stuck.false) refl refl back _ _ refl delay refl
       (λ ws had.
       subst (HasWritten c.go_on.new.store.places) (append_assoc (filter_map (write_of m back) (map brought_of brought)) (long_writes m i.long) ws)
-      (c.go_on.ensures.written _ ws (c.as_slice.ensures ∙ left.writes) (placed m decoded.rules i decoded.legal back line decoded.line store.places r p)
+      (c.go_on.ensures.written _ ws (c.as_slice-2.ensures ∙ left.writes) (placed m decoded.rules i decoded.legal back line decoded.line store.places r p)
       (subst (λ ps. HasWritten ps ws) (sym c.put_all-put.ensures.places) had)))
       begun
       (c.go_on.ensures.cycle ∙ ap (λ n. n + 1) c.put_all-put.ensures.cycle)

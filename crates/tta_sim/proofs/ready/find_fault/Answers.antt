@@ -1,7 +1,7 @@
 use Rattle.std.proofs.Common.{sym, ◌∙◌}
 use Rattle.std.specs.Prelude.{is_some}
 use Rattle.tta_sim.proofs.Facing.{none_found}
-use Rattle.tta_sim.proofs.carry.find_fault.Goals as goal
+use Rattle.tta_sim.proofs.ready.find_fault.Goals as goal
 
 pub returns-then-is_ready-clause-fault : goal.returns-then-is_ready-clause-fault
 returns-then-is_ready-clause-fault c = λ m back i decoded size.

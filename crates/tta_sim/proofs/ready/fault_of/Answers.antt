@@ -1,6 +1,6 @@
 use Rattle.std.proofs.Common.{sym, ◌∙◌}
 use Rattle.tta_sim.proofs.Facing.{place_fault, port_fault, writes_could, start_fault, control_fault}
-use Rattle.tta_sim.proofs.carry.fault_of.Goals as goal
+use Rattle.tta_sim.proofs.ready.fault_of.Goals as goal
 
 pub returns-then-reads_unset : goal.returns-then-reads_unset
 returns-then-reads_unset c = λ p not_ready m back i decoded size.

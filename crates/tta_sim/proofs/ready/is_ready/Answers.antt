@@ -1,12 +1,12 @@
-use Rattle.std.proofs.Common.{not, sym, ap, ◌∙◌}
+use Rattle.std.proofs.Common.{sym, ap, ◌∙◌}
 use Rattle.std.specs.Prelude.{◌&&◌, is_some}
 use Rattle.std.specs.List.{filter_map, list_any}
 use Rattle.tta_sim.specs.Results.{shown_by}
 use Rattle.tta_sim.specs.Starts.{clashes_with}
-use Rattle.tta_sim.specs.Lines.{is_unread, write_brought, operand_in, tells_well}
+use Rattle.tta_sim.specs.Lines.{write_brought, operand_in, tells_well}
 use Rattle.tta_sim.specs.Ready.{starts_in}
-use Rattle.tta_sim.proofs.Noting.{noted_are, ready_with, none_stopped}
-use Rattle.tta_sim.proofs.carry.is_ready.Goals as goal
+use Rattle.tta_sim.proofs.Noting.{are_noted, noted_are, ready_with, none_stopped}
+use Rattle.tta_sim.proofs.ready.is_ready.Goals as goal
 
 pub returns-then-not-note_starts-clause-ready : goal.returns-then-not-note_starts-clause-ready
 returns-then-not-note_starts-clause-ready c =
@@ -43,16 +43,10 @@ returns-clause-left c = λ ready.
     }
 
 pub returns-then-not-note_writes-clause-noted : goal.returns-then-not-note_writes-clause-noted
-returns-then-not-note_writes-clause-noted c = λ read.
-    let unread = is_unread c.args.store.now.places (shown_by c.args.results.now) in
-    cc (sym c.if-not-note_writes.true ∙ c.note_writes.ensures.read ∙ ap (λ ws. not (list_any (λ w. unread w.reading) ws)) c.as_slice.ensures ∙ ap not read)
+returns-then-not-note_writes-clause-noted c = are_noted c.args.store.now.places c.args.results.now c.args.line.now _ _ _ c.as_slice.ensures c.note_writes.ensures.read c.note_writes.ensures.writes
 
 pub returns-then-not-note_starts-clause-noted : goal.returns-then-not-note_starts-clause-noted
-returns-then-not-note_starts-clause-noted c = λ read.
-    c.note_writes.ensures.writes c.if-not-note_writes.false
-    ∙ ap (filter_map (write_brought c.args.store.now.places (shown_by c.args.results.now))) c.as_slice.ensures
+returns-then-not-note_starts-clause-noted c = are_noted c.args.store.now.places c.args.results.now c.args.line.now _ _ _ c.as_slice.ensures c.note_writes.ensures.read c.note_writes.ensures.writes
 
 pub returns-clause-noted : goal.returns-clause-noted
-returns-clause-noted c = λ read.
-    c.note_writes.ensures.writes c.if-not-note_writes.false
-    ∙ ap (filter_map (write_brought c.args.store.now.places (shown_by c.args.results.now))) c.as_slice.ensures
+returns-clause-noted c = are_noted c.args.store.now.places c.args.results.now c.args.line.now _ _ _ c.as_slice.ensures c.note_writes.ensures.read c.note_writes.ensures.writes
