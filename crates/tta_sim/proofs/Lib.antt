@@ -20,6 +20,7 @@ pub mod Noting
 pub mod Facing
 pub mod Brought
 pub mod Readying
+pub mod Reaching
 pub mod Going
 pub mod Taking
 pub mod UnsetReads

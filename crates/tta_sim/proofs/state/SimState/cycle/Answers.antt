@@ -1,14 +1,11 @@
 use Rattle.std.proofs.Common.{◌+◌, ◌<◌, length, sym, ap, ◌∙◌, subst, arith}
 use Rattle.tta_ops.specs.Set.{stated}
 use Rattle.tta_arch.specs.Rules.{IsMachine}
-use Rattle.tta_code.specs.Cycle.{Fault, next as next_state}
+use Rattle.tta_code.specs.Cycle.{Fault}
 use Rattle.tta_flight.specs.Flight.{StayBeside}
 use Rattle.tta_sim.specs.Controls.{outcome_of}
-use Rattle.tta_sim.specs.Results.{HasUnits, results_at}
-use Rattle.tta_sim.specs.Held.{StandsWith, GoesWith}
-use Rattle.tta_sim.specs.Kept.{held_of}
-use Rattle.tta_sim.proofs.Going.{halted_stands, fault_stands, fault_answer, past_stands, past_answer, goes_stands, goes_answer, length-lines, past_all, line_here}
-use Rattle.tta_sim.proofs.Owning.{units_there}
+use Rattle.tta_sim.proofs.Going.{halted_stands, fault_stands, fault_answer, past_stands, past_answer, length-lines, past_all}
+use Rattle.tta_sim.proofs.Reaching.{at_line, code_stays, goes, answers}
 use Rattle.tta_sim.proofs.state.SimState.cycle.Goals as goal
 
 pub returns-in-Halted-clause-next : goal.returns-in-Halted-clause-next
@@ -51,58 +48,46 @@ bounds-as_slice-self-inside g c =
 
 pub carry-requires : goal.carry-requires
 carry-requires g c =
-    let rules = subst IsMachine c.m.view_is c.m.invariant in
     let m = c.args.m.now in
-    let part = c.part_of.result in
-    let size = ap (λ p. p.count) c.part_of.ensures in
-    let has = subst (λ p. HasUnits p.base m c.args.region.now) (sym c.part_of.ensures) c.requires.has_units in
-    let delay = ap (λ m. m.control.delay) c.m.view_is in
-    let lines = c.as_slice.ensures ∙ ap (λ h. h.lines) c.self.view_is in
+    let rules = subst IsMachine c.m.view_is c.m.invariant in
     let within : c.self.inside.run.control.pc < length c.args.code.now.words = omega (arith, c.if-self-len.false, c.len.ensures) in
-    let here = line_here m c.args.code.now c.args.self.now rules c.requires.loaded c.self.inside.run.control.pc _ _ c.self.inside.run.store (results_at part c.args.region.now) _ within delay lines c.index-as_slice-self.is has size in
-    record {
-      running = c.in-Running.is;
-      units = units_there part m c.args.region.now has size;
-      there = here.there;
-      fitting = here.fits;
-      few = omega (arith, c.requires.few, ap (λ h. h.cycle) c.self.view_is);
-      within = omega (arith, c.if-self-len.false, c.len.ensures, c.requires.loaded.reached);
-    }
+    at_line m c.args.code.now c.args.self.now rules c.requires.loaded c.args.base c.args.region.now c.requires.has_units c.part_of.result c.part_of.ensures
+    c.self.inside.lines c.self.inside.run.store c.self.inside.run.control c.self.view_is c.in-Running.is within _ (ap (λ m. m.control.delay) c.m.view_is)
+    _ c.as_slice.ensures _ c.index-as_slice-self.is
+    c.requires.few
+
+pub returns-clause-loaded : goal.returns-clause-loaded
+returns-clause-loaded g c =
+    let U = stated (λ v. (goal.OpUnit-dyn g v).unit_meaning v.1) c.args.units.now in
+    let m = c.args.m.now in
+    let rules = subst IsMachine c.m.view_is c.m.invariant in
+    let within : c.self.inside.run.control.pc < length c.args.code.now.words = omega (arith, c.if-self-len.false, c.len.ensures) in
+    code_stays m c.args.code.now c.args.self.now rules c.requires.loaded c.args.base c.args.region.now c.requires.has_units c.part_of.result c.part_of.ensures
+    c.self.inside.lines c.self.inside.run.store c.self.inside.run.control c.self.view_is c.in-Running.is within _ (ap (λ m. m.control.delay) c.m.view_is)
+    _ c.as_slice.ensures _ c.index-as_slice-self.is
+    U c.args.next _ _ _ _ c.carry.ensures
 
 pub returns-clause-next : goal.returns-clause-next
 returns-clause-next g c = λ s same fed.
     let U = stated (λ v. (goal.OpUnit-dyn g v).unit_meaning v.1) c.args.units.now in
-    let rules = subst IsMachine c.m.view_is c.m.invariant in
     let m = c.args.m.now in
-    let part = c.part_of.result in
-    let size = ap (λ p. p.count) c.part_of.ensures in
-    let has = subst (λ p. HasUnits p.base m c.args.region.now) (sym c.part_of.ensures) c.requires.has_units in
-    let delay = ap (λ m. m.control.delay) c.m.view_is in
-    let lines = c.as_slice.ensures ∙ ap (λ h. h.lines) c.self.view_is in
+    let rules = subst IsMachine c.m.view_is c.m.invariant in
     let within : c.self.inside.run.control.pc < length c.args.code.now.words = omega (arith, c.if-self-len.false, c.len.ensures) in
-    let here = line_here m c.args.code.now c.args.self.now rules c.requires.loaded c.self.inside.run.control.pc _ _ c.self.inside.run.store (results_at part c.args.region.now) _ within delay lines c.index-as_slice-self.is has size in
-    let held = subst (λ p. StandsWith (results_at p c.args.region.now) (held_of c.self.inside.lines c.self.inside.run.store c.self.inside.run.control) s) (sym c.part_of.ensures) (rw (← c.self.view_is) at same) in
-    let carried = c.carry.ensures.carried m here.item c.self.inside.lines s here.decoded size delay held fed in
-    let goes = goes_stands U m c.args.code.now c.self.inside.lines c.self.inside.run.store (results_at part c.args.region.now) c.self.inside.run.control s held c.in-Running.is here.item
-    (results_at part c.carry.new.region) _ c.carry.result here.at carried in
-    subst (λ p. GoesWith (results_at p c.carry.new.region) (held_of c.self.inside.lines c.carry.new.run.store c.carry.new.run.control) s (next_state U m c.args.code.now s) c.carry.result) c.part_of.ensures goes
+    goes m c.args.code.now c.args.self.now rules c.requires.loaded c.args.base c.args.region.now c.requires.has_units c.part_of.result c.part_of.ensures
+    c.self.inside.lines c.self.inside.run.store c.self.inside.run.control c.self.view_is c.in-Running.is within _ (ap (λ m. m.control.delay) c.m.view_is)
+    _ c.as_slice.ensures _ c.index-as_slice-self.is
+    U c.args.next _ _ _ _ c.carry.ensures s same fed
 
 pub returns-clause-answer : goal.returns-clause-answer
 returns-clause-answer g c = λ s same fed.
     let U = stated (λ v. (goal.OpUnit-dyn g v).unit_meaning v.1) c.args.units.now in
-    let rules = subst IsMachine c.m.view_is c.m.invariant in
     let m = c.args.m.now in
-    let part = c.part_of.result in
-    let size = ap (λ p. p.count) c.part_of.ensures in
-    let has = subst (λ p. HasUnits p.base m c.args.region.now) (sym c.part_of.ensures) c.requires.has_units in
-    let delay = ap (λ m. m.control.delay) c.m.view_is in
-    let lines = c.as_slice.ensures ∙ ap (λ h. h.lines) c.self.view_is in
+    let rules = subst IsMachine c.m.view_is c.m.invariant in
     let within : c.self.inside.run.control.pc < length c.args.code.now.words = omega (arith, c.if-self-len.false, c.len.ensures) in
-    let here = line_here m c.args.code.now c.args.self.now rules c.requires.loaded c.self.inside.run.control.pc _ _ c.self.inside.run.store (results_at part c.args.region.now) _ within delay lines c.index-as_slice-self.is has size in
-    let held = subst (λ p. StandsWith (results_at p c.args.region.now) (held_of c.self.inside.lines c.self.inside.run.store c.self.inside.run.control) s) (sym c.part_of.ensures) (rw (← c.self.view_is) at same) in
-    let carried = c.carry.ensures.carried m here.item c.self.inside.lines s here.decoded size delay held fed in
-    goes_answer U m c.args.code.now c.self.inside.lines c.self.inside.run.store (results_at part c.args.region.now) c.self.inside.run.control s held c.in-Running.is here.item
-    (results_at part c.carry.new.region) _ c.carry.result here.at carried
+    answers m c.args.code.now c.args.self.now rules c.requires.loaded c.args.base c.args.region.now c.requires.has_units c.part_of.result c.part_of.ensures
+    c.self.inside.lines c.self.inside.run.store c.self.inside.run.control c.self.view_is c.in-Running.is within _ (ap (λ m. m.control.delay) c.m.view_is)
+    _ c.as_slice.ensures _ c.index-as_slice-self.is
+    U c.args.next _ _ _ _ c.carry.ensures s same fed
 
 pub returns-clause-kept : goal.returns-clause-kept
 returns-clause-kept g c = c.carry.ensures.others.kept

@@ -1,0 +1,77 @@
+-- A run that goes on, at an address within its code.
+use Rattle.std.proofs.Common.{◌≡◌, ℕ, ◌<◌, ◌^◌, List, length, get_or, Option, Some, sym, ap, ◌∙◌, subst, arith}
+use Rattle.tta_ops.specs.Units.{Units}
+use Rattle.tta_arch.specs.Machine.{Machine}
+use Rattle.tta_arch.specs.Rules.{IsMachine}
+use Rattle.tta_code.specs.declared.code.Code.{Code}
+use Rattle.tta_code.specs.Cycle.{State, carry_out, next as next_state}
+use Rattle.tta_flight.specs.Rings.{Rings}
+use Rattle.tta_list.specs.Input.{IsFed}
+use Rattle.tta_sim.specs.declared.answer.CycleStep.{CycleStep}
+use Rattle.tta_sim.specs.declared.control.Control.{Control}
+use Rattle.tta_sim.specs.declared.control.Phase.TheVariants as phase
+use Rattle.tta_sim.specs.declared.decoded.Line.{Line}
+use Rattle.tta_sim.specs.declared.results.Part.{Part}
+use Rattle.tta_sim.specs.declared.store.Store.{Store}
+use Rattle.tta_sim.specs.Results.{HasUnits, results_at, units_of}
+use Rattle.tta_sim.specs.Held.{HeldState, StandsWith, GoesWith, IsAnswer, IsStateOf}
+use Rattle.tta_sim.specs.Kept.{held_of, kept_as, IsAtLine, IsCarried, IsCycle}
+use Rattle.tta_sim.proofs.Going.{Here, line_here, goes_stands, goes_answer}
+use Rattle.tta_sim.proofs.Owning.{units_there}
+
+module _ (m : Machine) (code : Code) (h : HeldState) (rules : IsMachine m) (run : IsStateOf m code h)
+    (base : ℕ) (region : Rings) (has : HasUnits base m region) (part : Part) (part_is : part ≡ record { base = base; count = length m.units })
+    (lines : List Line) (store : Store) (control : Control) (view : held_of lines store control ≡ h) (running : control.phase ≡ phase.Running)
+    (within : control.pc < length code.words) (delay : ℕ) (delay_is : delay ≡ m.control.delay)
+    (read : List Line) (read_is : read ≡ lines) (line : Line) (line_is : line ≡ get_or read control.pc line) where
+  size : part.count ≡ length m.units
+  size = ap (λ p. p.count) part_is
+
+  has_part : HasUnits part.base m region
+  has_part = subst (λ p. HasUnits p.base m region) (sym part_is) has
+
+  -- the instruction there
+  here : Here m code control.pc delay store (results_at part region) line
+  here =
+      line_here m code h rules run control.pc delay read store (results_at part region) line within delay_is (read_is ∙ ap (λ k. k.lines) view) line_is has_part size
+
+  -- its line can be carried out
+  pub at_line : h.cycle < 2 ^ 62 → IsAtLine part line (kept_as store control region)
+  at_line few = record {
+    running = running;
+    units = units_there part m region has_part size;
+    there = here.there;
+    fitting = here.fits;
+    few = omega (arith, few, ap (λ k. k.cycle) view);
+    within = omega (arith, within, run.reached);
+  }
+
+  module _ (u : Units) (next : Option ℕ) (store' : Store) (control' : Control) (region' : Rings) (answer : CycleStep)
+      (made : IsCycle u part delay line next (kept_as store control region) (kept_as store' control' region') answer) where
+    -- the code stays
+    pub code_stays : IsStateOf m code (held_of lines store' control')
+    code_stays = record {
+      legal = run.legal;
+      reached = run.reached;
+      decoded = ap (λ k. k.lines) view ∙ run.decoded;
+      memory = made.memory ∙ ap (λ k. length k.memory) view ∙ run.memory;
+      frame = made.frame ∙ ap (λ k. length k.frame) view ∙ run.frame;
+    }
+
+    module _ (s : State) (same : StandsWith (units_of base m region) h s) (fed : IsFed s.rest next) where
+      held : StandsWith (results_at part region) (held_of lines store control) s
+      held = subst (λ p. StandsWith (results_at p region) (held_of lines store control) s) (sym part_is) (subst (λ k. StandsWith (units_of base m region) k s) (sym view) same)
+
+      carried : IsCarried (results_at part region') (held_of lines store' control') s (carry_out u m s (Some here.item)) answer
+      carried = made.carried m here.item lines s here.decoded size delay_is held fed
+
+      -- the run goes where the meaning goes
+      pub goes : GoesWith (units_of base m region') (held_of lines store' control') s (next_state u m code s) answer
+      goes =
+          subst (λ p. GoesWith (results_at p region') (held_of lines store' control') s (next_state u m code s) answer) part_is
+          (goes_stands u m code lines store (results_at part region) control s held running here.item (results_at part region') (held_of lines store' control') answer here.at carried)
+
+      -- and the answer tells what became of it
+      pub answers : IsAnswer u m code s answer
+      answers =
+          goes_answer u m code lines store (results_at part region) control s held running here.item (results_at part region') (held_of lines store' control') answer here.at carried
