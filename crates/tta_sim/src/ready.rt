@@ -51,19 +51,19 @@ fn is_ready(
 /// written, else 61 where a result port is read that shows nothing yet, else 62 or 63 where an
 /// operation cannot start, and else 64, since only control is left.
 #[inline(never)]
-fn fault_of(doings: &mut Doings, store: &Store, results: &Results<'_>, line: &Line) -> u8
-    requires there { IsLineThere results.now.units line.now }
-    requires noted { let shown = shown_by results.now in
+fn fault_of(doings: &mut Doings, store: &Store, results: Results<'_>, line: &Line) -> u8
+    requires there { IsLineThere results.units line.now }
+    requires noted { let shown = shown_by results in
         AreNoted store.now.places shown line.now doings.old.writes }
     ensures { (is_pending : Bool)
-        → is_ready store.now.places results.now is_pending line.now ≡ false
-        → IsFaultOf store.now.places results.now is_pending line.now (Some result) }
+        → is_ready store.now.places results.entry is_pending line.now ≡ false
+        → IsFaultOf store.now.places results.entry is_pending line.now (Some result) }
 {
     let places = &store.places;
-    if reads_unset(Missing::Place, places, results, line) {
+    if reads_unset(Missing::Place, places, &results, line) {
         return UNSET_REGISTER;
     }
-    if reads_unset(Missing::Port, places, results, line) {
+    if reads_unset(Missing::Port, places, &results, line) {
         return UNSET_PORT;
     }
     // All can be read, so all words to write were collected.
@@ -72,7 +72,7 @@ fn fault_of(doings: &mut Doings, store: &Store, results: &Results<'_>, line: &Li
         &mut doings.starts,
         writes,
         places,
-        results,
+        &results,
         line.starts.as_slice(),
     ) {
         return starts::fault_of(doings.starts.as_slice());
@@ -97,7 +97,7 @@ pub fn find_fault(
     if is_ready(doings, store, results, control, line) {
         return None;
     }
-    Some(fault_of(doings, store, results, line))
+    Some(fault_of(doings, store, results.again(), line))
 }
 
 /// Collects what a quiet line writes and which results its operations show, and answers whether all of
@@ -148,5 +148,5 @@ pub fn find_fault_quietly(
     if is_ready_quietly(doings, store, results, units, line) {
         return None;
     }
-    Some(fault_of(doings, store, results, line))
+    Some(fault_of(doings, store, results.again(), line))
 }

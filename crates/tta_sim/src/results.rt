@@ -39,6 +39,14 @@ impl<'a> Results<'a> {
         Results { region, part }
     }
 
+    /// The same results once more.
+    #[inline(always)]
+    pub fn again(&self) -> Results<'a>
+        ensures { result ≡ self.now }
+    {
+        Results::of(self.region, self.part)
+    }
+
     /// The word on a unit's result port.
     #[inline(always)]
     pub fn port(&self, unit: u8) -> Option<u32>

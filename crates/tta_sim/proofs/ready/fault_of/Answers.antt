@@ -4,18 +4,18 @@ use Rattle.tta_sim.proofs.ready.fault_of.Goals as goal
 
 pub returns-then-reads_unset : goal.returns-then-reads_unset
 returns-then-reads_unset c = λ p not_ready m back i decoded size.
-    place_fault m decoded.rules i decoded.legal back c.args.line.now decoded.line c.args.store.now.places c.args.results.now p not_ready
+    place_fault m decoded.rules i decoded.legal back c.args.line.now decoded.line c.args.store.now.places c.args.results p not_ready
     (sym (c.reads_unset.ensures m back i decoded) ∙ c.if-reads_unset.true)
 
 pub returns-then-reads_unset-2 : goal.returns-then-reads_unset-2
 returns-then-reads_unset-2 c = λ p not_ready m back i decoded size.
-    port_fault m decoded.rules i decoded.legal back c.args.line.now decoded.line c.args.store.now.places c.args.results.now p not_ready
+    port_fault m decoded.rules i decoded.legal back c.args.line.now decoded.line c.args.store.now.places c.args.results p not_ready
     (sym (c.reads_unset.ensures m back i decoded) ∙ c.if-reads_unset.false) (sym (c.reads_unset-2.ensures m back i decoded) ∙ c.if-reads_unset-2.true)
 
 pub returns-then-not-note_starts : goal.returns-then-not-note_starts
 returns-then-not-note_starts c = λ p not_ready m back i decoded size.
     let places = c.args.store.now.places in
-    let results = c.args.results.now in
+    let results = c.args.results in
     let line = c.args.line.now in
     let no_place = sym (c.reads_unset.ensures m back i decoded) ∙ c.if-reads_unset.false in
     let no_port = sym (c.reads_unset-2.ensures m back i decoded) ∙ c.if-reads_unset-2.false in
@@ -27,7 +27,7 @@ returns-then-not-note_starts c = λ p not_ready m back i decoded size.
 pub returns : goal.returns
 returns c = λ p not_ready m back i decoded size.
     let places = c.args.store.now.places in
-    let results = c.args.results.now in
+    let results = c.args.results in
     let line = c.args.line.now in
     let no_place = sym (c.reads_unset.ensures m back i decoded) ∙ c.if-reads_unset.false in
     let no_port = sym (c.reads_unset-2.ensures m back i decoded) ∙ c.if-reads_unset-2.false in

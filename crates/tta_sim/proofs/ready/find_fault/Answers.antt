@@ -1,5 +1,9 @@
-use Rattle.std.proofs.Common.{sym, ◌∙◌}
+use Rattle.std.proofs.Common.{Some, sym, ap, ◌∙◌, subst}
 use Rattle.std.specs.Prelude.{is_some}
+use Rattle.tta_sim.specs.Results.{shown_by}
+use Rattle.tta_sim.specs.Lines.{is_ready}
+use Rattle.tta_sim.specs.Ready.{AreNoted}
+use Rattle.tta_sim.specs.Unset.{IsFaultOf}
 use Rattle.tta_sim.proofs.Facing.{none_found}
 use Rattle.tta_sim.proofs.ready.find_fault.Goals as goal
 
@@ -8,5 +12,14 @@ returns-then-is_ready-clause-fault c = λ m back i decoded size.
     none_found m decoded.rules i decoded.legal back c.args.line.now decoded.line c.args.store.now.places c.args.results.now
     (is_some c.args.control.now.pending) _ c.is_ready.ensures.ready c.if-is_ready.true
 
+pub fault_of-requires-clause-noted : goal.fault_of-requires-clause-noted
+fault_of-requires-clause-noted c =
+    subst (λ r. AreNoted c.args.store.now.places (shown_by r) c.args.line.now c.is_ready.new.doings.writes) (sym c.again.ensures) c.is_ready.ensures.noted
+
 pub returns-clause-fault : goal.returns-clause-fault
-returns-clause-fault c = c.fault_of.ensures (is_some c.args.control.now.pending) (sym c.is_ready.ensures.ready ∙ c.if-is_ready.false)
+returns-clause-fault c =
+    let places = c.args.store.now.places in
+    let line = c.args.line.now in
+    let p = is_some c.args.control.now.pending in
+    subst (λ r. IsFaultOf places r p line (Some c.fault_of.result)) c.again.ensures
+    (c.fault_of.ensures p (ap (λ r. is_ready places r p line) c.again.ensures ∙ sym c.is_ready.ensures.ready ∙ c.if-is_ready.false))

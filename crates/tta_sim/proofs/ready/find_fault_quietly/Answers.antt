@@ -1,4 +1,8 @@
-use Rattle.std.proofs.Common.{sym, ◌∙◌}
+use Rattle.std.proofs.Common.{Some, sym, ap, ◌∙◌, subst}
+use Rattle.tta_sim.specs.Results.{shown_by}
+use Rattle.tta_sim.specs.Lines.{is_ready}
+use Rattle.tta_sim.specs.Ready.{AreNoted}
+use Rattle.tta_sim.specs.Unset.{IsFaultOf}
 use Rattle.tta_sim.proofs.Facing.{none_found}
 use Rattle.tta_sim.proofs.ready.find_fault_quietly.Goals as goal
 
@@ -7,5 +11,13 @@ returns-then-is_ready_quietly-clause-fault g c = λ p m back i decoded size.
     none_found m decoded.rules i decoded.legal back c.args.line.now decoded.line c.args.store.now.places c.args.results.now p _ (c.is_ready_quietly.ensures.ready p)
     c.if-is_ready_quietly.true
 
+pub fault_of-requires-clause-noted : goal.fault_of-requires-clause-noted
+fault_of-requires-clause-noted g c =
+    subst (λ r. AreNoted c.args.store.now.places (shown_by r) c.args.line.now c.is_ready_quietly.new.doings.writes) (sym c.again.ensures) c.is_ready_quietly.ensures.noted
+
 pub returns-clause-fault : goal.returns-clause-fault
-returns-clause-fault g c = λ p. c.fault_of.ensures p (sym (c.is_ready_quietly.ensures.ready p) ∙ c.if-is_ready_quietly.false)
+returns-clause-fault g c = λ p.
+    let places = c.args.store.now.places in
+    let line = c.args.line.now in
+    subst (λ r. IsFaultOf places r p line (Some c.fault_of.result)) c.again.ensures
+    (c.fault_of.ensures p (ap (λ r. is_ready places r p line) c.again.ensures ∙ sym (c.is_ready_quietly.ensures.ready p) ∙ c.if-is_ready_quietly.false))
