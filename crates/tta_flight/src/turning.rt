@@ -123,7 +123,9 @@ impl Region {
         requires few { base + count < 2 ^ 64 }
         ensures { IsAdvanced base count self.old self.new }
     {
-        let end = self.units().min(base + count);
+        // So that it is known here that a region has 256 units at most.
+        let _ = self.units();
+        let end = base + count;
         let mut number = base / 64;
         'words: while 64 * number < end {
             self.walk(number, base, end);

@@ -7,8 +7,8 @@ use Rattle.tta_flight.proofs.region.Region.steps.Goals as goal
 pub words-init : goal.words-init
 words-init c =
     let base : ℕ = c.args.base in
-    let end : ℕ = c.min-end.result in
-    let order : base ≤ end = grind (arith, c.min-end.ensures, c.units.ensures.all, c.requires.there) in
+    let end : ℕ = base + c.args.count in
+    let order : base ≤ end = omega arith in
     let from : nearest base end (64 * (base / 64)) ≡ base = nearest_low base end order (64 * (base / 64)) (omega arith) in
     record {
       first = omega arith;
@@ -19,8 +19,8 @@ words-init c =
 pub words-preserved : goal.words-preserved
 words-preserved c =
     let base : ℕ = c.args.base in
-    let end : ℕ = c.min-end.result in
-    let order : base ≤ end = grind (arith, c.min-end.ensures, c.units.ensures.all, c.requires.there) in
+    let end : ℕ = base + c.args.count in
+    let order : base ≤ end = omega arith in
     let start : ℕ = 64 * c.words.number in
     let next : start + 64 ≡ 64 * (c.words.number + 1) = omega arith in
     record {
@@ -34,7 +34,6 @@ words-preserved c =
 pub returns : goal.returns
 returns c =
     let base : ℕ = c.args.base in
-    let all_are : c.min-end.result ≡ base + c.args.count = grind (arith, c.min-end.ensures, c.units.ensures.all, c.requires.there) in
-    let end : ℕ = c.min-end.result in
-    let all : nearest base end (64 * c.words.number) - base ≡ c.args.count = grind (arith, c.words-test.false, all_are) in
+    let end : ℕ = base + c.args.count in
+    let all : nearest base end (64 * c.words.number) - base ≡ c.args.count = grind (arith, c.words-test.false) in
     subst (λ n. IsAdvanced base n c.args.self.now c.words.self) all c.words.invariant.advanced
