@@ -79,7 +79,8 @@ pub fn tells_well(places: &Places, results: &Results<'_>, pending: bool, line: &
     requires { IsLineThere results.now.units line.now }
     ensures { result ≡ tells_well places.now (shown_by results.now) pending line.now.tells }
 {
-    line.quiet || can_tell(places, results, pending, line.tells.as_slice())
+    let moves = line.tells.as_slice();
+    moves.is_empty() || can_tell(places, results, pending, moves)
 }
 
 /// The control move of a line that acts, if any does.
@@ -89,5 +90,9 @@ pub fn told_in(places: &Places, results: &Results<'_>, line: &Line) -> Option<To
     ensures { let tells = tell_brought places.now (shown_by results.now) in
         option_map told_of result ≡ first_some tells line.now.tells }
 {
-    told_by(places, results, line.tells.as_slice())
+    let moves = line.tells.as_slice();
+    if moves.is_empty() {
+        return None;
+    }
+    told_by(places, results, moves)
 }
