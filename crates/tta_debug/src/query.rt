@@ -1,11 +1,10 @@
 //! What one can ask to see of a run.
 
-ghost use Rattle.std.specs.Prelude.{◌≡◌, ◌≤◌, length, option_map};
+ghost use Rattle.std.specs.Prelude.{◌≡◌, length};
 ghost use Rattle.std.specs.List.{position};
 ghost use Rattle.std.specs.Str.{bytes_eq};
-ghost use Rattle.tta_arch.specs.Rules.{IsMachine};
 ghost use Rattle.tta_code.specs.Cycle.{State};
-ghost use Rattle.tta_sim.specs.Held.{Stands, IsRunOf};
+ghost use Rattle.tta_sim.specs.Held.{Stands};
 ghost use Rattle.tta_debug.specs.Commands.{plain_query};
 ghost use Rattle.tta_debug.specs.Debugged as spec;
 

@@ -1,15 +1,12 @@
 //! A region of rings.
 
-ghost use Rattle.std.specs.Prelude.{◌≡◌, ◌<◌, ◌≤◌, ◌+◌, ◌^◌, ℕ, [], length, None, is_some, IfOk};
-ghost use Rattle.std.specs.Prelude.{◌-◌, ◌*◌, ◌/◌, ◌%◌, slice_index_or};
-ghost use Rattle.std.specs.Int.{bit_at};
-ghost use Rattle.tta_flight.specs.Flight.{Flight, started, advanced, port_of, due_of, StandsFor};
-ghost use Rattle.tta_flight.specs.Flight.{StartsAmong, AdvancesAll, StayBeside};
-ghost use Rattle.tta_flight.specs.Rings.{IsStarted, IsAdvanced, IsTurned, AreOver, ring_of};
+ghost use Rattle.std.specs.Prelude.{◌≡◌, ◌<◌, ◌≤◌, ◌+◌, ℕ, [], length, None, is_some, IfOk};
+ghost use Rattle.std.specs.Prelude.{slice_index_or};
+ghost use Rattle.tta_flight.specs.Flight.{Flight, started, port_of, due_of, StandsFor, StartsAmong};
+ghost use Rattle.tta_flight.specs.Rings.{IsStarted, ring_of};
 ghost use Rattle.tta_flight.specs.Rings.{longest_of, due_in, later_in, shown_in, place_of};
-ghost use Rattle.tta_flight.specs.Rings.{nearest};
 
-use crate::marked::{Marked, least_bit, without_bit};
+use crate::marked::Marked;
 use crate::ring::{Ring, carve, empty, size};
 use std::alloc::{AllocError, Global};
 use std::marker::Model;

@@ -1,6 +1,6 @@
 //! Results that begin.
 
-ghost use Rattle.std.specs.Prelude.{◌≡◌, ℕ, map};
+ghost use Rattle.std.specs.Prelude.{ℕ, map};
 ghost use Rattle.tta_sim.specs.Results.{results_at, AreThere};
 ghost use Rattle.tta_sim.specs.Dues.{started_at, CanAllBegin, CanBegin, HasBegun};
 ghost use Rattle.tta_sim.specs.Ready.{Begin, KeepsOthers};

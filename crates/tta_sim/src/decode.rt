@@ -4,9 +4,9 @@ ghost use Rattle.std.specs.Prelude.{◌≡◌, ◌<◌, ◌≤◌, ◌+◌, ◌=
 ghost use Rattle.std.specs.Prelude.{length};
 ghost use Rattle.std.specs.Prelude.{is_some, option_and_then, option_copied, option_map};
 ghost use Rattle.std.specs.Prelude.{option_to_list};
-ghost use Rattle.std.specs.Prelude.{IfOk, OnOk, IsTrue};
+ghost use Rattle.std.specs.Prelude.{IfOk, OnOk};
 ghost use Rattle.std.specs.List.{list_any};
-ghost use Rattle.tta_arch.specs.Effects.{KeptReg, KeptImm, KeptOperand, op_at, width_of};
+ghost use Rattle.tta_arch.specs.Effects.{KeptReg, KeptImm, op_at, width_of};
 ghost use Rattle.tta_sim.specs.Places.{number_of};
 ghost use Rattle.tta_sim.specs.Decoded.{source_decoded, guard_decoded, reading_of, write_decoded};
 ghost use Rattle.tta_sim.specs.Decoded.{start_decoded, tell_decoded, is_loud_start, is_quiet};

@@ -1,10 +1,9 @@
 //! The results that operations show.
 
-ghost use Rattle.std.specs.Prelude.{◌≡◌, ◌<◌, ◌≤◌, ◌++◌, not, true, false, length, is_some};
+ghost use Rattle.std.specs.Prelude.{◌≡◌, ◌<◌, ◌≤◌, ◌++◌, not, true, false, length};
 ghost use Rattle.std.specs.Prelude.{option_map, option_to_list, IsTrue};
 ghost use Rattle.std.specs.List.{filter_map, list_any, AllByRecursion};
 ghost use Rattle.tta_ops.specs.Set.{stated};
-ghost use Rattle.tta_arch.specs.Effects.{has_result};
 ghost use Rattle.tta_sim.specs.Results.{shown_by};
 ghost use Rattle.tta_sim.specs.Lines.{is_start_there, operand_in, start_brought, cannot_start};
 ghost use Rattle.tta_sim.specs.Dues.{due_with, shows, shown_from};

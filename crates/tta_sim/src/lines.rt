@@ -1,6 +1,6 @@
 //! What the moves of a decoded instruction bring.
 
-ghost use Rattle.std.specs.Prelude.{◌≡◌, ◌<◌, ◌≤◌, ◌+◌, ◌^◌, ◌++◌, ◌&&◌, ◌||◌, not, true, false, is_none};
+ghost use Rattle.std.specs.Prelude.{◌≡◌, ◌<◌, ◌≤◌, ◌+◌, ◌++◌, ◌&&◌, not, true, false, is_none};
 ghost use Rattle.std.specs.Prelude.{◌==◌, Some, if◌then◌else◌, length, option_to_list, IsTrue};
 ghost use Rattle.std.specs.List.{filter_map, list_any, AllByRecursion};
 ghost use Rattle.tta_arch.specs.Effects.{KeptOperand};

@@ -1,6 +1,6 @@
 //! The data space, the frame space and the output.
 
-ghost use Rattle.std.specs.Prelude.{◌≡◌, fold, length, option_map, replicate, slice_index};
+ghost use Rattle.std.specs.Prelude.{◌≡◌, fold, option_map, replicate, slice_index};
 ghost use Rattle.std.specs.Prelude.{slice_set, IfOk};
 ghost use Rattle.std.specs.List.{find};
 ghost use Rattle.tta_arch.specs.Effects.{store_data, store_frame};

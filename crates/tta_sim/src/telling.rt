@@ -1,6 +1,6 @@
 //! The control moves of a decoded instruction.
 
-ghost use Rattle.std.specs.Prelude.{◌≡◌, length, option_map, IsTrue};
+ghost use Rattle.std.specs.Prelude.{◌≡◌, option_map, IsTrue};
 ghost use Rattle.std.specs.List.{list_any, AllByRecursion};
 ghost use Rattle.tta_arch.specs.Effects.{first_some};
 ghost use Rattle.tta_sim.specs.Results.{shown_by};

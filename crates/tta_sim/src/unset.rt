@@ -1,6 +1,6 @@
 //! Reads of words that were never written.
 
-ghost use Rattle.std.specs.Prelude.{◌≡◌, ◌||◌, ℕ, length, IsTrue};
+ghost use Rattle.std.specs.Prelude.{◌≡◌, ℕ, IsTrue};
 ghost use Rattle.std.specs.List.{list_any};
 ghost use Rattle.tta_arch.specs.Machine.{Machine};
 ghost use Rattle.tta_code.specs.declared.code.Instruction.{Instruction};

@@ -1,7 +1,5 @@
 //! The run of code, as the loops see it.
 
-ghost use Rattle.tta_run.specs.Meaning.{Meaning};
-
 use tta_arch::Machine;
 use tta_code::Code;
 use tta_ops::UnitSet;

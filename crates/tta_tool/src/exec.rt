@@ -1,6 +1,6 @@
 //! The command `exec`: a program is run by its sequential meaning.
 
-ghost use Rattle.std.specs.Prelude.{◌≡◌, ◌<◌, ◌^◌, length, option_map, IfOk};
+ghost use Rattle.std.specs.Prelude.{◌<◌, ◌^◌, length, option_map, IfOk};
 ghost use Rattle.tta_ops.specs.Set.{stated};
 ghost use Rattle.tta_code.specs.Agrees.{program_at};
 ghost use Rattle.tta_tool.specs.World.{world};

@@ -1,7 +1,5 @@
 //! The run of a program, as the loops see it.
 
-ghost use Rattle.tta_run.specs.Meaning.{Meaning};
-
 use tta_ops::UnitSet;
 use tta_program::Program;
 use tta_run::{Run, Went};
