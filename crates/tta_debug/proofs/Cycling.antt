@@ -4,7 +4,7 @@ use Rattle.std.proofs.Math.Seq.{drop-append_seam}
 use Rattle.std.specs.List.{filter_map}
 use Rattle.tta_ops.specs.Units.{Units}
 use Rattle.tta_arch.specs.Machine.{Machine}
-use Rattle.tta_arch.specs.Effects.{Kind, Jumps, Calls, Halts, Brought, Start, Written, control_of, first_some, bring, write_of, start_of}
+use Rattle.tta_arch.specs.Effects.{Kind, Jumps, Calls, Halts, control_of, first_some, bring, write_of, start_of}
 use Rattle.tta_code.specs.declared.code.Code.{Code}
 use Rattle.tta_code.specs.declared.code.Instruction.{Instruction}
 use Rattle.tta_code.specs.Cycle.{State, Outcome, Running, Halted, Waiting, Fault, Pending, next, next_of, carry_out, or_fault, or_wait, waits, acts, lands, takes_effect, pending_after, effects_of, read_source, fault_of}
@@ -13,7 +13,7 @@ use Rattle.tta_print.specs.Replies.{reply_text}
 use Rattle.tta_list.specs.Input.{left}
 use Rattle.tta_sim.specs.Held.{Stands}
 use Rattle.tta_debug.specs.Debugged.{Debugged, Said, texts, is_running, is_waiting, moved, puts, rests, saying, cycles}
-use Rattle.tta_debug.specs.Sessions.{Session', Output, Follows, IsOver, IsMade, IsPut, IsCut, word_text}
+use Rattle.tta_debug.specs.Sessions.{Session', Output, IsOver, IsMade, IsPut, IsCut, word_text}
 
 -- ---- how a cycle leaves the run
 

@@ -6,7 +6,7 @@ use Rattle.std.proofs.lemmas.List.{drop_more}
 use Rattle.tta_list.proofs.Lists.{all_append}
 use Rattle.tta_arch.specs.declared.parts.Unit.{Unit as OpUnit}
 use Rattle.tta_arch.specs.Machine.{Machine}
-use Rattle.tta_arch.specs.Rules.{IsMachine, IsMachineName, names_of}
+use Rattle.tta_arch.specs.Rules.{IsMachine, IsMachineName}
 use Rattle.tta_code.specs.Cycle.{Result'}
 use Rattle.std.specs.Io.KnownBytes.{append_known}
 use Rattle.tta_print.proofs.Puts.{HasPut}

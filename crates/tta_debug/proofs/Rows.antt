@@ -1,5 +1,5 @@
 -- Worked sessions.
-use Rattle.std.specs.Prelude.{◌≡◌, ℕ, List, [], ◌∷◌, ◌++◌, map, if◌then◌else◌, true, false, Some, None, Option, Result, Ok, Err, codes, refl}
+use Rattle.std.specs.Prelude.{◌≡◌, ℕ, List, [], ◌∷◌, ◌++◌, map, if◌then◌else◌, Some, None, Option, Result, Ok, Err, codes, refl}
 use Rattle.tta_print.specs.declared.reply.Reply.TheVariants as reply
 use Rattle.tta_print.specs.Replies.{reply_text, due_text}
 use Rattle.tta_ops.specs.Units.{Units}
@@ -10,7 +10,6 @@ use Rattle.tta_text.specs.Numbers.{number_of, negative_of, digits_of, value_belo
 use Rattle.tta_code.specs.declared.code.Code.{Code}
 use Rattle.tta_code.specs.declared.code.Instruction.{Instruction}
 use Rattle.tta_code.specs.Cycle.{start, next}
-use Rattle.tta_arch.specs.declared.ends.Source.{Source}
 use Rattle.tta_arch.specs.declared.ends.Source.TheVariants as source
 use Rattle.tta_arch.specs.declared.ends.Dest.TheVariants as dest
 use Rattle.tta_code.proofs.Rows.{go, three, echo}

@@ -1,5 +1,5 @@
 -- A stretch of cycles, cycle by cycle.
-use Rattle.std.proofs.Common.{◌≡◌, ℕ, zero, suc, Bool, true, false, true≢false, ◌&&◌, if◌then◌else◌, not, List, [], ◌∷◌, ◌++◌, take, Option, refl, sym, ap, ◌∙◌, append_assoc, append-nil, subst}
+use Rattle.std.proofs.Common.{◌≡◌, ℕ, suc, Bool, true, false, true≢false, ◌&&◌, if◌then◌else◌, not, List, [], ◌∷◌, ◌++◌, take, refl, sym, ap, ◌∙◌, append_assoc, append-nil, subst}
 use Rattle.std.specs.Prelude.{Result, Ok, Err, IsErr}
 use Rattle.std.specs.Io.KnownBytes.{append_known}
 use Rattle.std.proofs.lemmas.Grind.{flat_map-append}
@@ -7,7 +7,7 @@ use Rattle.tta_ports.specs.Faults.{Rose}
 use Rattle.tta_ports.specs.declared.error.Failed.{Failed}
 use Rattle.tta_print.proofs.Puts.{append_known-nil, append_known-twice}
 use Rattle.tta_code.specs.Cycle.{State}
-use Rattle.tta_debug.specs.Debugged.{Debugged, has, is_at_stop, Said, Went, texts, is_running, is_waiting, moved, puts, rests, saying, cycles}
+use Rattle.tta_debug.specs.Debugged.{Debugged, has, is_at_stop, Said, Went, texts, is_waiting, moved, puts, rests, saying, cycles}
 use Rattle.tta_debug.specs.Sessions.{Session', Output, Follows, IsPut, IsCut, IsQuiet, IsStopped, IsOver, IsMade, IsStuck, Runs}
 
 -- the bytes of lines and of others

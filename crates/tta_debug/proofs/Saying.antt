@@ -1,6 +1,6 @@
 -- What a command has said.
-use Rattle.std.proofs.Common.{◌≡◌, ◌≤◌, ◌+◌, ◌-◌, ℕ, zero, suc, Bool, true, false, nat_le, List, [], ◌∷◌, ◌++◌, length, take, drop, Option, refl, sym, ap, ◌∙◌, append_assoc, append-nil, subst, arith}
-use Rattle.std.specs.Prelude.{Result, Ok, Err, IsErr}
+use Rattle.std.proofs.Common.{◌≡◌, ◌≤◌, ◌+◌, ◌-◌, ℕ, zero, suc, Bool, true, false, nat_le, List, [], ◌∷◌, ◌++◌, length, take, drop, refl, sym, ap, ◌∙◌, append_assoc, append-nil, subst, arith}
+use Rattle.std.specs.Prelude.{Result, Ok, Err}
 use Rattle.std.specs.List.{AllByRecursion}
 use Rattle.std.specs.Io.KnownBytes.{append_known}
 use Rattle.std.proofs.Math.Seq.{take-append-add}
@@ -16,8 +16,8 @@ use Rattle.tta_debug.specs.declared.told.Told.{Told}
 use Rattle.tta_debug.specs.declared.told.Told.TheVariants.{More, Bye}
 use Rattle.tta_debug.specs.declared.told.CommandError.{CommandError}
 use Rattle.tta_debug.specs.declared.told.CommandError.TheVariants.{Refused, SinkFailed}
-use Rattle.tta_debug.specs.Debugged.{Debugged, Said, Done, texts, say, stops_set}
-use Rattle.tta_debug.specs.Sessions.{Session', Output, Follows, IsPut, IsCut, IsStopped, Does, Keeps, SaysLine}
+use Rattle.tta_debug.specs.Debugged.{Debugged, Said, texts, say, stops_set}
+use Rattle.tta_debug.specs.Sessions.{Session', Output, Follows, IsPut, IsStopped, Does, Keeps, SaysLine}
 use Rattle.tta_debug.proofs.Running.{put_both}
 
 -- whether an answer ends the session

@@ -1,5 +1,5 @@
 -- How the first line of a script is cut off.
-use Rattle.std.proofs.Common.{◌≡◌, ℕ, zero, suc, ◌+◌, ◌≤◌, ◌<◌, ◌==◌, Bool, true, false, not, if◌then◌else◌, List, [], ◌∷◌, length, take, drop, refl, sym, ap, ◌∙◌, arith}
+use Rattle.std.proofs.Common.{◌≡◌, ℕ, zero, suc, ◌<◌, ◌==◌, true, false, if◌then◌else◌, List, [], ◌∷◌, length, take, drop, ap, ◌∙◌, arith}
 use Rattle.tta_debug.specs.Scripts.{line_len, onto_first, lines_of}
 
 -- bytes without newline are one line

@@ -1,5 +1,5 @@
 -- What there is to see, where its place is known.
-use Rattle.std.proofs.Common.{◌≡◌, ◌<◌, ◌≤◌, arith, true, false, ℕ, Bool, nat_lt, if◌then◌else◌, List, Option, Some, None, is_some, option_and_then, slice_get, get_or, length, refl, sym, ap, ◌∙◌}
+use Rattle.std.proofs.Common.{◌≡◌, ◌<◌, ◌≤◌, arith, true, false, ℕ, Bool, nat_lt, if◌then◌else◌, List, Some, None, is_some, option_and_then, slice_get, get_or, length, refl, sym, ap, ◌∙◌}
 use Rattle.std.proofs.lemmas.Bool.{lt-ltb, ltb-true}
 use Rattle.std.proofs.lemmas.Option.{slice_get_read}
 use Rattle.std.proofs.lemmas.List.Quantifiers.{position-Some}

@@ -1,5 +1,5 @@
 -- What a session holds, what it stands for, and what a command does to it and to the output.
-use Rattle.std.specs.Prelude.{◌≡◌, ◌<◌, ℕ, suc, Bool, true, false, List, [], ◌∷◌, ◌++◌, take, drop, Option, None, Some, Result, Ok, Err}
+use Rattle.std.specs.Prelude.{◌≡◌, ℕ, suc, Bool, true, false, List, [], ◌∷◌, ◌++◌, take, drop, Option, None, Some, Result, Ok, Err}
 use Rattle.std.specs.Io.KnownBytes.{append_known}
 use Rattle.tta_ports.specs.Faults.{Rose}
 use Rattle.tta_ports.specs.declared.error.Failed.{Failed}

@@ -1,4 +1,4 @@
-use Rattle.std.proofs.Common.{◌≡◌, ◌+◌, ◌++◌, drop, ap, sym, ◌∙◌, subst, get_or}
+use Rattle.std.proofs.Common.{◌+◌, ◌++◌, drop, ap, sym, ◌∙◌, subst, get_or}
 use Rattle.tta_arch.specs.declared.parts.Unit.{Unit as OpUnit}
 use Rattle.tta_print.proofs.Puts.{HasPut, put_more, put_part, part_is_put}
 use Rattle.tta_debug.specs.Debugged.{texts, unit_lines, due_lines}

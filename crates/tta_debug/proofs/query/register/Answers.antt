@@ -1,4 +1,4 @@
-use Rattle.std.proofs.Common.{◌≡◌, ◌<◌, ◌≤◌, true, false, nat_lt, Some, sym, ap, ◌∙◌, arith}
+use Rattle.std.proofs.Common.{true, false, nat_lt, Some, sym, ap, ◌∙◌}
 use Rattle.tta_arch.specs.declared.parts.File.{File}
 use Rattle.tta_arch.specs.Machine.{Machine}
 use Rattle.tta_debug.specs.Debugged.{value}

@@ -1,4 +1,4 @@
-use Rattle.std.proofs.Common.{◌≡◌, true, false, is_some, Some, sym, ap, ◌∙◌}
+use Rattle.std.proofs.Common.{true, false, is_some, Some, sym, ap, ◌∙◌}
 use Rattle.tta_arch.specs.declared.parts.Unit.{Unit as OpUnit}
 use Rattle.tta_arch.specs.Machine.{Machine}
 use Rattle.tta_debug.specs.Debugged.{value}

@@ -1,9 +1,7 @@
-use Rattle.std.proofs.Common.{◌≡◌, ◌+◌, slice_get, refl, sym, ap, ◌∙◌, false, true, true≢false, subst}
-use Rattle.std.specs.Prelude.{Err, Ok}
+use Rattle.std.proofs.Common.{slice_get, refl, sym, ap, ◌∙◌, true≢false, subst}
 use Rattle.tta_ops.specs.Set.{stated}
-use Rattle.tta_code.specs.Cycle.{State, next, Halted}
-use Rattle.tta_list.specs.Input.{left}
-use Rattle.tta_debug.specs.Debugged.{is_running, is_waiting}
+use Rattle.tta_code.specs.Cycle.{next}
+use Rattle.tta_debug.specs.Debugged.{is_running}
 use Rattle.tta_debug.specs.Sessions.{Follows, Cycles, output}
 use Rattle.tta_debug.proofs.Cycling.{made_by, on_by, cut_by, over_by}
 use Rattle.tta_debug.proofs.run.cycle.Goals.{in-Ok, in-Err}

@@ -1,9 +1,9 @@
-use Rattle.std.proofs.Common.{◌&&◌, sym, ap, ◌∙◌, subst, ◌≡◌}
+use Rattle.std.proofs.Common.{◌&&◌, ap, ◌∙◌, subst}
 use Rattle.tta_ops.specs.Set.{stated}
 use Rattle.tta_print.specs.Replies.{reply_text}
 use Rattle.tta_code.specs.Cycle.{next}
 use Rattle.tta_debug.specs.declared.told.Told.TheVariants.{More}
-use Rattle.tta_debug.specs.Debugged.{Debugged, is_at_stop, cycles, stopped, say}
+use Rattle.tta_debug.specs.Debugged.{is_at_stop, cycles, stopped, say}
 use Rattle.tta_debug.specs.Sessions.{output, SaysLine}
 use Rattle.tta_debug.proofs.Saying.{said_after, stopped_first}
 use Rattle.tta_debug.proofs.run.run.Goals as goal

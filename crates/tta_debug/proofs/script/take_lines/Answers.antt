@@ -1,12 +1,50 @@
-use Rattle.std.proofs.Common.{refl, ◌∙◌, subst, arith}
-use Rattle.std.specs.Prelude.{Ok}
+use Rattle.std.proofs.Common.{ℕ, true, List, refl, ◌∙◌, subst, arith}
+use Rattle.std.specs.Prelude.{Ok, Result}
 use Rattle.std.proofs.lemmas.Grind.{common_steps}
 use Rattle.tta_ops.specs.Set.{stated}
-use Rattle.tta_debug.specs.Debugged.{command, session}
-use Rattle.tta_debug.specs.Sessions.{output}
+use Rattle.tta_ops.specs.Units.{Units}
+use Rattle.tta_arch.specs.Machine.{Machine}
+use Rattle.tta_code.specs.declared.code.Code.{Code}
+use Rattle.tta_debug.specs.Debugged.{Debugged, Done, command, session}
+use Rattle.tta_debug.specs.Sessions.{Follows, Output, output}
 use Rattle.tta_debug.specs.Scripts.{TakesLine, lines_of, script_says}
 use Rattle.tta_debug.proofs.Folding.{taken_first, taken_on, taken_bye, taken_cut, taken_last, script_cut, no_lines, replied_first, replied_on, replied_stopped, script_stopped}
+use Rattle.tta_debug.proofs.script.take_lines.Given as given
+use Rattle.tta_debug.proofs.script.take_lines.Goals.{After-take_line}
 use Rattle.tta_debug.proofs.script.take_lines.Goals as goal
+
+-- ---- a line
+
+module _ (g : given.Over) (c : After-take_line g) where
+  abbrev U : Units
+  U = stated (λ v. (goal.OpUnit-dyn g v).unit_meaning v.1) c.args.basis.now.units.now
+
+  abbrev m : Machine
+  m = c.args.basis.now.m.now
+
+  abbrev code : Code
+  code = c.args.basis.now.code.now
+
+  abbrev input : List ℕ
+  input = c.args.basis.now.input.now
+
+  -- the output when the lines began
+  abbrev old : Output
+  old = output (g.S.Sink.taken c.args.sink.now) (g.S.Sink.faults c.args.sink.now)
+
+  -- before the line
+  abbrev mid : Output
+  mid = output (g.S.Sink.taken c.lines.sink) (g.S.Sink.faults c.lines.sink)
+
+  -- and after it
+  abbrev new : Output
+  new = output (g.S.Sink.taken c.take_line.new.sink) (g.S.Sink.faults c.take_line.new.sink)
+
+  -- what the line does
+  abbrev said : Debugged → Result Done ℕ
+  said now = command U m code c.cut_line-cut.result.line.now now
+
+-- ---- the lines
 
 pub lines-init : goal.lines-init
 lines-init g c =
@@ -23,66 +61,50 @@ lines-init g c =
 
 pub returns-in_err-goes-clause-replies : goal.returns-in_err-goes-clause-replies
 returns-in_err-goes-clause-replies g c = λ d f.
-    let U = stated (λ v. (goal.OpUnit-dyn g v).unit_meaning v.1) c.args.basis.now.units.now in
-    let old = output (g.S.Sink.taken c.args.sink.now) (g.S.Sink.faults c.args.sink.now) in
-    let mid = output (g.S.Sink.taken c.lines.sink) (g.S.Sink.faults c.lines.sink) in
-    let new = output (g.S.Sink.taken c.take_line.new.sink) (g.S.Sink.faults c.take_line.new.sink) in
+    let at = (goal.at.returns-in_err-goes-clause-replies g c).After-take_line in
     let taken = c.lines.invariant.taken d f in
-    script_cut c.args.basis.now.input.now (session U c.args.basis.now.m.now c.args.basis.now.code.now (lines_of c.args.script.now) d) c.take_line.new.session old new c.from_residual.result c.from_residual.ensures.0
-    (taken_cut U c.args.basis.now.m.now c.args.basis.now.code.now c.args.basis.now.input.now _ _ _ _ d c.lines.session c.take_line.new.session old mid new c.cut_line-cut.ensures.cut taken
+    script_cut (input g at) (session (U g at) (m g at) (code g at) (lines_of c.args.script.now) d) c.take_line.new.session (old g at) (new g at) c.from_residual.result c.from_residual.ensures.0
+    (taken_cut (U g at) (m g at) (code g at) (input g at) _ _ _ _ d c.lines.session c.take_line.new.session (old g at) (mid g at) (new g at) c.cut_line-cut.ensures.cut taken
     (c.in_err-goes.ensures.told taken.now taken.follows))
 
 pub returns-in_err-goes-clause-stopped : goal.returns-in_err-goes-clause-stopped
 returns-in_err-goes-clause-stopped g c = λ d f.
-    let U = stated (λ v. (goal.OpUnit-dyn g v).unit_meaning v.1) c.args.basis.now.units.now in
-    let old = output (g.S.Sink.taken c.args.sink.now) (g.S.Sink.faults c.args.sink.now) in
-    let mid = output (g.S.Sink.taken c.lines.sink) (g.S.Sink.faults c.lines.sink) in
-    let new = output (g.S.Sink.taken c.take_line.new.sink) (g.S.Sink.faults c.take_line.new.sink) in
+    let at = (goal.at.returns-in_err-goes-clause-stopped g c).After-take_line in
     let replied = c.lines.invariant.replied d f in
-    script_stopped c.args.basis.now.input.now (script_says U c.args.basis.now.m.now c.args.basis.now.code.now (lines_of c.args.script.now) d) c.take_line.new.session old new c.from_residual.result c.from_residual.ensures.0
-    (replied_stopped U c.args.basis.now.m.now c.args.basis.now.code.now c.args.basis.now.input.now _ _ _ _ d c.lines.session c.take_line.new.session old mid new c.cut_line-cut.ensures.cut replied
+    script_stopped (input g at) (script_says (U g at) (m g at) (code g at) (lines_of c.args.script.now) d) c.take_line.new.session (old g at) (new g at) c.from_residual.result c.from_residual.ensures.0
+    (replied_stopped (U g at) (m g at) (code g at) (input g at) _ _ _ _ d c.lines.session c.take_line.new.session (old g at) (mid g at) (new g at) c.cut_line-cut.ensures.cut replied
     (c.in_err-goes.ensures.stopped replied.now replied.follows))
 
 pub returns-then-not-goes-clause-replies : goal.returns-then-not-goes-clause-replies
 returns-then-not-goes-clause-replies g c = λ d f.
-    let U = stated (λ v. (goal.OpUnit-dyn g v).unit_meaning v.1) c.args.basis.now.units.now in
-    let old = output (g.S.Sink.taken c.args.sink.now) (g.S.Sink.faults c.args.sink.now) in
-    let mid = output (g.S.Sink.taken c.lines.sink) (g.S.Sink.faults c.lines.sink) in
-    let new = output (g.S.Sink.taken c.take_line.new.sink) (g.S.Sink.faults c.take_line.new.sink) in
+    let at = (goal.at.returns-then-not-goes-clause-replies g c).After-take_line in
     let taken = c.lines.invariant.taken d f in
-    let said = command U c.args.basis.now.m.now c.args.basis.now.code.now c.cut_line-cut.result.line.now taken.now in
-    taken_bye U c.args.basis.now.m.now c.args.basis.now.code.now c.args.basis.now.input.now _ _ _ _ d c.lines.session c.take_line.new.session old mid new c.cut_line-cut.ensures.cut taken
-    (subst (λ b. TakesLine c.args.basis.now.input.now taken.now said c.take_line.new.session mid new (Ok b)) c.if-not-goes.true (c.in_ok-goes.ensures.told taken.now taken.follows))
+    taken_bye (U g at) (m g at) (code g at) (input g at) _ _ _ _ d c.lines.session c.take_line.new.session (old g at) (mid g at) (new g at) c.cut_line-cut.ensures.cut taken
+    (subst (λ b. TakesLine (input g at) taken.now (said g at taken.now) c.take_line.new.session (mid g at) (new g at) (Ok b)) c.if-not-goes.true (c.in_ok-goes.ensures.told taken.now taken.follows))
 
 pub lines-preserved : goal.lines-preserved
 lines-preserved g c =
+    let at = (goal.at.lines-preserved g c).After-take_line in
     let few = c.lines.invariant.few in
     let short = c.lines.invariant.short in
     let counted = c.take_line.ensures.counted in
     let less = c.cut_line-cut.ensures.less in
+    let goes_on : (now : Debugged) → Follows (input g at) c.lines.session now
+    → TakesLine (input g at) now (said g at now) c.take_line.new.session (mid g at) (new g at) (Ok true) =
+    λ now follows. subst (λ b. TakesLine (input g at) now (said g at now) c.take_line.new.session (mid g at) (new g at) (Ok b)) c.if-not-goes.false (c.in_ok-goes.ensures.told now follows) in
     record {
       loaded = c.take_line.ensures.loaded;
       few = omega arith;
       short = omega arith;
       faults = c.in_ok-goes.ensures.cause ∙ c.lines.invariant.faults;
       taken = λ d f.
-          let U = stated (λ v. (goal.OpUnit-dyn g v).unit_meaning v.1) c.args.basis.now.units.now in
-          let old = output (g.S.Sink.taken c.args.sink.now) (g.S.Sink.faults c.args.sink.now) in
-          let mid = output (g.S.Sink.taken c.lines.sink) (g.S.Sink.faults c.lines.sink) in
-          let new = output (g.S.Sink.taken c.take_line.new.sink) (g.S.Sink.faults c.take_line.new.sink) in
           let taken = c.lines.invariant.taken d f in
-          let said = command U c.args.basis.now.m.now c.args.basis.now.code.now c.cut_line-cut.result.line.now taken.now in
-          taken_on U c.args.basis.now.m.now c.args.basis.now.code.now c.args.basis.now.input.now _ _ _ _ d c.lines.session c.take_line.new.session old mid new c.cut_line-cut.ensures.cut taken
-          (subst (λ b. TakesLine c.args.basis.now.input.now taken.now said c.take_line.new.session mid new (Ok b)) c.if-not-goes.false (c.in_ok-goes.ensures.told taken.now taken.follows));
+          taken_on (U g at) (m g at) (code g at) (input g at) _ _ _ _ d c.lines.session c.take_line.new.session (old g at) (mid g at) (new g at) c.cut_line-cut.ensures.cut taken
+          (goes_on taken.now taken.follows);
       replied = λ d f.
-          let U = stated (λ v. (goal.OpUnit-dyn g v).unit_meaning v.1) c.args.basis.now.units.now in
-          let old = output (g.S.Sink.taken c.args.sink.now) (g.S.Sink.faults c.args.sink.now) in
-          let mid = output (g.S.Sink.taken c.lines.sink) (g.S.Sink.faults c.lines.sink) in
-          let new = output (g.S.Sink.taken c.take_line.new.sink) (g.S.Sink.faults c.take_line.new.sink) in
           let replied = c.lines.invariant.replied d f in
-          let said = command U c.args.basis.now.m.now c.args.basis.now.code.now c.cut_line-cut.result.line.now replied.now in
-          replied_on U c.args.basis.now.m.now c.args.basis.now.code.now c.args.basis.now.input.now _ _ _ _ d c.lines.session c.take_line.new.session old mid new c.cut_line-cut.ensures.cut replied
-          (subst (λ b. TakesLine c.args.basis.now.input.now replied.now said c.take_line.new.session mid new (Ok b)) c.if-not-goes.false (c.in_ok-goes.ensures.told replied.now replied.follows));
+          replied_on (U g at) (m g at) (code g at) (input g at) _ _ _ _ d c.lines.session c.take_line.new.session (old g at) (mid g at) (new g at) c.cut_line-cut.ensures.cut replied
+          (goes_on replied.now replied.follows);
     }
 
 pub returns-clause-replies : goal.returns-clause-replies
