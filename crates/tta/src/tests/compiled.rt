@@ -1,7 +1,7 @@
 //! Programs are compiled, and their images run: they print what the programs print.
 
 use super::host::{Case, Host, none_other};
-use super::texts::{ONE_BUS, THREE_BUSES};
+use super::texts::{CALLS, NOT_WHEN, ONE_BUS, THREE_BUSES, WHEN};
 use std::alloc::{AllocError, Global};
 use std::test::Fail;
 use tta_tool::Status;
@@ -84,44 +84,9 @@ const TEXTS: [(&str, &str); 15] = [
     ("F", FEW_WORDS),
     ("I", ""),
     ("S", "00000005\n00000006\n"),
-    (
-        "CALLS",
-        "proc sq x\n\
-         y = mul x x\n\
-         return y\n\
-         end\n\
-         proc main\n\
-         a = 3\n\
-         b = call sq a\n\
-         c = call sq 5\n\
-         d = add a b\n\
-         d = add d c\n\
-         out d\n\
-         halt\n\
-         end\n",
-    ),
-    (
-        "WHEN",
-        "proc main\n\
-         x = 1\n\
-         a = 5\n\
-         b = 5\n\
-         y = 9\n\
-         when ge a b x = y\n\
-         out x\n\
-         end\n",
-    ),
-    (
-        "NOT_WHEN",
-        "proc main\n\
-         x = 1\n\
-         a = 5\n\
-         b = 6\n\
-         y = 9\n\
-         when ge a b x = y\n\
-         out x\n\
-         end\n",
-    ),
+    ("CALLS", CALLS),
+    ("WHEN", WHEN),
+    ("NOT_WHEN", NOT_WHEN),
     ("ENDLESS", "proc main\nl:\ngoto l\nend\n"),
     (
         "STORES",

@@ -1,6 +1,7 @@
 //! Worked programs are run, and what each prints is compared.
 
 use super::host::{Case, Host};
+use super::texts::{CALLS, NOT_WHEN, WHEN};
 use std::test::Fail;
 use tta_tool::Status;
 
@@ -17,30 +18,9 @@ const MACHINE: &str = "bus B short 8 unsigned\n\
 const TEXTS: [(&str, &str); 16] = [
     ("M", MACHINE),
     ("I", ""),
-    (
-        "CALLS",
-        "proc sq x\n\
-         y = mul x x\n\
-         return y\n\
-         end\n\
-         proc main\n\
-         a = 3\n\
-         b = call sq a\n\
-         c = call sq 5\n\
-         d = add a b\n\
-         d = add d c\n\
-         out d\n\
-         halt\n\
-         end\n",
-    ),
-    (
-        "WHEN",
-        "proc main\nx = 1\na = 5\nb = 5\ny = 9\nwhen ge a b x = y\nout x\nend\n",
-    ),
-    (
-        "NOT_WHEN",
-        "proc main\nx = 1\na = 5\nb = 6\ny = 9\nwhen ge a b x = y\nout x\nend\n",
-    ),
+    ("CALLS", CALLS),
+    ("WHEN", WHEN),
+    ("NOT_WHEN", NOT_WHEN),
     (
         "STORES",
         "proc main\nstore 1023 7\nstore 1024 8\na = load 1023\nb = load 1024\nout a\nout b\nend\n",
