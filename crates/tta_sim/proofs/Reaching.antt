@@ -19,31 +19,41 @@ use Rattle.tta_sim.specs.Kept.{held_of, kept_as, IsAtLine, IsCarried, IsCycle}
 use Rattle.tta_sim.proofs.Going.{Here, line_here, goes_stands, goes_answer}
 use Rattle.tta_sim.proofs.Owning.{units_there}
 
-module _ (m : Machine) (code : Code) (h : HeldState) (rules : IsMachine m) (run : IsStateOf m code h)
-    (base : ℕ) (region : Rings) (has : HasUnits base m region) (part : Part) (part_is : part ≡ record { base = base; count = length m.units })
-    (lines : List Line) (store : Store) (control : Control) (view : held_of lines store control ≡ h) (running : control.phase ≡ phase.Running)
-    (within : control.pc < length code.words) (delay : ℕ) (delay_is : delay ≡ m.control.delay)
-    (read : List Line) (read_is : read ≡ lines) (line : Line) (line_is : line ≡ get_or read control.pc line) where
+-- A run that goes on is at an address within its code, this is the line there, and the machine has these units of the region.
+pub record Reached (m : Machine) (code : Code) (h : HeldState) (base : ℕ) (region : Rings) (part : Part) (lines : List Line) (store : Store) (control : Control)
+    (delay : ℕ) (line : Line) : Type 0 where
+  pub rules : IsMachine m
+  pub run : IsStateOf m code h
+  pub has : HasUnits base m region
+  pub part_is : part ≡ record { base = base; count = length m.units }
+  pub view : held_of lines store control ≡ h
+  pub running : control.phase ≡ phase.Running
+  pub within : control.pc < length code.words
+  pub delay_is : delay ≡ m.control.delay
+  pub line_is : line ≡ get_or lines control.pc line
+
+module _ {m : Machine} {code : Code} {h : HeldState} {base : ℕ} {region : Rings} {part : Part} {lines : List Line} {store : Store} {control : Control} {delay : ℕ} {line : Line}
+    (r : Reached m code h base region part lines store control delay line) where
   size : part.count ≡ length m.units
-  size = ap (λ p. p.count) part_is
+  size = ap (λ p. p.count) r.part_is
 
   has_part : HasUnits part.base m region
-  has_part = subst (λ p. HasUnits p.base m region) (sym part_is) has
+  has_part = subst (λ p. HasUnits p.base m region) (sym r.part_is) r.has
 
   -- the instruction there
   here : Here m code control.pc delay store (results_at part region) line
   here =
-      line_here m code h rules run control.pc delay read store (results_at part region) line within delay_is (read_is ∙ ap (λ k. k.lines) view) line_is has_part size
+      line_here m code h r.rules r.run control.pc delay lines store (results_at part region) line r.within r.delay_is (ap (λ k. k.lines) r.view) r.line_is has_part size
 
   -- its line can be carried out
   pub at_line : h.cycle < 2 ^ 62 → IsAtLine part line (kept_as store control region)
   at_line few = record {
-    running = running;
+    running = r.running;
     units = units_there part m region has_part size;
     there = here.there;
     fitting = here.fits;
-    few = omega (arith, few, ap (λ k. k.cycle) view);
-    within = omega (arith, within, run.reached);
+    few = omega (arith, few, ap (λ k. k.cycle) r.view);
+    within = omega (arith, r.within, r.run.reached);
   }
 
   module _ (u : Units) (next : Option ℕ) (store' : Store) (control' : Control) (region' : Rings) (answer : CycleStep)
@@ -51,27 +61,27 @@ module _ (m : Machine) (code : Code) (h : HeldState) (rules : IsMachine m) (run 
     -- the code stays
     pub code_stays : IsStateOf m code (held_of lines store' control')
     code_stays = record {
-      legal = run.legal;
-      reached = run.reached;
-      decoded = ap (λ k. k.lines) view ∙ run.decoded;
-      memory = made.memory ∙ ap (λ k. length k.memory) view ∙ run.memory;
-      frame = made.frame ∙ ap (λ k. length k.frame) view ∙ run.frame;
+      legal = r.run.legal;
+      reached = r.run.reached;
+      decoded = ap (λ k. k.lines) r.view ∙ r.run.decoded;
+      memory = made.memory ∙ ap (λ k. length k.memory) r.view ∙ r.run.memory;
+      frame = made.frame ∙ ap (λ k. length k.frame) r.view ∙ r.run.frame;
     }
 
     module _ (s : State) (same : StandsWith (units_of base m region) h s) (fed : IsFed s.rest next) where
       held : StandsWith (results_at part region) (held_of lines store control) s
-      held = subst (λ p. StandsWith (results_at p region) (held_of lines store control) s) (sym part_is) (subst (λ k. StandsWith (units_of base m region) k s) (sym view) same)
+      held = subst (λ p. StandsWith (results_at p region) (held_of lines store control) s) (sym r.part_is) (subst (λ k. StandsWith (units_of base m region) k s) (sym r.view) same)
 
       carried : IsCarried (results_at part region') (held_of lines store' control') s (carry_out u m s (Some here.item)) answer
-      carried = made.carried m here.item lines s here.decoded size delay_is held fed
+      carried = made.carried m here.item lines s here.decoded size r.delay_is held fed
 
       -- the run goes where the meaning goes
       pub goes : GoesWith (units_of base m region') (held_of lines store' control') s (next_state u m code s) answer
       goes =
-          subst (λ p. GoesWith (results_at p region') (held_of lines store' control') s (next_state u m code s) answer) part_is
-          (goes_stands u m code lines store (results_at part region) control s held running here.item (results_at part region') (held_of lines store' control') answer here.at carried)
+          subst (λ p. GoesWith (results_at p region') (held_of lines store' control') s (next_state u m code s) answer) r.part_is
+          (goes_stands u m code lines store (results_at part region) control s held r.running here.item (results_at part region') (held_of lines store' control') answer here.at carried)
 
       -- and the answer tells what became of it
       pub answers : IsAnswer u m code s answer
       answers =
-          goes_answer u m code lines store (results_at part region) control s held running here.item (results_at part region') (held_of lines store' control') answer here.at carried
+          goes_answer u m code lines store (results_at part region) control s held r.running here.item (results_at part region') (held_of lines store' control') answer here.at carried

@@ -49,7 +49,8 @@ fn is_ready(
 
 /// The fault of a cycle whose line is not ready: 60 where a register is read that was never
 /// written, else 61 where a result port is read that shows nothing yet, else 62 or 63 where an
-/// operation cannot start, and else 64, since only control is left.
+/// operation cannot start, and else 64, since only control is left. It is not in line, and it has
+/// results of its own: by reference, each cycle would store them for a call that it does not make.
 #[inline(never)]
 fn fault_of(doings: &mut Doings, store: &Store, results: Results<'_>, line: &Line) -> u8
     requires there { IsLineThere results.units line.now }

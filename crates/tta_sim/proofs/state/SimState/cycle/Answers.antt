@@ -1,11 +1,13 @@
-use Rattle.std.proofs.Common.{◌+◌, ◌<◌, length, sym, ap, ◌∙◌, subst, arith}
+use Rattle.std.proofs.Common.{◌+◌, get_or, length, sym, ap, ◌∙◌, subst, arith}
 use Rattle.tta_ops.specs.Set.{stated}
 use Rattle.tta_arch.specs.Rules.{IsMachine}
 use Rattle.tta_code.specs.Cycle.{Fault}
 use Rattle.tta_flight.specs.Flight.{StayBeside}
 use Rattle.tta_sim.specs.Controls.{outcome_of}
 use Rattle.tta_sim.proofs.Going.{halted_stands, fault_stands, fault_answer, past_stands, past_answer, length-lines, past_all}
-use Rattle.tta_sim.proofs.Reaching.{at_line, code_stays, goes, answers}
+use Rattle.tta_sim.proofs.Reaching.{Reached, at_line, code_stays, goes, answers}
+use Rattle.tta_sim.proofs.state.SimState.cycle.Given as given
+use Rattle.tta_sim.proofs.state.SimState.cycle.Goals.{After-m}
 use Rattle.tta_sim.proofs.state.SimState.cycle.Goals as goal
 
 pub returns-in-Halted-clause-next : goal.returns-in-Halted-clause-next
@@ -46,48 +48,39 @@ bounds-as_slice-self-inside g c =
     let many = ap length lines ∙ length-lines c.args.m.now (1 + c.args.m.now.control.delay) words in
     omega (arith, c.if-self-len.false, c.len.ensures, many)
 
+-- the line at the address, once it was read
+module _ (g : given.Over) (c : After-m g) where
+  reached : Reached c.args.m.now c.args.code.now c.args.self.now c.args.base c.args.region.now c.part_of.result c.self.inside.lines c.self.inside.run.store
+      c.self.inside.run.control c.m.inside.control.delay c.index-as_slice-self.result
+  reached = record {
+    rules = subst IsMachine c.m.view_is c.m.invariant;
+    run = c.requires.loaded;
+    has = c.requires.has_units;
+    part_is = c.part_of.ensures;
+    view = c.self.view_is;
+    running = c.in-Running.is;
+    within = omega (arith, c.if-self-len.false, c.len.ensures);
+    delay_is = ap (λ m. m.control.delay) c.m.view_is;
+    line_is = c.index-as_slice-self.is ∙ ap (λ ls. get_or ls c.self.inside.run.control.pc c.index-as_slice-self.result) c.as_slice.ensures;
+  }
+
 pub carry-requires : goal.carry-requires
-carry-requires g c =
-    let m = c.args.m.now in
-    let rules = subst IsMachine c.m.view_is c.m.invariant in
-    let within : c.self.inside.run.control.pc < length c.args.code.now.words = omega (arith, c.if-self-len.false, c.len.ensures) in
-    at_line m c.args.code.now c.args.self.now rules c.requires.loaded c.args.base c.args.region.now c.requires.has_units c.part_of.result c.part_of.ensures
-    c.self.inside.lines c.self.inside.run.store c.self.inside.run.control c.self.view_is c.in-Running.is within _ (ap (λ m. m.control.delay) c.m.view_is)
-    _ c.as_slice.ensures _ c.index-as_slice-self.is
-    c.requires.few
+carry-requires g c = at_line (reached g (goal.at.carry-requires g c).After-m) c.requires.few
 
 pub returns-clause-loaded : goal.returns-clause-loaded
 returns-clause-loaded g c =
     let U = stated (λ v. (goal.OpUnit-dyn g v).unit_meaning v.1) c.args.units.now in
-    let m = c.args.m.now in
-    let rules = subst IsMachine c.m.view_is c.m.invariant in
-    let within : c.self.inside.run.control.pc < length c.args.code.now.words = omega (arith, c.if-self-len.false, c.len.ensures) in
-    code_stays m c.args.code.now c.args.self.now rules c.requires.loaded c.args.base c.args.region.now c.requires.has_units c.part_of.result c.part_of.ensures
-    c.self.inside.lines c.self.inside.run.store c.self.inside.run.control c.self.view_is c.in-Running.is within _ (ap (λ m. m.control.delay) c.m.view_is)
-    _ c.as_slice.ensures _ c.index-as_slice-self.is
-    U c.args.next _ _ _ _ c.carry.ensures
+    code_stays (reached g (goal.at.returns-clause-loaded g c).After-m) U c.args.next _ _ _ _ c.carry.ensures
 
 pub returns-clause-next : goal.returns-clause-next
 returns-clause-next g c = λ s same fed.
     let U = stated (λ v. (goal.OpUnit-dyn g v).unit_meaning v.1) c.args.units.now in
-    let m = c.args.m.now in
-    let rules = subst IsMachine c.m.view_is c.m.invariant in
-    let within : c.self.inside.run.control.pc < length c.args.code.now.words = omega (arith, c.if-self-len.false, c.len.ensures) in
-    goes m c.args.code.now c.args.self.now rules c.requires.loaded c.args.base c.args.region.now c.requires.has_units c.part_of.result c.part_of.ensures
-    c.self.inside.lines c.self.inside.run.store c.self.inside.run.control c.self.view_is c.in-Running.is within _ (ap (λ m. m.control.delay) c.m.view_is)
-    _ c.as_slice.ensures _ c.index-as_slice-self.is
-    U c.args.next _ _ _ _ c.carry.ensures s same fed
+    goes (reached g (goal.at.returns-clause-next g c).After-m) U c.args.next _ _ _ _ c.carry.ensures s same fed
 
 pub returns-clause-answer : goal.returns-clause-answer
 returns-clause-answer g c = λ s same fed.
     let U = stated (λ v. (goal.OpUnit-dyn g v).unit_meaning v.1) c.args.units.now in
-    let m = c.args.m.now in
-    let rules = subst IsMachine c.m.view_is c.m.invariant in
-    let within : c.self.inside.run.control.pc < length c.args.code.now.words = omega (arith, c.if-self-len.false, c.len.ensures) in
-    answers m c.args.code.now c.args.self.now rules c.requires.loaded c.args.base c.args.region.now c.requires.has_units c.part_of.result c.part_of.ensures
-    c.self.inside.lines c.self.inside.run.store c.self.inside.run.control c.self.view_is c.in-Running.is within _ (ap (λ m. m.control.delay) c.m.view_is)
-    _ c.as_slice.ensures _ c.index-as_slice-self.is
-    U c.args.next _ _ _ _ c.carry.ensures s same fed
+    answers (reached g (goal.at.returns-clause-answer g c).After-m) U c.args.next _ _ _ _ c.carry.ensures s same fed
 
 pub returns-clause-kept : goal.returns-clause-kept
 returns-clause-kept g c = c.carry.ensures.others.kept

@@ -1,12 +1,14 @@
-use Rattle.std.proofs.Common.{◌≡◌, ◌+◌, ◌<◌, false, get_or, None, length, slice_get, refl, ap, ◌∙◌, subst, arith}
+use Rattle.std.proofs.Common.{◌≡◌, ◌+◌, false, get_or, None, length, slice_get, refl, ap, ◌∙◌, subst, arith}
 use Rattle.tta_ops.specs.Set.{stated}
 use Rattle.tta_arch.specs.Rules.{IsMachine}
 use Rattle.tta_flight.specs.Flight.{StayBeside}
 use Rattle.tta_sim.specs.Controls.{outcome_of}
 use Rattle.tta_sim.specs.Held.{goes_quietly}
 use Rattle.tta_sim.proofs.Going.{length-lines}
-use Rattle.tta_sim.proofs.Reaching.{at_line, code_stays, goes, answers}
+use Rattle.tta_sim.proofs.Reaching.{Reached, at_line, code_stays, goes, answers}
 use Rattle.tta_sim.proofs.Silent.{silent_cycle, at_most_one, no_quiet_line, no_line}
+use Rattle.tta_sim.proofs.state.SimState.cycle_quietly.Given as given
+use Rattle.tta_sim.proofs.state.SimState.cycle_quietly.Goals.{After-part_of}
 use Rattle.tta_sim.proofs.state.SimState.cycle_quietly.Goals as goal
 
 pub bounds-as_slice-self-inside : goal.bounds-as_slice-self-inside
@@ -16,43 +18,37 @@ bounds-as_slice-self-inside g c =
     let many = ap length lines ∙ length-lines c.args.m.now (1 + c.args.m.now.control.delay) words in
     omega (arith, c.if-self-len.false, c.len.ensures, many)
 
+-- the line at the address, once it was read
+module _ (g : given.Over) (c : After-part_of g) where
+  reached : Reached c.args.m.now c.args.code.now c.args.self.now c.args.base c.args.region.now c.part_of.result c.self.inside.lines c.self.inside.run.store
+      c.self.inside.run.control c.m.inside.control.delay c.index-as_slice-self.result
+  reached = record {
+    rules = subst IsMachine c.m.view_is c.m.invariant;
+    run = c.requires.loaded;
+    has = c.requires.has_units;
+    part_is = c.part_of.ensures;
+    view = c.self.view_is;
+    running = c.in-Running.is;
+    within = omega (arith, c.if-self-len.false, c.len.ensures);
+    delay_is = ap (λ m. m.control.delay) c.m.view_is;
+    line_is = c.index-as_slice-self.is ∙ ap (λ ls. get_or ls c.self.inside.run.control.pc c.index-as_slice-self.result) c.as_slice.ensures;
+  }
+
 pub carry_quietly-requires-clause-ready : goal.carry_quietly-requires-clause-ready
-carry_quietly-requires-clause-ready g c =
-    let m = c.args.m.now in
-    let rules = subst IsMachine c.m.view_is c.m.invariant in
-    let within : c.self.inside.run.control.pc < length c.args.code.now.words = omega (arith, c.if-self-len.false, c.len.ensures) in
-    at_line m c.args.code.now c.args.self.now rules c.requires.loaded c.args.base c.args.region.now c.requires.has_units c.part_of.result c.part_of.ensures
-    c.self.inside.lines c.self.inside.run.store c.self.inside.run.control c.self.view_is c.in-Running.is within _ (ap (λ m. m.control.delay) c.m.view_is)
-    _ c.as_slice.ensures _ c.index-as_slice-self.is
-    c.requires.few
+carry_quietly-requires-clause-ready g c = at_line (reached g (goal.at.carry_quietly-requires-clause-ready g c).After-part_of) c.requires.few
 
 pub returns-clause-next : goal.returns-clause-next
 returns-clause-next g c = λ s same.
     let U = stated (λ v. (goal.OpUnit-dyn g v).unit_meaning v.1) c.args.units.now in
-    let m = c.args.m.now in
-    let rules = subst IsMachine c.m.view_is c.m.invariant in
-    let within : c.self.inside.run.control.pc < length c.args.code.now.words = omega (arith, c.if-self-len.false, c.len.ensures) in
+    let here = reached g (goal.at.returns-clause-next g c).After-part_of in
     let made = c.carry_quietly.ensures.cycle (slice_get s.rest 0) in
-    let gone = goes m c.args.code.now c.args.self.now rules c.requires.loaded c.args.base c.args.region.now c.requires.has_units c.part_of.result c.part_of.ensures
-    c.self.inside.lines c.self.inside.run.store c.self.inside.run.control c.self.view_is c.in-Running.is within _ (ap (λ m. m.control.delay) c.m.view_is)
-    _ c.as_slice.ensures _ c.index-as_slice-self.is
-    U _ _ _ _ _ made s same refl in
-    let answer = answers m c.args.code.now c.args.self.now rules c.requires.loaded c.args.base c.args.region.now c.requires.has_units c.part_of.result c.part_of.ensures
-    c.self.inside.lines c.self.inside.run.store c.self.inside.run.control c.self.view_is c.in-Running.is within _ (ap (λ m. m.control.delay) c.m.view_is)
-    _ c.as_slice.ensures _ c.index-as_slice-self.is
-    U _ _ _ _ _ made s same refl in
-    silent_cycle U m c.args.code.now _ _ s c.carry_quietly.result c.carry_quietly.ensures.silent gone answer
+    silent_cycle U c.args.m.now c.args.code.now _ _ s c.carry_quietly.result c.carry_quietly.ensures.silent (goes here U _ _ _ _ _ made s same refl)
+    (answers here U _ _ _ _ _ made s same refl)
 
 pub returns-clause-loaded : goal.returns-clause-loaded
 returns-clause-loaded g c =
     let U = stated (λ v. (goal.OpUnit-dyn g v).unit_meaning v.1) c.args.units.now in
-    let m = c.args.m.now in
-    let rules = subst IsMachine c.m.view_is c.m.invariant in
-    let within : c.self.inside.run.control.pc < length c.args.code.now.words = omega (arith, c.if-self-len.false, c.len.ensures) in
-    code_stays m c.args.code.now c.args.self.now rules c.requires.loaded c.args.base c.args.region.now c.requires.has_units c.part_of.result c.part_of.ensures
-    c.self.inside.lines c.self.inside.run.store c.self.inside.run.control c.self.view_is c.in-Running.is within _ (ap (λ m. m.control.delay) c.m.view_is)
-    _ c.as_slice.ensures _ c.index-as_slice-self.is
-    U None _ _ _ _ (c.carry_quietly.ensures.cycle None)
+    code_stays (reached g (goal.at.returns-clause-loaded g c).After-part_of) U None _ _ _ _ (c.carry_quietly.ensures.cycle None)
 
 pub returns-clause-kept : goal.returns-clause-kept
 returns-clause-kept g c = (c.carry_quietly.ensures.cycle None).others.kept
