@@ -2,4 +2,3 @@ pub mod Legal
 pub mod Illegal
 pub mod Cycle
 pub mod Whole
-pub mod Agrees

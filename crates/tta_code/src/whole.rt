@@ -1,7 +1,7 @@
 //! Code with data.
 
 ghost use Rattle.std.specs.Prelude.{◌≡◌, slice_set};
-ghost use Rattle.tta_program.specs.Program.{over};
+ghost use Rattle.tta_list.specs.Laid.{over};
 ghost use Rattle.tta_code.specs.Whole.{laid_by};
 
 use crate::code::Code;

@@ -9,13 +9,14 @@ use Rattle.tta_program.specs.declared.operand.Src.TheVariants.{Word}
 use Rattle.tta_program.specs.declared.step.Step.{Step}
 use Rattle.tta_program.specs.declared.step.Step.TheVariants.{Put, Halt}
 use Rattle.tta_program.specs.declared.program.Proc.{Proc}
-use Rattle.tta_program.specs.Program.{Program, over, data_of}
+use Rattle.tta_list.specs.Laid.{over}
+use Rattle.tta_program.specs.Program.{Program, data_of}
 use Rattle.tta_program.specs.Rules.{IsProgram}
 use Rattle.tta_program.specs.Direct.{only_constants, puts}
 use Rattle.tta_rcode.specs.Direct.{one_block}
 use Rattle.tta_code.specs.Legal.{IsLegalCode}
 use Rattle.tta_code.specs.Whole.{Whole, data_in}
-use Rattle.tta_code.specs.Agrees.{Agrees}
+use Rattle.tta_agree.specs.Agrees.{Agrees}
 use Rattle.tta_moves.specs.declared.items.Placed.{Placed}
 use Rattle.tta_moves.specs.declared.items.BlockList.{BlockList}
 use Rattle.tta_moves.specs.Slots.{is_list}

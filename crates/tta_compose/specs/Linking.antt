@@ -3,10 +3,11 @@ use Rattle.std.specs.Prelude.{◌≡◌, ℕ, Bool, List, length, Some, slice_ge
 use Rattle.tta_ops.specs.Units.{Units}
 use Rattle.tta_arch.specs.Machine.{Machine}
 use Rattle.tta_connect.specs.declared.choice.Choice.{Choice}
-use Rattle.tta_program.specs.Program.{Program, over, data_of}
+use Rattle.tta_list.specs.Laid.{over}
+use Rattle.tta_program.specs.Program.{Program, data_of}
 use Rattle.tta_code.specs.Legal.{IsLegalCode}
 use Rattle.tta_code.specs.Whole.{Whole, data_in}
-use Rattle.tta_code.specs.Agrees.{Agrees}
+use Rattle.tta_agree.specs.Agrees.{Agrees}
 use Rattle.tta_moves.specs.declared.items.BlockList.{BlockList}
 use Rattle.tta_moves.specs.declared.items.Placed.{Placed}
 use Rattle.tta_moves.specs.Bounds.{Respects}

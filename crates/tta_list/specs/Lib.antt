@@ -2,3 +2,4 @@ pub mod Iterate
 pub mod Legs
 pub mod Input
 pub mod Lends
+pub mod Laid

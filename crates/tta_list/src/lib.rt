@@ -1,6 +1,6 @@
 //! What most crates of the toolset stand on: lists and names that contracts see as plain lists, the
 //! entry at a place of a list, the word for a step that is taken n times, runs from block to block,
-//! what a run is fed, and what is said of lists and of tests.
+//! what a run is fed, words that are laid over a memory, and what is said of lists and of tests.
 #![tactic(auto)]
 
 mod items;

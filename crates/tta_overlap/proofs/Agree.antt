@@ -8,7 +8,8 @@ use Rattle.tta_list.proofs.Lists.{all_append}
 use Rattle.tta_ops.specs.Units.{Units}
 use Rattle.tta_arch.specs.Machine.{Machine}
 use Rattle.tta_arch.specs.Rules.{IsMachine}
-use Rattle.tta_program.specs.Program.{Program, step_count, over, data_of}
+use Rattle.tta_list.specs.Laid.{over}
+use Rattle.tta_program.specs.Program.{Program, step_count, data_of}
 use Rattle.tta_program.specs.Sequential as program
 use Rattle.tta_program.specs.Sequential.{seq}
 use Rattle.tta_moves.specs.declared.items.BlockList.{BlockList}
@@ -22,7 +23,7 @@ use Rattle.tta_code.specs.Legal.{is_legal}
 use Rattle.tta_code.specs.Whole.{Whole, data_in}
 use Rattle.tta_code.specs.Cycle as cycle
 use Rattle.tta_code.specs.Cycle.{State, cyc, next}
-use Rattle.tta_code.specs.Agrees.{IsPrefixOf, AreWords, IsGiven, HaltAlike, WaitAlike, Agrees, program_at}
+use Rattle.tta_agree.specs.Agrees.{IsPrefixOf, AreWords, IsGiven, HaltAlike, WaitAlike, Agrees, program_at}
 use Rattle.tta_overlap.specs.Means.{Means, MeanAt}
 use Rattle.tta_overlap.proofs.Leg.{iterate_add}
 use Rattle.tta_overlap.proofs.Row.{IsRow, HasHalted, HasStopped, Tracks, goes, halts, stops}

@@ -9,9 +9,10 @@ use Rattle.std.proofs.Math.Pow.{pow_mono}
 use Rattle.tta_ops.specs.Units.{Units}
 use Rattle.tta_arch.specs.Machine.{Machine}
 use Rattle.tta_arch.specs.Rules.{IsMachine, is_from_to, is_socket, is_port_socket}
-use Rattle.tta_program.specs.Program.{Program, Laid, over, data_of}
+use Rattle.tta_list.specs.Laid.{Laid, over}
+use Rattle.tta_program.specs.Program.{Program, data_of}
 use Rattle.tta_code.specs.Whole.{Whole}
-use Rattle.tta_code.specs.Agrees.{AreWords, IsGiven, Agrees}
+use Rattle.tta_agree.specs.Agrees.{AreWords, IsGiven, Agrees}
 use Rattle.tta_moves.specs.declared.items.BlockList.{BlockList}
 use Rattle.tta_moves.specs.declared.items.Placed.{Placed}
 use Rattle.tta_link.specs.Linked.{starts_from}

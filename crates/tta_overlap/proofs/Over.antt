@@ -13,7 +13,7 @@ use Rattle.std.specs.List.{filter_map}
 use Rattle.tta_code.specs.declared.code.Instruction.{Instruction}
 use Rattle.tta_code.specs.declared.code.Code.{Code}
 use Rattle.tta_code.specs.Cycle.{State, Outcome, Running, Halted, Waiting, Fault, Pending, lands, takes_effect, acts, or_fault, or_wait, carry_out, next_of, next, effects_of, read_source, fault_of, waits, pending_after}
-use Rattle.tta_code.specs.Agrees.{IsPrefixOf}
+use Rattle.tta_agree.specs.Agrees.{IsPrefixOf}
 use Rattle.tta_overlap.proofs.Leg.{iterate_add}
 
 -- ---- prefixes

@@ -13,7 +13,7 @@ use Rattle.tta_arch.specs.Effects.{Jumps, Calls, Halts, Target, Reg, Imm, Operan
 use Rattle.tta_code.specs.declared.code.Code.{Code}
 use Rattle.tta_code.specs.Legal.{is_legal}
 use Rattle.tta_code.specs.Cycle.{State, Running, Halted, Waiting, next, port, read_source}
-use Rattle.tta_code.specs.Agrees.{IsPrefixOf}
+use Rattle.tta_agree.specs.Agrees.{IsPrefixOf}
 use Rattle.tta_moves.specs.declared.items.BlockList.{BlockList}
 use Rattle.tta_moves.specs.declared.items.PlacedItem.{PlacedItem}
 use Rattle.tta_moves.specs.declared.items.Placed.{Placed}

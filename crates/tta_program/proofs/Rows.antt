@@ -9,7 +9,8 @@ use Rattle.tta_program.specs.declared.operand.Rel.TheVariants.{Ge}
 use Rattle.tta_program.specs.declared.step.Step.{Step}
 use Rattle.tta_program.specs.declared.step.Step.TheVariants.{Copy, Apply, Load, Store, Put, Take, Goto, When, Invoke, Return, Halt, End}
 use Rattle.tta_program.specs.declared.program.Proc.{Proc}
-use Rattle.tta_program.specs.Program.{Program, over, data_of}
+use Rattle.tta_list.specs.Laid.{over}
+use Rattle.tta_program.specs.Program.{Program, data_of}
 use Rattle.tta_program.specs.Sequential.{seq, next, Halted, Running, Waiting}
 
 -- the operation of a number in the set of units

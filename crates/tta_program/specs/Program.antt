@@ -1,6 +1,7 @@
 -- What a program is made of.
-use Rattle.std.specs.Prelude.{ℕ, nat_lt, if◌then◌else◌, List, [], ◌∷◌, length, map, fold, Option, Some, None, slice_set}
+use Rattle.std.specs.Prelude.{ℕ, nat_lt, if◌then◌else◌, List, [], ◌∷◌, length, map, Option, Some, None}
 use Rattle.std.specs.List.{sum_by}
+use Rattle.tta_list.specs.Laid.{Laid}
 use Rattle.tta_program.specs.declared.program.Proc.{Proc}
 use Rattle.tta_program.specs.declared.program.DataLine.{DataLine}
 
@@ -15,14 +16,6 @@ abbrev pub step_count : Program → ℕ
 step_count p = sum_by (λ q. length q.steps) p.procs
 
 -- ---- data
-
--- words, each with its address
-abbrev pub Laid : Type 0
-Laid = List (ℕ × ℕ)
-
--- a memory with each of these words at its address
-abbrev pub over : Laid → List ℕ → List ℕ
-over laid memory = fold (λ words d. slice_set words d.0 d.1) memory laid
 
 -- a line of data as a word with its address
 abbrev pub datum_of : DataLine → ℕ × ℕ

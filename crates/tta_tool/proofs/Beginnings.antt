@@ -4,7 +4,7 @@ use Rattle.tta_ports.specs.Store.{Store}
 use Rattle.tta_ops.specs.Units.{Units}
 use Rattle.tta_arch.specs.Machine.{Machine}
 use Rattle.tta_program.specs.Program.{Program}
-use Rattle.tta_code.specs.Agrees.{program_at}
+use Rattle.tta_agree.specs.Agrees.{program_at}
 use Rattle.tta_input.specs.Input.{input_of}
 use Rattle.tta_tool.specs.declared.status.Status.{Status}
 use Rattle.tta_tool.specs.declared.status.Status.TheVariants as status

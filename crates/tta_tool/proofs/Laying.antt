@@ -1,7 +1,8 @@
 -- Data that are laid over a memory keep its length, and what is loaded has made no step.
 use Rattle.std.proofs.Common.{◌≡◌, ◌<◌, ◌^◌, ℕ, ◌+◌, List, [], ◌∷◌, length, slice_set, refl, sym, ◌∙◌, subst, length-set, arith}
 use Rattle.tta_arch.specs.Machine.{Machine}
-use Rattle.tta_program.specs.Program.{Program, Laid, over}
+use Rattle.tta_list.specs.Laid.{Laid, over}
+use Rattle.tta_program.specs.Program.{Program}
 use Rattle.tta_program.specs.Sequential.{start as program_start}
 use Rattle.tta_tacrun.specs.Run as program
 use Rattle.tta_tacrun.specs.Run.{Run}

@@ -4,11 +4,12 @@ use Rattle.std.proofs.lemmas.List.{length-replicate}
 use Rattle.tta_print.specs.Lines.{lines_text}
 use Rattle.tta_ops.specs.Units.{Units}
 use Rattle.tta_arch.specs.Machine.{Machine}
-use Rattle.tta_program.specs.Program.{Program, over, data_of}
+use Rattle.tta_list.specs.Laid.{over}
+use Rattle.tta_program.specs.Program.{Program, data_of}
 use Rattle.tta_program.specs.Sequential as program
 use Rattle.tta_code.specs.Whole.{Whole, data_in}
 use Rattle.tta_code.specs.Cycle as cycle
-use Rattle.tta_code.specs.Agrees.{HaltAlike, IsGiven, AreWords}
+use Rattle.tta_agree.specs.Agrees.{HaltAlike, IsGiven, AreWords}
 use Rattle.tta_tacrun.specs.Run as sequential
 use Rattle.tta_sim.specs.Held as simulated
 use Rattle.tta_build.specs.Statement.{IsBuilt}

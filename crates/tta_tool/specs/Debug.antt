@@ -7,7 +7,7 @@ use Rattle.tta_ops.specs.Units.{Units}
 use Rattle.tta_arch.specs.Machine.{Machine}
 use Rattle.tta_code.specs.Whole.{Whole}
 use Rattle.tta_code.specs.Cycle.{Outcome, Fault}
-use Rattle.tta_code.specs.Agrees.{code_at}
+use Rattle.tta_agree.specs.Agrees.{code_at}
 use Rattle.tta_sim.specs.Held.{is_fault}
 use Rattle.tta_debug.specs.Debugged.{Debugged, session as replies_of}
 use Rattle.tta_debug.specs.Scripts.{lines_of}

@@ -8,7 +8,7 @@ use Rattle.tta_print.specs.Lines.{lines_text, word_lines, report_lines}
 use Rattle.tta_ops.specs.Units.{Units}
 use Rattle.tta_program.specs.Program.{Program}
 use Rattle.tta_program.specs.Sequential.{State, Outcome, Running, Halted, Waiting}
-use Rattle.tta_code.specs.Agrees.{program_at}
+use Rattle.tta_agree.specs.Agrees.{program_at}
 use Rattle.tta_tool.specs.declared.status.Status.{Status}
 use Rattle.tta_tool.specs.declared.status.Status.TheVariants as status
 use Rattle.tta_tool.specs.declared.report.Ended.{Ended}

@@ -10,7 +10,7 @@ use Rattle.tta_ops.specs.Units.{Units}
 use Rattle.tta_arch.specs.Machine.{Machine}
 use Rattle.tta_code.specs.Whole.{Whole}
 use Rattle.tta_code.specs.Cycle.{State, Outcome, Running, Halted, Waiting, Fault}
-use Rattle.tta_code.specs.Agrees.{code_at}
+use Rattle.tta_agree.specs.Agrees.{code_at}
 use Rattle.tta_sim.specs.Held.{ending_told}
 use Rattle.tta_image.specs.declared.refusal.ImageError.TheVariants.{Refused}
 use Rattle.tta_image.specs.Reading.{decoded_image}

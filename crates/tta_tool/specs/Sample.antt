@@ -12,7 +12,7 @@ use Rattle.tta_tac.specs.Text.{ProgramText}
 use Rattle.tta_sample.specs.Sample.{sample_text}
 use Rattle.tta_code.specs.Whole.{Whole}
 use Rattle.tta_code.specs.Cycle as cycle
-use Rattle.tta_code.specs.Agrees.{program_at, code_at, HaltAlike}
+use Rattle.tta_agree.specs.Agrees.{program_at, code_at, HaltAlike}
 use Rattle.tta_tacrun.specs.Run as sequential
 use Rattle.tta_sim.specs.Held as simulated
 use Rattle.tta_build.specs.declared.error.BuildError.{BuildError}

@@ -2,7 +2,7 @@
 
 ghost use Rattle.std.specs.Prelude.{◌<◌, ◌^◌, length, option_map, IfOk};
 ghost use Rattle.tta_ops.specs.Set.{stated};
-ghost use Rattle.tta_code.specs.Agrees.{program_at};
+ghost use Rattle.tta_agree.specs.Agrees.{program_at};
 ghost use Rattle.tta_tool.specs.World.{world};
 ghost use Rattle.tta_tool.specs.Output.{output};
 ghost use Rattle.tta_tool.specs.Exec.{BeginEnds, BeginWithEnds, RunEnds, Execs};

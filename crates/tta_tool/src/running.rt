@@ -3,11 +3,11 @@
 ghost use Rattle.std.specs.Prelude.{◌≡◌, ℕ, ◌<◌, ◌^◌, List, length, option_map, IfOk};
 ghost use Rattle.tta_ops.specs.Set.{stated};
 ghost use Rattle.tta_ops.specs.Units.{Units};
-ghost use Rattle.tta_program.specs.Program.{over};
+ghost use Rattle.tta_list.specs.Laid.{over};
 ghost use Rattle.tta_code.specs.Legal.{IsLegalCode};
 ghost use Rattle.tta_code.specs.Whole.{data_in};
 ghost use Rattle.tta_code.specs.Cycle.{start};
-ghost use Rattle.tta_code.specs.Agrees.{code_at};
+ghost use Rattle.tta_agree.specs.Agrees.{code_at};
 ghost use Rattle.tta_sim.specs.Held.{Stands, IsRunOf};
 ghost use Rattle.tta_tool.specs.World.{world};
 ghost use Rattle.tta_tool.specs.Output.{output};

@@ -1,5 +1,6 @@
 use Rattle.std.proofs.Common.{◌≡◌, drop, map}
-use Rattle.tta_program.specs.Program.{over, datum_of}
+use Rattle.tta_list.specs.Laid.{over}
+use Rattle.tta_program.specs.Program.{datum_of}
 use Rattle.tta_program.proofs.lay.lay.Given as goal
 
 abbrev pub invariant-loop-datum : goal.invariant-loop-datum

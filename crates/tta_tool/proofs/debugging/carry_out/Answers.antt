@@ -1,5 +1,5 @@
 use Rattle.std.proofs.Common.{◌<◌, ◌^◌, [], refl, sym, subst}
-use Rattle.tta_program.specs.Program.{over}
+use Rattle.tta_list.specs.Laid.{over}
 use Rattle.tta_code.specs.Whole.{Whole, data_in}
 use Rattle.tta_code.specs.Cycle.{start}
 use Rattle.tta_ops.specs.Set.{stated}

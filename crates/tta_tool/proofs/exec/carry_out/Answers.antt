@@ -1,5 +1,6 @@
 use Rattle.std.proofs.Common.{◌<◌, ◌^◌, List, [], ℕ, length, refl, sym, ap, ◌∙◌, subst}
-use Rattle.tta_program.specs.Program.{over, data_of}
+use Rattle.tta_list.specs.Laid.{over}
+use Rattle.tta_program.specs.Program.{data_of}
 use Rattle.tta_program.specs.Sequential.{start, seq}
 use Rattle.tta_ops.specs.Set.{stated}
 use Rattle.tta_tool.specs.Output.{output}

@@ -1,9 +1,10 @@
 -- When code with data does what a program does.
 use Rattle.std.specs.Prelude.{◌≡◌, ◌≢◌, ℕ, ◌+◌, ◌*◌, ◌<◌, ◌^◌, List, ◌++◌, length}
 use Rattle.std.specs.List.{AllByRecursion}
+use Rattle.tta_list.specs.Laid.{over}
 use Rattle.tta_ops.specs.Units.{Units}
 use Rattle.tta_arch.specs.Machine.{Machine}
-use Rattle.tta_program.specs.Program.{Program, step_count, over, data_of}
+use Rattle.tta_program.specs.Program.{Program, step_count, data_of}
 use Rattle.tta_program.specs.Sequential as program
 use Rattle.tta_program.specs.Sequential.{seq}
 use Rattle.tta_code.specs.Whole.{Whole, data_in}
@@ -49,9 +50,9 @@ pub record WaitAlike (s : program.State) (t : cycle.State) : Type 0 where
 
 -- From every memory, for every input and every bound: the code never faults; it halts as the program does, and only if
 -- the program does; it waits as the program does, and only if the program does; and each one's output so far begins the
--- other's. A program's step takes at most as many cycles as there are instructions, and a cycle as many steps as the
--- program has.
-pub record Agrees (u : Units) (m : Machine) (p : Program) (whole : Whole) : Type 0 where
+-- other's. A program's step takes at most as many cycles as there are instructions, and a cycle stands for at most `rate`
+-- of the program's steps.
+pub record AgreesAt (u : Units) (m : Machine) (p : Program) (rate : ℕ) (whole : Whole) : Type 0 where
   pub no_fault : (memory input : List ℕ) (n number at : ℕ) → IsGiven m memory input
       → (code_at u m whole memory input n).outcome ≢ cycle.Fault number at
   pub halts : (memory input : List ℕ) (n : ℕ) → IsGiven m memory input → (program_at u p memory input n).outcome ≡ program.Halted
@@ -59,10 +60,14 @@ pub record Agrees (u : Units) (m : Machine) (p : Program) (whole : Whole) : Type
   pub waits : (memory input : List ℕ) (n : ℕ) → IsGiven m memory input → (program_at u p memory input n).outcome ≡ program.Waiting
       → WaitAlike (program_at u p memory input n) (code_at u m whole memory input (length whole.code.words * (n + 1)))
   pub halts_only : (memory input : List ℕ) (n : ℕ) → IsGiven m memory input → (code_at u m whole memory input n).outcome ≡ cycle.Halted
-      → HaltAlike (program_at u p memory input (step_count p * (n + 1))) (code_at u m whole memory input n)
+      → HaltAlike (program_at u p memory input (rate * (n + 1))) (code_at u m whole memory input n)
   pub waits_only : (memory input : List ℕ) (n : ℕ) → IsGiven m memory input → (code_at u m whole memory input n).outcome ≡ cycle.Waiting
-      → WaitAlike (program_at u p memory input (step_count p * (n + 1))) (code_at u m whole memory input n)
+      → WaitAlike (program_at u p memory input (rate * (n + 1))) (code_at u m whole memory input n)
   pub output : (memory input : List ℕ) (n : ℕ) → IsGiven m memory input
       → IsPrefixOf (program_at u p memory input n).output (code_at u m whole memory input (length whole.code.words * (n + 1))).output
   pub output_only : (memory input : List ℕ) (n : ℕ) → IsGiven m memory input
-      → IsPrefixOf (code_at u m whole memory input n).output (program_at u p memory input (step_count p * (n + 1))).output
+      → IsPrefixOf (code_at u m whole memory input n).output (program_at u p memory input (rate * (n + 1))).output
+
+-- The code agrees with the program where a cycle stands for at most as many steps as the program has.
+abbrev pub Agrees : Units → Machine → Program → Whole → Type 0
+Agrees u m p whole = AgreesAt u m p (step_count p) whole
