@@ -12,6 +12,7 @@ mod host;
 mod laid;
 mod moves;
 mod operations;
+mod passes;
 mod programs;
 mod run;
 mod sample;

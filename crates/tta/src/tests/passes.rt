@@ -1,6 +1,5 @@
 //! One list through all three passes.
 
-use crate::optimise;
 use std::alloc::{AllocError, Global};
 use std::test::Fail;
 use tta_arch::{Dest, Machine, Source};
@@ -9,6 +8,7 @@ use tta_list::Items;
 use tta_machine::read_machine;
 use tta_moves::{BlockList, Item, ItemSource, is_list};
 use tta_ops::UnitSet;
+use tta_optim::optimise;
 
 /// A machine with a unit that loads and stores.
 const MACHINE: &str = "bus B short 8 unsigned\n\
