@@ -29,7 +29,7 @@ use Rattle.tta_compose.specs.Compiler.{IsPair, AreStandIns, optimised, raw}
 use Rattle.tta_compose.specs.Needs.{are_offered}
 use Rattle.tta_compose.specs.Direct.{is_direct}
 use Rattle.tta_compose.specs.Linking.{AreRespected}
-use Rattle.tta_compose.specs.Ends.{IsCodeOf, IsTooLong}
+use Rattle.tta_build.specs.CodeOfLists.{IsCodeOf, IsTooLong}
 use Rattle.tta_compose.specs.Packed.{IsPlan}
 use Rattle.tta_compose.proofs.Composed.{fit, lists_mean, selected_stand, compiled_stand, stand_for}
 use Rattle.tta_compose.proofs.Planning.{lists_planned, compiled_forms}

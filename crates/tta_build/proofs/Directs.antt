@@ -31,7 +31,7 @@ use Rattle.tta_code.specs.declared.code.Code.{Code}
 use Rattle.tta_compose.specs.Direct.{is_direct, constants_of, list_of_direct}
 use Rattle.tta_compose.specs.Linking.{AreRespected, AreFirstFits}
 use Rattle.tta_compose.specs.Room.{AreRoomy, room_on}
-use Rattle.tta_compose.specs.Ends.{IsCodeOf, IsTooLong}
+use Rattle.tta_build.specs.CodeOfLists.{IsCodeOf, IsTooLong}
 use Rattle.tta_compose.proofs.Pairs.{is_alone}
 use Rattle.tta_compose.proofs.Directly.{direct_lowers, direct_is_list, direct_links, direct_agrees}
 use Rattle.tta_compose.proofs.DirectPlan.{direct_plan}

@@ -1,6 +1,10 @@
 pub mod Offers
 pub mod FewHomes
 pub mod Inside
+pub mod Served
+pub mod Only
+pub mod Sorted
+pub mod Placements
 pub mod CoveredCode
 pub mod Directs
 pub mod Completes

@@ -3,7 +3,8 @@ use Rattle.std.specs.Prelude.{◌≡◌, ◌≤◌, ℕ, List, [], ◌∷◌, le
 use Rattle.tta_ops.specs.Units.{Units}
 use Rattle.tta_arch.specs.Machine.{Machine}
 use Rattle.tta_connect.specs.declared.choice.Choice.{Choice}
-use Rattle.tta_program.specs.Program.{Program, over, data_of}
+use Rattle.tta_list.specs.Laid.{over}
+use Rattle.tta_program.specs.Program.{Program, data_of}
 use Rattle.tta_program.specs.Sizes.{frame_need}
 use Rattle.tta_rcode.specs.declared.code.Rir.{Rir}
 use Rattle.tta_flow.specs.declared.flow.Block.{Block}
@@ -19,10 +20,10 @@ use Rattle.tta_code.specs.declared.code.Code.{Code}
 use Rattle.tta_code.specs.declared.whole.Datum.{Datum}
 use Rattle.tta_code.specs.Whole.{laid_by}
 use Rattle.tta_code.specs.Legal.{IsLegalCode}
-use Rattle.tta_code.specs.Agrees.{Agrees}
+use Rattle.tta_agree.specs.Agrees.{Agrees}
 use Rattle.tta_compose.specs.Compiler.{compiled}
 use Rattle.tta_compose.specs.Direct.{list_of_direct}
-use Rattle.tta_compose.specs.Ends.{IsTooLong}
+use Rattle.tta_build.specs.CodeOfLists.{IsTooLong}
 use Rattle.tta_compose.specs.Packed.{IsPacked}
 use Rattle.tta_build.specs.declared.error.BuildError.{BuildError}
 use Rattle.tta_build.specs.declared.error.BuildError.TheVariants.{CodeFull, NoMemory}

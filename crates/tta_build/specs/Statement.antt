@@ -12,7 +12,7 @@ use Rattle.tta_program.specs.Program.{Program}
 use Rattle.tta_program.specs.Sizes.{frame_need}
 use Rattle.tta_code.specs.Whole.{Whole}
 use Rattle.tta_code.specs.Legal.{IsLegalWhole}
-use Rattle.tta_code.specs.Agrees.{Agrees}
+use Rattle.tta_agree.specs.Agrees.{Agrees}
 use Rattle.tta_compose.specs.Needs.{need_of, first_failing}
 use Rattle.tta_compose.specs.Direct.{is_direct}
 use Rattle.tta_compose.specs.Room.{room_on}

@@ -1,15 +1,27 @@
-//! The compiler: code for a machine that does what a program does. It composes the compiler's parts,
-//! and holds no algorithm of its own.
+//! The compiler: code for a machine that does what a program does. It calls the compiler's passes in
+//! their order, and holds the steps between them: which needs of a program no unit offers, direct
+//! pairs, lists through the passes, code from lists, and a program's data in order. What the passes
+//! prove together stands in `tta_compose`.
 #![tactic(auto)]
 
 mod covered;
+mod data_order;
 mod direct;
+mod direct_pair;
 mod error;
 mod laws;
 mod lists;
+mod needs;
+mod passes;
+mod placing;
 mod program;
 mod register;
 
+pub use data_order::data_in_order;
+pub use direct_pair::is_direct;
 pub use error::BuildError;
 pub use laws::build_completes;
+pub use needs::unoffered;
+pub use passes::optimise_all;
+pub use placing::place_and_link;
 pub use program::{Built, build};

@@ -7,14 +7,14 @@ ghost use Rattle.tta_moves.specs.Slots.{is_list};
 ghost use Rattle.tta_moves.specs.declared.items.Placed.{Placed};
 ghost use Rattle.tta_link.specs.Blocks.{AreBlocks};
 ghost use Rattle.tta_compose.specs.Linking.{AreRespected};
-ghost use Rattle.tta_compose.specs.Ends.{IsCodeOf};
+ghost use Rattle.tta_build.specs.CodeOfLists.{IsCodeOf};
 ghost use Rattle.tta_build.specs.Parts.{IsListsCause};
 
 use crate::error::BuildError;
 use std::alloc::Global;
 use tta_arch::Machine;
 use tta_code::Code;
-use tta_compose::place_and_link;
+use crate::placing::place_and_link;
 use tta_connect::Net;
 use tta_link::LinkError;
 use tta_moves::BlockList;

@@ -7,10 +7,6 @@ pub mod Linking
 pub mod Room
 pub mod Pairs
 pub mod Directly
-pub mod Sorted
-pub mod Served
-pub mod Only
-pub mod Ending
 pub mod NoVariables
 pub mod DirectPlan
 pub mod Once

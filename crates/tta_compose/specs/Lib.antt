@@ -4,8 +4,6 @@ pub mod Laws
 pub mod Planned
 pub mod Linking
 pub mod Room
-pub mod Data
 pub mod Direct
-pub mod Ends
 pub mod Packed
 pub mod Once

@@ -1,0 +1,10 @@
+use Rattle.std.proofs.Common.{◌≡◌, drop}
+use Rattle.tta_ops.specs.Set.{stated}
+use Rattle.tta_arch.specs.Effects.{first_some}
+use Rattle.tta_compose.specs.Needs.{unoffered_in}
+use Rattle.tta_build.proofs.needs.unoffered_among.Given as goal
+
+abbrev pub invariant-loop-q : goal.invariant-loop-q
+invariant-loop-q g l =
+    let f = unoffered_in (stated (λ v. (goal.OpUnit-dyn g v).unit_meaning v.1) l.units) l.m l.c in
+    first_some f l.procs ≡ first_some f (drop l.q-index l.procs)

@@ -1,0 +1,14 @@
+use Rattle.std.proofs.Common.{◌≡◌, length}
+use Rattle.tta_moves.specs.Bounds.{Respects}
+use Rattle.tta_moves.specs.FirstFit.{IsFirstFit}
+use Rattle.tta_sched.specs.Room.{HasRoom}
+use Rattle.tta_build.proofs.Placements.{SoFar}
+use Rattle.tta_build.proofs.placing.place_each.Given as goal
+
+abbrev pub invariant-loop-b : goal.invariant-loop-b
+invariant-loop-b l = record {
+  count : length l.ps.items ≡ l.b-index;
+  first : SoFar (λ b p. IsFirstFit l.m b.items p) l.lists l.ps.items;
+  respects : SoFar (λ b p. Respects l.m b.items p) l.lists l.ps.items;
+  room : SoFar (λ b p. HasRoom l.m b.items p) l.lists l.ps.items;
+}

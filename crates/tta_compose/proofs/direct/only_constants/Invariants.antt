@@ -1,6 +1,0 @@
-use Rattle.std.proofs.Common.{◌≡◌, drop}
-use Rattle.tta_program.specs.Direct.{only_constants}
-use Rattle.tta_compose.proofs.direct.only_constants.Given as goal
-
-abbrev pub invariant-loop-k : goal.invariant-loop-k
-invariant-loop-k l = only_constants l.steps ≡ only_constants (drop l.k l.steps)
