@@ -22,6 +22,7 @@ at_fault U part delay line next old r fault number r_is is_fault is = record {
       let here = subst (λ r. IsFaultOf old.store.places r (is_some old.control.pending) line fault) r_is is_fault in
       carried_fault U m decoded.rules i decoded.legal lines old.store (results_at part old.region) old.control s size same number
       (sym (here m (old.control.pc + 1 + delay) i decoded size) ∙ is);
+  takes = refl;
   counted = omega arith;
   memory = refl;
   frame = refl;

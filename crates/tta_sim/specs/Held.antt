@@ -137,6 +137,13 @@ IsAnswer u m code s HadHalted = s.outcome ≡ Halted
 IsAnswer u m code s Waits = (s.outcome ≡ Running) × (next u m code s ≡ record s { outcome = Waiting })
 IsAnswer u m code s (Faults number) = (next u m code s).outcome ≡ Fault number s.cycle
 
+-- whether a cycle with this answer took a word of the input
+abbrev pub has_taken : CycleStep → Bool
+has_taken (Ran word took) = took
+has_taken HadHalted = false
+has_taken Waits = false
+has_taken (Faults number) = false
+
 -- the cycles that an answer stands for: one where it was carried out
 abbrev pub cycles_of : CycleStep → ℕ
 cycles_of (Ran word took) = 1

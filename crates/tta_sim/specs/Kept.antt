@@ -13,7 +13,7 @@ use Rattle.tta_sim.specs.declared.control.Control.{Control}
 use Rattle.tta_sim.specs.declared.control.Phase.TheVariants.{Running}
 use Rattle.tta_sim.specs.declared.results.Part.{Part}
 use Rattle.tta_list.specs.Input.{IsFed, left}
-use Rattle.tta_sim.specs.Held.{HeldState, StandsWith, GoesWith, is_fault, cycles_of}
+use Rattle.tta_sim.specs.Held.{HeldState, StandsWith, GoesWith, is_fault, has_taken, cycles_of}
 use Rattle.tta_sim.specs.Results.{Results, AreThere, results_at}
 use Rattle.tta_sim.specs.Decoded.{IsDecoded}
 use Rattle.tta_sim.specs.Lines.{IsLineThere}
@@ -75,12 +75,14 @@ pub record IsAtLine (part : Part) (line : Line) (k : Kept) : Type 0 where
   pub within : k.control.pc < 65536
 
 -- A cycle of a run with this line: the run stands for the state to which the cycle takes the one for which it stood, and answers
--- what became of it. Where it waits, all stays. Every unit of the region that is none of the machine's stays.
+-- what became of it. It takes a word of the input only where there is one. Where it waits, all stays. Every unit of the region that is
+-- none of the machine's stays.
 pub record IsCycle (U : Units) (part : Part) (delay : ℕ) (line : Line) (next : Option ℕ) (old new : Kept) (answer : CycleStep) : Type 0 where
   pub carried : (m : Machine) (i : Instruction) (lines : List Line) (s : State) → IsDecoded m (old.control.pc + 1 + delay) i line
       → part.count ≡ length m.units → delay ≡ m.control.delay
       → StandsWith (results_at part old.region) (held_of lines old.store old.control) s → IsFed s.rest next
       → IsCarried (results_at part new.region) (held_of lines new.store new.control) s (carry_out U m s (Some i)) answer
+  pub takes : (has_taken answer && is_none next) ≡ false
   pub counted : new.store.cycle ≡ old.store.cycle + cycles_of answer
   pub memory : length new.store.memory.items ≡ length old.store.memory.items
   pub frame : length new.store.frame.items ≡ length old.store.frame.items

@@ -4,7 +4,7 @@
 #[derive(Clone, Copy, Debug, PartialEq, Eq)]
 pub enum CycleStep {
     /// The cycle was carried out. `put` is the word that it output, if any, and `took` is whether
-    /// it took a word of the input.
+    /// it took a word of the input, which it does only where one is left.
     Ran { put: Option<u32>, took: bool },
     /// The run has halted before, and nothing was changed.
     Halted,

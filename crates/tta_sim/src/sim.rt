@@ -1,7 +1,7 @@
 //! A run.
 
 ghost use Rattle.std.specs.Prelude.{◌≡◌, ◌+◌, ◌<◌, ◌≤◌, ◌^◌, [], ℕ, List, length};
-ghost use Rattle.std.specs.Prelude.{option_map, if◌then◌else◌, false};
+ghost use Rattle.std.specs.Prelude.{option_map, if◌then◌else◌, false, ◌&&◌, is_none};
 ghost use Rattle.std.specs.Prelude.{replicate, slice_index, IfOk, IsTrue};
 ghost use Rattle.tta_ops.specs.Set.{stated};
 ghost use Rattle.tta_arch.specs.Effects.{KeptReg, kept};
@@ -12,8 +12,8 @@ ghost use Rattle.tta_sim.specs.Places.{is_place};
 ghost use Rattle.tta_sim.specs.Results.{due_at, HasUnits, AreResultsOf, units_of};
 ghost use Rattle.tta_list.specs.Input.{IsFed};
 ghost use Rattle.tta_list.specs.Iterate.{iterate};
-ghost use Rattle.tta_sim.specs.Held.{Stands, GoesTo, IsAnswer, IsQuiet, IsRunOf, cycles_of};
-ghost use Rattle.tta_sim.specs.Held.{goes_quietly, is_halted, fault_number, ending_told};
+ghost use Rattle.tta_sim.specs.Held.{Stands, GoesTo, IsAnswer, IsQuiet, IsRunOf, has_taken};
+ghost use Rattle.tta_sim.specs.Held.{cycles_of, goes_quietly, is_halted, fault_number, ending_told};
 ghost use Rattle.tta_sim.specs.declared.answer.CycleStep.TheVariants.{Waiting};
 
 use crate::answer::CycleStep;
@@ -114,6 +114,7 @@ impl Sim {
             → GoesTo self.new s (next_state U m.now code.now s) result }
         ensures answer { let U = stated unit_meaning units.now in (s : State)
             → Stands self.old s → IsFed s.rest next → IsAnswer U m.now code.now s result }
+        ensures takes { (has_taken result && is_none next) ≡ false }
         ensures waits { result ≡ Waiting → self.new ≡ self.old }
     {
         self.state.cycle(&mut self.region, 0, m, code, units, next)

@@ -1,7 +1,7 @@
 //! A run whose results are kept in a region that it is given.
 
 ghost use Rattle.std.specs.Prelude.{◌≡◌, ◌+◌, ◌<◌, ◌≤◌, ◌^◌, [], ℕ, List, length, slice_index};
-ghost use Rattle.std.specs.Prelude.{IfOk, IsTrue, if◌then◌else◌, false};
+ghost use Rattle.std.specs.Prelude.{IfOk, IsTrue, if◌then◌else◌, false, ◌&&◌, is_none};
 ghost use Rattle.tta_ops.specs.Set.{stated};
 ghost use Rattle.tta_arch.specs.Effects.{KeptReg, kept};
 ghost use Rattle.tta_code.specs.Cycle.{State, next as next_state, start};
@@ -10,8 +10,8 @@ ghost use Rattle.tta_flight.specs.Flight.{StayBeside};
 ghost use Rattle.tta_sim.specs.Places.{is_place};
 ghost use Rattle.tta_sim.specs.Results.{Results, AreResultsOf, AreKept, HasUnits, units_of};
 ghost use Rattle.tta_list.specs.Input.{IsFed};
-ghost use Rattle.tta_sim.specs.Held.{StandsWith, GoesWith, IsAnswer, IsQuiet, IsStateOf, cycles_of};
-ghost use Rattle.tta_sim.specs.Held.{goes_quietly, is_halted, fault_number, ending_told};
+ghost use Rattle.tta_sim.specs.Held.{StandsWith, GoesWith, IsAnswer, IsQuiet, IsStateOf, has_taken};
+ghost use Rattle.tta_sim.specs.Held.{cycles_of, goes_quietly, is_halted, fault_number, ending_told};
 ghost use Rattle.tta_sim.specs.declared.answer.CycleStep.TheVariants.{Waiting};
 
 use crate::answer::CycleStep;
@@ -130,6 +130,7 @@ impl SimState {
         ensures answer { let U = stated unit_meaning units.now in (s : State)
             → StandsWith (units_of base m.now region.old) self.old s → IsFed s.rest next
             → IsAnswer U m.now code.now s result }
+        ensures takes { (has_taken result && is_none next) ≡ false }
         ensures waits { result ≡ Waiting → self.new ≡ self.old }
         ensures stays { result ≡ Waiting → region.new ≡ region.old }
     {

@@ -84,6 +84,7 @@ returns-then-is_stuck g c = record {
       let took_is = c.any_takes-took.ensures ∙ ap (list_any takes) (c.as_slice-starts.ensures ∙ left.starts_are) in
       let must = ap (λ b. b && is_none c.args.next) (sym took_is) ∙ sym c.is_stuck.ensures ∙ c.if-is_stuck.true in
       carried_wait U m decoded.rules i decoded.legal lines store r c.args.run.now.control s size same none c.args.next fed must;
+  takes = refl;
   counted = omega arith;
   memory = refl;
   frame = refl;
@@ -129,6 +130,7 @@ returns g c = record {
       (c.go_on.ensures.cycle ∙ ap (λ n. n + 1) c.put_all-put.ensures.cycle)
       (c.go_on.ensures.data ∙ words) (c.go_on.ensures.frame ∙ others) (c.put_all-put.ensures.put ∙ ap (λ ts. option_map (λ t. t.word) (find puts ts)) starts_are)
       (tells ∙ told_same m decoded.rules i decoded.legal back line decoded.line store.places r p) c.advance.ensures;
+  takes = sym c.is_stuck.ensures ∙ c.if-is_stuck.false;
   counted = c.go_on.ensures.cycle ∙ ap (λ n. n + 1) c.put_all-put.ensures.cycle;
   memory = ap length (c.go_on.ensures.data ∙ c.put_all-put.ensures.data) ∙ length-stored c.args.run.now.store.memory.items c.as_slice-starts.result.now;
   frame = ap length (c.go_on.ensures.frame ∙ c.put_all-put.ensures.frame) ∙ length-stored_frame c.args.run.now.store.frame.items c.as_slice-starts.result.now;

@@ -80,6 +80,7 @@ returns-clause-cycle g c = λ next. record {
       (c.go_on.ensures.data ∙ sym (soft_memory store.memory.items begins soft)) (c.go_on.ensures.frame ∙ sym (soft_frame store.frame.items begins soft))
       (ap (option_map (λ t. t.word)) (sym (soft_puts begins soft)))
       tells c.advance.ensures;
+  takes = refl;
   counted = c.go_on.ensures.cycle;
   memory = ap length c.go_on.ensures.data;
   frame = ap length c.go_on.ensures.frame;
