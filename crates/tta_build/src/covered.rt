@@ -15,12 +15,12 @@ ghost use Rattle.tta_build.specs.Statement.{HasCause, unsupplied};
 
 use crate::error::BuildError;
 use crate::lists::code_of_lists;
+use crate::needs::unoffered;
+use crate::passes::optimise_all;
 use crate::register::register_code;
 use std::alloc::Global;
 use tta_arch::Machine;
 use tta_code::Code;
-use crate::needs::unoffered;
-use crate::passes::optimise_all;
 use tta_connect::{Choice, CoverError, Net, cover};
 use tta_lower::LowerError;
 use tta_moves::BlockList;

@@ -11,10 +11,10 @@ ghost use Rattle.tta_build.specs.CodeOfLists.{IsCodeOf};
 ghost use Rattle.tta_build.specs.Parts.{IsListsCause};
 
 use crate::error::BuildError;
+use crate::placing::place_and_link;
 use std::alloc::Global;
 use tta_arch::Machine;
 use tta_code::Code;
-use crate::placing::place_and_link;
 use tta_connect::Net;
 use tta_link::LinkError;
 use tta_moves::BlockList;

@@ -12,13 +12,13 @@ ghost use Rattle.tta_build.specs.Parts.{IsCodeFor};
 ghost use Rattle.tta_build.specs.Statement.{IsBuilt, HasCause};
 
 use crate::covered::covered_code;
+use crate::data_order::data_in_order;
 use crate::direct::direct_code;
+use crate::direct_pair::is_direct;
 use crate::error::BuildError;
 use std::alloc::Global;
 use tta_arch::Machine;
 use tta_code::{Code, Whole};
-use crate::data_order::data_in_order;
-use crate::direct_pair::is_direct;
 use tta_connect::Net;
 use tta_ops::UnitSet;
 use tta_program::Program;

@@ -11,6 +11,7 @@ use Rattle.tta_list.specs.Legs as legs
 use Rattle.tta_list.specs.Legs.{Run}
 use Rattle.tta_moves.specs.Runs.{AreAddresses, lrun}
 use Rattle.tta_agree.specs.Agrees.{IsGiven, IsPrefixOf}
+
 -- both runs have halted, with the same memory, output and rest of the input
 pub record HaltAlike (s : program.State) (r : Run Held) : Type 0 where
   pub program : s.outcome ≡ program.Halted

@@ -3,6 +3,7 @@
 ghost use Rattle.std.specs.Prelude.{◌≡◌, map, slice_set};
 ghost use Rattle.tta_list.specs.Laid.{over};
 ghost use Rattle.tta_program.specs.Program.{data_of, datum_of};
+
 use crate::program::{DataLine, Program};
 
 // puts a word at an address, and does nothing where the memory has none
