@@ -88,12 +88,16 @@ impl<T> Borrow<[T]> for Vec<T> {
     }
 }
 
-/// `vec![in alloc; value; count]`, the only form that the crates use.
+/// `vec![in alloc; value; count]` and `vec![in alloc; first, second, ..]`.
 #[macro_export]
 macro_rules! vec_in {
     (in $alloc:expr; $value:expr; $count:expr) => {{
         let _ = $alloc;
         Ok::<_, $crate::alloc::AllocError>($crate::vec::Vec(std::vec![$value; $count]))
+    }};
+    (in $alloc:expr; $($value:expr),+ $(,)?) => {{
+        let _ = $alloc;
+        Ok::<_, $crate::alloc::AllocError>($crate::vec::Vec(std::vec![$($value),+]))
     }};
 }
 

@@ -1,10 +1,11 @@
 """Makes plain Rust of the sources of the crates: contracts and ghost items are left out, and the kit's names become those of
-its stand-in."""
+its stand-in. What meets the host, in tta_ports, is replaced by host.rs, which stands beside this file."""
 import os
 import re
 
 # The parts of tta_ports that meet the host, and those that stand for it in tests.
 HOSTS = ["real_files", "real_sink", "transfer", "mem_files", "mem_sink"]
+IN_THEIR_PLACE = "mod host;\npub use host::{RealFiles, RealSink};\n"
 
 COMMENT = r"//[^\n]*"
 STRING = r'"(?:\\.|[^"\\])*"'
@@ -15,6 +16,10 @@ LITERAL = re.compile(f"({STRING}|{CHARACTER})", re.S)
 # These are changed between strings alone.
 NAMES = [
     (r"^use (?:std::marker::Model|thiserror::Error);\n", ""),
+    (r"^use std::env;\n", "use kit::host as env;\n"),
+    (r"\bstd::rt::", "kit::host::"),
+    (r"\bBox::new\(alloc, ", "kit::host::boxed(alloc, "),
+    (r"^fn main\(rt: HostRuntime\) -> ExitCode \{\n", "fn main() -> ExitCode {\n    let rt = HostRuntime;\n"),
     (r"\bstd::alloc::", "kit::alloc::"),
     (r"\barrayvec::", "kit::array_vec::"),
     (r"\bindexmap::", "kit::index_map::"),
@@ -24,7 +29,10 @@ NAMES = [
     (r"\.collect\(", ".collect_in("),
 ]
 DERIVED = re.compile(r"^([ \t]*)#\[derive\(([^)]*)\)\]\n", re.M)
-PRELUDE = "#[allow(unused_imports)]\nuse kit::{prelude::*, vec_in as vec};\n"
+PRELUDE = "#[allow(unused_imports)]\nuse kit::{eprintln_in as eprintln, prelude::*, prove_in as prove, vec_in as vec};\n"
+# An enum whose variants have texts, and one of its variants with its text.
+TEXTS = re.compile(r"^#\[derive\([^)]*\bError\b[^)]*\)\]\npub enum (\w+) \{\n(.*?)^\}\n", re.M | re.S)
+VARIANT = re.compile(r'#\[error\(("(?:\\.|[^"\\])*")\)\]\s*(\w+)(\s*\{[^}]*\})?')
 
 
 def without_comments(text):
@@ -90,23 +98,35 @@ def renamed(code):
     return DERIVED.sub(derived, code)
 
 
+def display(found):
+    """The enum again, with what makes the text of each of its variants."""
+    arms = []
+    for text, variant, fields in VARIANT.findall(found[2]):
+        names = ", ".join(re.findall(r"(\w+)\s*:", fields))
+        arms.append(f"            Self::{variant}{f' {{ {names} }}' if names else ''} => write!(f, {text}),\n")
+    return (
+        f"{found[0]}\nimpl std::fmt::Display for {found[1]} {{\n"
+        "    fn fmt(&self, f: &mut std::fmt::Formatter<'_>) -> std::fmt::Result {\n        match self {\n"
+        f"{''.join(arms)}        }}\n    }}\n}}\n"
+    )
+
+
 def plain(text):
     """A source in plain Rust."""
-    text = without_comments(text)
+    text = TEXTS.sub(display, without_comments(text))
     for pattern, end in PARTS:
         text = without(text, pattern, end)
     pieces = LITERAL.split(text)
     return PRELUDE + "".join(piece if at % 2 else renamed(piece) for at, piece in enumerate(pieces))
 
 
-def copy_plain(source, target):
-    """Writes a crate's sources in plain Rust to another folder."""
+def plain_files(source):
+    """The sources of a crate in plain Rust: the path of each below its folder, and its text."""
     for folder, _, names in os.walk(source):
-        to = os.path.join(target, os.path.relpath(folder, source))
-        os.makedirs(to, exist_ok=True)
-        for base, ending in map(os.path.splitext, names):
-            if ending == ".rt" and base not in HOSTS:
-                with open(os.path.join(folder, base + ending)) as f:
-                    text = plain(f.read())
-                with open(os.path.join(to, base + ".rs"), "w") as f:
-                    f.write(text)
+        for base, ending in map(os.path.splitext, sorted(names)):
+            if ending != ".rt" or base in HOSTS:
+                continue
+            with open(os.path.join(folder, base + ending)) as f:
+                text = f.read()
+            added = IN_THEIR_PLACE if "pub use real_files" in text else ""
+            yield os.path.join(os.path.relpath(folder, source), base + ".rs"), plain(text) + added

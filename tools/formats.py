@@ -1,0 +1,48 @@
+"""The tables of docs/FORMATS.md, from which help, explanations and reasons are told."""
+import os
+import re
+
+TOP = os.path.normpath(os.path.join(os.path.dirname(os.path.abspath(__file__)), ".."))
+PAGE = os.path.join(TOP, "docs", "FORMATS.md")
+# What `explain` takes: the section of a number's table, and the head of its first column.
+TABLES = {
+    "status": ("Endings", "Status"),
+    "machine": ("Machine text", "Number"),
+    "program": ("Program text", "Number"),
+    "image": ("Image", "Number"),
+    "assembly": ("Assembly", "Number"),
+    "fault": ("Endings", "Number"),
+    "debug": ("Scripts", "Number"),
+}
+FIRST_FAULT = 60
+
+
+def section(name):
+    with open(PAGE, encoding="utf-8") as page:
+        return page.read().split(f"\n## {name}\n")[1].split("\n## ")[0]
+
+
+def rows(name, head):
+    """The rows of the tables of a section whose first column has this head, each a list of cells without marks of code."""
+    found, inside = [], False
+    for line in section(name).split("\n"):
+        if not line.startswith("|"):
+            inside = False
+            continue
+        cells = [cell.strip().replace("`", "") for cell in re.split(r"(?<!\\)\|", line.strip("|"))]
+        if inside and not cells[0].startswith("---"):
+            found.append(cells)
+        inside = inside or cells[0] == head
+    return found
+
+
+def commands():
+    """The forms of the commands, each with what it does."""
+    return [(cells[0].split(), cells[1]) for cells in rows("Commands", "Words")]
+
+
+def meanings(what, number):
+    """What the table of this kind says of a number: a line for each cause."""
+    name, head = TABLES[what]
+    found = [cells for cells in rows(name, head) if str(number) in re.split(r", *", cells[0])]
+    return [cells[1] for cells in found if what != "fault" or int(number) >= FIRST_FAULT]

@@ -1,0 +1,87 @@
+"""Proves and builds a program of the repository, and says how far it is: which crate of how many, and how long it took so far, in
+one line that is written over on a terminal, and else in a line for each crate. Its word is the name of the program's crate."""
+import os
+import re
+import subprocess
+import sys
+import time
+
+sys.dont_write_bytecode = True
+sys.path.insert(0, os.path.join(os.path.dirname(os.path.abspath(__file__)), "plain"))
+from build import CannotBuild, crates_of
+
+TOP = os.path.normpath(os.path.join(os.path.dirname(os.path.abspath(__file__)), ".."))
+BEGUN = re.compile(r"^rt: (?:chose --jobs \d+ for|\S+ begins with) (\w+)|^crate (\w+):", re.M)
+LAST_LINES = 20
+CANNOT_BUILD = 70
+
+
+def clock(seconds):
+    return f"{int(seconds) // 60}:{int(seconds) % 60:02}"
+
+
+class Progress:
+    """The crates that were seen in the log."""
+
+    def __init__(self, crates):
+        self.crates = crates
+        self.seen = []
+        self.start = time.monotonic()
+        self.is_terminal = sys.stderr.isatty()
+
+    def read(self, text):
+        """Takes more of the log, and tells of each crate that it names first."""
+        for found in BEGUN.finditer(text):
+            name = found[1] or found[2]
+            if name in self.crates and name not in self.seen:
+                self.seen.append(name)
+                if not self.is_terminal:
+                    print(self.line(), file=sys.stderr)
+        if self.is_terminal and self.seen:
+            print(f"\r{self.line()}\033[K", end="", file=sys.stderr, flush=True)
+
+    def line(self):
+        took = clock(time.monotonic() - self.start)
+        return f"tta: proving {self.seen[-1]}, crate {len(self.seen)} of {len(self.crates)}, {took} so far"
+
+    def end(self):
+        if self.is_terminal:
+            print("\r\033[K", end="", file=sys.stderr, flush=True)
+
+
+def prove(program, log):
+    """Runs the build to its end, with its words in a log. A program without words ends at once, after it is built."""
+    progress = Progress(crates_of(program))
+    with open(log, "wb") as out, open(log, encoding="utf-8", errors="replace") as said:
+        folder = os.path.join(TOP, "crates", program)
+        build = subprocess.Popen(["rt", "run"], cwd=folder, stdin=subprocess.DEVNULL, stdout=out, stderr=out)
+        while build.poll() is None:
+            progress.read(said.read())
+            time.sleep(0.5)
+        progress.read(said.read())
+    progress.end()
+
+
+def main():
+    program = sys.argv[1]
+    log = os.path.join(TOP, "crates", f"{program}.log")
+    print("tta: proving and building the program first; from nothing this takes about half an hour", file=sys.stderr)
+    print("tta: ./tta --plain COMMAND takes a minute instead, with a program whose proofs are left out", file=sys.stderr)
+    begun = time.time()
+    try:
+        prove(program, log)
+    except CannotBuild as error:
+        print(f"tta: {error}", file=sys.stderr)
+        return CANNOT_BUILD
+    built = os.path.join(TOP, "crates", program, "out", program)
+    if os.path.exists(built) and os.path.getmtime(built) >= begun:
+        return 0
+    print(f"tta: the build failed; the last lines of crates/{program}.log are", file=sys.stderr)
+    with open(log, encoding="utf-8", errors="replace") as said:
+        for line in said.read().splitlines()[-LAST_LINES:]:
+            print(f"  {line}", file=sys.stderr)
+    return CANNOT_BUILD
+
+
+if __name__ == "__main__":
+    sys.exit(main())

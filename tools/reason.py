@@ -1,0 +1,96 @@
+"""Says in words why a command was refused, below the program's own line: what its number means, and the line of the text that it
+is about, as compilers do. Its words are the line that the program printed, and the words of the command."""
+import os
+import re
+import sys
+
+sys.dont_write_bytecode = True
+import formats
+
+# The word of a command's form that names the text which a refusal is about, and the table of its numbers, if it has one.
+TEXTS = {
+    "machine": ("M", "machine"),
+    "program": ("P", "program"),
+    "no unit": ("P", None),
+    "data": ("P", None),
+    "assembly": ("A", "assembly"),
+    "input": ("IN", None),
+    "stream": ("STREAM", None),
+}
+LONGEST = 120
+
+
+def form_of(words):
+    """The form of a command, or nothing."""
+    return next((form for form, _ in formats.commands() if form[0] == words[0] and len(form) == len(words)), [])
+
+
+def file_of(name, words):
+    """The file that a command names in the place of this word of its form, or None."""
+    form = form_of(words)
+    return words[form.index(name)] if name in form else None
+
+
+def shown_line(path, number):
+    """A line of a file as compilers show it, or nothing where there is no such line."""
+    try:
+        with open(path, "rb") as f:
+            lines = f.read(1 << 24).split(b"\n")
+    except OSError:
+        return []
+    if not 1 <= number <= len(lines):
+        return []
+    text = lines[number - 1].decode("utf-8", "replace").rstrip()
+    text = "".join(c if c.isprintable() else " " for c in text)
+    return [f"{os.path.basename(path)}:{number}: {text[:LONGEST]}{'..' if len(text) > LONGEST else ''}"]
+
+
+def codes(table, number):
+    return [f"code {number}: {line}" for line in formats.meanings(table, number)]
+
+
+def of_text(kind, said, words):
+    name, table = TEXTS[kind]
+    path, number = file_of(name, words), re.search(r"line (\d+)", said)
+    found = shown_line(path, int(number[1])) if path and number else []
+    code = re.search(r"code (\d+)", said)
+    return found + (codes(table, code[1]) if table and code else [])
+
+
+def usage(words):
+    """The forms of a command, or where they are listed."""
+    forms = [" ".join(form) for form, _ in formats.commands() if words and form[0] == words[0]]
+    return [f"its words are: {form}" for form in forms] or ["./tta help lists the commands"]
+
+
+def reason(status, said, words):
+    """Lines that say why."""
+    kind = said.split(":")[0]
+    if kind == "usage":
+        return usage(words)
+    if kind in TEXTS:
+        found = of_text(kind, said, words)
+        if found and TEXTS[kind][1]:
+            return found
+        return found + formats.meanings("status", status)[:1]
+    code = re.search(r"code (\d+)", said)
+    if kind == "image" and code:
+        return codes("image", code[1])
+    if code and formats.meanings("fault", code[1]):
+        return codes("fault", code[1])
+    word = re.search(r"word (\d+)", said)
+    if word and kind in ("read fault", "too long") and int(word[1]) < len(words):
+        return [f"word {word[1]} is {words[int(word[1])]!r}", *formats.meanings("status", status)[:1]]
+    return formats.meanings("status", status)[:1]
+
+
+def main():
+    status, said, *words = sys.argv[1:]
+    if not said.startswith("tta: ") or "\n" in said:
+        return
+    for line in reason(int(status), said.removeprefix("tta: "), words):
+        print(f"  {line}", file=sys.stderr)
+
+
+if __name__ == "__main__":
+    main()
