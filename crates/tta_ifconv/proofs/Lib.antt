@@ -1,0 +1,14 @@
+pub mod Lists
+pub mod Places
+pub mod Pairs
+pub mod Moved
+pub mod Follows
+pub mod Growing
+pub mod Runs
+pub mod Origins
+pub mod Unique
+pub mod Kept
+pub mod Tabling
+pub mod Listed
+pub mod Whole
+pub mod Rows
