@@ -13,7 +13,8 @@ use Rattle.tta_print.specs.Replies.{reply_text}
 use Rattle.tta_list.specs.Input.{left}
 use Rattle.tta_sim.specs.Held.{Stands}
 use Rattle.tta_debug.specs.Debugged.{Debugged, Said, texts, is_running, is_waiting, moved, puts, rests, saying, cycles}
-use Rattle.tta_debug.specs.Sessions.{Session', Output, IsOver, IsMade, IsPut, IsCut, word_text}
+use Rattle.tta_debug.specs.Sessions.{Session', IsOver, IsMade, word_text}
+use Rattle.tta_ports.specs.Output.{Output, IsPut, IsCut}
 
 -- ---- how a cycle leaves the run
 

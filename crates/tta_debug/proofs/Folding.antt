@@ -13,7 +13,8 @@ use Rattle.tta_print.proofs.Puts.{append_known-nil, append_known-twice}
 use Rattle.tta_print.specs.declared.reply.Reply.TheVariants as reply
 use Rattle.tta_print.specs.Replies.{reply_text}
 use Rattle.tta_debug.specs.Debugged.{Debugged, Said, Done, texts, command, goes_on, saying_first, session}
-use Rattle.tta_debug.specs.Sessions.{Session', Output, Follows, IsPut, IsCut, IsStopped}
+use Rattle.tta_debug.specs.Sessions.{Session', Follows, IsStopped}
+use Rattle.tta_ports.specs.Output.{Output, IsPut, IsCut}
 use Rattle.tta_debug.specs.Scripts.{line_text, line_says, line_leaves, line_goes, TakesLine, TakesScript, script_says, lines_of}
 use Rattle.tta_debug.proofs.Running.{texts_both, put_both}
 

@@ -8,7 +8,8 @@ use Rattle.tta_ports.specs.declared.error.Failed.{Failed}
 use Rattle.tta_print.proofs.Puts.{append_known-nil, append_known-twice}
 use Rattle.tta_code.specs.Cycle.{State}
 use Rattle.tta_debug.specs.Debugged.{Debugged, has, is_at_stop, Said, Went, texts, is_waiting, moved, puts, rests, saying, cycles}
-use Rattle.tta_debug.specs.Sessions.{Session', Output, Follows, IsPut, IsCut, IsQuiet, IsStopped, IsOver, IsMade, IsStuck, Runs}
+use Rattle.tta_debug.specs.Sessions.{Session', Follows, IsStopped, IsOver, IsMade, IsStuck, Runs}
+use Rattle.tta_ports.specs.Output.{Output, IsPut, IsCut, IsQuiet}
 
 -- the bytes of lines and of others
 pub texts_both : (xs ys : List Said) → texts (xs ++ ys) ≡ texts xs ++ texts ys

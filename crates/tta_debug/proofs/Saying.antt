@@ -17,7 +17,8 @@ use Rattle.tta_debug.specs.declared.told.Told.TheVariants.{More, Bye}
 use Rattle.tta_debug.specs.declared.told.CommandError.{CommandError}
 use Rattle.tta_debug.specs.declared.told.CommandError.TheVariants.{Refused, SinkFailed}
 use Rattle.tta_debug.specs.Debugged.{Debugged, Said, texts, say, stops_set}
-use Rattle.tta_debug.specs.Sessions.{Session', Output, Follows, IsPut, IsStopped, Does, Keeps, SaysLine}
+use Rattle.tta_debug.specs.Sessions.{Session', Follows, IsStopped, Does, Keeps, SaysLine}
+use Rattle.tta_ports.specs.Output.{Output, IsPut}
 use Rattle.tta_debug.proofs.Running.{put_both}
 
 -- whether an answer ends the session

@@ -8,7 +8,8 @@ use Rattle.tta_ops.specs.Units.{Units}
 use Rattle.tta_arch.specs.Machine.{Machine}
 use Rattle.tta_code.specs.declared.code.Code.{Code}
 use Rattle.tta_debug.specs.Debugged.{Debugged, Said, Done, texts, say, command}
-use Rattle.tta_debug.specs.Sessions.{Session', Output, Follows, IsPut, IsCut}
+use Rattle.tta_debug.specs.Sessions.{Session', Follows}
+use Rattle.tta_ports.specs.Output.{Output, IsPut, IsCut}
 
 -- what is put for a line, by what comes of it
 abbrev pub line_text : Result Done ℕ → List ℕ

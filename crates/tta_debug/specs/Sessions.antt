@@ -2,6 +2,7 @@
 use Rattle.std.specs.Prelude.{◌≡◌, ℕ, suc, Bool, true, false, List, [], ◌∷◌, ◌++◌, take, drop, Option, None, Some, Result, Ok, Err}
 use Rattle.std.specs.Io.KnownBytes.{append_known}
 use Rattle.tta_ports.specs.Faults.{Rose}
+use Rattle.tta_ports.specs.Output.{Output, IsPut, IsCut, IsQuiet}
 use Rattle.tta_ports.specs.declared.error.Failed.{Failed}
 use Rattle.tta_print.specs.declared.reply.Reply.TheVariants as reply
 use Rattle.tta_print.specs.Replies.{reply_text}
@@ -26,31 +27,6 @@ pub record Follows (input : List ℕ) (h : Session') (d : Debugged) : Type 0 whe
   pub stands : Stands h.held d.state
   pub rest : d.state.rest ≡ drop h.taken input
   pub stops : h.stops ≡ d.stops
-
--- the bytes that the output has taken, where it shows them, and how often a put has failed
-pub record Output : Type 0 where
-  pub taken : Option (List ℕ)
-  pub faults : ℕ
-
--- an output by what it has taken and how many puts have failed
-abbrev pub output : Option (List ℕ) → ℕ → Output
-output taken faults = record { taken = taken; faults = faults }
-
--- all of a text was put
-pub record IsPut (text : List ℕ) (old new : Output) : Type 0 where
-  pub taken : new.taken ≡ append_known old.taken text
-  pub faults : new.faults ≡ old.faults
-
--- a put has failed: a prefix of the text was put
-pub record IsCut (text : List ℕ) (old new : Output) : Type 0 where
-  pub count : ℕ
-  pub taken : new.taken ≡ append_known old.taken (take count text)
-  pub rose : Rose old.faults new.faults
-
--- nothing was put, and no put has failed
-pub record IsQuiet (old new : Output) : Type 0 where
-  pub taken : new.taken ≡ old.taken
-  pub faults : new.faults ≡ old.faults
 
 -- a command was carried out whole
 pub record IsDone (input : List ℕ) (done : Done) (h : Session') (old new : Output) : Type 0 where

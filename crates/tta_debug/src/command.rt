@@ -6,7 +6,7 @@ ghost use Rattle.tta_sim.specs.Held.{IsRunOf};
 ghost use Rattle.tta_debug.specs.Commands.{plain_asked, plain_query};
 ghost use Rattle.tta_debug.specs.Debugged.{Debugged, answer, command, told, stops_set};
 ghost use Rattle.tta_debug.specs.Debugged.{with_stop, without_stop, seen as seen_of, in_flight};
-ghost use Rattle.tta_debug.specs.Sessions.{Follows, Does, Keeps, output};
+ghost use Rattle.tta_debug.specs.Sessions.{Follows, Does, Keeps};
 
 use crate::asked::{Asked, Query, read_asked};
 use crate::basis::Basis;
@@ -33,11 +33,11 @@ fn break_at<S: Sink>(
     ensures held { session.new.held ≡ session.old.held }
     ensures does { (input : List ℕ) (d : Debugged) → Follows input session.old d
         → Does input (stops_set d (with_stop (length code.now.words) d.stops address)) session.new
-        (output (S.taken sink.old) (S.faults sink.old))
-        (output (S.taken sink.new) (S.faults sink.new)) result }
+        (S.output sink.old)
+        (S.output sink.new) result }
     ensures keeps { Keeps session.old session.new
-        (output (S.taken sink.old) (S.faults sink.old))
-        (output (S.taken sink.new) (S.faults sink.new)) result }
+        (S.output sink.old)
+        (S.output sink.new) result }
 {
     match session.set_stop(code, address) {
         Ok(()) => say(sink, &Reply::Done, Told::More),
@@ -55,11 +55,11 @@ fn delete_at<S: Sink>(
     ensures held { session.new.held ≡ session.old.held }
     ensures does { (input : List ℕ) (d : Debugged) → Follows input session.old d
         → Does input (stops_set d (without_stop d.stops address)) session.new
-        (output (S.taken sink.old) (S.faults sink.old))
-        (output (S.taken sink.new) (S.faults sink.new)) result }
+        (S.output sink.old)
+        (S.output sink.new) result }
     ensures keeps { Keeps session.old session.new
-        (output (S.taken sink.old) (S.faults sink.old))
-        (output (S.taken sink.new) (S.faults sink.new)) result }
+        (S.output sink.old)
+        (S.output sink.new) result }
 {
     match session.delete_stop(address) {
         Ok(()) => say(sink, &Reply::Done, Told::More),
@@ -79,11 +79,11 @@ fn ask<S: Sink>(
     requires { IsRunOf m.now code.now session.now.held }
     ensures does { (input : List ℕ) (d : Debugged) → Follows input session.now d
         → Does input (told d (seen_of m.now d.state (plain_query query.now))) session.now
-        (output (S.taken sink.old) (S.faults sink.old))
-        (output (S.taken sink.new) (S.faults sink.new)) result }
+        (S.output sink.old)
+        (S.output sink.new) result }
     ensures keeps { Keeps session.now session.now
-        (output (S.taken sink.old) (S.faults sink.old))
-        (output (S.taken sink.new) (S.faults sink.new)) result }
+        (S.output sink.old)
+        (S.output sink.new) result }
 {
     match seen(session.sim(), m, query) {
         Some(reply) => say(sink, &reply, Told::More),
@@ -103,11 +103,11 @@ fn flight<S: Sink>(
     requires few { session.now.held.cycle < 2 ^ 61 }
     ensures does { (input : List ℕ) (d : Debugged) → Follows input session.now d
         → Does input (Ok (in_flight m.now d)) session.now
-        (output (S.taken sink.old) (S.faults sink.old))
-        (output (S.taken sink.new) (S.faults sink.new)) result }
+        (S.output sink.old)
+        (S.output sink.new) result }
     ensures keeps { Keeps session.now session.now
-        (output (S.taken sink.old) (S.faults sink.old))
-        (output (S.taken sink.new) (S.faults sink.new)) result }
+        (S.output sink.old)
+        (S.output sink.new) result }
 {
     match put_flight(sink, session.sim(), m) {
         Ok(()) => say(sink, &Reply::Done, Told::More),
@@ -131,11 +131,11 @@ fn carry_out<S: Sink>(
         let U = stated unit_meaning on.units.now in
         (d : Debugged) → Follows on.input.now session.old d
         → Does on.input.now (answer U on.m.now on.code.now d (plain_asked asked.now)) session.new
-        (output (S.taken sink.old) (S.faults sink.old))
-        (output (S.taken sink.new) (S.faults sink.new)) result }
+        (S.output sink.old)
+        (S.output sink.new) result }
     ensures keeps { Keeps session.old session.new
-        (output (S.taken sink.old) (S.faults sink.old))
-        (output (S.taken sink.new) (S.faults sink.new)) result }
+        (S.output sink.old)
+        (S.output sink.new) result }
 {
     match asked {
         Asked::Nothing => Ok(Told::More),
@@ -174,11 +174,11 @@ impl Session {
         ensures does { let U = stated unit_meaning units.now in
             (d : Debugged) → Follows input.now self.old d
             → Does input.now (command U m.now code.now line.now d) self.new
-            (output (S.taken sink.old) (S.faults sink.old))
-            (output (S.taken sink.new) (S.faults sink.new)) result }
+            (S.output sink.old)
+            (S.output sink.new) result }
         ensures keeps { Keeps self.old self.new
-            (output (S.taken sink.old) (S.faults sink.old))
-            (output (S.taken sink.new) (S.faults sink.new)) result }
+            (S.output sink.old)
+            (S.output sink.new) result }
     {
         let Some(asked) = read_asked(line) else {
             return Err(CommandError::Refused(70));

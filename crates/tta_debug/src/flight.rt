@@ -19,8 +19,8 @@ fn put_one<S: Sink>(sink: &mut S, sim: &Sim, name: &[u8], unit: u8, delay: u8) -
     requires few { sim.now.cycle < 2 ^ 62 }
     ensures grows { (d : Debugged) → Stands sim.now d.state
         → PutsBytes (texts (due_line d name.now unit delay))
-        (S.taken sink.old) (S.taken sink.new) result }
-    ensures cause { CountsFault (is_err result) (S.faults sink.old) (S.faults sink.new) }
+        (S.output sink.old).taken (S.output sink.new).taken result }
+    ensures cause { CountsFault (is_err result) (S.output sink.old).faults (S.output sink.new).faults }
 {
     match sim.due(unit, delay) {
         None => Ok(()),
@@ -35,8 +35,8 @@ fn put_unit<S: Sink>(sink: &mut S, sim: &Sim, name: &[u8], unit: u8) -> Result<(
     requires few { sim.now.cycle < 2 ^ 62 }
     ensures grows { (d : Debugged) → Stands sim.now d.state
         → PutsBytes (texts (due_lines d name.now unit 1 16))
-        (S.taken sink.old) (S.taken sink.new) result }
-    ensures cause { CountsFault (is_err result) (S.faults sink.old) (S.faults sink.new) }
+        (S.output sink.old).taken (S.output sink.new).taken result }
+    ensures cause { CountsFault (is_err result) (S.output sink.old).faults (S.output sink.new).faults }
 {
     let mut delay = 1u8;
     'delays: while delay <= 16 {
@@ -53,8 +53,8 @@ fn put_units<S: Sink>(sink: &mut S, sim: &Sim, units: &[Unit]) -> Result<(), Fai
     requires names { AllByRecursion (λ u. length u.name ≤ 64) units.now }
     requires few { sim.now.cycle < 2 ^ 62 }
     ensures grows { (d : Debugged) → Stands sim.now d.state
-        → PutsBytes (texts (unit_lines d 0 units.now)) (S.taken sink.old) (S.taken sink.new) result }
-    ensures cause { CountsFault (is_err result) (S.faults sink.old) (S.faults sink.new) }
+        → PutsBytes (texts (unit_lines d 0 units.now)) (S.output sink.old).taken (S.output sink.new).taken result }
+    ensures cause { CountsFault (is_err result) (S.output sink.old).faults (S.output sink.new).faults }
 {
     let mut number = 0u8;
     'units: for unit in units {
@@ -71,8 +71,8 @@ pub fn put_flight<S: Sink>(sink: &mut S, sim: &Sim, m: &Machine) -> Result<(), F
     requires few { sim.now.cycle < 2 ^ 62 }
     ensures grows { (d : Debugged) → Stands sim.now d.state
         → PutsBytes (texts (unit_lines d 0 m.now.units))
-        (S.taken sink.old) (S.taken sink.new) result }
-    ensures cause { CountsFault (is_err result) (S.faults sink.old) (S.faults sink.new) }
+        (S.output sink.old).taken (S.output sink.new).taken result }
+    ensures cause { CountsFault (is_err result) (S.output sink.old).faults (S.output sink.new).faults }
 {
     put_units(sink, sim, m.units.as_slice())
 }

@@ -10,7 +10,7 @@ ghost use Rattle.tta_code.specs.Cycle.{State};
 ghost use Rattle.tta_sim.specs.Held.{Stands};
 ghost use Rattle.tta_debug.specs.Debugged.{Debugged, cycles, is_at_stop, ran, stopped};
 ghost use Rattle.tta_debug.specs.Sessions.{Does, Keeps};
-ghost use Rattle.tta_debug.specs.Sessions.{output, Follows, Cycles, PutsWord, Runs};
+ghost use Rattle.tta_debug.specs.Sessions.{Follows, Cycles, PutsWord, Runs};
 
 use crate::basis::Basis;
 use crate::query::standing;
@@ -56,9 +56,9 @@ fn next_of(input: &[u32], taken: usize) -> Option<u32>
 
 // Puts the line of a word, if there is one.
 fn put_word<S: Sink>(sink: &mut S, word: Option<u32>) -> Result<(), Failed>
-    ensures puts { PutsWord word (output (S.taken sink.old) (S.faults sink.old))
-        (output (S.taken sink.new) (S.faults sink.new)) result }
-    ensures cause { CountsFault (is_err result) (S.faults sink.old) (S.faults sink.new) }
+    ensures puts { PutsWord word (S.output sink.old)
+        (S.output sink.new) result }
+    ensures cause { CountsFault (is_err result) (S.output sink.old).faults (S.output sink.new).faults }
 {
     match word {
         None => Ok(()),
@@ -76,9 +76,9 @@ fn cycle<S: Sink>(session: &mut Session, basis: &Basis<'_>, sink: &mut S) -> Res
         let step = next_state (stated unit_meaning on.units.now) on.m.now on.code.now in
         (d : Debugged) → Follows on.input.now session.old d
         → Cycles on.input.now step d session.new
-        (output (S.taken sink.old) (S.faults sink.old))
-        (output (S.taken sink.new) (S.faults sink.new)) result }
-    ensures cause { CountsFault (is_err result) (S.faults sink.old) (S.faults sink.new) }
+        (S.output sink.old)
+        (S.output sink.new) result }
+    ensures cause { CountsFault (is_err result) (S.output sink.old).faults (S.output sink.new).faults }
 {
     match session.sim.cycle(
         basis.m,
@@ -117,9 +117,9 @@ pub fn run_cycles<S: Sink>(
         let step = next_state (stated unit_meaning on.units.now) on.m.now on.code.now in
         (d : Debugged) → Follows on.input.now session.old d
         → Runs on.input.now (cycles step (λ e. to_stop && is_at_stop e) count d) session.new
-        (output (S.taken sink.old) (S.faults sink.old))
-        (output (S.taken sink.new) (S.faults sink.new)) result }
-    ensures cause { CountsFault (is_err result) (S.faults sink.old) (S.faults sink.new) }
+        (S.output sink.old)
+        (S.output sink.new) result }
+    ensures cause { CountsFault (is_err result) (S.output sink.old).faults (S.output sink.new).faults }
 {
     let mut left = count;
     'cycles: while left > 0 {
@@ -166,11 +166,11 @@ pub fn run<S: Sink>(
         let step = next_state (stated unit_meaning on.units.now) on.m.now on.code.now in
         (d : Debugged) → Follows on.input.now session.old d
         → Does on.input.now (Ok (ran (cycles step (λ e. to_stop && is_at_stop e) count d)))
-        session.new (output (S.taken sink.old) (S.faults sink.old))
-        (output (S.taken sink.new) (S.faults sink.new)) result }
+        session.new (S.output sink.old)
+        (S.output sink.new) result }
     ensures keeps { Keeps session.old session.new
-        (output (S.taken sink.old) (S.faults sink.old))
-        (output (S.taken sink.new) (S.faults sink.new)) result }
+        (S.output sink.old)
+        (S.output sink.new) result }
 {
     match run_cycles(session, basis, sink, count, to_stop) {
         Ok(waits) => say(sink, &stopped_at(session, waits), Told::More),

@@ -5,7 +5,7 @@ ghost use Rattle.tta_ops.specs.Set.{stated};
 ghost use Rattle.tta_sim.specs.Held.{IsRunOf};
 ghost use Rattle.tta_ports.specs.Faults.{CountsFault};
 ghost use Rattle.tta_debug.specs.Debugged.{Debugged, command, session as session_of};
-ghost use Rattle.tta_debug.specs.Sessions.{Follows, IsStopped, output};
+ghost use Rattle.tta_debug.specs.Sessions.{Follows, IsStopped};
 ghost use Rattle.tta_debug.specs.Scripts.{TakesLine, TakesScript, lines_of, line_len as len_of};
 ghost use Rattle.tta_debug.specs.Scripts.{line_says, script_says};
 
@@ -36,16 +36,16 @@ fn take_line<S: Sink>(
         let U = stated unit_meaning on.units.now in
         (d : Debugged) → Follows on.input.now session.old d
         → TakesLine on.input.now d (command U on.m.now on.code.now line.now d) session.new
-        (output (S.taken sink.old) (S.faults sink.old))
-        (output (S.taken sink.new) (S.faults sink.new)) result }
+        (S.output sink.old)
+        (S.output sink.new) result }
     ensures stopped { let on = basis.now in
         let U = stated unit_meaning on.units.now in
         (d : Debugged) → Follows on.input.now session.old d
         → IfErr result (λ e. IsStopped on.input.now
         (line_says d (command U on.m.now on.code.now line.now d)) session.new
-        (output (S.taken sink.old) (S.faults sink.old))
-        (output (S.taken sink.new) (S.faults sink.new))) }
-    ensures cause { CountsFault (is_err result) (S.faults sink.old) (S.faults sink.new) }
+        (S.output sink.old)
+        (S.output sink.new)) }
+    ensures cause { CountsFault (is_err result) (S.output sink.old).faults (S.output sink.new).faults }
 {
     match session.command(line, basis.m, basis.code, basis.units, basis.input, sink) {
         Ok(Told::More) => Ok(true),
@@ -109,15 +109,15 @@ fn take_lines<S: Sink>(
         let said = session_of (stated unit_meaning on.units.now) on.m.now on.code.now in
         (d : Debugged) → Follows on.input.now session.old d
         → TakesScript on.input.now (said (lines_of script.now) d) session.new
-        (output (S.taken sink.old) (S.faults sink.old))
-        (output (S.taken sink.new) (S.faults sink.new)) result }
+        (S.output sink.old)
+        (S.output sink.new) result }
     ensures stopped { let on = basis.now in
         let says = script_says (stated unit_meaning on.units.now) on.m.now on.code.now in
         (d : Debugged) → Follows on.input.now session.old d
         → IfErr result (λ e. IsStopped on.input.now (says (lines_of script.now) d) session.new
-        (output (S.taken sink.old) (S.faults sink.old))
-        (output (S.taken sink.new) (S.faults sink.new))) }
-    ensures cause { CountsFault (is_err result) (S.faults sink.old) (S.faults sink.new) }
+        (S.output sink.old)
+        (S.output sink.new)) }
+    ensures cause { CountsFault (is_err result) (S.output sink.old).faults (S.output sink.new).faults }
 {
     let mut rest = script;
     'lines: while !rest.is_empty() {
@@ -153,15 +153,15 @@ pub fn run_script<S: Sink>(
     ensures replies { let U = stated unit_meaning units.now in
         (d : Debugged) → Follows input.now session.old d
         → TakesScript input.now (session_of U m.now code.now (lines_of script.now) d) session.new
-        (output (S.taken sink.old) (S.faults sink.old))
-        (output (S.taken sink.new) (S.faults sink.new)) result }
+        (S.output sink.old)
+        (S.output sink.new) result }
     ensures stopped { let U = stated unit_meaning units.now in
         (d : Debugged) → Follows input.now session.old d
         → IfErr result (λ e. IsStopped input.now
         (script_says U m.now code.now (lines_of script.now) d) session.new
-        (output (S.taken sink.old) (S.faults sink.old))
-        (output (S.taken sink.new) (S.faults sink.new))) }
-    ensures cause { CountsFault (is_err result) (S.faults sink.old) (S.faults sink.new) }
+        (S.output sink.old)
+        (S.output sink.new)) }
+    ensures cause { CountsFault (is_err result) (S.output sink.old).faults (S.output sink.new).faults }
 {
     let basis = Basis {
         m,

@@ -1,5 +1,7 @@
 pub mod Store
 pub mod Faults
+pub mod World
+pub mod Output
 pub mod Files
 pub mod Sink
 pub mod Disk

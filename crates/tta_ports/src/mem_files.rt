@@ -137,11 +137,11 @@ impl Files for MemFiles {
     ghost use Rattle.tta_ports.specs.Files.{write_failed};
     ghost use Rattle.tta_ports.specs.Disk.{read_answer, ReadAnswers, after_read, WriteAnswers};
 
-    ghost contents = { λ m. Some m.store };
-
-    ghost faults = { λ m. m.faults };
-
-    ghost latest = { λ m. m.latest };
+    ghost world = { λ m. record {
+      contents = Some m.store;
+      faults = m.faults;
+      latest = m.latest;
+    } };
 
     fn read(&mut self, name: &str, limit: u64) -> Result<Vec<u8>, ReadError>
         // It fails exactly where its number is to fail and where there is no such name, unless

@@ -89,9 +89,7 @@ impl Sink for MemSink {
     ghost use Rattle.tta_ports.specs.Sink.{PutsBytes};
     ghost use Rattle.tta_ports.specs.Buffer.{put_fails, after_put};
 
-    ghost taken = { λ s. Some s.taken };
-
-    ghost faults = { λ s. s.faults };
+    ghost output = { λ s. record { taken = Some s.taken; faults = s.faults } };
 
     fn put(&mut self, bytes: &[u8]) -> Result<(), Failed>
         // It fails exactly where its number is to fail and where the bytes go past the room.

@@ -68,11 +68,7 @@ fn write_file<R: rt::Files>(rt: &R, name: &str, bytes: &[u8]) -> Result<(), Fail
 }
 
 impl<R: rt::Files + AllocGlobal> Files for RealFiles<R> {
-    ghost contents = { λ _. None };
-
-    ghost faults = { λ f. f.count };
-
-    ghost latest = { λ f. f.latest };
+    ghost world = { λ f. record { contents = None; faults = f.count; latest = f.latest } };
 
     fn read(&mut self, name: &str, limit: u64) -> Result<Vec<u8>, ReadError> {
         let copy = Name::new(self.rt.alloc(), name.as_bytes())?;

@@ -37,9 +37,7 @@ impl<R> RealSink<R> {
 }
 
 impl<R: Print> Sink for RealSink<R> {
-    ghost taken = { λ _. None };
-
-    ghost faults = { λ s. s };
+    ghost output = { λ s. record { taken = None; faults = s } };
 
     fn put(&mut self, bytes: &[u8]) -> Result<(), Failed> {
         match write_whole(&mut io::writer(&self.rt), bytes) {

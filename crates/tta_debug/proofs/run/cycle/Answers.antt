@@ -2,7 +2,7 @@ use Rattle.std.proofs.Common.{slice_get, refl, sym, ap, ◌∙◌, true≢false,
 use Rattle.tta_ops.specs.Set.{stated}
 use Rattle.tta_code.specs.Cycle.{next}
 use Rattle.tta_debug.specs.Debugged.{is_running}
-use Rattle.tta_debug.specs.Sessions.{Follows, Cycles, output}
+use Rattle.tta_debug.specs.Sessions.{Follows, Cycles}
 use Rattle.tta_debug.proofs.Cycling.{made_by, on_by, cut_by, over_by}
 use Rattle.tta_debug.proofs.run.cycle.Goals.{in-Ok, in-Err}
 use Rattle.tta_debug.proofs.run.cycle.Goals as goal
@@ -36,8 +36,8 @@ returns-after-put_word-clause-cycles g c = λ d follows.
     let f = subst (λ h. Follows input h d) (sym c.session.view_is) follows in
     let fed = ap (λ l. slice_get l 0) f.rest ∙ sym c.next_of.ensures in
     let answer = c.in-Ran.ensures.answer d.state f.stands fed in
-    let old = output (g.S.Sink.taken c.args.sink.now) (g.S.Sink.faults c.args.sink.now) in
-    let new = output (g.S.Sink.taken c.put_word.new.sink) (g.S.Sink.faults c.put_word.new.sink) in
+    let old = g.S.Sink.output c.args.sink.now in
+    let new = g.S.Sink.output c.put_word.new.sink in
     let made = made_by U c.args.basis.now.m.now c.args.basis.now.code.now input _ d c.in-Ran.took _ _ answer.0 (c.in-Ran.ensures.next d.state f.stands fed) answer.1.2 f.rest
     c.count_taken-session-inside.ensures f.stops f.stands.cycle c.in-Ran.ensures.counted in
     elim c.match-put_word.branch [

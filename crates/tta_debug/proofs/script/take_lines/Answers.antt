@@ -6,7 +6,8 @@ use Rattle.tta_ops.specs.Units.{Units}
 use Rattle.tta_arch.specs.Machine.{Machine}
 use Rattle.tta_code.specs.declared.code.Code.{Code}
 use Rattle.tta_debug.specs.Debugged.{Debugged, Done, command, session}
-use Rattle.tta_debug.specs.Sessions.{Follows, Output, output}
+use Rattle.tta_debug.specs.Sessions.{Follows}
+use Rattle.tta_ports.specs.Output.{Output}
 use Rattle.tta_debug.specs.Scripts.{TakesLine, lines_of, script_says}
 use Rattle.tta_debug.proofs.Folding.{taken_first, taken_on, taken_bye, taken_cut, taken_last, script_cut, no_lines, replied_first, replied_on, replied_stopped, script_stopped}
 use Rattle.tta_debug.proofs.script.take_lines.Given as given
@@ -30,15 +31,15 @@ module _ (g : given.Over) (c : After-take_line g) where
 
   -- the output when the lines began
   abbrev old : Output
-  old = output (g.S.Sink.taken c.args.sink.now) (g.S.Sink.faults c.args.sink.now)
+  old = g.S.Sink.output c.args.sink.now
 
   -- before the line
   abbrev mid : Output
-  mid = output (g.S.Sink.taken c.lines.sink) (g.S.Sink.faults c.lines.sink)
+  mid = g.S.Sink.output c.lines.sink
 
   -- and after it
   abbrev new : Output
-  new = output (g.S.Sink.taken c.take_line.new.sink) (g.S.Sink.faults c.take_line.new.sink)
+  new = g.S.Sink.output c.take_line.new.sink
 
   -- what the line does
   abbrev said : Debugged → Result Done ℕ

@@ -2,7 +2,7 @@ use Rattle.std.proofs.Common.{◌≡◌, ◌+◌, ◌*◌, ◌<◌, ◌≤◌, �
 use Rattle.tta_ops.specs.Set.{stated}
 use Rattle.tta_sim.specs.Held.{IsRunOf}
 use Rattle.tta_debug.specs.Debugged.{Debugged}
-use Rattle.tta_debug.specs.Sessions.{Follows, output}
+use Rattle.tta_debug.specs.Sessions.{Follows}
 use Rattle.tta_debug.specs.Scripts.{lines_of}
 use Rattle.tta_debug.proofs.Folding.{Taken, Replied}
 use Rattle.tta_debug.proofs.script.take_lines.Given as goal
@@ -17,11 +17,11 @@ invariant-lines g l =
       loaded : IsRunOf l.basis.m.now l.basis.code.now l.session.held;
       few : l.session.held.cycle + length l.rest * 2 ^ 32 < 2 ^ 61;
       short : length l.rest ≤ 2 ^ 24;
-      faults : g.S.Sink.faults l.sink ≡ g.S.Sink.faults l.initial.sink;
+      faults : (g.S.Sink.output l.sink).faults ≡ (g.S.Sink.output l.initial.sink).faults;
       taken : (d : Debugged) → Follows l.basis.input.now l.initial.session d
           → Taken U l.basis.m.now l.basis.code.now l.basis.input.now (lines_of l.script) (lines_of l.rest) d l.session
-          (output (g.S.Sink.taken l.initial.sink) (g.S.Sink.faults l.initial.sink)) (output (g.S.Sink.taken l.sink) (g.S.Sink.faults l.sink));
+          (g.S.Sink.output l.initial.sink) (g.S.Sink.output l.sink);
       replied : (d : Debugged) → Follows l.basis.input.now l.initial.session d
           → Replied U l.basis.m.now l.basis.code.now l.basis.input.now (lines_of l.script) (lines_of l.rest) d l.session
-          (output (g.S.Sink.taken l.initial.sink) (g.S.Sink.faults l.initial.sink)) (output (g.S.Sink.taken l.sink) (g.S.Sink.faults l.sink));
+          (g.S.Sink.output l.initial.sink) (g.S.Sink.output l.sink);
     }

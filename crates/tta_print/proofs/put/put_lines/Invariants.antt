@@ -5,6 +5,6 @@ use Rattle.tta_print.proofs.put.put_lines.Given as goal
 
 abbrev pub invariant-lines : goal.invariant-lines
 invariant-lines g l = record {
-  put : HasPut (g.S.Sink.taken l.initial.sink) (g.S.Sink.taken l.sink) (lines_text l.lines) (lines_text (drop l.line-index l.lines));
-  faults : g.S.Sink.faults l.sink ≡ g.S.Sink.faults l.initial.sink;
+  put : HasPut (g.S.Sink.output l.initial.sink).taken (g.S.Sink.output l.sink).taken (lines_text l.lines) (lines_text (drop l.line-index l.lines));
+  faults : (g.S.Sink.output l.sink).faults ≡ (g.S.Sink.output l.initial.sink).faults;
 }

@@ -12,10 +12,9 @@ returns-in_err-put_line-clause-grows g c =
 
 pub returns-in_err-put_memory-clause-grows : goal.returns-in_err-put_memory-clause-grows
 returns-in_err-put_memory-clause-grows g c =
-    let taken = g.S.Sink.taken in
-    let old = taken c.args.sink.now in
-    let mid = taken c.put_line.new.sink in
-    let new = taken c.put_memory.new.sink in
+    let old = (g.S.Sink.output c.args.sink.now).taken in
+    let mid = (g.S.Sink.output c.put_line.new.sink).taken in
+    let new = (g.S.Sink.output c.put_memory.new.sink).taken in
     let first = line_text c.args.outcome.now in
     let second = lines_text (memory_lines 0 c.args.words.now) in
     let third = line_text c.args.count.now in
@@ -27,11 +26,10 @@ returns-in_err-put_memory-clause-grows g c =
 
 pub returns-clause-grows : goal.returns-clause-grows
 returns-clause-grows g c =
-    let taken = g.S.Sink.taken in
-    let old = taken c.args.sink.now in
-    let mid = taken c.put_line.new.sink in
-    let late = taken c.put_memory.new.sink in
-    let new = taken c.put_line-2.new.sink in
+    let old = (g.S.Sink.output c.args.sink.now).taken in
+    let mid = (g.S.Sink.output c.put_line.new.sink).taken in
+    let late = (g.S.Sink.output c.put_memory.new.sink).taken in
+    let new = (g.S.Sink.output c.put_line-2.new.sink).taken in
     let first = line_text c.args.outcome.now in
     let second = lines_text (memory_lines 0 c.args.words.now) in
     let third = line_text c.args.count.now in
