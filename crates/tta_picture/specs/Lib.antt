@@ -1,4 +1,2 @@
+pub mod Asked
 pub mod Picture
-pub mod World
-pub mod Files
-pub mod Status

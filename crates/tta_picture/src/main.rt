@@ -3,20 +3,18 @@
 //! of the status.
 #![tactic(auto)]
 
-mod drawing;
 mod picture;
-mod reading;
-mod status;
+mod request;
 #[cfg(test)]
 mod tests;
 
 use picture::picture;
-use status::Status;
 use std::alloc::{AllocError, Global};
 use std::env;
 use std::io::ErrorKind;
 use std::process::ExitCode;
 use std::rt::Env;
+use tta_given::Status;
 use tta_ops::{Arith, Compare, Divide, Logic, OpUnit, Shift, UnitSet};
 use tta_ports::{Files, RealFiles, RealSink, Sink};
 

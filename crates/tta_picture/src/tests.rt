@@ -1,9 +1,9 @@
 //! Pictures of files in memory.
 
 use crate::run;
-use crate::status::Status;
 use std::alloc::{AllocError, Global};
 use std::test::Fail;
+use tta_given::Status;
 use tta_ports::{MemFiles, MemSink};
 
 /// The smallest machine.

@@ -1,16 +1,15 @@
+use Rattle.std.proofs.Common.{inl, inr}
 use Rattle.tta_ops.specs.Set.{stated}
-use Rattle.tta_picture.specs.World.{world, output}
-use Rattle.tta_picture.specs.Picture.{OfMachine}
-use Rattle.tta_picture.proofs.Pictures.{draws}
+use Rattle.tta_draw.specs.MachinePicture.{picture_of_machine}
+use Rattle.tta_given.proofs.Endings.{text_ends}
 use Rattle.tta_picture.proofs.picture.put_machine.Goals as goal
 
-pub returns : goal.returns
-returns g c =
-    let f = g.F.Files in
-    let s = g.S.Sink in
+pub returns-in-Ok : goal.returns-in-Ok
+returns-in-Ok g c =
+    let sink = g.S.Sink in
     let U = stated (λ v. (goal.OpUnit-dyn g v).unit_meaning v.1) c.args.units.now in
-    let before = world (f.contents c.args.files.now) (f.faults c.args.files.now) (f.latest c.args.files.now) in
-    let after = world (f.contents c.machine_picture-made.new.files) (f.faults c.machine_picture-made.new.files) (f.latest c.machine_picture-made.new.files) in
-    let old = output (s.taken c.args.sink.now) (s.faults c.args.sink.now) in
-    let new = output (s.taken c.put_picture.new.sink) (s.faults c.put_picture.new.sink) in
-    draws U (OfMachine c.args.machine.now) before after old new (λ v. v.items) c.machine_picture-made.result c.put_picture.result c.machine_picture-made.ensures c.put_picture.ensures
+    let file = c.in-Ok.file in
+    let made = c.drawn_machine-made.result in
+    inr (record { value = file; held = c.in-Ok.ensures.ends.held }, c.in-Ok.ensures.ends.untouched,
+    text_ends (picture_of_machine U file.machine) (sink.output c.args.sink.now) (sink.output c.put_made.new.sink) (λ v. v.items) made c.put_made.result
+    c.drawn_machine-made.ensures c.put_made.ensures)
