@@ -1,14 +1,9 @@
-pub mod Worlds
 pub mod TooLongs
 pub mod Laying
-pub mod Readings
-pub mod Endings
-pub mod Assemblies
-pub mod Showings
+pub mod Building
 pub mod ProgramSteps
 pub mod CodeCycles
-pub mod Beginnings
-pub mod Runnings
+pub mod RunEndings
 pub mod Debuggings
 pub mod Samplings
 pub mod OneProgram

@@ -13,16 +13,14 @@ use Rattle.tta_agree.specs.Agrees.{HaltAlike, IsGiven, AreWords}
 use Rattle.tta_tacrun.specs.Run as sequential
 use Rattle.tta_sim.specs.Held as simulated
 use Rattle.tta_build.specs.Statement.{IsBuilt}
-use Rattle.tta_tool.specs.declared.status.Status.{Status}
-use Rattle.tta_tool.specs.declared.status.Status.TheVariants as status
-use Rattle.tta_tool.specs.World.{World}
-use Rattle.tta_tool.specs.Output.{Output}
-use Rattle.tta_tool.specs.Stages.{WasRead, DescribesMachine}
-use Rattle.tta_tool.specs.Contents.{HasMachine}
+use Rattle.tta_given.specs.declared.status.Status.{Status}
+use Rattle.tta_given.specs.declared.status.Status.TheVariants as status
+use Rattle.tta_given.specs.Ends.{PutEnds}
+use Rattle.tta_ports.specs.Output.{Output}
 use Rattle.tta_run.specs.Loops.{Keeps}
 use Rattle.tta_tool.specs.Steps as steps
 use Rattle.tta_tool.specs.Cycles as cycles
-use Rattle.tta_tool.specs.Sample.{zeros, program_after, code_after, summary, Samples, HasRun, HasCycled, StandAlike, PutEnds, CompareEnds, SampleForEnds}
+use Rattle.tta_tool.specs.Sample.{zeros, program_after, code_after, summary, HasRun, HasCycled, StandAlike, CompareEnds}
 use Rattle.tta_tool.proofs.ProgramSteps.{halts_by_its_steps}
 
 -- ---- the two runs
@@ -106,79 +104,3 @@ module _ (u : Units) (m : Machine) (p : Program) (whole : Whole) (bound : ℕ) (
     compared old new status.Ok put = (cycles_for r, alike, put)
     compared old new status.WriteFault put = (cycles_for r, alike, put)
     compared old new s' put = absurd put
-
--- ---- the machine
-
-module _ (u : Units) (seed lines : ℕ) (M : List ℕ) (before after : World) (text : List ℕ) (was : WasRead M text before after) where
-  -- it is described, and what became of the sample on it
-  module _ (m : Machine) (is : DescribesMachine u text m) (old new : Output) where
-    abbrev has : HasMachine u before.contents M
-    has = record { text = text; machine = m; holds = was.holds; short = was.short; read = is.read }
-
-    pub sample_ends : (s : Status) → SampleForEnds u m seed lines old new s → Samples u seed lines M before after old new s
-    sample_ends status.Ok e = record {
-      code = record { sample = record { machine = has; program = e.program; read = e.read; inside = e.inside }; whole = e.ends.0; built = e.ends.1 };
-      cycles = e.ends.2.0;
-      alike = e.ends.2.1;
-      put = e.ends.2.2;
-      untouched = was.untouched;
-    }
-    sample_ends status.WriteFault e = record {
-      code = record { sample = record { machine = has; program = e.program; read = e.read; inside = e.inside }; whole = e.ends.0; built = e.ends.1 };
-      cycles = e.ends.2.0;
-      alike = e.ends.2.1;
-      cut = e.ends.2.2;
-      untouched = was.untouched;
-    }
-    sample_ends status.Running e = (
-      record {
-        code = record { sample = record { machine = has; program = e.program; read = e.read; inside = e.inside }; whole = e.ends.0; built = e.ends.1 };
-        ended = e.ends.2.0;
-        untouched = was.untouched;
-      },
-      e.ends.2.1,
-    )
-    sample_ends status.Waiting e = (
-      record {
-        code = record { sample = record { machine = has; program = e.program; read = e.read; inside = e.inside }; whole = e.ends.0; built = e.ends.1 };
-        ended = e.ends.2.0;
-        untouched = was.untouched;
-      },
-      e.ends.2.1,
-    )
-    sample_ends (status.BadProgram line code) e = (record { machine = has; refused = e.0; untouched = was.untouched }, e.1)
-    sample_ends (status.DataRange line have) e = (record { machine = has; refused = e.0; untouched = was.untouched }, e.1)
-    sample_ends (status.NotCovered rule) e = (
-      record {
-        sample = record { machine = has; program = e.program; read = e.read; inside = e.inside };
-        cause = e.ends.0;
-        untouched = was.untouched;
-      },
-      e.ends.1,
-    )
-    sample_ends (status.NoUnit line) e = (
-      record {
-        sample = record { machine = has; program = e.program; read = e.read; inside = e.inside };
-        cause = e.ends.0;
-        untouched = was.untouched;
-      },
-      e.ends.1,
-    )
-    sample_ends (status.FrameFull need have) e = (
-      record {
-        sample = record { machine = has; program = e.program; read = e.read; inside = e.inside };
-        cause = e.ends.0;
-        untouched = was.untouched;
-      },
-      e.ends.1,
-    )
-    sample_ends (status.CodeFull words have) e = (
-      record {
-        sample = record { machine = has; program = e.program; read = e.read; inside = e.inside };
-        cause = e.ends.0;
-        untouched = was.untouched;
-      },
-      e.ends.1,
-    )
-    sample_ends status.NoMemory e = (was.untouched, e)
-    sample_ends s e = absurd e.ends.2

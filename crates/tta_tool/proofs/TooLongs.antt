@@ -3,8 +3,7 @@ use Rattle.std.proofs.Common.{ℕ, ◌≤◌, ◌<◌, List, length, Some, subst
 use Rattle.std.specs.Prelude.{IsSomeAnd}
 use Rattle.tta_ports.specs.Store.{Store}
 use Rattle.tta_ports.specs.Files.{HoldsMore}
-use Rattle.tta_tool.specs.World.{limit}
-use Rattle.tta_tool.specs.Contents.{HasText}
+use Rattle.tta_given.specs.Held.{limit, HasText}
 
 pub too_long_alone : (store : Store) (name : List ℕ) (Is : List ℕ → Type 0) (count : ℕ) → limit < count → HoldsMore (Some store) name count
     → HasText (Some store) name Is → ⊥

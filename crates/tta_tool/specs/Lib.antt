@@ -1,9 +1,3 @@
-pub mod Status
-pub mod World
-pub mod Output
-pub mod Stages
-pub mod Contents
-pub mod Writing
 pub mod Build
 pub mod Asm
 pub mod Dis
@@ -12,10 +6,11 @@ pub mod Steps
 pub mod StepLaws
 pub mod Cycles
 pub mod CycleLaws
-pub mod Running
+pub mod Runs
 pub mod Exec
 pub mod Run
 pub mod Debug
 pub mod Sample
+pub mod Request
 pub mod Command
 pub mod Completes

@@ -8,17 +8,16 @@ ghost use Rattle.tta_program.specs.Sequential as sequential;
 ghost use Rattle.tta_code.specs.Cycle as cycles;
 ghost use Rattle.tta_code.specs.Legal.{IsLegalCode};
 ghost use Rattle.tta_build.specs.Statement.{IsBuilt};
-ghost use Rattle.tta_tool.specs.Output.{output};
-ghost use Rattle.tta_tool.specs.Sample.{zeros, summary, HasRun, HasCycled, StandAlike, PutEnds};
+ghost use Rattle.tta_given.specs.Ends.{PutEnds};
+ghost use Rattle.tta_tool.specs.Sample.{zeros, summary, HasRun, HasCycled, StandAlike};
 ghost use Rattle.tta_tool.specs.Sample.{CompareEnds};
 
 use crate::code_run::CodeRun;
-use crate::contents::data_words;
 use crate::program_run::ProgramRun;
 use crate::running::load_laid;
-use crate::status::Status;
 use std::alloc::{AllocError, Global};
 use tta_code::Whole;
+use tta_given::{Status, data_words};
 use tta_machine::Machine;
 use tta_ops::UnitSet;
 use tta_ports::{Failed, Sink};
@@ -144,9 +143,7 @@ fn put_summary<S: Sink>(
         → StandAlike ran.now.seq cycled.now.sim ran.now.kept.output.items
         cycled.now.kept.output.items s t
         → PutEnds (lines_text (summary program.now whole.now s t))
-        (output (S.taken sink.old) (S.faults sink.old))
-        (output (S.taken sink.new) (S.faults sink.new))
-        result }
+        (S.output sink.old) (S.output sink.new) result }
 {
     let lines = [
         Line::Lines(count_steps(program)),
@@ -180,9 +177,7 @@ fn compare_code<S: Sink>(
         → HasRun U program machine.data_words bound ran.now.seq ran.now.kept.output.items false
         → ran.now.seq.outcome ≡ sequential.Halted
         → CompareEnds U machine program whole bound
-        (output (S.taken sink.old) (S.faults sink.old))
-        (output (S.taken sink.new) (S.faults sink.new))
-        result }
+        (S.output sink.old) (S.output sink.new) result }
 {
     let bound = count_words(compiled.machine, compiled.whole) * (ran.seq.steps() + 1);
     match run_code(alloc, units, compiled.machine, compiled.whole, bound) {
@@ -210,9 +205,7 @@ pub fn compare<S: Sink>(
     ensures { let U = stated unit_meaning units.now in
         CompareEnds U
         compiled.now.machine.now compiled.now.program.now compiled.now.whole.now bound
-        (output (S.taken sink.old) (S.faults sink.old))
-        (output (S.taken sink.new) (S.faults sink.new))
-        result }
+        (S.output sink.old) (S.output sink.new) result }
 {
     let space = data_words(compiled.machine);
     match run_program(alloc, units, compiled.program, space, bound) {

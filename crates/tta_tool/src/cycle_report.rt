@@ -7,11 +7,10 @@ ghost use Rattle.tta_ports.specs.Faults.{CountsFault};
 ghost use Rattle.tta_ports.specs.Sink.{PutsBytes};
 ghost use Rattle.tta_code.specs.Cycle.{State, Waiting, next};
 ghost use Rattle.tta_sim.specs.Held.{Stands, IsRunOf};
-ghost use Rattle.tta_tool.specs.Output.{output};
 ghost use Rattle.tta_tool.specs.Run.{outcome_line, end_told, run_text, RunEnds};
 
 use crate::code_run::CodeRun;
-use crate::status::Status;
+use tta_given::Status;
 use tta_ops::UnitSet;
 use tta_ports::{Failed, Sink};
 use tta_print::{Line, put_report};
@@ -74,8 +73,8 @@ fn run<S: Sink>(
     ensures puts { let U = stated unit_meaning units.now in
         let step = next U ran.old.machine.now ran.old.code.now in
         (s : State) → Stands ran.old.sim s → s.rest ≡ input.now → s.output ≡ []
-        → PutsBytes (run_text (iterate bound step s)) (S.taken sink.old) (S.taken sink.new) result }
-    ensures cause { CountsFault (is_err result) (S.faults sink.old) (S.faults sink.new) }
+        → PutsBytes (run_text (iterate bound step s)) (S.output sink.old).taken (S.output sink.new).taken result }
+    ensures cause { CountsFault (is_err result) (S.output sink.old).faults (S.output sink.new).faults }
 {
     let waits = put_run(sink, ran, units, input, bound)?;
     let end = end_of(&ran.sim, waits);
@@ -100,8 +99,7 @@ pub fn code_to_status<S: Sink>(
         let step = next U ran.old.machine.now ran.old.code.now in
         (s : State) → Stands ran.old.sim s → s.rest ≡ input.now → s.output ≡ []
         → RunEnds (iterate bound step s)
-        (output (S.taken sink.old) (S.faults sink.old))
-        (output (S.taken sink.new) (S.faults sink.new)) result }
+        (S.output sink.old) (S.output sink.new) result }
 {
     match run(sink, ran, units, input, bound) {
         Ok(CodeEnd::Waiting) => Status::Waiting,

@@ -2,55 +2,49 @@
 
 ghost use Rattle.std.specs.Prelude.{◌≡◌, ◌<◌, ◌≤◌, ◌^◌, length, option_map, IfOk};
 ghost use Rattle.tta_ops.specs.Set.{stated};
-ghost use Rattle.tta_ops.specs.Units.{Units};
 ghost use Rattle.tta_code.specs.Legal.{IsLegalCode};
 ghost use Rattle.tta_sim.specs.Held.{IsRunOf};
 ghost use Rattle.tta_debug.specs.Debugged.{Debugged, session as replies_of};
 ghost use Rattle.tta_debug.specs.Scripts.{lines_of};
 ghost use Rattle.tta_debug.specs.Sessions.{Follows};
-ghost use Rattle.tta_tool.specs.World.{world};
-ghost use Rattle.tta_tool.specs.Output.{output};
-ghost use Rattle.tta_tool.specs.Debug.{at_first, AskedEnds, BeginSessionEnds, EndsAs, SessionEnds};
-ghost use Rattle.tta_tool.specs.Debug.{DebugFileEnds, Debugs};
+ghost use Rattle.tta_tool.specs.Debug.{said, ScriptEnds, AskedEnds, EndsAs, SessionEnds};
+ghost use Rattle.tta_tool.specs.Debug.{AskedRuns, Debugs};
 
-use crate::contents::{MachineFile, machine_file, read_file};
-use crate::given::stream_file;
-use crate::request::SessionRequest;
-use crate::running::{Beginning, begin_with, load_laid};
-use crate::status::Status;
+use crate::names::SessionRequest;
+use crate::running::load_laid;
 use std::alloc::Global;
-use tta_code::{Code, Whole};
+use tta_code::Code;
 use tta_debug::{Session, run_script};
+use tta_given::{CodePair, Status, data_words, image_pair, input_file, read_file, stream_file};
 use tta_machine::Machine;
 use tta_ops::UnitSet;
 use tta_ports::{Failed, Files, Sink};
 use tta_sim::{Ending, Sim};
 
-/// What a session is asked, and what its run is fed with: a script, and the words of the input.
+/// A script, and the words of the input.
 #[derive(Drop)]
-struct Asked {
-    script: Vec<u8>,
+struct Script {
+    bytes: Vec<u8>,
     words: Vec<u32>,
 }
 
 // The bytes of the script that word 4 names, and the words of the input.
-fn asked_files<F: Files>(
+fn script_files<F: Files>(
     alloc: Global,
     files: &mut F,
     script: &str,
     stream: Option<&str>,
-) -> Result<Asked, Status>
-    ensures ends { AskedEnds script.now (option_map (λ s. s.now) stream.entry)
-        (world (F.contents files.old) (F.faults files.old) (F.latest files.old))
-        (world (F.contents files.new) (F.faults files.new) (F.latest files.new))
-        (λ a. a.script.items) (λ a. a.words.items) result }
-    ensures short { IfOk result (λ a. length a.script.items ≤ 2 ^ 24) }
+) -> Result<Script, Status>
+    ensures ends { ScriptEnds script.now (option_map (λ s. s.now) stream.entry)
+        (F.world files.old) (F.world files.new)
+        (λ s. s.bytes.items) (λ s. s.words.items) result }
+    ensures short { IfOk result (λ s. length s.bytes.items ≤ 2 ^ 24) }
 {
     match read_file(files, script, 4) {
-        Ok(script) => match stream_file(alloc, files, stream) {
-            Ok(words) => Ok(Asked { script, words }),
+        Ok(bytes) => match stream_file(alloc, files, stream) {
+            Ok(words) => Ok(Script { bytes, words }),
             Err(status) => {
-                drop(script);
+                drop(bytes);
                 Err(status)
             }
         },
@@ -58,46 +52,34 @@ fn asked_files<F: Files>(
     }
 }
 
-/// What a session begins with: code with data, the data words, and what it is asked.
+/// What a session is asked, and what its run begins with: the data words, a script, and the words of
+/// the input.
 #[derive(Drop)]
-struct SessionStart {
-    whole: Whole,
+struct Asked {
     memory: Vec<u32>,
-    asked: Asked,
+    script: Script,
 }
 
-// The code with data that word 2 names, the data words that word 3 names, the script that word 4
-// names and the words of the input, for a machine that was read.
-fn begin_session<F: Files>(
+// The data words that word 3 names, as many as the space has, the script that word 4 names and the
+// words of the input.
+fn asked_files<F: Files>(
     alloc: Global,
     files: &mut F,
     request: &SessionRequest<'_>,
-    file: &MachineFile,
-) -> Result<SessionStart, Status>
-    ensures ends { (u : Units) → BeginSessionEnds u file.now.machine file.now.text.items
-        request.now.names.second.now request.now.names.input.now request.now.script.now
-        (option_map (λ s. s.now) request.now.names.stream)
-        (world (F.contents files.old) (F.faults files.old) (F.latest files.old))
-        (world (F.contents files.new) (F.faults files.new) (F.latest files.new))
-        (λ b. b.whole) (λ b. b.memory.items) (λ b. b.asked.words.items)
-        (λ b. b.asked.script.items) result }
-    ensures size { IfOk result (λ b. length b.memory.items ≡ file.now.machine.data_words) }
-    ensures short { IfOk result (λ b. length b.asked.script.items ≤ 2 ^ 24) }
-    ensures legal { IfOk result (λ b. IsLegalCode file.now.machine b.whole.code) }
+    space: u32,
+) -> Result<Asked, Status>
+    ensures ends { let names = request.now.names in
+        AskedEnds space names.input.now request.now.script.now
+        (option_map (λ s. s.now) names.stream) (F.world files.old) (F.world files.new)
+        (λ a. a.memory.items) (λ a. a.script.bytes.items) (λ a. a.script.words.items) result }
+    ensures size { IfOk result (λ a. length a.memory.items ≡ space) }
+    ensures short { IfOk result (λ a. length a.script.bytes.items ≤ 2 ^ 24) }
 {
-    let names = &request.names;
-    match begin_with(alloc, files, names.second, names.input, None, file) {
-        Ok(beginning) => match asked_files(alloc, files, request.script, names.stream) {
-            Ok(asked) => {
-                let Beginning { whole, memory, .. } = beginning;
-                Ok(SessionStart {
-                    whole,
-                    memory,
-                    asked,
-                })
-            }
+    match input_file(alloc, files, request.names.input, 3, space) {
+        Ok(memory) => match script_files(alloc, files, request.script, request.names.stream) {
+            Ok(script) => Ok(Asked { memory, script }),
             Err(status) => {
-                drop(beginning);
+                drop(memory);
                 Err(status)
             }
         },
@@ -126,53 +108,47 @@ fn script_to_status<S: Sink>(
     code: &Code,
     units: &UnitSet,
     session: &mut Session,
-    asked: &Asked,
+    script: &Script,
 ) -> Status
     requires loaded { IsRunOf machine.now code.now session.old.held }
     requires few { session.old.held.cycle < 2 ^ 60 }
-    requires short { length asked.now.script.items ≤ 2 ^ 24 }
+    requires short { length script.now.bytes.items ≤ 2 ^ 24 }
     ensures { let U = stated unit_meaning units.now in
-        (d : Debugged) → Follows asked.now.words.items session.old d
-        → SessionEnds (replies_of U machine.now code.now (lines_of asked.now.script.items) d)
-        (output (S.taken sink.old) (S.faults sink.old))
-        (output (S.taken sink.new) (S.faults sink.new)) result }
+        (d : Debugged) → Follows script.now.words.items session.old d
+        → SessionEnds (replies_of U machine.now code.now (lines_of script.now.bytes.items) d)
+        (S.output sink.old) (S.output sink.new) result }
 {
-    let script = asked.script.as_slice();
-    let words = asked.words.as_slice();
-    match run_script(session, script, machine, code, units, words, sink) {
+    let lines = script.bytes.as_slice();
+    let words = script.words.as_slice();
+    match run_script(session, lines, machine, code, units, words, sink) {
         Ok(()) => status_of(session.sim()),
         Err(Failed) => Status::WriteFault,
     }
 }
 
-// Carries out the script that a session begins with.
+// Carries out the session that is asked for over the run of code.
 fn carry_out<S: Sink>(
     alloc: Global,
     units: &UnitSet,
     sink: &mut S,
-    machine: &Machine,
-    start: SessionStart,
+    pair: &CodePair,
+    asked: Asked,
 ) -> Status
-    requires size { length start.memory.items ≡ machine.now.data_words }
-    requires short { length start.asked.script.items ≤ 2 ^ 24 }
-    requires legal { IsLegalCode machine.now start.whole.code }
+    requires size { length asked.memory.items ≡ pair.now.file.machine.data_words }
+    requires short { length asked.script.bytes.items ≤ 2 ^ 24 }
+    requires legal { IsLegalCode pair.now.file.machine pair.now.whole.code }
     ensures { let U = stated unit_meaning units.now in
-        let asked = start.asked in
-        let first = at_first U machine.now start.whole start.memory.items asked.words.items in
-        SessionEnds (replies_of U machine.now start.whole.code (lines_of asked.script.items) first)
-        (output (S.taken sink.old) (S.faults sink.old))
-        (output (S.taken sink.new) (S.faults sink.new)) result }
+        SessionEnds (said U pair.now.file.machine pair.now.whole
+        asked.memory.items asked.script.bytes.items asked.script.words.items)
+        (S.output sink.old) (S.output sink.new) result }
 {
-    let SessionStart {
-        whole,
-        memory,
-        asked,
-    } = start;
-    match load_laid(alloc, machine, &whole, memory) {
+    let Asked { memory, script } = asked;
+    let machine = &pair.file.machine;
+    match load_laid(alloc, machine, &pair.whole, memory) {
         Ok(sim) => {
             let mut session = Session::new(sim);
-            let code = &whole.code;
-            let status = script_to_status(sink, machine, code, units, &mut session, &asked);
+            let code = &pair.whole.code;
+            let status = script_to_status(sink, machine, code, units, &mut session, &script);
             // Dropped here as a whole, so that no part of it is left to drop at the end.
             drop(session);
             status
@@ -181,27 +157,24 @@ fn carry_out<S: Sink>(
     }
 }
 
-// Debugs the code of a session on a machine that was read.
-fn debug_file<F: Files, S: Sink>(
+// Carries out the session that is asked for over code that was read for a machine.
+fn debug_pair<F: Files, S: Sink>(
     alloc: Global,
     units: &UnitSet,
     files: &mut F,
     sink: &mut S,
     request: &SessionRequest<'_>,
-    file: &MachineFile,
+    pair: &CodePair,
 ) -> Status
-    ensures { let names = request.now.names in
-        DebugFileEnds (stated unit_meaning units.now) file.now.machine file.now.text.items
-        names.second.now names.input.now request.now.script.now
-        (option_map (λ s. s.now) names.stream)
-        (world (F.contents files.old) (F.faults files.old) (F.latest files.old))
-        (world (F.contents files.new) (F.faults files.new) (F.latest files.new))
-        (output (S.taken sink.old) (S.faults sink.old))
-        (output (S.taken sink.new) (S.faults sink.new))
-        result }
+    requires legal { IsLegalCode pair.now.file.machine pair.now.whole.code }
+    ensures { let U = stated unit_meaning units.now in
+        let names = request.now.names in
+        AskedRuns U pair.now.file.machine pair.now.whole
+        names.input.now request.now.script.now (option_map (λ s. s.now) names.stream)
+        (F.world files.old) (F.world files.new) (S.output sink.old) (S.output sink.new) result }
 {
-    match begin_session(alloc, files, request, file) {
-        Ok(start) => carry_out(alloc, units, sink, &file.machine, start),
+    match asked_files(alloc, files, request, data_words(&pair.file.machine)) {
+        Ok(asked) => carry_out(alloc, units, sink, pair, asked),
         Err(status) => status,
     }
 }
@@ -219,17 +192,12 @@ pub fn debug_image<F: Files, S: Sink>(
     ensures { let names = request.now.names in
         Debugs (stated unit_meaning units.now) names.machine.now names.second.now names.input.now
         request.now.script.now (option_map (λ s. s.now) names.stream)
-        (world (F.contents files.old) (F.faults files.old) (F.latest files.old))
-        (world (F.contents files.new) (F.faults files.new) (F.latest files.new))
-        (output (S.taken sink.old) (S.faults sink.old))
-        (output (S.taken sink.new) (S.faults sink.new))
-        result }
+        (F.world files.old) (F.world files.new) (S.output sink.old) (S.output sink.new) result }
 {
-    match machine_file(alloc, units, files, request.names.machine) {
-        Ok(file) => {
-            let status = debug_file(alloc, units, files, sink, request, &file);
-            // Dropped here as a whole, so that no part of it is left to drop at the end.
-            drop(file);
+    match image_pair(alloc, units, files, request.names.machine, request.names.second) {
+        Ok(pair) => {
+            let status = debug_pair(alloc, units, files, sink, request, &pair);
+            drop(pair);
             status
         }
         Err(status) => status,

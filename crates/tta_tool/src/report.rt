@@ -7,11 +7,10 @@ ghost use Rattle.tta_ports.specs.Faults.{CountsFault};
 ghost use Rattle.tta_ports.specs.Sink.{PutsBytes};
 ghost use Rattle.tta_program.specs.Sequential.{State, Waiting, next};
 ghost use Rattle.tta_tacrun.specs.Run.{Stands, IsRunOf};
-ghost use Rattle.tta_tool.specs.Output.{output};
 ghost use Rattle.tta_tool.specs.Exec.{ended_as, outcome_line, run_text, RunEnds};
 
 use crate::program_run::ProgramRun;
-use crate::status::Status;
+use tta_given::Status;
 use tta_ops::UnitSet;
 use tta_ports::{Failed, Sink};
 use tta_print::{Line, put_report};
@@ -71,8 +70,8 @@ fn run<S: Sink>(
         → IfOk result (λ e. ended_as e ≡ (iterate bound step s).outcome) }
     ensures puts { let step = next (stated unit_meaning units.now) ran.old.program.now in
         (s : State) → Stands ran.old.seq s → s.rest ≡ input.now → s.output ≡ []
-        → PutsBytes (run_text (iterate bound step s)) (S.taken sink.old) (S.taken sink.new) result }
-    ensures cause { CountsFault (is_err result) (S.faults sink.old) (S.faults sink.new) }
+        → PutsBytes (run_text (iterate bound step s)) (S.output sink.old).taken (S.output sink.new).taken result }
+    ensures cause { CountsFault (is_err result) (S.output sink.old).faults (S.output sink.new).faults }
 {
     let waits = put_run(sink, ran, units, input, bound)?;
     let count = Line::Steps(ran.seq.steps());
@@ -96,8 +95,7 @@ pub fn run_to_status<S: Sink>(
     ensures { let step = next (stated unit_meaning units.now) ran.old.program.now in
         (s : State) → Stands ran.old.seq s → s.rest ≡ input.now → s.output ≡ []
         → RunEnds (iterate bound step s)
-        (output (S.taken sink.old) (S.faults sink.old))
-        (output (S.taken sink.new) (S.faults sink.new)) result }
+        (S.output sink.old) (S.output sink.new) result }
 {
     match run(sink, ran, units, input, bound) {
         Ok(Ended::Halted) => Status::Ok,

@@ -1,114 +1,136 @@
-//! What the words of a command ask for. A name is that of a file.
+//! What the words of a command line ask for. A name is that of a file.
 
-ghost use Rattle.std.specs.Prelude.{◌≡◌, ◌<◌, ◌≤◌, ◌^◌};
+ghost use Rattle.std.specs.Prelude.{◌≡◌, ◌<◌, ◌^◌, map, option_map};
 ghost use Rattle.std.specs.String.{string_bytes};
+ghost use Rattle.tta_tool.specs.Request.{asked, request_of, writing_request, sample_request};
+ghost use Rattle.tta_tool.specs.Request.{short_request, bounded_request, running_request};
 
-/// The names of the files that a run reads: the machine's, that of the program or of the image that
-/// is run on it, that of the data words, and that of the input, where it has one.
+use crate::names::{RunFiles, RunRequest, SampleRequest, SessionRequest, WriteRequest};
+use crate::numbers::{bound_of, lines_of, seed_of};
+
+/// What is asked for.
 #[derive(Clone, Copy)]
-pub struct RunFiles<'w> {
-    pub machine: &'w str,
-    /// That of the program or of the image.
-    pub second: &'w str,
-    /// That of the data words.
-    pub input: &'w str,
-    /// That of the input, where it has one.
-    pub stream: Option<&'w str>,
+pub enum Request<'w> {
+    Build(WriteRequest<'w>),
+    Asm(WriteRequest<'w>),
+    Dis(WriteRequest<'w>),
+    Exec(RunRequest<'w>),
+    Run(RunRequest<'w>),
+    Debug(SessionRequest<'w>),
+    Sample(SampleRequest<'w>),
 }
 
-/// A run that is asked for: its files, and how many steps or cycles it makes at most.
-#[derive(Clone, Copy)]
-pub struct RunRequest<'w> {
-    pub names: RunFiles<'w>,
-    pub bound: u64,
-    ghost few: { bound < 2 ^ 48 },
-}
-
-/// A session that is asked for: the files of its run, and the file of its script.
-#[derive(Clone, Copy)]
-pub struct SessionRequest<'w> {
-    pub names: RunFiles<'w>,
-    pub script: &'w str,
-}
-
-/// A sample that is asked for: its seed, how many body lines it has, and the file of the machine
-/// that it is made for.
-#[derive(Clone, Copy)]
-pub struct SampleRequest<'w> {
-    pub seed: u32,
-    pub lines: u32,
-    pub machine: &'w str,
-    ghost some: { 1 ≤ lines },
-    ghost few: { lines ≤ 20000 },
-}
-
-/// The words of a command with four or five words after its name: the name, the files of a run, and
-/// the fourth word, which is the bound of the run or the name of a script.
-#[derive(Clone, Copy)]
-pub struct RunWords<'w> {
-    pub word: &'w str,
-    pub names: RunFiles<'w>,
-    pub last: &'w str,
-}
-
-impl<'w> RunWords<'w> {
-    /// These words, where `last` is the fourth, and `stream` the fifth if there is one.
-    pub fn of(
-        word: &'w String,
-        machine: &'w String,
-        second: &'w String,
-        input: &'w String,
-        last: &'w String,
-        stream: Option<&'w str>,
-    ) -> RunWords<'w>
-        ensures word { result.word.now ≡ string_bytes word.now }
-        ensures machine { result.names.machine.now ≡ string_bytes machine.now }
-        ensures second { result.names.second.now ≡ string_bytes second.now }
-        ensures input { result.names.input.now ≡ string_bytes input.now }
-        ensures last { result.last.now ≡ string_bytes last.now }
-        ensures stream { result.names.stream ≡ stream.entry }
-    {
-        let names = RunFiles {
-            machine: machine.as_str(),
-            second: second.as_str(),
-            input: input.as_str(),
-            stream,
-        };
-        RunWords {
-            word: word.as_str(),
-            names,
-            last: last.as_str(),
-        }
+// The request of the name of a command that makes a file of two others, with their names.
+fn of_files<'w>(word: &str, files: WriteRequest<'w>) -> Option<Request<'w>>
+    ensures { option_map asked result
+        ≡ writing_request word.now
+        files.entry.machine.now files.entry.second.now files.entry.out.now }
+{
+    if word == "build" {
+        return Some(Request::Build(files));
     }
+    if word == "asm" {
+        return Some(Request::Asm(files));
+    }
+    if word == "dis" {
+        return Some(Request::Dis(files));
+    }
+    None
 }
 
-/// The words of a command with three words after its name.
-#[derive(Clone, Copy)]
-pub struct ShortWords<'w> {
-    pub word: &'w str,
-    pub first: &'w str,
-    pub second: &'w str,
-    pub third: &'w str,
+// The request of a sample by its seed and its number of body lines, for a machine.
+fn of_sample<'w>(seed: &str, lines: &str, machine: &'w str) -> Option<Request<'w>>
+    ensures { option_map asked result ≡ sample_request seed.now lines.now machine.now }
+{
+    let seed = seed_of(seed.as_bytes())?;
+    let lines = lines_of(lines.as_bytes())?;
+    Some(Request::Sample(SampleRequest {
+        seed,
+        lines,
+        machine,
+    }))
 }
 
-impl<'w> ShortWords<'w> {
-    /// These words.
-    pub fn of(
-        word: &'w String,
-        first: &'w String,
-        second: &'w String,
-        third: &'w String,
-    ) -> ShortWords<'w>
-        ensures word { result.word.now ≡ string_bytes word.now }
-        ensures first { result.first.now ≡ string_bytes first.now }
-        ensures second { result.second.now ≡ string_bytes second.now }
-        ensures third { result.third.now ≡ string_bytes third.now }
+// The request of the name of a command with three words after it.
+fn of_short<'w>(
+    word: &str,
+    first: &'w str,
+    second: &'w str,
+    third: &'w str,
+) -> Option<Request<'w>>
+    ensures { option_map asked result ≡ short_request word.now first.now second.now third.now }
+{
+    if word == "sample" {
+        return of_sample(first, second, third);
+    }
+    let files = WriteRequest {
+        machine: first,
+        second,
+        out: third,
+    };
+    of_files(word, files)
+}
+
+// The request of the name of a command with a bound.
+fn of_bounded<'w>(word: &str, names: RunFiles<'w>, bound: u64) -> Option<Request<'w>>
+    requires few { bound < 2 ^ 48 }
+    ensures { option_map asked result ≡ bounded_request word.now
+        names.entry.machine.now names.entry.second.now names.entry.input.now
+        (option_map (λ s. s.now) names.entry.stream) bound }
+{
+    if word == "exec" {
+        return Some(Request::Exec(RunRequest { names, bound }));
+    }
+    if word == "run" {
+        return Some(Request::Run(RunRequest { names, bound }));
+    }
+    None
+}
+
+// The request of the name of a command whose fourth word is a script, or the bound of a run.
+fn of_running<'w>(word: &str, names: RunFiles<'w>, last: &'w str) -> Option<Request<'w>>
+    ensures { option_map asked result ≡ running_request word.now
+        names.entry.machine.now names.entry.second.now names.entry.input.now last.now
+        (option_map (λ s. s.now) names.entry.stream) }
+{
+    if word == "debug" {
+        return Some(Request::Debug(SessionRequest {
+            names,
+            script: last,
+        }));
+    }
+    let bound = bound_of(last.as_bytes())?;
+    of_bounded(word, names, bound)
+}
+
+impl<'w> Request<'w> {
+    /// What the words ask for, the first of them the command's name. `None` where they are no
+    /// command.
+    pub fn of(words: &'w Vec<String>) -> Option<Request<'w>>
+        ensures { option_map asked result
+            ≡ request_of (map (λ w. string_bytes w) words.now.items) }
     {
-        ShortWords {
-            word: word.as_str(),
-            first: first.as_str(),
-            second: second.as_str(),
-            third: third.as_str(),
+        match words.as_slice() {
+            [word, first, second, third] => of_short(word, first, second, third),
+            [word, machine, second, input, last] => {
+                let names = RunFiles {
+                    machine,
+                    second,
+                    input,
+                    stream: None,
+                };
+                of_running(word, names, last)
+            }
+            [word, machine, second, input, last, stream] => {
+                let names = RunFiles {
+                    machine,
+                    second,
+                    input,
+                    stream: Some(stream.as_str()),
+                };
+                of_running(word, names, last)
+            }
+            _ => None,
         }
     }
 }

@@ -1,23 +1,21 @@
 //! The command `sample`: a program that is made of a number is compiled, and compared with its code.
 
-ghost use Rattle.std.specs.Prelude.{◌≡◌, ◌<◌, ◌≤◌, ◌^◌, None};
+ghost use Rattle.std.specs.Prelude.{◌≡◌, ◌<◌, ◌≤◌, ◌^◌, None, IfOk};
 ghost use Rattle.tta_ops.specs.Set.{stated};
 ghost use Rattle.tta_arch.specs.Over as machines;
 ghost use Rattle.tta_program.specs.Over as programs;
 ghost use Rattle.tta_program.specs.Program.{first_outside};
 ghost use Rattle.tta_sample.specs.Sample.{sample_text};
-ghost use Rattle.tta_tool.specs.World.{world};
-ghost use Rattle.tta_tool.specs.Output.{output};
-ghost use Rattle.tta_tool.specs.Stages.{ProgramEnds};
+ghost use Rattle.tta_given.specs.Held.{TakesBytes};
+ghost use Rattle.tta_given.specs.Programs.{IsProgramIn, RefusesProgram};
 ghost use Rattle.tta_tool.specs.Sample.{CompileEnds, SampleForEnds, Samples};
 
 use crate::build::ending_of;
 use crate::comparing::{Compiled, compare};
-use crate::contents::{data_words, described, program_of, read_file};
-use crate::request::SampleRequest;
-use crate::status::Status;
+use crate::names::SampleRequest;
 use std::alloc::Global;
 use tta_build::build;
+use tta_given::{Status, data_words, machine_file, program_of};
 use tta_machine::Machine;
 use tta_ops::UnitSet;
 use tta_ports::{Files, Sink};
@@ -39,9 +37,7 @@ fn compile_and_compare<S: Sink>(
     requires inside { first_outside machine.now.data_words program.now.init ≡ None }
     ensures { let U = stated unit_meaning units.now in
         CompileEnds U machine.now program.now bound
-        (output (S.taken sink.old) (S.faults sink.old))
-        (output (S.taken sink.new) (S.faults sink.new))
-        result }
+        (S.output sink.old) (S.output sink.new) result }
 {
     match build(alloc, machine, program, units) {
         Ok(built) => {
@@ -68,7 +64,10 @@ fn sample_program(
 ) -> Result<Program, Status>
     requires some { 1 ≤ lines }
     requires few { lines ≤ 20000 }
-    ensures { ProgramEnds (stated unit_meaning units.now) space (sample_text seed lines) result }
+    ensures takes { let U = stated unit_meaning units.now in
+        TakesBytes (IsProgramIn U space) (RefusesProgram U space) (sample_text seed lines)
+        (λ p. p) result }
+    ensures over { IfOk result (λ p. programs.StandsOver (stated unit_meaning units.now) p) }
 {
     match sample(alloc, seed, lines) {
         Ok(text) => {
@@ -93,9 +92,7 @@ fn sample_for<S: Sink>(
     requires few { lines ≤ 20000 }
     requires machine { machines.StandsOver (stated unit_meaning units.now) machine.now }
     ensures { SampleForEnds (stated unit_meaning units.now) machine.now seed lines
-        (output (S.taken sink.old) (S.faults sink.old))
-        (output (S.taken sink.new) (S.faults sink.new))
-        result }
+        (S.output sink.old) (S.output sink.new) result }
 {
     match sample_program(alloc, units, seed, lines, data_words(machine)) {
         Ok(program) => {
@@ -119,22 +116,15 @@ pub fn sample_on<F: Files, S: Sink>(
 ) -> Status
     ensures { Samples (stated unit_meaning units.now)
         request.now.seed request.now.lines request.now.machine.now
-        (world (F.contents files.old) (F.faults files.old) (F.latest files.old))
-        (world (F.contents files.new) (F.faults files.new) (F.latest files.new))
-        (output (S.taken sink.old) (S.faults sink.old))
-        (output (S.taken sink.new) (S.faults sink.new))
-        result }
+        (F.world files.old) (F.world files.new) (S.output sink.old) (S.output sink.new) result }
 {
     let SampleRequest { seed, lines, .. } = *request;
-    match read_file(files, request.machine, 3) {
-        Ok(text) => match described(alloc, units, text) {
-            Ok(file) => {
-                let status = sample_for(alloc, units, sink, seed, lines, &file.machine);
-                drop(file);
-                status
-            }
-            Err(status) => status,
-        },
+    match machine_file(alloc, units, files, request.machine, 3) {
+        Ok(file) => {
+            let status = sample_for(alloc, units, sink, seed, lines, &file.machine);
+            drop(file);
+            status
+        }
         Err(status) => status,
     }
 }

@@ -1,21 +1,16 @@
-use Rattle.std.proofs.Common.{ℕ, List, subst}
 use Rattle.tta_ops.specs.Set.{stated}
-use Rattle.tta_tool.specs.World.{world}
-use Rattle.tta_tool.specs.Writing.{WriteEnds}
-use Rattle.tta_tool.proofs.Assemblies.{assembles}
+use Rattle.tta_given.specs.Held.{no_memory}
+use Rattle.tta_given.specs.Assemblies.{IsAssemblyFor, RefusesAssembly}
+use Rattle.tta_tool.specs.Asm.{IsAssembled}
+use Rattle.tta_given.proofs.Endings.{writes}
 use Rattle.tta_tool.proofs.asm.assemble_image.Goals as goal
 
 pub returns-in-Ok : goal.returns-in-Ok
 returns-in-Ok g c =
     let f = g.F.Files in
     let U = stated (λ v. (goal.OpUnit-dyn g v).unit_meaning v.1) c.args.units.now in
-    let before = world (f.contents c.args.files.now) (f.faults c.args.files.now) (f.latest c.args.files.now) in
-    let between = world (f.contents c.assemble_files.new.files) (f.faults c.assemble_files.new.files) (f.latest c.assemble_files.new.files) in
-    let after = world (f.contents c.write_out.new.files) (f.faults c.write_out.new.files) (f.latest c.write_out.new.files) in
-    let bytes = c.in-Ok.image.items in
-    let Ends : List ℕ → Type 0 = λ bytes. WriteEnds c.args.out.now bytes between after c.write_out.result in
-    assembles U c.args.machine.now c.args.assembly.now c.args.out.now bytes before between after c.write_out.result
-    c.in-Ok.ensures.0 c.in-Ok.ensures.1 (subst Ends c.as_slice.ensures.value c.write_out.ensures)
-
-pub returns-in-Err : goal.returns-in-Err
-returns-in-Err g c = c.in-Err.ensures c.args.out.now
+    let request = c.args.request.now in
+    let pair = c.in-Ok.pair in
+    writes U (IsAssemblyFor U) (RefusesAssembly U) (IsAssembled) (λ file whole. no_memory) request.machine.now request.second.now request.out.now pair.file pair.whole
+    (f.world c.args.files.now) (f.world c.assembly_pair.new.files) (f.world c.write_made.new.files) (λ v. v.items) c.image_of_whole-made.result c.write_made.result
+    c.in-Ok.ensures.ends c.image_of_whole-made.ensures c.write_made.ensures

@@ -1,6 +1,5 @@
 use Rattle.std.proofs.Common.{◌*◌, ◌+◌, subst}
 use Rattle.tta_ops.specs.Set.{stated}
-use Rattle.tta_tool.specs.Output.{output}
 use Rattle.tta_tool.specs.Sample.{HasCycled}
 use Rattle.tta_tool.proofs.Samplings.{s, t, stand_alike, compared}
 use Rattle.tta_tool.proofs.comparing.compare_code.Goals as goal
@@ -18,7 +17,7 @@ returns-in-Ok g c = λ bound built run halted.
     let cycles = subst (λ w. HasCycled U m whole (w * (r.steps + 1)) cycled.sim cycled.kept.output.items cycled.kept.waits) c.count_words.ensures.count
     (subst (λ n. HasCycled U m whole (c.count_words.result * (n + 1)) cycled.sim cycled.kept.output.items cycled.kept.waits) c.steps.ensures c.in-Ok.ensures) in
     let alike = stand_alike U m p whole bound built r words run halted cycled.sim cycled.kept.output.items cycled.kept.waits cycles in
-    let old = output (sink.taken c.args.sink.now) (sink.faults c.args.sink.now) in
-    let new = output (sink.taken c.put_summary-status.new.sink) (sink.faults c.put_summary-status.new.sink) in
+    let old = sink.output c.args.sink.now in
+    let new = sink.output c.put_summary-status.new.sink in
     compared U m p whole bound built r words run halted old new c.put_summary-status.result
     (c.put_summary-status.ensures (s U m p whole bound built r words run halted) (t U m p whole bound built r words run halted) alike)

@@ -1,4 +1,5 @@
-use Rattle.std.proofs.Common.{◌<◌, ◌^◌, [], refl, sym, subst}
+use Rattle.std.proofs.Common.{◌<◌, ◌^◌, [], refl, sym, subst, ap}
+use Rattle.tta_given.specs.declared.pair.CodePair.{CodePair}
 use Rattle.tta_list.specs.Laid.{over}
 use Rattle.tta_code.specs.Whole.{Whole, data_in}
 use Rattle.tta_code.specs.Cycle.{start}
@@ -6,7 +7,6 @@ use Rattle.tta_ops.specs.Set.{stated}
 use Rattle.tta_debug.specs.Debugged.{session as replies_of}
 use Rattle.tta_debug.specs.Scripts.{lines_of}
 use Rattle.tta_debug.specs.Sessions.{Session'}
-use Rattle.tta_tool.specs.Output.{output}
 use Rattle.tta_tool.specs.Debug.{at_first, SessionEnds}
 use Rattle.tta_tool.proofs.Laying.{first_cycle}
 use Rattle.tta_tool.proofs.debugging.carry_out.Goals as goal
@@ -15,18 +15,18 @@ pub returns-in-Ok : goal.returns-in-Ok
 returns-in-Ok g c =
     let U = stated (λ v. (goal.OpUnit-dyn g v).unit_meaning v.1) c.args.units.now in
     let sink = g.S.Sink in
-    let m = c.args.machine.now in
-    let words = c.args.start.asked.words.items in
-    let memory = over (data_in c.args.start.whole) c.args.start.memory.items in
-    let first = at_first U m c.args.start.whole c.args.start.memory.items words in
-    let old = output (sink.taken c.args.sink.now) (sink.faults c.args.sink.now) in
-    let new = output (sink.taken c.script_to_status-status.new.sink) (sink.faults c.script_to_status-status.new.sink) in
-    let Ends : Whole → Type 0 = λ whole. SessionEnds (replies_of U m whole.code (lines_of c.args.start.asked.script.items) first) old new c.script_to_status-status.result in
-    subst Ends c.whole.view_is
+    let m = c.args.pair.now.file.machine in
+    let words = c.args.asked.script.words.items in
+    let memory = over (data_in c.args.pair.now.whole) c.args.asked.memory.items in
+    let first = at_first U m c.args.pair.now.whole c.args.asked.memory.items words in
+    let old = sink.output c.args.sink.now in
+    let new = sink.output c.script_to_status-status.new.sink in
+    let Ends : Whole → Type 0 = λ whole. SessionEnds (replies_of U m whole.code (lines_of c.args.asked.script.bytes.items) first) old new c.script_to_status-status.result in
+    subst Ends (ap (λ (p : CodePair). p.whole) c.pair.view_is)
     (c.script_to_status-status.ensures first (c.new-session.ensures.follows words (start m memory words) (c.in-Ok.ensures.start words) refl))
 
 pub script_to_status-status-requires-clause-few : goal.script_to_status-status-requires-clause-few
 script_to_status-status-requires-clause-few g c =
     let Few : Session' → Type 0 = λ h. h.held.cycle < 2 ^ 60 in
     subst Few (sym c.new-session.ensures.held)
-    (first_cycle c.in-Ok.sim c.args.machine.now (over (data_in c.args.start.whole) c.args.start.memory.items) (c.in-Ok.ensures.start []))
+    (first_cycle c.in-Ok.sim c.args.pair.now.file.machine (over (data_in c.args.pair.now.whole) c.args.asked.memory.items) (c.in-Ok.ensures.start []))

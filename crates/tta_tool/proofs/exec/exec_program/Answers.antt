@@ -1,8 +1,8 @@
 use Rattle.std.proofs.Common.{option_map}
 use Rattle.tta_ops.specs.Set.{stated}
-use Rattle.tta_tool.specs.World.{world}
-use Rattle.tta_tool.specs.Output.{output}
-use Rattle.tta_tool.proofs.Beginnings.{exec_ends, not_begun}
+use Rattle.tta_given.specs.Programs.{IsProgramFor, RefusesProgramFor}
+use Rattle.tta_tool.specs.Exec.{Reports}
+use Rattle.tta_tool.proofs.RunEndings.{pair_runs}
 use Rattle.tta_tool.proofs.exec.exec_program.Goals as goal
 
 pub returns-in-Ok : goal.returns-in-Ok
@@ -10,13 +10,8 @@ returns-in-Ok g c =
     let f = g.F.Files in
     let sink = g.S.Sink in
     let U = stated (λ v. (goal.OpUnit-dyn g v).unit_meaning v.1) c.args.units.now in
-    let before = world (f.contents c.args.files.now) (f.faults c.args.files.now) (f.latest c.args.files.now) in
-    let after = world (f.contents c.begin.new.files) (f.faults c.begin.new.files) (f.latest c.begin.new.files) in
-    let old = output (sink.taken c.args.sink.now) (sink.faults c.args.sink.now) in
-    let new = output (sink.taken c.carry_out.new.sink) (sink.faults c.carry_out.new.sink) in
-    exec_ends U c.args.request.now.names.machine.now c.args.request.now.names.second.now c.args.request.now.names.input.now (option_map (λ s. s.now) c.args.request.now.names.stream)
-    c.in-Ok.beginning.program c.in-Ok.beginning.memory.items c.in-Ok.beginning.words.items
-    c.args.request.now.bound before after old new c.carry_out.result c.in-Ok.ensures.ends c.carry_out.ensures
-
-pub returns-in-Err : goal.returns-in-Err
-returns-in-Err g c = not_begun _ _ _ _ _ _ _ _ _ _ c.in-Err.ensures.ends
+    let pair = c.in-Ok.pair in
+    let names = c.args.request.now.names in
+    pair_runs U (IsProgramFor U) (RefusesProgramFor U) (Reports U c.args.request.now.bound) names.machine.now names.second.now names.input.now (option_map (λ s. s.now) names.stream)
+    pair.file pair.program (f.world c.args.files.now) (f.world c.program_pair.new.files) (f.world c.exec_pair-status.new.files)
+    (sink.output c.args.sink.now) (sink.output c.exec_pair-status.new.sink) c.exec_pair-status.result c.in-Ok.ensures.ends c.exec_pair-status.ensures

@@ -23,13 +23,13 @@ pub returns-in_err-put_report-clause-puts : goal.returns-in_err-put_report-claus
 returns-in_err-put_report-clause-puts g c = λ s stands given none.
     let U = stated (λ v. (goal.OpUnit-dyn g v).unit_meaning v.1) c.args.units.now in
     let t = iterate c.args.bound (next U c.args.ran.now.program.now) s in
-    let mid = g.S.Sink.taken c.put_run.new.sink in
-    let new = g.S.Sink.taken c.put_report.new.sink in
+    let mid = (g.S.Sink.output c.put_run.new.sink).taken in
+    let new = (g.S.Sink.output c.put_report.new.sink).taken in
     let second = lines_text (report_lines (outcome_line t.outcome) t.memory (line.Steps t.steps)) in
     let told = subst (λ w. PutsBytes w mid new c.put_report.result)
     (reported c.in_ok-waits.waits c.put_run.new.run.seq t (c.in_ok-waits.ensures.run s stands given) (ended_as c.ended_of-ended.result) c.line_of.result c.memory.result.now c.steps.result
     c.ended_of-ended.ensures.waiting c.ended_of-ended.ensures.other c.line_of.ensures c.memory.ensures c.steps.ensures) c.put_report.ensures.grows in
-    puts_both (lines_text (word_lines t.output)) second (g.S.Sink.taken c.args.sink.now) mid new c.from_residual-in_err-put_report.result
+    puts_both (lines_text (word_lines t.output)) second (g.S.Sink.output c.args.sink.now).taken mid new c.from_residual-in_err-put_report.result
     (c.in_ok-waits.ensures.puts s stands given none)
     (puts_again second mid new c.put_report.result c.from_residual-in_err-put_report.result
     (is_err_of c.in_err-put_report.was) c.from_residual-in_err-put_report.ensures.0 told)
@@ -42,8 +42,8 @@ pub returns-clause-puts : goal.returns-clause-puts
 returns-clause-puts g c = λ s stands given none.
     let U = stated (λ v. (goal.OpUnit-dyn g v).unit_meaning v.1) c.args.units.now in
     let t = iterate c.args.bound (next U c.args.ran.now.program.now) s in
-    let old = g.S.Sink.taken c.args.sink.now in
-    let mid = g.S.Sink.taken c.put_run.new.sink in
+    let old = (g.S.Sink.output c.args.sink.now).taken in
+    let mid = (g.S.Sink.output c.put_run.new.sink).taken in
     let first = lines_text (word_lines t.output) in
     let second = lines_text (report_lines (outcome_line t.outcome) t.memory (line.Steps t.steps)) in
     c.in_ok-put_report.ensures.grows

@@ -1,9 +1,9 @@
-use Rattle.std.proofs.Common.{ℕ, List, [], refl, subst}
+use Rattle.std.proofs.Common.{ℕ, List, [], refl, subst, ap}
+use Rattle.tta_given.specs.declared.pair.CodePair.{CodePair}
 use Rattle.tta_list.specs.Laid.{over}
 use Rattle.tta_code.specs.Whole.{Whole, data_in}
 use Rattle.tta_code.specs.Cycle.{start, cyc}
 use Rattle.tta_ops.specs.Set.{stated}
-use Rattle.tta_tool.specs.Output.{output}
 use Rattle.tta_tool.specs.Run.{RunEnds}
 use Rattle.tta_tool.proofs.Laying.{few_cycles}
 use Rattle.tta_tool.proofs.running.carry_out.Goals as goal
@@ -12,15 +12,15 @@ pub returns-in-Ok : goal.returns-in-Ok
 returns-in-Ok g c =
     let U = stated (λ v. (goal.OpUnit-dyn g v).unit_meaning v.1) c.args.units.now in
     let sink = g.S.Sink in
-    let m = c.args.machine.now in
+    let m = c.args.pair.now.file.machine in
     let words = c.as_slice.result.now in
-    let memory = over (data_in c.args.beginning.whole) c.args.beginning.memory.items in
-    let old = output (sink.taken c.args.sink.now) (sink.faults c.args.sink.now) in
-    let new = output (sink.taken c.code_to_status-status.new.sink) (sink.faults c.code_to_status-status.new.sink) in
+    let memory = over (data_in c.args.pair.now.whole) c.args.given.memory.items in
+    let old = sink.output c.args.sink.now in
+    let new = sink.output c.code_to_status-status.new.sink in
     let Ends : Whole → (given : List ℕ) → Type 0 = λ whole given. RunEnds (cyc U m whole.code memory given c.args.bound) old new c.code_to_status-status.result in
-    subst (Ends c.args.beginning.whole) c.as_slice.ensures.value
-    (subst (λ whole. Ends whole words) c.whole.view_is (c.code_to_status-status.ensures (start m memory words) (c.in-Ok.ensures.start words) refl refl))
+    subst (Ends c.args.pair.now.whole) c.as_slice.ensures.value
+    (subst (λ whole. Ends whole words) (ap (λ (p : CodePair). p.whole) c.pair.view_is) (c.code_to_status-status.ensures (start m memory words) (c.in-Ok.ensures.start words) refl refl))
 
 pub code_to_status-status-requires-clause-few : goal.code_to_status-status-requires-clause-few
 code_to_status-status-requires-clause-few g c =
-    few_cycles _ c.args.machine.now (over (data_in c.args.beginning.whole) c.args.beginning.memory.items) c.args.bound (c.in-Ok.ensures.start []) c.requires.bound
+    few_cycles _ c.args.pair.now.file.machine (over (data_in c.args.pair.now.whole) c.args.given.memory.items) c.args.bound (c.in-Ok.ensures.start []) c.requires.bound
