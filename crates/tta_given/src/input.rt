@@ -11,7 +11,7 @@ use std::alloc::Global;
 use tta_input::{InputError, read_input, read_stream};
 use tta_ports::Files;
 
-// The data words that a file's bytes give, as many as the space has.
+/// The data words that a file's bytes give, as many as the space has.
 fn words_of(alloc: Global, bytes: &[u8], space: u32) -> Result<Vec<u32>, Status>
     requires { length bytes.now ≤ 2 ^ 24 }
     ensures takes { TakesBytes (Fills space) (RefusesInput space) bytes.now (λ v. v.items) result }
@@ -24,7 +24,7 @@ fn words_of(alloc: Global, bytes: &[u8], space: u32) -> Result<Vec<u32>, Status>
     }
 }
 
-// The words of an input that a file's bytes give.
+/// The words of an input that a file's bytes give.
 fn stream_of(alloc: Global, bytes: &[u8]) -> Result<Vec<u32>, Status>
     requires { length bytes.now ≤ 2 ^ 24 }
     ensures { TakesBytes IsInput RefusesStream bytes.now (λ v. v.items) result }
@@ -58,7 +58,7 @@ pub fn input_file<F: Files>(
     }
 }
 
-// The words of the file of the input that word 5 names.
+/// The words of the file of the input that word 5 names.
 fn named_stream<F: Files>(alloc: Global, files: &mut F, name: &str) -> Result<Vec<u32>, Status>
     ensures { FileEnds IsInput RefusesStream name.now 5
         (F.world files.old) (F.world files.new) (λ v. v.items) result }

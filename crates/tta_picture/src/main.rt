@@ -18,7 +18,7 @@ use tta_given::Status;
 use tta_ops::{Arith, Compare, Divide, Logic, OpUnit, Shift, UnitSet};
 use tta_ports::{Files, RealFiles, RealSink, Sink};
 
-// The words after the program's name. A word that is not UTF-8 makes no command.
+/// The words after the program's name. A word that is not UTF-8 makes no command.
 fn words_of(rt: &(impl Env + AllocGlobal)) -> Result<Vec<String>, Status> {
     let all = match env::args(rt) {
         Ok(all) => all,
@@ -34,7 +34,7 @@ fn words_of(rt: &(impl Env + AllocGlobal)) -> Result<Vec<String>, Status> {
     Ok(words)
 }
 
-// Draws what the words ask for over the five standard units.
+/// Draws what the words ask for over the five standard units.
 fn run<F: Files, S: Sink>(
     alloc: Global,
     words: &Vec<String>,

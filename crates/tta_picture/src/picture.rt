@@ -17,7 +17,7 @@ use tta_given::{CodePair, MachineFile, Status, image_pair, machine_file, put_mad
 use tta_ops::UnitSet;
 use tta_ports::{Files, Sink};
 
-// The picture of a machine.
+/// The picture of a machine.
 fn drawn_machine(alloc: Global, units: &UnitSet, file: &MachineFile) -> Result<Vec<u8>, Status>
     ensures { let U = stated unit_meaning units.now in
         MadeEnds (λ text. text ≡ picture_of_machine U file.now.machine) no_memory
@@ -29,7 +29,7 @@ fn drawn_machine(alloc: Global, units: &UnitSet, file: &MachineFile) -> Result<V
     }
 }
 
-// The picture of code for a machine.
+/// The picture of code for a machine.
 fn drawn_code(alloc: Global, units: &UnitSet, pair: &CodePair) -> Result<Vec<u8>, Status>
     requires { IsLegalCode pair.now.file.machine pair.now.whole.code }
     ensures { let U = stated unit_meaning units.now in
@@ -42,7 +42,7 @@ fn drawn_code(alloc: Global, units: &UnitSet, pair: &CodePair) -> Result<Vec<u8>
     }
 }
 
-// Draws the machine of the file that word 1 names.
+/// Draws the machine of the file that word 1 names.
 fn put_machine<F: Files, S: Sink>(
     alloc: Global,
     units: &UnitSet,
@@ -63,7 +63,7 @@ fn put_machine<F: Files, S: Sink>(
     }
 }
 
-// Draws the code of the image that word 2 names, for the machine that word 1 names.
+/// Draws the code of the image that word 2 names, for the machine that word 1 names.
 fn put_code<F: Files, S: Sink>(
     alloc: Global,
     units: &UnitSet,
@@ -85,7 +85,7 @@ fn put_code<F: Files, S: Sink>(
     }
 }
 
-// Draws what is asked for.
+/// Draws what is asked for.
 fn draw<F: Files, S: Sink>(
     alloc: Global,
     request: &Request<'_>,

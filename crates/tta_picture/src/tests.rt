@@ -50,7 +50,7 @@ const CASES: [Case; 7] = [
     (&["M", "X"], Status::ReadFault { word: 2 }, ""),
 ];
 
-// Puts the words at the end.
+/// Puts the words at the end.
 fn add_words(alloc: Global, strings: &mut Vec<String>, words: &[&str]) -> Result<(), AllocError> {
     for word in words {
         let string = String::from_str(alloc, word)?;
@@ -61,7 +61,7 @@ fn add_words(alloc: Global, strings: &mut Vec<String>, words: &[&str]) -> Result
     Ok(())
 }
 
-// Draws what these words ask for.
+/// Draws what these words ask for.
 fn carry_out(
     alloc: Global,
     words: &[&str],
@@ -78,13 +78,13 @@ fn carry_out(
     status
 }
 
-// Gives the files the machine and the image.
+/// Gives the files the machine and the image.
 fn add_files(files: &mut MemFiles) -> Result<(), AllocError> {
     files.add("M", MACHINE.as_bytes())?;
     files.add("IMG", &IMAGE)
 }
 
-// Whether words end so over these files, and what they output ends so.
+/// Whether words end so over these files, and what they output ends so.
 fn ends_over(
     alloc: Global,
     files: &mut MemFiles,
@@ -105,7 +105,7 @@ fn ends_over(
     }
 }
 
-// Whether a case ends as it should.
+/// Whether a case ends as it should.
 fn passes(alloc: Global, case: &Case) -> Result<bool, AllocError> {
     let (words, ending, output) = case;
     let mut files = MemFiles::new(alloc, Vec::new(alloc));

@@ -32,7 +32,7 @@ pub fn ending_of(error: BuildError, units: &UnitSet, machine: &Machine, program:
     }
 }
 
-// The image of a program for a machine, with the digest of the machine's text.
+/// The image of a program for a machine, with the digest of the machine's text.
 fn image_of_pair(alloc: Global, units: &UnitSet, pair: &ProgramPair) -> Result<Vec<u8>, Status>
     requires machine { machines.StandsOver (stated unit_meaning units.now) pair.now.file.machine }
     requires program { programs.StandsOver (stated unit_meaning units.now) pair.now.program }

@@ -19,7 +19,7 @@ use tta_given::Status;
 use tta_ops::UnitSet;
 use tta_ports::{Files, Sink};
 
-// Carries out what is asked for.
+/// Carries out what is asked for.
 fn carry_out<F: Files, S: Sink>(
     alloc: Global,
     request: &Request<'_>,

@@ -35,7 +35,7 @@ pub struct Compiled<'a> {
     pub whole: &'a Whole,
 }
 
-// How many steps a program has.
+/// How many steps a program has.
 fn count_steps(program: &Program) -> u64
     ensures { result ≡ step_count program.now }
 {
@@ -46,7 +46,7 @@ fn count_steps(program: &Program) -> u64
     count
 }
 
-// The words of a data space of this size, each 0.
+/// The words of a data space of this size, each 0.
 fn zeros(alloc: Global, space: u32) -> Result<Vec<u32>, AllocError>
     ensures zeros { IfOk result (λ v. v.items ≡ zeros space) }
     ensures size { IfOk result (λ v. length v.items ≡ space) }
@@ -62,7 +62,7 @@ struct KeptProgram {
     kept: Kept,
 }
 
-// Runs a program from data words of 0, with its data laid over them, for at most so many steps.
+/// Runs a program from data words of 0, with its data laid over them, for at most so many steps.
 fn run_program(
     alloc: Global,
     units: &UnitSet,
@@ -90,7 +90,7 @@ struct KeptCode {
     kept: Kept,
 }
 
-// Runs code from data words of 0, with its data laid over them, for at most so many cycles.
+/// Runs code from data words of 0, with its data laid over them, for at most so many cycles.
 fn run_code(
     alloc: Global,
     units: &UnitSet,
@@ -112,7 +112,7 @@ fn run_code(
     Ok(KeptCode { sim: ran.sim, kept })
 }
 
-// Whether both runs output the same and left the same data words.
+/// Whether both runs output the same and left the same data words.
 fn are_equal(program: &KeptProgram, code: &KeptCode) -> bool
     ensures { program.now.kept.output.items ≡ code.now.kept.output.items
         → program.now.seq.memory ≡ code.now.sim.memory → result ≡ true }
@@ -120,7 +120,7 @@ fn are_equal(program: &KeptProgram, code: &KeptCode) -> bool
     program.kept.output == code.kept.output && program.seq.memory() == code.sim.memory()
 }
 
-// How many instructions code has, which the machine can carry out.
+/// How many instructions code has, which the machine can carry out.
 fn count_words(machine: &Machine, whole: &Whole) -> u64
     requires legal { IsLegalCode machine.now whole.now.code }
     ensures count { result ≡ length whole.now.code.words }
@@ -131,7 +131,7 @@ fn count_words(machine: &Machine, whole: &Whole) -> u64
     whole.code.words.len() as u64
 }
 
-// Puts the summary of a program and its code that have halted.
+/// Puts the summary of a program and its code that have halted.
 fn put_summary<S: Sink>(
     sink: &mut S,
     program: &Program,
@@ -159,7 +159,7 @@ fn put_summary<S: Sink>(
     }
 }
 
-// Runs the code of a program that has halted, compares the runs and puts the summary.
+/// Runs the code of a program that has halted, compares the runs and puts the summary.
 fn compare_code<S: Sink>(
     alloc: Global,
     units: &UnitSet,

@@ -24,7 +24,7 @@ enum CodeEnd {
     Other(Ending),
 }
 
-// How a run ended, where it waits or does not.
+/// How a run ended, where it waits or does not.
 fn end_of(sim: &Sim, waits: bool) -> CodeEnd
     ensures waiting { waits ≡ true → end_told result ≡ Waiting }
     ensures other { waits ≡ false → end_told result ≡ sim.now.outcome }
@@ -36,7 +36,7 @@ fn end_of(sim: &Sim, waits: bool) -> CodeEnd
     }
 }
 
-// The line that reports how a run ended.
+/// The line that reports how a run ended.
 fn line_of(end: &CodeEnd) -> Line
     ensures { result ≡ outcome_line (end_told end.now) }
 {
@@ -51,11 +51,11 @@ fn line_of(end: &CodeEnd) -> Line
     }
 }
 
-// Runs code for at most so many cycles and outputs its text: each word as it comes, and then how
-// the run ended, which it also answers, the data words and the number of cycles. It takes no
-// memory.
-//
-// It answers `Failed` at the first line at which the sink does.
+/// Runs code for at most so many cycles and outputs its text: each word as it comes, and then how
+/// the run ended, which it also answers, the data words and the number of cycles. It takes no
+/// memory.
+///
+/// It answers `Failed` at the first line at which the sink does.
 fn run<S: Sink>(
     sink: &mut S,
     ran: &mut CodeRun<'_>,

@@ -28,7 +28,7 @@ struct Script {
     words: Vec<u32>,
 }
 
-// The bytes of the script that word 4 names, and the words of the input.
+/// The bytes of the script that word 4 names, and the words of the input.
 fn script_files<F: Files>(
     alloc: Global,
     files: &mut F,
@@ -60,8 +60,8 @@ struct Asked {
     script: Script,
 }
 
-// The data words that word 3 names, as many as the space has, the script that word 4 names and the
-// words of the input.
+/// The data words that word 3 names, as many as the space has, the script that word 4 names and the
+/// words of the input.
 fn asked_files<F: Files>(
     alloc: Global,
     files: &mut F,
@@ -87,7 +87,7 @@ fn asked_files<F: Files>(
     }
 }
 
-// How the command ends where the run stands so.
+/// How the command ends where the run stands so.
 fn status_of(sim: &Sim) -> Status
     ensures { EndsAs sim.now.outcome result }
 {
@@ -101,7 +101,7 @@ fn status_of(sim: &Sim) -> Status
     }
 }
 
-// Carries out a script, and answers how the command ends. It takes no memory.
+/// Carries out a script, and answers how the command ends. It takes no memory.
 fn script_to_status<S: Sink>(
     sink: &mut S,
     machine: &Machine,
@@ -126,7 +126,7 @@ fn script_to_status<S: Sink>(
     }
 }
 
-// Carries out the session that is asked for over the run of code.
+/// Carries out the session that is asked for over the run of code.
 fn carry_out<S: Sink>(
     alloc: Global,
     units: &UnitSet,
@@ -157,7 +157,7 @@ fn carry_out<S: Sink>(
     }
 }
 
-// Carries out the session that is asked for over code that was read for a machine.
+/// Carries out the session that is asked for over code that was read for a machine.
 fn debug_pair<F: Files, S: Sink>(
     alloc: Global,
     units: &UnitSet,

@@ -13,7 +13,7 @@ use tta_given::{CodePair, Status, image_pair, write_made};
 use tta_ops::UnitSet;
 use tta_ports::Files;
 
-// The canonical text of code with data for a machine.
+/// The canonical text of code with data for a machine.
 fn text_of_pair(alloc: Global, units: &UnitSet, pair: &CodePair) -> Result<Vec<u8>, Status>
     ensures { let U = stated unit_meaning units.now in
         MadeEnds (λ text. text ≡ canonical U pair.now.file.machine pair.now.whole) no_memory

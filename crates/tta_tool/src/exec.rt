@@ -16,7 +16,7 @@ use tta_ports::{Files, Sink};
 use tta_tac::{Program, lay_lines};
 use tta_tacrun::Seq;
 
-// Runs a program from what it is given, and outputs its text.
+/// Runs a program from what it is given, and outputs its text.
 fn carry_out<S: Sink>(
     alloc: Global,
     units: &UnitSet,
@@ -46,7 +46,7 @@ fn carry_out<S: Sink>(
     }
 }
 
-// Makes the run that is asked for of a program that was read for a machine.
+/// Makes the run that is asked for of a program that was read for a machine.
 fn exec_pair<F: Files, S: Sink>(
     alloc: Global,
     units: &UnitSet,

@@ -45,8 +45,8 @@ pub fn lines_of(word: &[u8]) -> Option<u32>
     Some(lines as u32)
 }
 
-// The value of one to `most` decimal digits, where each byte is one and the value is below the
-// limit.
+/// The value of one to `most` decimal digits, where each byte is one and the value is below the
+/// limit.
 #[tactic(auto, unfolding(tta_text::specs::Numbers::digits_of))]
 fn digits_of(word: &[u8], most: usize, limit: u64) -> Option<u64>
     requires some { 0 < limit }
@@ -60,7 +60,7 @@ fn digits_of(word: &[u8], most: usize, limit: u64) -> Option<u64>
     value_of(word, limit)
 }
 
-// The value of decimal digits, where each byte is one and the value is below the limit.
+/// The value of decimal digits, where each byte is one and the value is below the limit.
 fn value_of(digits: &[u8], limit: u64) -> Option<u64>
     requires some { 0 < limit }
     requires few { limit ≤ 2 ^ 48 }

@@ -25,7 +25,7 @@ enum Ended {
     Waiting,
 }
 
-// How a run ended, where it waits or does not.
+/// How a run ended, where it waits or does not.
 fn ended_of(seq: &Seq, waits: bool) -> Ended
     ensures waiting { waits ≡ true → ended_as result ≡ Waiting }
     ensures other { waits ≡ false → ended_as result ≡ seq.now.outcome }
@@ -39,7 +39,7 @@ fn ended_of(seq: &Seq, waits: bool) -> Ended
     }
 }
 
-// The line that reports how a run ended.
+/// The line that reports how a run ended.
 fn line_of(ended: Ended) -> Line
     ensures { result ≡ outcome_line (ended_as ended) }
 {
@@ -50,11 +50,11 @@ fn line_of(ended: Ended) -> Line
     }
 }
 
-// Runs a program for at most so many steps and outputs its text: each word as it comes, and then
-// how the run ended, which it also answers, the data words and the number of steps. It takes no
-// memory.
-//
-// It answers `Failed` at the first line at which the sink does.
+/// Runs a program for at most so many steps and outputs its text: each word as it comes, and then
+/// how the run ended, which it also answers, the data words and the number of steps. It takes no
+/// memory.
+///
+/// It answers `Failed` at the first line at which the sink does.
 fn run<S: Sink>(
     sink: &mut S,
     ran: &mut ProgramRun<'_>,

@@ -20,7 +20,7 @@ pub enum Request<'w> {
     Sample(SampleRequest<'w>),
 }
 
-// The request of the name of a command that makes a file of two others, with their names.
+/// The request of the name of a command that makes a file of two others, with their names.
 fn of_files<'w>(word: &str, files: WriteRequest<'w>) -> Option<Request<'w>>
     ensures { option_map asked result
         ≡ writing_request word.now
@@ -38,7 +38,7 @@ fn of_files<'w>(word: &str, files: WriteRequest<'w>) -> Option<Request<'w>>
     None
 }
 
-// The request of a sample by its seed and its number of body lines, for a machine.
+/// The request of a sample by its seed and its number of body lines, for a machine.
 fn of_sample<'w>(seed: &str, lines: &str, machine: &'w str) -> Option<Request<'w>>
     ensures { option_map asked result ≡ sample_request seed.now lines.now machine.now }
 {
@@ -51,7 +51,7 @@ fn of_sample<'w>(seed: &str, lines: &str, machine: &'w str) -> Option<Request<'w
     }))
 }
 
-// The request of the name of a command with three words after it.
+/// The request of the name of a command with three words after it.
 fn of_short<'w>(
     word: &str,
     first: &'w str,
@@ -71,7 +71,7 @@ fn of_short<'w>(
     of_files(word, files)
 }
 
-// The request of the name of a command with a bound.
+/// The request of the name of a command with a bound.
 fn of_bounded<'w>(word: &str, names: RunFiles<'w>, bound: u64) -> Option<Request<'w>>
     requires few { bound < 2 ^ 48 }
     ensures { option_map asked result ≡ bounded_request word.now
@@ -87,7 +87,7 @@ fn of_bounded<'w>(word: &str, names: RunFiles<'w>, bound: u64) -> Option<Request
     None
 }
 
-// The request of the name of a command whose fourth word is a script, or the bound of a run.
+/// The request of the name of a command whose fourth word is a script, or the bound of a run.
 fn of_running<'w>(word: &str, names: RunFiles<'w>, last: &'w str) -> Option<Request<'w>>
     ensures { option_map asked result ≡ running_request word.now
         names.entry.machine.now names.entry.second.now names.entry.input.now last.now

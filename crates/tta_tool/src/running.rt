@@ -40,7 +40,7 @@ pub fn load_laid(
     Sim::load(alloc, machine, &whole.code, laid)
 }
 
-// Runs code from what it is given, and outputs its text.
+/// Runs code from what it is given, and outputs its text.
 fn carry_out<S: Sink>(
     alloc: Global,
     units: &UnitSet,
@@ -73,7 +73,7 @@ fn carry_out<S: Sink>(
     }
 }
 
-// Makes the run that is asked for of code that was read for a machine.
+/// Makes the run that is asked for of code that was read for a machine.
 fn run_pair<F: Files, S: Sink>(
     alloc: Global,
     units: &UnitSet,

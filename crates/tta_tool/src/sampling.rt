@@ -22,7 +22,7 @@ use tta_ports::{Files, Sink};
 use tta_sample::sample;
 use tta_tac::Program;
 
-// Compiles a program and compares it with its code.
+/// Compiles a program and compares it with its code.
 fn compile_and_compare<S: Sink>(
     alloc: Global,
     units: &UnitSet,
@@ -54,7 +54,7 @@ fn compile_and_compare<S: Sink>(
     }
 }
 
-// The program of a sample's text, whose data lie in a space of so many words.
+/// The program of a sample's text, whose data lie in a space of so many words.
 fn sample_program(
     alloc: Global,
     units: &UnitSet,
@@ -79,7 +79,7 @@ fn sample_program(
     }
 }
 
-// Makes a sample and compares it with its code, for a machine that was read.
+/// Makes a sample and compares it with its code, for a machine that was read.
 fn sample_for<S: Sink>(
     alloc: Global,
     units: &UnitSet,
