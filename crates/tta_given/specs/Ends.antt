@@ -80,15 +80,16 @@ abbrev pub PutsMade : {T : Type 0} → (T → List ℕ) → Result T Status → 
 PutsMade items (Ok v) old new s = PutEnds (items v) old new s
 PutsMade items (Err e) old new s = (s ≡ e) × IsQuiet old new
 
--- a text was made and put, or there was no memory for it
-abbrev pub TextEnds : (text : List ℕ) → (old new : Output) → Status → Type 0
-TextEnds text old new s = PutEnds text old new s ⊎ ((s ≡ status.NoMemory) × IsQuiet old new)
+-- a text was made and put, or none was made, for a cause, and nothing is put
+abbrev pub TextEnds : (Makes : List ℕ → Type 0) → (Lacks : Status → Type 0) → (old new : Output) → Status → Type 0
+TextEnds Makes Lacks old new s = ((text : List ℕ) × Makes text × PutEnds text old new s) ⊎ (Lacks s × IsQuiet old new)
 
--- How a command ends that puts a text of a machine and what is for it: one of these is refused, and nothing is put; or the
--- text is. No file is touched but by a fault of a read.
+-- How a command ends that puts a text of a machine and what is for it: one of these is refused, and nothing is put; or of both no
+-- text is made, for a cause; or the text is put. No file is touched but by a fault of a read.
 abbrev pub Puts : {V : Type 0} → Units → (Says : MachineFile → List ℕ → V → Type 0) → (Refuses : MachineFile → List ℕ → Status → Type 0)
-    → (text : MachineFile → V → List ℕ) → (M name : List ℕ) → (before after : World) → (old new : Output) → Status → Type 0
-Puts u Says Refuses text M name before after old new s =
+    → (Makes : MachineFile → V → List ℕ → Type 0) → (Lacks : MachineFile → V → Status → Type 0)
+    → (M name : List ℕ) → (before after : World) → (old new : Output) → Status → Type 0
+Puts u Says Refuses Makes Lacks M name before after old new s =
     (PairFails u Refuses M name before after s × IsQuiet old new)
-    ⊎ ((pair : HasPair u Says before.contents M name)
-    × IsUntouched before after × TextEnds (text pair.machine.value pair.second.value) old new s)
+    ⊎ ((pair : HasPair u Says before.contents M name) × IsUntouched before after
+    × TextEnds (Makes pair.machine.value pair.second.value) (Lacks pair.machine.value pair.second.value) old new s)

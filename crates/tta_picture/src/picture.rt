@@ -8,7 +8,7 @@ ghost use Rattle.tta_code.specs.Legal.{IsLegalCode};
 ghost use Rattle.tta_draw.specs.MachinePicture.{picture_of_machine};
 ghost use Rattle.tta_given.specs.Held.{MadeEnds, no_memory};
 ghost use Rattle.tta_picture.specs.Asked.{OfMachine, OfCode, asked, asked_by};
-ghost use Rattle.tta_picture.specs.Picture.{Ends, code_picture};
+ghost use Rattle.tta_picture.specs.Picture.{Ends, IsDrawn};
 
 use crate::request::Request;
 use std::alloc::Global;
@@ -33,8 +33,7 @@ fn drawn_machine(alloc: Global, units: &UnitSet, file: &MachineFile) -> Result<V
 fn drawn_code(alloc: Global, units: &UnitSet, pair: &CodePair) -> Result<Vec<u8>, Status>
     requires { IsLegalCode pair.now.file.machine pair.now.whole.code }
     ensures { let U = stated unit_meaning units.now in
-        MadeEnds (λ text. text ≡ code_picture U pair.now.file pair.now.whole) no_memory
-        (λ v. v.items) result }
+        MadeEnds (IsDrawn U pair.now.file pair.now.whole) no_memory (λ v. v.items) result }
 {
     match draw_code(alloc, &pair.file.machine, units, &pair.whole.code) {
         Ok(text) => Ok(text),

@@ -1,6 +1,7 @@
-use Rattle.std.proofs.Common.{inl, inr}
+use Rattle.std.proofs.Common.{◌≡◌, inr}
 use Rattle.tta_ops.specs.Set.{stated}
 use Rattle.tta_draw.specs.MachinePicture.{picture_of_machine}
+use Rattle.tta_given.specs.Held.{no_memory}
 use Rattle.tta_given.proofs.Endings.{text_ends}
 use Rattle.tta_picture.proofs.picture.put_machine.Goals as goal
 
@@ -11,5 +12,5 @@ returns-in-Ok g c =
     let file = c.in-Ok.file in
     let made = c.drawn_machine-made.result in
     inr (record { value = file; held = c.in-Ok.ensures.ends.held }, c.in-Ok.ensures.ends.untouched,
-    text_ends (picture_of_machine U file.machine) (sink.output c.args.sink.now) (sink.output c.put_made.new.sink) (λ v. v.items) made c.put_made.result
+    text_ends (λ text. text ≡ picture_of_machine U file.machine) no_memory (sink.output c.args.sink.now) (sink.output c.put_made.new.sink) (λ v. v.items) made c.put_made.result
     c.drawn_machine-made.ensures c.put_made.ensures)
