@@ -194,7 +194,13 @@ pub fn debug_image<F: Files, S: Sink>(
         request.now.script.now (option_map (λ s. s.now) names.stream)
         (F.world files.old) (F.world files.new) (S.output sink.old) (S.output sink.new) result }
 {
-    match image_pair(alloc, units, files, request.names.machine, request.names.second) {
+    match image_pair(
+        alloc,
+        units,
+        files,
+        request.names.machine,
+        request.names.second,
+    ) {
         Ok(pair) => {
             let status = debug_pair(alloc, units, files, sink, request, &pair);
             drop(pair);

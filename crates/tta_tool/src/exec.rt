@@ -6,9 +6,9 @@ ghost use Rattle.tta_agree.specs.Agrees.{program_at};
 ghost use Rattle.tta_tool.specs.Runs.{GivenRuns};
 ghost use Rattle.tta_tool.specs.Exec.{RunEnds, Reports, Execs};
 
+use crate::names::RunRequest;
 use crate::program_run::ProgramRun;
 use crate::report::run_to_status;
-use crate::names::RunRequest;
 use std::alloc::Global;
 use tta_given::{Given, ProgramPair, Status, data_words, given_files, program_pair};
 use tta_ops::UnitSet;
@@ -63,7 +63,13 @@ fn exec_pair<F: Files, S: Sink>(
         (F.world files.old) (F.world files.new) (S.output sink.old) (S.output sink.new) result }
 {
     let space = data_words(&pair.file.machine);
-    match given_files(alloc, files, request.names.input, request.names.stream, space) {
+    match given_files(
+        alloc,
+        files,
+        request.names.input,
+        request.names.stream,
+        space,
+    ) {
         Ok(given) => carry_out(alloc, units, sink, &pair.program, given, request.bound),
         Err(status) => status,
     }
@@ -84,7 +90,13 @@ pub fn exec_program<F: Files, S: Sink>(
         (option_map (λ s. s.now) names.stream) request.now.bound
         (F.world files.old) (F.world files.new) (S.output sink.old) (S.output sink.new) result }
 {
-    match program_pair(alloc, units, files, request.names.machine, request.names.second) {
+    match program_pair(
+        alloc,
+        units,
+        files,
+        request.names.machine,
+        request.names.second,
+    ) {
         Ok(pair) => {
             let status = exec_pair(alloc, units, files, sink, request, &pair);
             drop(pair);

@@ -52,12 +52,7 @@ fn of_sample<'w>(seed: &str, lines: &str, machine: &'w str) -> Option<Request<'w
 }
 
 /// The request of the name of a command with three words after it.
-fn of_short<'w>(
-    word: &str,
-    first: &'w str,
-    second: &'w str,
-    third: &'w str,
-) -> Option<Request<'w>>
+fn of_short<'w>(word: &str, first: &'w str, second: &'w str, third: &'w str) -> Option<Request<'w>>
     ensures { option_map asked result ≡ short_request word.now first.now second.now third.now }
 {
     if word == "sample" {

@@ -91,7 +91,13 @@ fn run_pair<F: Files, S: Sink>(
         (F.world files.old) (F.world files.new) (S.output sink.old) (S.output sink.new) result }
 {
     let space = data_words(&pair.file.machine);
-    match given_files(alloc, files, request.names.input, request.names.stream, space) {
+    match given_files(
+        alloc,
+        files,
+        request.names.input,
+        request.names.stream,
+        space,
+    ) {
         Ok(given) => carry_out(alloc, units, sink, pair, given, request.bound),
         Err(status) => status,
     }
@@ -112,7 +118,13 @@ pub fn run_image<F: Files, S: Sink>(
         (option_map (λ s. s.now) names.stream) request.now.bound
         (F.world files.old) (F.world files.new) (S.output sink.old) (S.output sink.new) result }
 {
-    match image_pair(alloc, units, files, request.names.machine, request.names.second) {
+    match image_pair(
+        alloc,
+        units,
+        files,
+        request.names.machine,
+        request.names.second,
+    ) {
         Ok(pair) => {
             let status = run_pair(alloc, units, files, sink, request, &pair);
             drop(pair);

@@ -11,6 +11,9 @@ returns-in-Ok g c =
     let U = stated (λ v. (goal.OpUnit-dyn g v).unit_meaning v.1) c.args.units.now in
     let file = c.in-Ok.file in
     let made = c.drawn_machine-made.result in
-    inr (record { value = file; held = c.in-Ok.ensures.ends.held }, c.in-Ok.ensures.ends.untouched,
-    text_ends (λ text. text ≡ picture_of_machine U file.machine) no_memory (sink.output c.args.sink.now) (sink.output c.put_made.new.sink) (λ v. v.items) made c.put_made.result
-    c.drawn_machine-made.ensures c.put_made.ensures)
+    inr (
+      record { value = file; held = c.in-Ok.ensures.ends.held },
+      c.in-Ok.ensures.ends.untouched,
+      text_ends (λ text. text ≡ picture_of_machine U file.machine) no_memory (sink.output c.args.sink.now) (sink.output c.put_made.new.sink) (λ v. v.items) made c.put_made.result
+          c.drawn_machine-made.ensures c.put_made.ensures,
+    )
