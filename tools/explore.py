@@ -1,8 +1,8 @@
 """Compiles each of some programs for each of some machines, runs the images, and prints a table of designs: words, bits of an
 instruction, bits of the code, cycles, cycles a step, or why there is no image. Pairs are worked at side by side, on all processors.
 
-Its words are the script that runs commands, `yes` or nothing for --plain, and then machines, `--` and programs; `--csv` among them
-asks for values with commas. A program's data words stand in a file of the same name that ends in .input, its input in one that ends
+Its words are a number, the script that runs commands with as many options for it, and then machines, `--` and programs; `--csv` among
+them asks for values with commas. A program's data words stand in a file of the same name that ends in .input, its input in one that ends
 in .stream; without them it has none."""
 import csv
 import os
@@ -78,7 +78,8 @@ def print_table(rows):
 
 
 def main():
-    script, plain, *words = sys.argv[1:]
+    count, *words = sys.argv[1:]
+    tool, words = words[:1 + int(count)], words[1 + int(count):]
     as_csv = "--csv" in words
     words = [word for word in words if word != "--csv"]
     at = words.index("--") if "--" in words else 0
@@ -90,7 +91,6 @@ def main():
         if not os.path.isfile(path):
             print(f"tta: explore: there is no file {path}", file=sys.stderr)
             return USAGE
-    tool = [script, "--plain"] if plain else [script]
     # So that the program is built once, and not by each of those that run side by side.
     answer(tool, [])
     with ThreadPoolExecutor(os.cpu_count()) as workers:

@@ -15,6 +15,8 @@ and LINES say which sample program is made, and how long it is.
 
   --plain COMMAND
       carries out the command by a program that is made of the same sources without their proofs, in a minute
+  --with NAME COMMAND
+      carries out the command by the program of the crate tta_with_NAME, which has operations of its own: bits, and those that you add
   explore MACHINES -- PROGRAMS
       compiles and runs each program on each machine, and prints a table; with --csv as values with commas
   help, --help, -h

@@ -1,22 +1,19 @@
-//! The program that draws: it takes the words of the command line, reads a machine and perhaps an
-//! image from the files of the host, puts a picture on the standard output, and ends with the number
-//! of the status.
+//! The program with the operations of `tta_bits` beside the standard ones: it takes the words of the
+//! command line, carries them out over the files of the host and its standard output, and ends with
+//! the number of the status. A command whose first word is `picture` draws.
 #![tactic(auto)]
 
-mod picture;
-mod request;
-#[cfg(test)]
-mod tests;
-
-use picture::picture;
 use std::alloc::{AllocError, Global};
 use std::env;
 use std::io::ErrorKind;
 use std::process::ExitCode;
 use std::rt::Env;
+use tta_bits::Bits;
 use tta_given::Status;
 use tta_ops::{Arith, Compare, Divide, Logic, OpUnit, Shift, UnitSet};
+use tta_picture::picture;
 use tta_ports::{Files, RealFiles, RealSink, Sink};
+use tta_tool::tool;
 
 /// The words after the program's name. A word that is not UTF-8 makes no command.
 fn words_of(rt: &(impl Env + AllocGlobal)) -> Result<Vec<String>, Status> {
@@ -34,10 +31,26 @@ fn words_of(rt: &(impl Env + AllocGlobal)) -> Result<Vec<String>, Status> {
     Ok(words)
 }
 
-/// Draws what the words ask for over the five standard units.
+/// Carries out the words over the units: after `picture` those of a drawing, else those of a command.
+fn carry_out<F: Files, S: Sink>(
+    alloc: Global,
+    words: &mut Vec<String>,
+    units: &UnitSet,
+    files: &mut F,
+    sink: &mut S,
+) -> Status {
+    if words.first().is_some_and(|word| word == "picture") {
+        words.remove(0);
+        picture(alloc, words, units, files, sink)
+    } else {
+        tool(alloc, words, units, files, sink)
+    }
+}
+
+/// Carries out the words over the five standard units and that of `tta_bits`.
 fn run<F: Files, S: Sink>(
     alloc: Global,
-    words: &Vec<String>,
+    words: &mut Vec<String>,
     files: &mut F,
     sink: &mut S,
 ) -> Result<Status, AllocError> {
@@ -46,13 +59,14 @@ fn run<F: Files, S: Sink>(
     let shift: Box<dyn OpUnit> = Box::new(alloc, Shift)?;
     let compare: Box<dyn OpUnit> = Box::new(alloc, Compare)?;
     let divide: Box<dyn OpUnit> = Box::new(alloc, Divide)?;
-    let boxes = vec![in alloc; arith, logic, shift, compare, divide]?;
+    let bits: Box<dyn OpUnit> = Box::new(alloc, Bits)?;
+    let boxes = vec![in alloc; arith, logic, shift, compare, divide, bits]?;
     if !UnitSet::fits(boxes.as_slice()) {
         drop(boxes);
         return Ok(Status::NoMemory);
     }
     match UnitSet::new(alloc, boxes) {
-        Ok(units) => Ok(picture(alloc, words, &units, files, sink)),
+        Ok(units) => Ok(carry_out(alloc, words, &units, files, sink)),
         Err(_) => Ok(Status::NoMemory),
     }
 }
@@ -61,7 +75,7 @@ fn main(rt: HostRuntime) -> ExitCode {
     let mut files = RealFiles::new(&rt);
     let mut sink = RealSink::new(&rt);
     let status = match words_of(&rt) {
-        Ok(words) => run(rt.alloc(), &words, &mut files, &mut sink).unwrap_or(Status::NoMemory),
+        Ok(mut words) => run(rt.alloc(), &mut words, &mut files, &mut sink).unwrap_or(Status::NoMemory),
         Err(status) => status,
     };
     if status != Status::Ok {
