@@ -75,7 +75,9 @@ fn main(rt: HostRuntime) -> ExitCode {
     let mut files = RealFiles::new(&rt);
     let mut sink = RealSink::new(&rt);
     let status = match words_of(&rt) {
-        Ok(mut words) => run(rt.alloc(), &mut words, &mut files, &mut sink).unwrap_or(Status::NoMemory),
+        Ok(mut words) => run(rt.alloc(), &mut words, &mut files, &mut sink).unwrap_or(
+            Status::NoMemory,
+        ),
         Err(status) => status,
     };
     if status != Status::Ok {
