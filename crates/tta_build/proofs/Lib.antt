@@ -8,3 +8,7 @@ pub mod Placements
 pub mod CoveredCode
 pub mod Directs
 pub mod Completes
+pub mod ConvertedNeeds
+pub mod ConvertedDirect
+pub mod ConvertedAgrees
+pub mod ConvertedBuilt

@@ -4,3 +4,4 @@ pub mod CodeOfLists
 pub mod Data
 pub mod Parts
 pub mod Completes
+pub mod Converted

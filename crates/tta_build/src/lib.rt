@@ -4,6 +4,7 @@
 //! prove together stands in `tta_compose`.
 #![tactic(auto)]
 
+mod converted;
 mod covered;
 mod data_order;
 mod direct;
@@ -17,10 +18,11 @@ mod placing;
 mod program;
 mod register;
 
+pub use converted::build_converted;
 pub use data_order::data_in_order;
 pub use direct_pair::is_direct;
 pub use error::BuildError;
-pub use laws::build_completes;
+pub use laws::{build_completes, build_converted_completes, converted_agrees};
 pub use needs::unoffered;
 pub use passes::optimise_all;
 pub use placing::place_and_link;

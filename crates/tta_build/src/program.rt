@@ -30,7 +30,7 @@ pub struct Built {
 }
 
 /// Each machine keeps the rules of machines, and each program those of programs.
-fn keep_rules(m: &Machine, p: &Program)
+pub fn keep_rules(m: &Machine, p: &Program)
     ensures machine { IsMachine m.now }
     ensures program { IsProgram p.now }
 {

@@ -1,0 +1,43 @@
+//! Building code of the converted program.
+
+ghost use Rattle.std.specs.Prelude.{◌≡◌, None, IfOk, IfErr};
+ghost use Rattle.tta_ops.specs.Set.{stated};
+ghost use Rattle.tta_arch.specs.Over as arch;
+ghost use Rattle.tta_program.specs.Over as program;
+ghost use Rattle.tta_program.specs.Program.{first_outside};
+ghost use Rattle.tta_build.specs.Converted.{IsBuiltConverted, HasConvertedCause};
+
+use crate::error::BuildError;
+use crate::program::{Built, build, keep_rules};
+use std::alloc::Global;
+use tta_arch::Machine;
+use tta_ifconv::convert;
+use tta_ops::UnitSet;
+use tta_program::Program;
+
+/// Code for a machine that does what a program does, built of the converted program, in which each
+/// branch over one copy is a copy under the opposite condition. As `build`, but that a cycle takes
+/// at most twice as many steps as the program has, and that the code is packed for the converted
+/// program. It is refused as `build` refuses the program, but for code that has no room: that is
+/// the code of the converted program.
+pub fn build_converted(
+    alloc: Global,
+    m: &Machine,
+    p: &Program,
+    units: &UnitSet,
+) -> Result<Built, BuildError>
+    requires machine { arch.StandsOver (stated unit_meaning units.now) m.now }
+    requires program { program.StandsOver (stated unit_meaning units.now) p.now }
+    requires inside { first_outside m.now.data_words p.now.init ≡ None }
+    ensures built { let U = stated unit_meaning units.now in
+        IfOk result (λ b. IsBuiltConverted U m.now p.now b.whole) }
+    ensures cause { let U = stated unit_meaning units.now in
+        IfErr result (λ e. HasConvertedCause U m.now p.now e) }
+{
+    keep_rules(m, p);
+    let q = convert(alloc, p)?;
+    match build(alloc, m, &q, units) {
+        Ok(built) => Ok(built),
+        Err(error) => Err(error),
+    }
+}
