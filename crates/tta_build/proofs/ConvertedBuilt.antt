@@ -29,6 +29,7 @@ module _ (u : Units) (m : Machine) (p q : Program) (rules : IsProgram p) (is : C
     converted = q;
     is = is;
     packed = b.packed;
+    room = omega (arith, b.room, room_converted m p q is);
   }
 
   pub cause_so : (e : BuildError) → HasCause u m q e → HasConvertedCause u m p e

@@ -24,6 +24,7 @@ use Rattle.tta_moves.specs.Slots.{is_list}
 use Rattle.tta_select.specs.Select.{selected}
 use Rattle.tta_select.specs.Needs.{fits_block}
 use Rattle.tta_link.specs.Blocks.{AreBlocks}
+use Rattle.tta_link.proofs.Whole.{linked_length}
 use Rattle.tta_code.specs.declared.code.Code.{Code}
 use Rattle.tta_compose.specs.Compiler.{IsPair, AreStandIns, optimised, raw}
 use Rattle.tta_compose.specs.Needs.{are_offered}
@@ -159,6 +160,9 @@ module _ (u : Units) (m : Machine) (c : Choice) (p : Program) (lists : List Bloc
     accepted = accepted other kept supplied;
     legal = is.legal;
     packed = record { lists = lists; placements = is.placements; plan = plan; first = is.first; linked = is.linked };
+    room =
+        let fits = lists_fit u m c p (spans of.blocks) (home_by p of.kept) (first_by p of.live) (after_by p of.live) lists is.placements pair_of known_of stand_in is.roomy in
+        let same = linked_length m code is.placements is.linked in omega (arith, fits, same);
     agrees = λ init laid.
         lists_agree u m c p (spans of.blocks) (home_by p of.kept) (first_by p of.live) (after_by p of.live) lists is.placements (record { code = code; init = init })
         pair_of known_of stand_in is.roomy.respected is.linked is.legal laid;

@@ -26,6 +26,7 @@ use Rattle.tta_moves.specs.Slots.{is_list}
 use Rattle.tta_connect.specs.declared.calls.Call.{Call}
 use Rattle.tta_select.specs.Direct.{out_of, constants_out, direct_list}
 use Rattle.tta_link.specs.Blocks.{AreBlocks, total_length}
+use Rattle.tta_link.proofs.Whole.{linked_length}
 use Rattle.tta_sched.specs.Room.{longest, HasRoom}
 use Rattle.tta_code.specs.declared.code.Code.{Code}
 use Rattle.tta_compose.specs.Direct.{is_direct, constants_of, list_of_direct}
@@ -87,24 +88,6 @@ are_lists m p lists machine program direct of =
 pub can_link : (m : Machine) (p : Program) (lists : List BlockList) → AreDirect m p lists → (ps : List Placed) → AreRespected m lists ps → AreBlocks m ps
 can_link m p lists of ps are = direct_links m p ps (subst (λ (x : List BlockList). AreRespected m x ps) of.are are)
 
--- its code is code for the pair
-pub code_for : (u : Units) (m : Machine) (p : Program) (lists : List BlockList) (code : Code) → IsMachine m → IsProgram p → is_direct m p ≡ true → AreDirect m p lists
-    → IsCodeOf m lists code → IsCodeFor u m p code
-code_for u m p lists code machine program direct of is = record {
-  accepted = Direct direct;
-  legal = is.legal;
-  packed = record {
-    lists = list_of_direct m p ∷ [];
-    placements = is.placements;
-    plan = direct_plan u m p machine program direct of.blocks of.live of.flow of.lives of.kept of.scan;
-    first = subst (λ (x : List BlockList). AreFirstFits m x is.placements) of.are is.first;
-    linked = is.linked;
-  };
-  agrees = λ init laid.
-      direct_agrees u m p machine program direct of.blocks of.live of.kept of.flow of.lives of.scan is.placements (record { code = code; init = init })
-      (subst (λ (x : List BlockList). AreRespected m x is.placements) of.are is.roomy.respected) is.linked is.legal laid;
-}
-
 -- ---- room
 
 -- the constants are fewer than the steps, of which the last is `end`
@@ -142,6 +125,27 @@ one_fits m p (q ∷ []) program direct are =
     let b : 1 * (m.control.delay + longest m + 2) ≤ (2 * step_count p + 3 * length p.procs) * (m.control.delay + longest m + 2) =
     mul-le-mul one (let z : m.control.delay + longest m + 2 ≤ m.control.delay + longest m + 2 = omega arith in z) in
     omega (arith, room, a, b)
+
+-- its code is code for the pair
+pub code_for : (u : Units) (m : Machine) (p : Program) (lists : List BlockList) (code : Code) → IsMachine m → IsProgram p → is_direct m p ≡ true → AreDirect m p lists
+    → IsCodeOf m lists code → IsCodeFor u m p code
+code_for u m p lists code machine program direct of is = record {
+  accepted = Direct direct;
+  legal = is.legal;
+  packed = record {
+    lists = list_of_direct m p ∷ [];
+    placements = is.placements;
+    plan = direct_plan u m p machine program direct of.blocks of.live of.flow of.lives of.kept of.scan;
+    first = subst (λ (x : List BlockList). AreFirstFits m x is.placements) of.are is.first;
+    linked = is.linked;
+  };
+  room =
+      let fits = one_fits m p is.placements program direct (subst (λ (x : List BlockList). AreRoomy m x is.placements) of.are is.roomy) in
+      let same = linked_length m code is.placements is.linked in omega (arith, fits, same);
+  agrees = λ init laid.
+      direct_agrees u m p machine program direct of.blocks of.live of.kept of.flow of.lives of.scan is.placements (record { code = code; init = init })
+      (subst (λ (x : List BlockList). AreRespected m x is.placements) of.are is.roomy.respected) is.linked is.legal laid;
+}
 
 -- where the code is too long, it has no more words than the pair's room
 pub room_for : (u : Units) (m : Machine) (p : Program) (lists : List BlockList) → IsMachine m → IsProgram p → is_direct m p ≡ true → AreDirect m p lists

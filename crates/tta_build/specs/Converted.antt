@@ -1,5 +1,5 @@
 -- What `build_converted` answers: code of the converted program, which does what the program does.
-use Rattle.std.specs.Prelude.{◌≡◌, ℕ, ◌<◌, ◌≤◌, ◌^◌, ◌*◌}
+use Rattle.std.specs.Prelude.{◌≡◌, ℕ, ◌<◌, ◌≤◌, ◌^◌, ◌*◌, length}
 use Rattle.tta_ops.specs.Units.{Units}
 use Rattle.tta_arch.specs.Machine.{Machine}
 use Rattle.tta_program.specs.Program.{Program, step_count}
@@ -15,7 +15,8 @@ use Rattle.tta_build.specs.Statement.{IsAccepted, BreaksRule, LacksUnit, LacksFr
 use Rattle.tta_build.specs.Completes.{IsRoomy}
 
 -- Code with data that does what the program does, where a cycle stands for at most twice as many steps as the program has.
--- The machine can carry it out, its data lie in the data space, and it is packed for the converted program.
+-- The machine can carry it out, its data lie in the data space, it is packed for the converted program, and it has no more
+-- instructions than the room of the program itself.
 pub record IsBuiltConverted (u : Units) (m : Machine) (p : Program) (whole : Whole) : Type 0 where
   pub accepted : IsAccepted u m p
   pub agrees : AgreesAt u m p (2 * step_count p) whole
@@ -23,6 +24,7 @@ pub record IsBuiltConverted (u : Units) (m : Machine) (p : Program) (whole : Who
   pub converted : Program
   pub is : Converted p converted
   pub packed : IsPacked u m converted whole.code
+  pub room : length whole.code.words ≤ room_on m p
 
 -- Packed code of the converted program of a pair that is accepted has more instructions than the machine has addresses, and
 -- no more than the room of the program itself.

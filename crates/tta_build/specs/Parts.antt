@@ -24,6 +24,7 @@ use Rattle.tta_agree.specs.Agrees.{Agrees}
 use Rattle.tta_compose.specs.Compiler.{compiled}
 use Rattle.tta_compose.specs.Direct.{list_of_direct}
 use Rattle.tta_build.specs.CodeOfLists.{IsTooLong}
+use Rattle.tta_compose.specs.Room.{room_on}
 use Rattle.tta_compose.specs.Packed.{IsPacked}
 use Rattle.tta_build.specs.declared.error.BuildError.{BuildError}
 use Rattle.tta_build.specs.declared.error.BuildError.TheVariants.{CodeFull, NoMemory}
@@ -60,12 +61,13 @@ pub record AreDirect (m : Machine) (p : Program) (lists : List BlockList) : Type
   pub scan : IsScan p 0 kept
   pub are : lists ≡ list_of_direct m p ∷ []
 
--- Code for a pair that is accepted: the machine can carry it out, it is packed, and it does what the program does beside
--- any data that lay over each memory what the program's data lay.
+-- Code for a pair that is accepted: the machine can carry it out, it is packed and has no more words than the pair's room, and
+-- it does what the program does beside any data that lay over each memory what the program's data lay.
 pub record IsCodeFor (u : Units) (m : Machine) (p : Program) (code : Code) : Type 0 where
   pub accepted : IsAccepted u m p
   pub legal : IsLegalCode m code
   pub packed : IsPacked u m p code
+  pub room : length code.words ≤ room_on m p
   pub agrees : (init : List Datum) → ((memory : List ℕ) → over (laid_by init) memory ≡ over (data_of p) memory)
       → Agrees u m p (record { code = code; init = init })
 

@@ -1,5 +1,5 @@
 -- What `build` answers: code that does what the program does, or why there is none.
-use Rattle.std.specs.Prelude.{◌≡◌, ℕ, ◌<◌, ◌≤◌, ◌^◌, Bool, true, false, Option, Some, None, is_some, option_map, slice_index}
+use Rattle.std.specs.Prelude.{◌≡◌, ℕ, ◌<◌, ◌≤◌, ◌^◌, Bool, true, false, Option, Some, None, is_some, option_map, slice_index, length}
 use Rattle.std.specs.Option.{option_map_or}
 use Rattle.tta_ops.specs.Units.{Units}
 use Rattle.tta_arch.specs.declared.parts.Op.{Op}
@@ -47,12 +47,13 @@ pub data IsAccepted (u : Units) (m : Machine) (p : Program) : Type 0 where
 -- ---- the answers
 
 -- code with data that does what the program does, from every memory, for every input and for every bound; the machine can
--- carry it out, its data lie in the data space, and it is packed
+-- carry it out, its data lie in the data space, it is packed, and it has no more instructions than the pair's room
 pub record IsBuilt (u : Units) (m : Machine) (p : Program) (whole : Whole) : Type 0 where
   pub accepted : IsAccepted u m p
   pub agrees : Agrees u m p whole
   pub legal : IsLegalWhole m whole
   pub packed : IsPacked u m p whole.code
+  pub room : length whole.code.words ≤ room_on m p
 
 -- the machine breaks a rule of coverage, and keeps those before it; and the pair is not direct
 pub record BreaksRule (m : Machine) (p : Program) (rule : ℕ) : Type 0 where

@@ -26,6 +26,10 @@ length_words m addr (p ∷ ps) =
     ∙ ap (λ (n : ℕ). n + length (flat_map (block_words m addr) ps)) (length-map (range_with_len 0 p.length) (λ c. instruction_of m addr (in_cycle c p.items)) ∙ length_range 0 p.length)
     ∙ ap (λ (n : ℕ). p.length + n) (length_words m addr ps)
 
+-- code has as many words as its blocks have cycles
+pub linked_length : (m : Machine) (code : Code) (ps : List Placed) → IsLinked m code ps → length code.words ≡ total_length ps
+linked_length m code ps linked = ap length linked ∙ length_words m (starts_from 0 ps) ps
+
 -- ---- starts
 
 -- a block begins before the end
@@ -81,5 +85,5 @@ linked_legal m rules ps blocks code linked room words =
     let legal = legal_blocks m rules (length ps) (starts_from 0 ps) low ps blocks.each (subst (λ l. list_all is_word_in l ≡ true) linked words) in
     record {
       words = subst (AllByRecursion (λ i. IsTrue (is_legal m i))) (sym linked) legal;
-      room = let e = ap length linked ∙ length_words m (starts_from 0 ps) ps in omega arith;
+      room = let e = linked_length m code ps linked in omega arith;
     }

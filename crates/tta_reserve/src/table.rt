@@ -76,6 +76,7 @@ impl Table {
     /// only where there is no memory, and then the table is as before.
     pub fn reserve(&mut self, cycles: u32) -> Result<(), AllocError>
         ensures room { OnOk result (cycles ≤ length self.new) }
+        ensures longer { OnOk result (length self.old ≤ length self.new) }
         ensures kept { (m : Machine) (placed : List PlacedItem) → StandsFor self.old m placed
             → OnOk result (StandsFor self.new m placed) }
         ensures refused { OnErr result (self.new ≡ self.old) }

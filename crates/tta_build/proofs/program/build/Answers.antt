@@ -8,6 +8,7 @@ returns-clause-built g c =
       accepted = code.accepted;
       agrees = code.agrees c.in_ok-init.init init.laid;
       packed = code.packed;
+      room = code.room;
       legal = record {
         code = code.legal;
         rises = init.rises;
