@@ -13,6 +13,7 @@ mod laid;
 mod moves;
 mod operations;
 mod passes;
+mod placement;
 mod programs;
 mod run;
 mod sample;

@@ -80,7 +80,7 @@ fn add_units(
 }
 
 // A set of these units.
-fn units_of(alloc: Global, times: usize) -> Result<UnitSet, OpsError> {
+pub fn units_of(alloc: Global, times: usize) -> Result<UnitSet, OpsError> {
     let mut boxes: Vec<Box<dyn OpUnit>> = Vec::new(alloc);
     if add_units(alloc, &mut boxes, times).is_err() {
         drop(boxes);
