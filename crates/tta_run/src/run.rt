@@ -1,16 +1,19 @@
 //! A run, as the loops see it.
 
+use crate::ended::Ended;
 use crate::went::Went;
 use tta_ops::UnitSet;
+use tta_print::Line;
 
 /// What makes moves one by one, takes words of an input, and outputs words.
 pub trait Run {
-    ghost use Rattle.std.specs.Prelude.{◌≡◌, ◌≤◌, ◌+◌, ◌<◌, ◌^◌, ℕ};
+    ghost use Rattle.std.specs.Prelude.{◌≡◌, ◌≤◌, ◌+◌, ◌<◌, ◌^◌, ℕ, length};
     ghost use Rattle.tta_list.specs.Input.{IsFed};
     ghost use Rattle.tta_list.specs.Iterate.{iterate};
     ghost use Rattle.tta_ops.specs.Set.{stated};
     ghost use Rattle.tta_ops.specs.Units.{Units};
     ghost use Rattle.tta_run.specs.Meaning.{Meaning, Leaves, IsQuiet, OutputGrows, WaitStays};
+    ghost use Rattle.tta_run.specs.Reports.{Reports, WaitReports};
 
     /// The states that the meaning of the run is about.
     ghost State: { Type 0 };
@@ -32,6 +35,12 @@ pub trait Run {
 
     /// How many moves it has made.
     ghost moves: { Self → ℕ };
+
+    /// How many data words it has.
+    ghost space: { Course → ℕ };
+
+    /// What is reported of a state.
+    ghost reports: { Reports State };
 
     /// Makes a move, where `next` is the next word of the input, `None` where none is left. It takes
     /// no memory.
@@ -58,9 +67,26 @@ pub trait Run {
             (s : State) → stands self.old s
             → IsQuiet m (stands self.new) s (iterate result m.next s) };
 
+    /// How the run stands, where it does not wait.
+    fn ended(&self) -> Ended
+        ensures { (s : State) → stands self.now s → result ≡ reports.ended s };
+
+    /// All data words, from address 0 on.
+    fn memory(&self) -> &[u32]
+        requires { loaded self.now }
+        ensures words { (s : State) → stands self.now s → result.now ≡ reports.memory s }
+        ensures size { length result.now ≡ space (course self.now) };
+
+    /// The line of how long the run was.
+    fn count(&self) -> Line
+        ensures { (s : State) → stands self.now s → result ≡ reports.count s };
+
     /// The output of a state begins that of the next one.
     ghost grows: { (units : Units) (c : Course) → OutputGrows (meaning units c) };
 
     /// A state that waits stays, and has output the same.
     ghost stays: { (units : Units) (c : Course) → WaitStays (meaning units c) };
+
+    /// A state that waits reports that, and else what it did before.
+    ghost waits: { (units : Units) (c : Course) → WaitReports (meaning units c) reports };
 }

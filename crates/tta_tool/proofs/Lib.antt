@@ -4,6 +4,8 @@ pub mod Building
 pub mod ProgramSteps
 pub mod CodeCycles
 pub mod RunEndings
+pub mod RunStages
+pub mod Outcomes
 pub mod Debuggings
 pub mod Samplings
 pub mod OneProgram

@@ -7,12 +7,6 @@ use Rattle.tta_program.specs.declared.step.Step.{Step}
 use Rattle.tta_program.specs.declared.step.Step.TheVariants.{When, Invoke, Return, End}
 use Rattle.tta_program.specs.Program.{Program}
 use Rattle.tta_program.specs.Sequential.{State, Frame, Outcome, Running, Halted, Waiting, next, next_of, go_on, goes_through, waits, carry_out, returns, take_value, assigns, goes_to, operand, holds, step_at}
-use Rattle.tta_tacrun.specs.Run.{Run}
-use Rattle.tta_print.specs.declared.line.Line.{Line}
-use Rattle.tta_print.specs.declared.line.Line.TheVariants as line
-use Rattle.tta_print.specs.Lines.{lines_text, report_lines}
-use Rattle.tta_tool.specs.Exec.{outcome_line}
-use Rattle.tta_tool.specs.Steps.{ComesTo}
 
 -- a state that has halted stays
 pub halted_stays : (u : Units) (p : Program) (s : State) → s.outcome ≡ Halted → next u p s ≡ s
@@ -101,27 +95,3 @@ halts_by_its_steps u p s none n halted = of (reached u p s none n) where
       → iterate (iterate n (next u p) s).steps (next u p) s ≡ iterate n (next u p) s
   of (inl waiting) = absurd (differ (sym halted ∙ waiting))
   of (inr at) = at
-
--- ---- reporting
-
--- how a run ended that waits, or does not, with its data words and the number of its steps
-pub told_of : (waits : Bool) (r : Run) (t : State) (ended : Outcome) → ComesTo waits r t → (waits ≡ true → ended ≡ Waiting)
-    → (waits ≡ false → ended ≡ r.outcome) → (ended ≡ t.outcome) × (r.memory ≡ t.memory) × (r.steps ≡ t.steps)
-told_of true r t ended comes waiting other =
-    let at = comes.2 in (
-      waiting refl ∙ ap (λ x. x.outcome) (sym at),
-      comes.1.memory ∙ ap (λ x. x.memory) (sym at),
-      comes.1.steps ∙ ap (λ x. x.steps) (sym at),
-    )
-told_of false r t ended comes waiting other = (other refl ∙ comes.outcome, comes.memory, comes.steps)
-
--- the report of a run is that of the state to which it came
-pub reported : (waits : Bool) (r : Run) (t : State) → ComesTo waits r t → (ended : Outcome) (outcome : Line) (memory : List ℕ) (steps : ℕ)
-    → (waits ≡ true → ended ≡ Waiting) → (waits ≡ false → ended ≡ r.outcome) → outcome ≡ outcome_line ended → memory ≡ r.memory → steps ≡ r.steps
-    → lines_text (report_lines outcome memory (line.Steps steps))
-    ≡ lines_text (report_lines (outcome_line t.outcome) t.memory (line.Steps t.steps))
-reported waits r t comes ended outcome memory steps waiting other is is_memory is_steps =
-    let told = told_of waits r t ended comes waiting other in
-    ap (λ o. lines_text (report_lines o memory (line.Steps steps))) (is ∙ ap outcome_line told.0)
-    ∙ ap (λ m. lines_text (report_lines (outcome_line t.outcome) m (line.Steps steps))) (is_memory ∙ told.1)
-    ∙ ap (λ n. lines_text (report_lines (outcome_line t.outcome) t.memory (line.Steps n))) (is_steps ∙ told.2)

@@ -1,4 +1,4 @@
--- The output of code grows with each cycle, and a state that waits stays.
+-- The output of code grows with each cycle, and a state that waits stays and reports that.
 use Rattle.std.proofs.Common.{◌≡◌, ℕ, ◌+◌, ◌==◌, Bool, true, false, if◌then◌else◌, List, [], ◌∷◌, ◌++◌, fold, Option, Some, None, refl, sym, ap, ◌∙◌, append_assoc, append-nil, slice_get}
 use Rattle.std.specs.List.{filter_map}
 use Rattle.tta_ops.specs.Units.{Units}
@@ -10,7 +10,8 @@ use Rattle.tta_code.specs.declared.code.Code.{Code}
 use Rattle.tta_code.specs.declared.code.Instruction.{Instruction}
 use Rattle.tta_code.specs.Cycle.{State, Outcome, Running, Halted, Waiting, Fault, Pending, next, next_of, carry_out, or_fault, or_wait, waits, acts, lands, takes_effect, pending_after, effects_of, read_source, fault_of}
 use Rattle.tta_run.specs.Meaning.{OutputGrows, WaitStays}
-use Rattle.tta_tool.specs.Cycles.{meaning_of}
+use Rattle.tta_run.specs.Reports.{WaitReports}
+use Rattle.tta_tool.specs.Cycles.{meaning_of, reports}
 
 -- one list begins another
 abbrev Begins : List ℕ → List ℕ → Type 0
@@ -89,3 +90,7 @@ cycles_grow u m code = λ s. of s s.outcome where
 pub cycles_wait : (u : Units) (m : Machine) (code : Code) → WaitStays (meaning_of u m code)
 unfolding next
 cycles_wait u m code = record { stays = λ s. refl; output = λ s. refl }
+
+-- and it reports that it waits
+pub cycles_report : (u : Units) (m : Machine) (code : Code) → WaitReports (meaning_of u m code) reports
+cycles_report u m code = record { ended = λ s. refl; memory = λ s. refl; count = λ s. refl }

@@ -1,59 +1,79 @@
 -- What the command `exec` does, and why it does not.
-use Rattle.std.specs.Prelude.{◌≡◌, ℕ, List, ◌++◌, Option}
-use Rattle.tta_print.specs.declared.line.Line.{Line}
-use Rattle.tta_print.specs.declared.line.Line.TheVariants as line
-use Rattle.tta_print.specs.Lines.{lines_text, word_lines, report_lines}
+use Rattle.std.specs.Prelude.{◌≡◌, ◌↔◌, ℕ, List, Option, Err}
+use Rattle.tta_input.specs.Input.{input_of, stream_of}
+use Rattle.tta_ports.specs.Store.{Store}
+use Rattle.tta_ports.specs.World.{World, IsUntouched}
+use Rattle.tta_ports.specs.Output.{Output, IsQuiet, IsPut, IsCut}
 use Rattle.tta_ops.specs.Units.{Units}
 use Rattle.tta_program.specs.Program.{Program}
-use Rattle.tta_program.specs.Sequential.{State, Outcome, Running, Halted, Waiting}
+use Rattle.tta_program.specs.Sequential.{State, Running, Halted, Waiting}
 use Rattle.tta_agree.specs.Agrees.{program_at}
-use Rattle.tta_ports.specs.World.{World}
-use Rattle.tta_ports.specs.Output.{Output, IsQuiet, IsPut, IsCut}
 use Rattle.tta_given.specs.declared.machine.MachineFile.{MachineFile}
 use Rattle.tta_given.specs.declared.status.Status.{Status}
 use Rattle.tta_given.specs.declared.status.Status.TheVariants as status
-use Rattle.tta_given.specs.Programs.{IsProgramFor, RefusesProgramFor}
-use Rattle.tta_tool.specs.declared.report.Ended.{Ended}
-use Rattle.tta_tool.specs.declared.report.Ended.TheVariants as ended
-use Rattle.tta_tool.specs.Runs.{PairRuns}
-
--- ---- what is printed
-
--- how the run ended
-abbrev pub outcome_line : Outcome → Line
-outcome_line Running = line.Running
-outcome_line Halted = line.Halted
-outcome_line Waiting = line.Waiting
-
--- the outcome that an answer reports
-abbrev pub ended_as : Ended → Outcome
-ended_as ended.Halted = Halted
-ended_as ended.Running = Running
-ended_as ended.Waiting = Waiting
-
--- all that is printed of a run that has come to a state
-abbrev pub run_text : State → List ℕ
-run_text s = lines_text (word_lines s.output) ++ lines_text (report_lines (outcome_line s.outcome) s.memory (line.Steps s.steps))
-
--- ---- how the command ends
-
--- a run has come to a state, and its text was put, or a prefix of it
-abbrev pub RunEnds : State → (old new : Output) → Status → Type 0
-RunEnds s old new status.Ok = (s.outcome ≡ Halted) × IsPut (run_text s) old new
-RunEnds s old new status.Running = (s.outcome ≡ Running) × IsPut (run_text s) old new
-RunEnds s old new status.Waiting = (s.outcome ≡ Waiting) × IsPut (run_text s) old new
-RunEnds s old new status.WriteFault = IsCut (run_text s) old new
-RunEnds s old new status.NoMemory = IsQuiet old new
-RunEnds s old new other = ⊥
+use Rattle.tta_given.specs.Held.{HasText, ReadFailed, IsTooLong}
+use Rattle.tta_given.specs.Machines.{IsBadMachine}
+use Rattle.tta_given.specs.Programs.{IsProgramFor, RefusesProgramFor, IsBadProgram, IsOutside}
+use Rattle.tta_given.specs.Endings.{OfMachine, OfPair}
+use Rattle.tta_tool.specs.Steps.{ended_of, run_text}
+use Rattle.tta_tool.specs.Runs.{ReportEnds, PairRuns}
+use Rattle.tta_tool.specs.Endings.{HasThree, OfRun, OfNamed, RunFault}
 
 -- how a program reports from these data words and with this input: from the state to which it has come after so many steps, its
 -- data laid over the words
 abbrev pub Reports : Units → (bound : ℕ) → MachineFile → Program → (memory words : List ℕ) → (old new : Output) → Status → Type 0
-Reports u bound file program memory words old new s = RunEnds (program_at u program memory words bound) old new s
+Reports u bound file program memory words old new s =
+    let end = program_at u program memory words bound in ReportEnds (run_text end) (ended_of end.outcome) old new s
 
--- How `exec M P IN N` and `exec M P IN N STREAM` end. Each ending but out of memory has its cause, and the causes exclude
--- each other: so each comes exactly where its cause holds, as far as memory, files and output do not fail. Nothing is put
--- but at the end of a run: all of its text, or a prefix of it where a put has failed.
+-- How `exec M P IN N` and `exec M P IN N STREAM` end. Each ending but out of memory comes only where its cause holds. Nothing is
+-- put but at the end of a run: all of its text, or a prefix of it where a put has failed.
 abbrev pub Execs : Units → (M P IN : List ℕ) → (STREAM : Option (List ℕ)) → (bound : ℕ) → (before after : World) → (old new : Output) → Status → Type 0
 Execs u M P IN STREAM bound before after old new s =
     PairRuns u (IsProgramFor u) (RefusesProgramFor u) (Reports u bound) M P IN STREAM before after old new s
+
+-- ---- how it ends by its status
+
+-- files hold all that is run, and something is true of the state to which it has come
+abbrev pub HasExecuted : Units → (files : Option Store) → (M P IN : List ℕ) → (STREAM : Option (List ℕ)) → (bound : ℕ) → (Is : State → Type 0) → Type 0
+HasExecuted u files M P IN STREAM bound Is =
+    OfRun u (IsProgramFor u) files M P IN STREAM (λ file program memory words. Is (program_at u program memory words bound))
+
+-- what holds where `exec M P IN N` or `exec M P IN N STREAM` ends with a status
+abbrev pub ExecEndings : Units → (M P IN : List ℕ) → (STREAM : Option (List ℕ)) → (bound : ℕ) → (before after : World) → (old new : Output) → Status → Type 0
+ExecEndings u M P IN STREAM bound before after old new status.Ok =
+    IsUntouched before after
+    × HasExecuted u before.contents M P IN STREAM bound (λ s. (s.outcome ≡ Halted) × IsPut (run_text s) old new)
+ExecEndings u M P IN STREAM bound before after old new (status.BadMachine line code) =
+    IsUntouched before after × IsQuiet old new × HasText before.contents M (λ text. IsBadMachine u text line code)
+ExecEndings u M P IN STREAM bound before after old new (status.BadProgram line code) =
+    IsUntouched before after × IsQuiet old new
+    × OfMachine u before.contents M (λ file. HasText before.contents P (λ text. IsBadProgram u text line code))
+ExecEndings u M P IN STREAM bound before after old new (status.DataRange line have) =
+    IsUntouched before after × IsQuiet old new
+    × OfMachine u before.contents M (λ file. HasText before.contents P (λ text. IsOutside u file.machine.data_words text line have))
+ExecEndings u M P IN STREAM bound before after old new (status.BadInput line) =
+    IsUntouched before after × IsQuiet old new
+    × OfPair u (IsProgramFor u) before.contents M P (λ file p. HasText before.contents IN (λ bytes. input_of file.machine.data_words bytes ≡ Err line))
+ExecEndings u M P IN STREAM bound before after old new (status.BadStream line) =
+    IsUntouched before after × IsQuiet old new × HasThree u (IsProgramFor u) before.contents M P IN
+    × OfNamed STREAM (λ name. HasText before.contents name (λ bytes. stream_of bytes ≡ Err line))
+ExecEndings u M P IN STREAM bound before after old new status.Running =
+    IsUntouched before after
+    × HasExecuted u before.contents M P IN STREAM bound (λ s. (s.outcome ≡ Running) × IsPut (run_text s) old new)
+ExecEndings u M P IN STREAM bound before after old new (status.ReadFault word) =
+    IsQuiet old new × RunFault u (IsProgramFor u) before.contents M P IN STREAM (λ name. ReadFailed name before after) word
+ExecEndings u M P IN STREAM bound before after old new status.WriteFault =
+    IsUntouched before after × HasExecuted u before.contents M P IN STREAM bound (λ s. IsCut (run_text s) old new)
+ExecEndings u M P IN STREAM bound before after old new (status.TooLong word) =
+    IsQuiet old new × RunFault u (IsProgramFor u) before.contents M P IN STREAM (λ name. IsTooLong name before after) word
+ExecEndings u M P IN STREAM bound before after old new status.NoMemory = IsUntouched before after × IsQuiet old new
+ExecEndings u M P IN STREAM bound before after old new status.Waiting =
+    IsUntouched before after
+    × HasExecuted u before.contents M P IN STREAM bound (λ s. (s.outcome ≡ Waiting) × IsPut (run_text s) old new)
+ExecEndings u M P IN STREAM bound before after old new s = ⊥
+
+-- the clause of `exec` says this of each status
+abbrev pub ExecByStatus : Type 0
+ExecByStatus =
+    (u : Units) (M P IN : List ℕ) (STREAM : Option (List ℕ)) (bound : ℕ) (before after : World) (old new : Output) (s : Status)
+    → Execs u M P IN STREAM bound before after old new s ↔ ExecEndings u M P IN STREAM bound before after old new s

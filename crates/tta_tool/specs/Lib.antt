@@ -7,6 +7,7 @@ pub mod StepLaws
 pub mod Cycles
 pub mod CycleLaws
 pub mod Runs
+pub mod Endings
 pub mod Exec
 pub mod Run
 pub mod Debug

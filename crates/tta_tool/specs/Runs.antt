@@ -1,14 +1,27 @@
 -- How a command that runs something ends: word 1 names a machine, word 2 what is run, word 3 the words of the machine's data
 -- space, and word 5, where it is there, those of the input.
-use Rattle.std.specs.Prelude.{◌⊎◌, ℕ, List, Option}
+use Rattle.std.specs.Prelude.{◌≡◌, ◌⊎◌, ℕ, List, Option}
 use Rattle.tta_ports.specs.Store.{Store}
 use Rattle.tta_ports.specs.World.{World, IsUntouched}
-use Rattle.tta_ports.specs.Output.{Output, IsQuiet}
+use Rattle.tta_ports.specs.Output.{Output, IsQuiet, IsPut, IsCut}
 use Rattle.tta_ops.specs.Units.{Units}
+use Rattle.tta_run.specs.declared.ended.Ended.{Ended}
+use Rattle.tta_run.specs.declared.ended.Ended.TheVariants as ended
 use Rattle.tta_given.specs.declared.machine.MachineFile.{MachineFile}
 use Rattle.tta_given.specs.declared.status.Status.{Status}
+use Rattle.tta_given.specs.declared.status.Status.TheVariants as status
 use Rattle.tta_given.specs.Inputs.{HasInput, HasStream, GivenFails}
 use Rattle.tta_given.specs.Pairs.{HasPair, PairFails}
+
+-- a run stands so at its bound, and its text was put, or a prefix of it
+abbrev pub ReportEnds : (text : List ℕ) → Ended → (old new : Output) → Status → Type 0
+ReportEnds text end old new status.Ok = (end ≡ ended.Halted) × IsPut text old new
+ReportEnds text end old new status.Running = (end ≡ ended.Running) × IsPut text old new
+ReportEnds text end old new status.Waiting = (end ≡ ended.Waiting) × IsPut text old new
+ReportEnds text end old new (status.MachineFault number cycle) = (end ≡ ended.Fault number cycle) × IsPut text old new
+ReportEnds text end old new status.WriteFault = IsCut text old new
+ReportEnds text end old new status.NoMemory = IsQuiet old new
+ReportEnds text end old new s = ⊥
 
 -- files hold the words of a data space of this size, and, if it is named, an input
 pub record HasGiven (space : ℕ) (files : Option Store) (IN : List ℕ) (STREAM : Option (List ℕ)) : Type 0 where

@@ -1,4 +1,4 @@
--- The output of a program grows with each step, and a state that waits stays.
+-- The output of a program grows with each step, and a state that waits stays and reports that.
 use Rattle.std.proofs.Common.{◌≡◌, ℕ, ◌+◌, Bool, true, false, if◌then◌else◌, List, [], ◌∷◌, ◌++◌, Option, Some, None, refl, sym, append-nil, ◌∙◌}
 use Rattle.std.specs.Option.{option_map_or}
 use Rattle.tta_ops.specs.Units.{Units}
@@ -7,7 +7,8 @@ use Rattle.tta_program.specs.declared.step.Step.TheVariants.{Put, When, Invoke, 
 use Rattle.tta_program.specs.Program.{Program}
 use Rattle.tta_program.specs.Sequential.{State, Frame, Outcome, Running, Halted, Waiting, next, next_of, go_on, goes_through, waits, carry_out, returns, take_value, assigns, goes_to, operand, holds, step_at}
 use Rattle.tta_run.specs.Meaning.{OutputGrows, WaitStays}
-use Rattle.tta_tool.specs.Steps.{meaning_of}
+use Rattle.tta_run.specs.Reports.{WaitReports}
+use Rattle.tta_tool.specs.Steps.{meaning_of, reports}
 
 -- one state's output begins another's
 abbrev Grew : State → State → Type 0
@@ -71,3 +72,7 @@ steps_grow u p = λ s. of s s.outcome where
 pub steps_wait : (u : Units) (p : Program) → WaitStays (meaning_of u p)
 unfolding next
 steps_wait u p = record { stays = λ s. refl; output = λ s. refl }
+
+-- and it reports that it waits
+pub steps_report : (u : Units) (p : Program) → WaitReports (meaning_of u p) reports
+steps_report u p = record { ended = λ s. refl; memory = λ s. refl; count = λ s. refl }

@@ -12,9 +12,8 @@ ghost use Rattle.tta_given.specs.Ends.{PutEnds};
 ghost use Rattle.tta_tool.specs.Sample.{zeros, summary, HasRun, HasCycled, StandAlike};
 ghost use Rattle.tta_tool.specs.Sample.{CompareEnds};
 
-use crate::code_run::CodeRun;
-use crate::program_run::ProgramRun;
-use crate::running::load_laid;
+use crate::code_run::{CodeRun, load_code};
+use crate::program_run::{ProgramRun, load_program};
 use std::alloc::{AllocError, Global};
 use tta_code::Whole;
 use tta_given::{Status, data_words};
@@ -24,7 +23,7 @@ use tta_ports::{Failed, Sink};
 use tta_print::{Line, put_lines};
 use tta_run::{Kept, keep_run};
 use tta_sim::Sim;
-use tta_tac::{Program, lay_lines};
+use tta_tac::Program;
 use tta_tacrun::Seq;
 
 /// A program, and the code that it is compiled to for a machine.
@@ -75,9 +74,8 @@ fn run_program(
         IfOk result (λ r.
         HasRun U program.now space bound r.seq r.kept.output.items r.kept.waits) }
 {
-    let mut memory = zeros(alloc, space)?;
-    lay_lines(program, &mut memory);
-    let seq = Seq::load(alloc, program, memory)?;
+    let memory = zeros(alloc, space)?;
+    let seq = load_program(alloc, program, memory)?;
     let mut ran = ProgramRun { program, seq };
     let kept = keep_run(alloc, &mut ran, units, bound)?;
     Ok(KeptProgram { seq: ran.seq, kept })
@@ -105,7 +103,7 @@ fn run_code(
         HasCycled U machine.now whole.now bound r.sim r.kept.output.items r.kept.waits) }
 {
     let memory = zeros(alloc, data_words(machine))?;
-    let sim = load_laid(alloc, machine, whole, memory)?;
+    let sim = load_code(alloc, machine, whole, memory)?;
     let code = &whole.code;
     let mut ran = CodeRun { machine, code, sim };
     let kept = keep_run(alloc, &mut ran, units, bound)?;

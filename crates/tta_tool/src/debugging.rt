@@ -10,8 +10,8 @@ ghost use Rattle.tta_debug.specs.Sessions.{Follows};
 ghost use Rattle.tta_tool.specs.Debug.{said, ScriptEnds, AskedEnds, EndsAs, SessionEnds};
 ghost use Rattle.tta_tool.specs.Debug.{AskedRuns, Debugs};
 
+use crate::code_run::load_code;
 use crate::names::SessionRequest;
-use crate::running::load_laid;
 use std::alloc::Global;
 use tta_code::Code;
 use tta_debug::{Session, run_script};
@@ -144,7 +144,7 @@ fn carry_out<S: Sink>(
 {
     let Asked { memory, script } = asked;
     let machine = &pair.file.machine;
-    match load_laid(alloc, machine, &pair.whole, memory) {
+    match load_code(alloc, machine, &pair.whole, memory) {
         Ok(sim) => {
             let mut session = Session::new(sim);
             let code = &pair.whole.code;

@@ -2,39 +2,35 @@
 
 ghost use Rattle.std.specs.Prelude.{◌<◌, ◌^◌, length, option_map};
 ghost use Rattle.tta_ops.specs.Set.{stated};
-ghost use Rattle.tta_agree.specs.Agrees.{program_at};
 ghost use Rattle.tta_tool.specs.Runs.{GivenRuns};
-ghost use Rattle.tta_tool.specs.Exec.{RunEnds, Reports, Execs};
+ghost use Rattle.tta_tool.specs.Exec.{Reports, Execs};
 
 use crate::names::RunRequest;
-use crate::program_run::ProgramRun;
+use crate::program_run::{ProgramRun, load_program};
 use crate::report::run_to_status;
 use std::alloc::Global;
 use tta_given::{Given, ProgramPair, Status, data_words, given_files, program_pair};
 use tta_ops::UnitSet;
 use tta_ports::{Files, Sink};
-use tta_tac::{Program, lay_lines};
-use tta_tacrun::Seq;
 
 /// Runs a program from what it is given, and outputs its text.
 fn carry_out<S: Sink>(
     alloc: Global,
     units: &UnitSet,
     sink: &mut S,
-    program: &Program,
+    pair: &ProgramPair,
     given: Given,
     bound: u64,
 ) -> Status
     requires bound { bound < 2 ^ 48 }
     requires short { length given.memory.items < 2 ^ 32 }
     ensures { let U = stated unit_meaning units.now in
-        RunEnds (program_at U program.now given.memory.items given.words.items bound)
+        Reports U bound pair.now.file pair.now.program given.memory.items given.words.items
         (S.output sink.old) (S.output sink.new) result }
 {
     let Given { memory, words } = given;
-    let mut laid = memory;
-    lay_lines(program, &mut laid);
-    match Seq::load(alloc, program, laid) {
+    let program = &pair.program;
+    match load_program(alloc, program, memory) {
         Ok(seq) => {
             let mut ran = ProgramRun { program, seq };
             let status = run_to_status(sink, &mut ran, units, words.as_slice(), bound);
@@ -70,7 +66,7 @@ fn exec_pair<F: Files, S: Sink>(
         request.names.stream,
         space,
     ) {
-        Ok(given) => carry_out(alloc, units, sink, &pair.program, given, request.bound),
+        Ok(given) => carry_out(alloc, units, sink, pair, given, request.bound),
         Err(status) => status,
     }
 }

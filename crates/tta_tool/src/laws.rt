@@ -1,9 +1,51 @@
 //! Laws of the commands. A law is a function that does nothing, and whose contract is the law.
 
+ghost use Rattle.tta_tool.specs.Build.{BuildByStatus};
+ghost use Rattle.tta_tool.specs.Asm.{AsmByStatus};
+ghost use Rattle.tta_tool.specs.Dis.{DisByStatus};
+ghost use Rattle.tta_tool.specs.Exec.{ExecByStatus};
+ghost use Rattle.tta_tool.specs.Run.{RunByStatus};
+ghost use Rattle.tta_tool.specs.Debug.{DebugByStatus};
+ghost use Rattle.tta_tool.specs.Sample.{SampleByStatus};
 ghost use Rattle.tta_tool.specs.Completes.{BuildCompletes};
 
 /// `build` takes every machine and program that are accepted and have room: where no call on the
 /// files fails, it writes an image or is out of memory.
 pub fn build_completes()
     ensures { BuildCompletes }
+{}
+
+/// What holds where `build` ends with a status, for each status.
+pub fn build_by_status()
+    ensures { BuildByStatus }
+{}
+
+/// What holds where `asm` ends with a status, for each status.
+pub fn asm_by_status()
+    ensures { AsmByStatus }
+{}
+
+/// What holds where `dis` ends with a status, for each status.
+pub fn dis_by_status()
+    ensures { DisByStatus }
+{}
+
+/// What holds where `exec` ends with a status, for each status.
+pub fn exec_by_status()
+    ensures { ExecByStatus }
+{}
+
+/// What holds where `run` ends with a status, for each status.
+pub fn run_by_status()
+    ensures { RunByStatus }
+{}
+
+/// What holds where `debug` ends with a status, for each status.
+pub fn debug_by_status()
+    ensures { DebugByStatus }
+{}
+
+/// What holds where `sample` ends with a status, for each status.
+pub fn sample_by_status()
+    ensures { SampleByStatus }
 {}

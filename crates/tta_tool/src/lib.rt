@@ -6,7 +6,6 @@ mod build;
 mod code_run;
 mod command;
 mod comparing;
-mod cycle_report;
 mod debugging;
 mod dis;
 mod exec;
@@ -20,5 +19,8 @@ mod running;
 mod sampling;
 
 pub use command::tool;
-pub use laws::build_completes;
+pub use laws::{
+    asm_by_status, build_by_status, build_completes, debug_by_status, dis_by_status,
+    exec_by_status, run_by_status, sample_by_status,
+};
 pub use tta_given::Status;

@@ -1,44 +1,18 @@
 //! The command `run`: the code of an image is run cycle by cycle.
 
-ghost use Rattle.std.specs.Prelude.{◌≡◌, ℕ, ◌<◌, ◌^◌, List, length, option_map, IfOk};
+ghost use Rattle.std.specs.Prelude.{◌≡◌, ◌<◌, ◌^◌, length, option_map};
 ghost use Rattle.tta_ops.specs.Set.{stated};
-ghost use Rattle.tta_list.specs.Laid.{over};
 ghost use Rattle.tta_code.specs.Legal.{IsLegalCode};
-ghost use Rattle.tta_code.specs.Whole.{data_in};
-ghost use Rattle.tta_code.specs.Cycle.{start};
-ghost use Rattle.tta_agree.specs.Agrees.{code_at};
-ghost use Rattle.tta_sim.specs.Held.{Stands, IsRunOf};
 ghost use Rattle.tta_tool.specs.Runs.{GivenRuns};
-ghost use Rattle.tta_tool.specs.Run.{RunEnds, Reports, Runs};
+ghost use Rattle.tta_tool.specs.Run.{Reports, Runs};
 
-use crate::code_run::CodeRun;
-use crate::cycle_report::code_to_status;
+use crate::code_run::{CodeRun, load_code};
 use crate::names::RunRequest;
-use std::alloc::{AllocError, Global};
-use tta_code::{Whole, lay};
+use crate::report::run_to_status;
+use std::alloc::Global;
 use tta_given::{CodePair, Given, Status, data_words, given_files, image_pair};
-use tta_machine::Machine;
 use tta_ops::UnitSet;
 use tta_ports::{Files, Sink};
-use tta_sim::Sim;
-
-/// Loads code for a run from data words, with its data laid over them.
-pub fn load_laid(
-    alloc: Global,
-    machine: &Machine,
-    whole: &Whole,
-    memory: Vec<u32>,
-) -> Result<Sim, AllocError>
-    requires size { length memory.items ≡ machine.now.data_words }
-    requires legal { IsLegalCode machine.now whole.now.code }
-    ensures start { IfOk result (λ r. (input : List ℕ)
-        → Stands r (start machine.now (over (data_in whole.now) memory.items) input)) }
-    ensures loaded { IfOk result (λ r. IsRunOf machine.now whole.now.code r) }
-{
-    let mut laid = memory;
-    lay(whole.init.as_slice(), &mut laid);
-    Sim::load(alloc, machine, &whole.code, laid)
-}
 
 /// Runs code from what it is given, and outputs its text.
 fn carry_out<S: Sink>(
@@ -54,17 +28,16 @@ fn carry_out<S: Sink>(
     requires short { length given.memory.items < 2 ^ 32 }
     requires legal { IsLegalCode pair.now.file.machine pair.now.whole.code }
     ensures { let U = stated unit_meaning units.now in
-        RunEnds (code_at U pair.now.file.machine
-        pair.now.whole given.memory.items given.words.items bound)
+        Reports U bound pair.now.file pair.now.whole given.memory.items given.words.items
         (S.output sink.old) (S.output sink.new) result }
 {
     let Given { memory, words } = given;
     let machine = &pair.file.machine;
-    match load_laid(alloc, machine, &pair.whole, memory) {
+    match load_code(alloc, machine, &pair.whole, memory) {
         Ok(sim) => {
             let code = &pair.whole.code;
             let mut ran = CodeRun { machine, code, sim };
-            let status = code_to_status(sink, &mut ran, units, words.as_slice(), bound);
+            let status = run_to_status(sink, &mut ran, units, words.as_slice(), bound);
             // Dropped here as a whole, so that no part of it is left to drop at the end.
             drop(ran);
             status

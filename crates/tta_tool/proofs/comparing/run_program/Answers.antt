@@ -1,4 +1,4 @@
-use Rattle.std.proofs.Common.{[], refl, ap, ◌∙◌}
+use Rattle.std.proofs.Common.{[], refl, ap}
 use Rattle.tta_ops.specs.Set.{stated}
 use Rattle.tta_list.specs.Laid.{over}
 use Rattle.tta_program.specs.Program.{data_of}
@@ -8,11 +8,13 @@ use Rattle.tta_tool.proofs.Samplings.{has_run}
 use Rattle.tta_tool.proofs.comparing.run_program.Goals as goal
 
 pub keep_run-requires-clause-few : goal.keep_run-requires-clause-few
-keep_run-requires-clause-few g c = few_steps _ c.args.program.now c.lay_lines.new.memory.items c.args.bound (c.in_ok-seq.ensures.start []) c.requires
+keep_run-requires-clause-few g c =
+    few_steps _ c.args.program.now (over (data_of c.args.program.now) c.in_ok-memory.memory.items) c.args.bound (c.in_ok-seq.ensures.start []) c.requires
 
 pub returns : goal.returns
 returns g c =
     let U = stated (λ v. (goal.OpUnit-dyn g v).unit_meaning v.1) c.args.units.now in
-    let laid = c.lay_lines.ensures ∙ ap (over (data_of c.args.program.now)) c.in_ok-memory.ensures.zeros in
-    has_run U c.args.program.now c.args.space c.args.bound c.lay_lines.new.memory.items laid _ _ _ _
-    (c.in_ok-seq.ensures.start []) c.in_ok-kept.ensures.within (c.in_ok-kept.ensures.keeps (start c.args.program.now c.lay_lines.new.memory.items []) (c.in_ok-seq.ensures.start []) refl refl)
+    let p = c.args.program.now in
+    let words = over (data_of p) c.in_ok-memory.memory.items in
+    has_run U p c.args.space c.args.bound words (ap (over (data_of p)) c.in_ok-memory.ensures.zeros) _ _ _ _
+    (c.in_ok-seq.ensures.start []) c.in_ok-kept.ensures.within (c.in_ok-kept.ensures.keeps (start p words []) (c.in_ok-seq.ensures.start []) refl refl)

@@ -1,0 +1,21 @@
+-- Words of the endings by status: a command has a relation `..Endings` beside its clause, which says of each status alone what holds where
+-- the command ends so, and a law by which it says what the clause does.
+use Rattle.std.specs.Prelude.{◌≡◌, ◌⊎◌, ℕ, List, Option}
+use Rattle.tta_ports.specs.Store.{Store}
+use Rattle.tta_ops.specs.Units.{Units}
+use Rattle.tta_given.specs.declared.machine.MachineFile.{MachineFile}
+use Rattle.tta_given.specs.Machines.{HasMachine}
+use Rattle.tta_given.specs.Pairs.{HasPair}
+
+-- a file holds a machine of which something is true
+abbrev pub OfMachine : Units → (files : Option Store) → (M : List ℕ) → (Is : MachineFile → Type 0) → Type 0
+OfMachine u files M Is = (m : HasMachine u files M) × Is m.value
+
+-- files hold a machine and something for it, and something is true of the two
+abbrev pub OfPair : {V : Type 0} → Units → (Says : MachineFile → List ℕ → V → Type 0) → (files : Option Store) → (M name : List ℕ)
+    → (Is : MachineFile → V → Type 0) → Type 0
+OfPair u Says files M name Is = (pair : HasPair u Says files M name) × Is pair.machine.value pair.second.value
+
+-- which file is at fault: that of word 1, or that of word 2 where the machine of the first was taken
+abbrev pub PairFault : Units → (files : Option Store) → (M name : List ℕ) → (Fault : List ℕ → Type 0) → (word : ℕ) → Type 0
+PairFault u files M name Fault word = ((word ≡ 1) × Fault M) ⊎ ((word ≡ 2) × HasMachine u files M × Fault name)
