@@ -1,8 +1,10 @@
 //! The command that draws: the picture of the machine or the code that files hold. It stands on
-//! readers and languages, and on no pass.
+//! tta_given and languages, and on no pass.
 #![tactic(auto)]
 
+mod laws;
 mod picture;
 mod request;
 
+pub use laws::{code_by_status, machine_by_status};
 pub use picture::picture;
