@@ -1,5 +1,5 @@
 -- What the command `sample` does, and why it does not.
-use Rattle.std.specs.Prelude.{◌≡◌, ◌↔◌, ◌⊎◌, ℕ, ◌≤◌, ◌+◌, ◌*◌, Bool, true, List, [], ◌∷◌, length, replicate}
+use Rattle.std.specs.Prelude.{◌≡◌, ◌↔◌, ◌⊎◌, ℕ, ◌≤◌, ◌+◌, ◌*◌, Bool, true, List, [], ◌∷◌, length, replicate, Option}
 use Rattle.tta_ports.specs.Store.{Store}
 use Rattle.tta_ports.specs.World.{World, IsUntouched}
 use Rattle.tta_ports.specs.Output.{Output, IsQuiet, IsPut, IsCut}
