@@ -51,6 +51,12 @@ def constants(lines):
     return "proc main\n" + "".join(f"out {k % 256}\n" for k in range(lines - 3)) + "halt\nend\n"
 
 
+def triangles(lines):
+    """A program of so many lines, of which each four have a branch over a copy."""
+    turns = [f"if lt a {k % 100} goto l{k}\na = {k}\nl{k}:\nout a\n" for k in range((lines - 4) // 4)]
+    return "".join(["proc main\n", *turns, "halt\nend\n"])
+
+
 def arithmetic(lines):
     """A program of so many lines: one block of operations over twenty variables, thirteen of which can have a home register."""
     steps = [f"v{k} = {k}" for k in range(20)]

@@ -43,6 +43,11 @@ def build_on(buses, program):
     return command
 
 
+def ifconv_triangles(folder, work):
+    folder.write("P", inputs.triangles(work))
+    return ["ifconv", "P", "OUT"], 0
+
+
 def exec_steps(folder, work):
     folder.write("M", inputs.ONE_BUS)
     folder.write("P", inputs.STEPS)
@@ -135,6 +140,7 @@ ROWS = [
     Row("build: a chain on 16 buses", 60_000, "lines", build_on(16, inputs.chain)),
     Row("build: a fan on one bus", 21_000, "lines", build_on(1, inputs.fan)),
     Row("build: a fan on 16 buses", 60_000, "lines", build_on(16, inputs.fan)),
+    Row("ifconv: branches over copies", 65_536, "lines", ifconv_triangles),
     Row("write an image of 16 buses", 16_384, "instructions", asm_wide, less=asm_wide_refused),
     Row("read a machine: comments", 2**24, "bytes", read_comments),
     Row("read a machine near all limits", inputs.largest_machine().count("\n"), "lines", read_machine, grows=False),
