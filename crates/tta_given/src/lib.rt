@@ -10,6 +10,7 @@ mod pair;
 mod program;
 mod put;
 mod reading;
+mod source;
 mod status;
 mod write;
 
@@ -20,5 +21,6 @@ pub use pair::{CodePair, ProgramPair, assembly_pair, image_pair, program_pair};
 pub use program::program_of;
 pub use put::put_made;
 pub use reading::read_file;
+pub use source::source_file;
 pub use status::Status;
 pub use write::write_made;

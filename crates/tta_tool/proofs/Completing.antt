@@ -39,13 +39,13 @@ same_read r a b e f = cc
 -- ---- texts
 
 -- a text that describes a machine is refused only for lack of memory
-machine_only : (u : Units) (text : List ℕ) (file : MachineFile) (s : Status) → IsDescribed u text file → RefusesMachine u text s → s ≡ status.NoMemory
+pub machine_only : (u : Units) (text : List ℕ) (file : MachineFile) (s : Status) → IsDescribed u text file → RefusesMachine u text s → s ≡ status.NoMemory
 machine_only u text file (status.BadMachine line code) is bad = let read = is.read in let refused = bad.refused in absurd cc
 machine_only u text file status.NoMemory is bad = refl
 machine_only u text file s is bad = absurd bad
 
 -- and so is one of a program whose data lie in the space
-program_only : (u : Units) (space : ℕ) (text : List ℕ) (p : Program) (s : Status) → IsProgramIn u space text p → RefusesProgram u space text s
+pub program_only : (u : Units) (space : ℕ) (text : List ℕ) (p : Program) (s : Status) → IsProgramIn u space text p → RefusesProgram u space text s
     → s ≡ status.NoMemory
 program_only u space text p (status.BadProgram line code) is bad = absurd (not_refused u text p line bad.refusal is.read bad.refused)
 program_only u space text p (status.DataRange line have) is bad =
@@ -73,7 +73,7 @@ module _ (store : Store) (faults : ℕ) (latest : Option Fault) (after : World) 
   read_only Says name value word s held fails = absurd fails
 
   -- and not taken only for that, where its bytes are refused only for that
-  file_only : {V : Type 0} → (Says : List ℕ → V → Type 0) (Refuses : List ℕ → Status → Type 0) (name : List ℕ) (value : V) (word : ℕ) (s : Status)
+  pub file_only : {V : Type 0} → (Says : List ℕ → V → Type 0) (Refuses : List ℕ → Status → Type 0) (name : List ℕ) (value : V) (word : ℕ) (s : Status)
       → ((bytes : List ℕ) → Says bytes value → Refuses bytes s → s ≡ status.NoMemory)
       → IsHeld Says (Some store) name value → FileFails Refuses name word before after s → s ≡ status.NoMemory
   file_only Says Refuses name value word s only held (inl fails) = read_only Says name value word s held fails
@@ -89,14 +89,14 @@ module _ (store : Store) (faults : ℕ) (latest : Option Fault) (after : World) 
     p = a.pair.second.value
 
     -- the machine of a file is one
-    same_machine : (b : HasMachine u (Some store) M) → b.value.machine ≡ m.machine
+    pub same_machine : (b : HasMachine u (Some store) M) → b.value.machine ≡ m.machine
     same_machine b =
         let held = a.pair.machine.held in
         let text = same_some b.held.bytes held.bytes (sym b.held.holds ∙ held.holds) in
         same_read (machine_of_text u held.bytes) b.value.machine m.machine (ap (machine_of_text u) (sym text) ∙ b.held.says.read) held.says.read
 
     -- and so is its program
-    same_program : (b : HasPair u (IsProgramFor u) (Some store) M P) → b.second.value ≡ p
+    pub same_program : (b : HasPair u (IsProgramFor u) (Some store) M P) → b.second.value ≡ p
     same_program b =
         let held = a.pair.second.held in
         let text = same_some b.second.held.bytes held.bytes (sym b.second.held.holds ∙ held.holds) in
@@ -115,7 +115,7 @@ module _ (store : Store) (faults : ℕ) (latest : Option Fault) (after : World) 
     cause_only s is = absurd is
 
     -- what is written is written, or memory lacks
-    writing_only : (Makes : List ℕ → Type 0) (s : Status) → WritingEnds Makes OUT before after s → (s ≡ status.Ok) ⊎ (s ≡ status.NoMemory)
+    pub writing_only : (Makes : List ℕ → Type 0) (s : Status) → WritingEnds Makes OUT before after s → (s ≡ status.Ok) ⊎ (s ≡ status.NoMemory)
     writing_only Makes status.Ok ends = inl refl
     writing_only Makes status.WriteFault ends = absurd (none ends.rose)
     writing_only Makes status.NoMemory ends = inr refl

@@ -10,3 +10,5 @@ pub mod Debuggings
 pub mod Samplings
 pub mod OneProgram
 pub mod Completing
+pub mod Convertings
+pub mod ConvertedCompleting

@@ -5,8 +5,10 @@ use Rattle.tta_ports.specs.Output.{Output, IsQuiet}
 use Rattle.tta_ops.specs.Units.{Units}
 use Rattle.tta_given.specs.declared.status.Status.{Status}
 use Rattle.tta_given.specs.Ends.{IsUsage}
-use Rattle.tta_tool.specs.Request.{Request, Build, Asm, Dis, Exec, Run, Debug, Sample}
+use Rattle.tta_tool.specs.Request.{Request, Build, BuildConverted, Ifconv, Asm, Dis, Exec, Run, Debug, Sample}
 use Rattle.tta_tool.specs.Build.{Builds}
+use Rattle.tta_tool.specs.BuildConverted.{BuildsConverted}
+use Rattle.tta_tool.specs.Ifconv.{WritesConverted}
 use Rattle.tta_tool.specs.Asm.{Assembles}
 use Rattle.tta_tool.specs.Dis.{Shows}
 use Rattle.tta_tool.specs.Exec.{Execs}
@@ -18,6 +20,8 @@ use Rattle.tta_tool.specs.Sample.{Samples}
 abbrev pub Ends : Units → Option Request → (before after : World) → (old new : Output) → Status → Type 0
 Ends u None before after old new s = IsUsage before after old new s
 Ends u (Some (Build machine program out)) before after old new s = Builds u machine program out before after s × IsQuiet old new
+Ends u (Some (BuildConverted machine program out)) before after old new s = BuildsConverted u machine program out before after s × IsQuiet old new
+Ends u (Some (Ifconv program out)) before after old new s = WritesConverted u program out before after s × IsQuiet old new
 Ends u (Some (Asm machine assembly out)) before after old new s = Assembles u machine assembly out before after s × IsQuiet old new
 Ends u (Some (Dis machine image out)) before after old new s = Shows u machine image out before after s × IsQuiet old new
 Ends u (Some (Exec machine program input stream bound)) before after old new s = Execs u machine program input stream bound before after old new s

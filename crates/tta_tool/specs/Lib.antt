@@ -1,4 +1,6 @@
 pub mod Build
+pub mod BuildConverted
+pub mod Ifconv
 pub mod Asm
 pub mod Dis
 pub mod Numbers
@@ -15,3 +17,4 @@ pub mod Sample
 pub mod Request
 pub mod Command
 pub mod Completes
+pub mod ConvertedCompletes

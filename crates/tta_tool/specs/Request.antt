@@ -8,12 +8,14 @@ use Rattle.tta_tool.specs.Numbers.{bound_of, seed_of, lines_of}
 -- what can be asked for
 pub data Request : Type 0 where
   Build : (machine program out : List ℕ) → Request
+  BuildConverted : (machine program out : List ℕ) → Request
   Asm : (machine assembly out : List ℕ) → Request
   Dis : (machine image out : List ℕ) → Request
   Exec : (machine program input : List ℕ) (stream : Option (List ℕ)) (bound : ℕ) → Request
   Run : (machine image input : List ℕ) (stream : Option (List ℕ)) (bound : ℕ) → Request
   Debug : (machine image input script : List ℕ) (stream : Option (List ℕ)) → Request
   Sample : (seed lines : ℕ) (machine : List ℕ) → Request
+  Ifconv : (program out : List ℕ) → Request
 
 -- the request of the name of a command whose last word is a file that it writes
 abbrev pub writing_request : (word machine second out : List ℕ) → Option Request
@@ -36,6 +38,19 @@ running_request word machine second input last stream =
     if bytes_eq word (codes "debug") then Some (Debug machine second input last stream)
     else option_and_then (bounded_request word machine second input stream) (bound_of last)
 
+-- the request of `build` by the word after its files
+abbrev pub mode_request : (mode machine program out : List ℕ) → Option Request
+mode_request mode machine program out = if bytes_eq mode (codes "convert") then Some (BuildConverted machine program out) else None
+
+-- the request of the name of a command with four words, the last of which is a mode, a script or a bound
+abbrev pub long_request : (word machine second third last : List ℕ) → (stream : Option (List ℕ)) → Option Request
+long_request word machine second third last stream =
+    if bytes_eq word (codes "build") then mode_request last machine second third else running_request word machine second third last stream
+
+-- the request of the name of a command that makes a file of one other
+abbrev pub lone_request : (word first out : List ℕ) → Option Request
+lone_request word first out = if bytes_eq word (codes "ifconv") then Some (Ifconv first out) else None
+
 -- the request of a sample by its seed and its number of body lines, for a machine
 abbrev pub sample_request : (seed lines machine : List ℕ) → Option Request
 sample_request seed lines machine =
@@ -48,14 +63,16 @@ short_request word first second third =
 
 -- the request of some words; none where they are no command
 abbrev pub request_of : List (List ℕ) → Option Request
+request_of (word ∷ first ∷ out ∷ []) = lone_request word first out
 request_of (word ∷ first ∷ second ∷ third ∷ []) = short_request word first second third
-request_of (word ∷ machine ∷ second ∷ input ∷ last ∷ []) = running_request word machine second input last None
+request_of (word ∷ machine ∷ second ∷ input ∷ last ∷ []) = long_request word machine second input last None
 request_of (word ∷ machine ∷ second ∷ input ∷ last ∷ stream ∷ []) = running_request word machine second input last (Some stream)
 request_of words = None
 
 -- what the code's request asks for
 abbrev pub asked : Asked → Request
 asked (for.Build files) = Build files.machine.now files.second.now files.out.now
+asked (for.BuildConverted files) = BuildConverted files.machine.now files.second.now files.out.now
 asked (for.Asm files) = Asm files.machine.now files.second.now files.out.now
 asked (for.Dis files) = Dis files.machine.now files.second.now files.out.now
 asked (for.Exec run) = Exec run.names.machine.now run.names.second.now run.names.input.now (option_map (λ s. s.now) run.names.stream) run.bound
@@ -63,3 +80,4 @@ asked (for.Run run) = Run run.names.machine.now run.names.second.now run.names.i
 asked (for.Debug session) =
     Debug session.names.machine.now session.names.second.now session.names.input.now session.script.now (option_map (λ s. s.now) session.names.stream)
 asked (for.Sample sample) = Sample sample.seed sample.lines sample.machine.now
+asked (for.Ifconv files) = Ifconv files.program.now files.out.now

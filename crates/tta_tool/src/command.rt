@@ -8,9 +8,11 @@ ghost use Rattle.tta_tool.specs.Command.{Ends};
 
 use crate::asm::assemble_image;
 use crate::build::build_image;
+use crate::build_converted::build_converted_image;
 use crate::debugging::debug_image;
 use crate::dis::show_image;
 use crate::exec::exec_program;
+use crate::ifconv::convert_program;
 use crate::request::Request;
 use crate::running::run_image;
 use crate::sampling::sample_on;
@@ -32,12 +34,14 @@ fn carry_out<F: Files, S: Sink>(
 {
     match request {
         Request::Build(names) => build_image(alloc, units, files, names),
+        Request::BuildConverted(names) => build_converted_image(alloc, units, files, names),
         Request::Asm(names) => assemble_image(alloc, units, files, names),
         Request::Dis(names) => show_image(alloc, units, files, names),
         Request::Exec(run) => exec_program(alloc, units, files, sink, run),
         Request::Run(run) => run_image(alloc, units, files, sink, run),
         Request::Debug(session) => debug_image(alloc, units, files, sink, session),
         Request::Sample(sample) => sample_on(alloc, units, files, sink, sample),
+        Request::Ifconv(names) => convert_program(alloc, units, files, names),
     }
 }
 
@@ -47,6 +51,10 @@ fn carry_out<F: Files, S: Sink>(
 /// `build M P OUT` compiles the program of the file P for the machine of the file M and makes OUT
 /// hold the image. Where it is refused, every file is as it was, but after a fault of the write OUT
 /// may hold a prefix of an image. It outputs nothing.
+///
+/// `build M P OUT convert` does the same with the converted program, in which each branch over one
+/// copy is a copy under the opposite condition. `ifconv P OUT` makes OUT hold the printed text of
+/// the converted program, and is otherwise as `build`.
 ///
 /// `asm M A OUT` reads the assembly of the file A for the machine of the file M and makes OUT hold
 /// the image of its code. `dis M IMG OUT` makes OUT hold the canonical assembly of the image in the

@@ -7,12 +7,26 @@ ghost use Rattle.tta_tool.specs.Exec.{ExecByStatus};
 ghost use Rattle.tta_tool.specs.Run.{RunByStatus};
 ghost use Rattle.tta_tool.specs.Debug.{DebugByStatus};
 ghost use Rattle.tta_tool.specs.Sample.{SampleByStatus};
+ghost use Rattle.tta_tool.specs.BuildConverted.{BuildConvertedByStatus};
+ghost use Rattle.tta_tool.specs.Ifconv.{IfconvByStatus};
 ghost use Rattle.tta_tool.specs.Completes.{BuildCompletes};
+ghost use Rattle.tta_tool.specs.ConvertedCompletes.{BuildConvertedCompletes, IfconvCompletes};
 
 /// `build` takes every machine and program that are accepted and have room: where no call on the
 /// files fails, it writes an image or is out of memory.
 pub fn build_completes()
     ensures { BuildCompletes }
+{}
+
+/// So does `build` with the word `convert`.
+pub fn build_converted_completes()
+    ensures { BuildConvertedCompletes }
+{}
+
+/// `ifconv` takes every program: where no call on the files fails, it writes a text or is out of
+/// memory.
+pub fn ifconv_completes()
+    ensures { IfconvCompletes }
 {}
 
 /// What holds where `build` ends with a status, for each status.
@@ -48,4 +62,14 @@ pub fn debug_by_status()
 /// What holds where `sample` ends with a status, for each status.
 pub fn sample_by_status()
     ensures { SampleByStatus }
+{}
+
+/// What holds where `build` with the word `convert` ends with a status, for each status.
+pub fn build_converted_by_status()
+    ensures { BuildConvertedByStatus }
+{}
+
+/// What holds where `ifconv` ends with a status, for each status.
+pub fn ifconv_by_status()
+    ensures { IfconvByStatus }
 {}

@@ -3,12 +3,14 @@
 
 mod asm;
 mod build;
+mod build_converted;
 mod code_run;
 mod command;
 mod comparing;
 mod debugging;
 mod dis;
 mod exec;
+mod ifconv;
 mod laws;
 mod names;
 mod numbers;
@@ -20,7 +22,8 @@ mod sampling;
 
 pub use command::tool;
 pub use laws::{
-    asm_by_status, build_by_status, build_completes, debug_by_status, dis_by_status,
-    exec_by_status, run_by_status, sample_by_status,
+    asm_by_status, build_by_status, build_completes, build_converted_by_status,
+    build_converted_completes, debug_by_status, dis_by_status, exec_by_status, ifconv_by_status,
+    ifconv_completes, run_by_status, sample_by_status,
 };
 pub use tta_given::Status;

@@ -11,6 +11,14 @@ pub struct WriteRequest<'w> {
     pub out: &'w str,
 }
 
+/// The names of the files of a command that makes one of a program alone: the program's, and that of
+/// the result.
+#[derive(Clone, Copy)]
+pub struct ConvertRequest<'w> {
+    pub program: &'w str,
+    pub out: &'w str,
+}
+
 /// The names of the files that a run reads: the machine's, that of the program or of the image that
 /// is run on it, that of the data words, and that of the input, where it has one.
 #[derive(Clone, Copy)]

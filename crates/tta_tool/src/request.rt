@@ -4,20 +4,26 @@ ghost use Rattle.std.specs.Prelude.{◌≡◌, ◌<◌, ◌^◌, map, option_map
 ghost use Rattle.std.specs.String.{string_bytes};
 ghost use Rattle.tta_tool.specs.Request.{asked, request_of, writing_request, sample_request};
 ghost use Rattle.tta_tool.specs.Request.{short_request, bounded_request, running_request};
+ghost use Rattle.tta_tool.specs.Request.{lone_request, mode_request, long_request};
 
-use crate::names::{RunFiles, RunRequest, SampleRequest, SessionRequest, WriteRequest};
+use crate::names::{
+    ConvertRequest, RunFiles, RunRequest, SampleRequest, SessionRequest, WriteRequest,
+};
 use crate::numbers::{bound_of, lines_of, seed_of};
 
 /// What is asked for.
 #[derive(Clone, Copy)]
 pub enum Request<'w> {
     Build(WriteRequest<'w>),
+    /// `build` with the word `convert` after its files.
+    BuildConverted(WriteRequest<'w>),
     Asm(WriteRequest<'w>),
     Dis(WriteRequest<'w>),
     Exec(RunRequest<'w>),
     Run(RunRequest<'w>),
     Debug(SessionRequest<'w>),
     Sample(SampleRequest<'w>),
+    Ifconv(ConvertRequest<'w>),
 }
 
 /// The request of the name of a command that makes a file of two others, with their names.
@@ -98,6 +104,46 @@ fn of_running<'w>(word: &str, names: RunFiles<'w>, last: &'w str) -> Option<Requ
     of_bounded(word, names, bound)
 }
 
+/// The request of the name of a command that makes a file of one other.
+fn of_lone<'w>(word: &str, first: &'w str, out: &'w str) -> Option<Request<'w>>
+    ensures { option_map asked result ≡ lone_request word.now first.now out.now }
+{
+    if word == "ifconv" {
+        let program = first;
+        return Some(Request::Ifconv(ConvertRequest { program, out }));
+    }
+    None
+}
+
+/// The request of `build` by the word after its files.
+fn of_mode<'w>(mode: &str, files: WriteRequest<'w>) -> Option<Request<'w>>
+    ensures { option_map asked result
+        ≡ mode_request mode.now
+        files.entry.machine.now files.entry.second.now files.entry.out.now }
+{
+    if mode == "convert" {
+        return Some(Request::BuildConverted(files));
+    }
+    None
+}
+
+/// The request of the name of a command with four words after it.
+fn of_long<'w>(word: &str, names: RunFiles<'w>, last: &'w str) -> Option<Request<'w>>
+    ensures { option_map asked result ≡ long_request word.now
+        names.entry.machine.now names.entry.second.now names.entry.input.now last.now
+        (option_map (λ s. s.now) names.entry.stream) }
+{
+    if word == "build" {
+        let files = WriteRequest {
+            machine: names.machine,
+            second: names.second,
+            out: names.input,
+        };
+        return of_mode(last, files);
+    }
+    of_running(word, names, last)
+}
+
 impl<'w> Request<'w> {
     /// What the words ask for, the first of them the command's name. `None` where they are no
     /// command.
@@ -106,6 +152,7 @@ impl<'w> Request<'w> {
             ≡ request_of (map (λ w. string_bytes w) words.now.items) }
     {
         match words.as_slice() {
+            [word, first, out] => of_lone(word, first, out),
             [word, first, second, third] => of_short(word, first, second, third),
             [word, machine, second, input, last] => {
                 let names = RunFiles {
@@ -114,7 +161,7 @@ impl<'w> Request<'w> {
                     input,
                     stream: None,
                 };
-                of_running(word, names, last)
+                of_long(word, names, last)
             }
             [word, machine, second, input, last, stream] => {
                 let names = RunFiles {

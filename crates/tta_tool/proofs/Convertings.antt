@@ -1,0 +1,48 @@
+-- What was made of a converted program, and what became of it.
+use Rattle.std.proofs.Common.{◌≡◌, ◌⊎◌, ℕ, List, Result, Ok, Err, sym, subst, inl, inr}
+use Rattle.tta_ports.specs.World.{World, IsUntouched}
+use Rattle.tta_ports.proofs.Worlds.{same_world}
+use Rattle.tta_ops.specs.Units.{Units}
+use Rattle.tta_program.specs.Program.{Program}
+use Rattle.tta_code.specs.Whole.{Whole}
+use Rattle.tta_image.specs.Image.{Image}
+use Rattle.tta_tac.specs.Text.{ProgramText}
+use Rattle.tta_ifconv.specs.Converted.{Converted}
+use Rattle.tta_printed.specs.Printed.{printed}
+use Rattle.tta_build.specs.Converted.{IsBuiltConverted}
+use Rattle.tta_given.specs.declared.machine.MachineFile.{MachineFile}
+use Rattle.tta_given.specs.declared.status.Status.{Status}
+use Rattle.tta_given.specs.Held.{IsTaken, MadeEnds, no_memory}
+use Rattle.tta_given.specs.Ends.{WritesMade, WritingEnds}
+use Rattle.tta_given.proofs.Endings.{writing_ends}
+use Rattle.tta_tool.specs.Ifconv.{IsConvertedText, WritesConverted}
+use Rattle.tta_tool.specs.BuildConverted.{IsConvertedImageOf, IsConvertedCauseOf}
+
+-- ---- texts
+
+-- the printed text of the converted program
+pub converted_text : {T : Type 0} → (u : Units) (p q : Program) (items : T → List ℕ) (result : Result T Status)
+    → Converted p q → MadeEnds (λ bytes. bytes ≡ printed u q) no_memory items result → MadeEnds (IsConvertedText u p) no_memory items result
+converted_text u p q items (Ok v) is ends = record { converted = q; is = is; text = ends }
+converted_text u p q items (Err s) is ends = ends
+
+-- a program that was read, the text that was made of it, and what became of that
+pub writes_converted : {T : Type 0} → (u : Units) (P OUT : List ℕ) (p : Program) (before between after : World) (items : T → List ℕ)
+    (made : Result T Status) (s : Status) → IsTaken (ProgramText u) P p before between → MadeEnds (IsConvertedText u p) no_memory items made
+    → WritesMade OUT items made between after s → WritesConverted u P OUT before after s
+writes_converted {T} u P OUT p before between after items made s taken ends wrote =
+    inr (record { value = p; held = taken.held }, of made ends
+    (subst (λ w. WritesMade OUT items made w after s) (same_world before between taken.untouched) wrote)) where
+      of : (r : Result T Status) → MadeEnds (IsConvertedText u p) no_memory items r → WritesMade OUT items r before after s
+          → (IsUntouched before after × no_memory s) ⊎ WritingEnds (IsConvertedText u p) OUT before after s
+      of (Ok v) ends wrote = inr (writing_ends (IsConvertedText u p) OUT (items v) before after s ends wrote)
+      of (Err e) ends wrote = inl (wrote.1, subst no_memory (sym wrote.0) ends)
+
+-- ---- images
+
+-- code that was built of the converted program, and what became of its image
+pub converted_image : {T : Type 0} → (u : Units) (file : MachineFile) (p : Program) (whole : Whole) (items : T → List ℕ) (result : Result T Status)
+    → IsBuiltConverted u file.machine p whole → MadeEnds (Image file.machine file.digest whole) no_memory items result
+    → MadeEnds (IsConvertedImageOf u file p) (IsConvertedCauseOf u file.machine p) items result
+converted_image u file p whole items (Ok v) built ends = record { whole = whole; image = ends; built = built }
+converted_image u file p whole items (Err s) built ends = subst (IsConvertedCauseOf u file.machine p) (sym ends) tt

@@ -1,0 +1,15 @@
+use Rattle.tta_ops.specs.Set.{stated}
+use Rattle.tta_given.specs.Programs.{IsProgramFor, RefusesProgramFor}
+use Rattle.tta_tool.specs.BuildConverted.{IsConvertedImageOf, IsConvertedCauseOf}
+use Rattle.tta_given.proofs.Endings.{writes}
+use Rattle.tta_tool.proofs.build_converted.build_converted_image.Goals as goal
+
+pub returns-in-Ok : goal.returns-in-Ok
+returns-in-Ok g c =
+    let f = g.F.Files in
+    let U = stated (λ v. (goal.OpUnit-dyn g v).unit_meaning v.1) c.args.units.now in
+    let request = c.args.request.now in
+    let pair = c.in-Ok.pair in
+    writes U (IsProgramFor U) (RefusesProgramFor U) (IsConvertedImageOf U) (λ file p. IsConvertedCauseOf U file.machine p) request.machine.now request.second.now request.out.now
+    pair.file pair.program (f.world c.args.files.now) (f.world c.program_pair.new.files) (f.world c.write_made.new.files) (λ v. v.items)
+    c.image_of_converted-made.result c.write_made.result c.in-Ok.ensures.ends c.image_of_converted-made.ensures c.write_made.ensures
