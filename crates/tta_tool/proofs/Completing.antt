@@ -115,7 +115,7 @@ module _ (store : Store) (faults : ℕ) (latest : Option Fault) (after : World) 
     cause_only s is = absurd is
 
     -- what is written is written, or memory lacks
-    pub writing_only : (Makes : List ℕ → Type 0) (s : Status) → WritingEnds Makes OUT before after s → (s ≡ status.Ok) ⊎ (s ≡ status.NoMemory)
+    writing_only : (Makes : List ℕ → Type 0) (s : Status) → WritingEnds Makes OUT before after s → (s ≡ status.Ok) ⊎ (s ≡ status.NoMemory)
     writing_only Makes status.Ok ends = inl refl
     writing_only Makes status.WriteFault ends = absurd (none ends.rose)
     writing_only Makes status.NoMemory ends = inr refl

@@ -20,12 +20,13 @@ use Rattle.tta_given.specs.Held.{Held, FileFails, no_memory}
 use Rattle.tta_given.specs.Machines.{IsDescribed, RefusesMachine}
 use Rattle.tta_given.specs.Programs.{IsProgramFor, RefusesProgram, RefusesProgramFor}
 use Rattle.tta_given.specs.Sources.{RefusesSource}
+use Rattle.tta_given.specs.Ends.{WritingEnds}
 use Rattle.tta_tool.specs.Completes.{HasRoomyPair, showing}
 use Rattle.tta_tool.specs.Ifconv.{IsConvertedText, WritesConverted}
 use Rattle.tta_tool.specs.BuildConverted.{IsConvertedImageOf, IsConvertedCauseOf, BuildsConverted}
 use Rattle.tta_tool.specs.ConvertedCompletes.{IfconvCompletes, BuildConvertedCompletes}
 use Rattle.tta_tool.proofs.OneProgram.{not_refused}
-use Rattle.tta_tool.proofs.Completing.{machine_only, program_only, file_only, same_machine, same_program, writing_only}
+use Rattle.tta_tool.proofs.Completing.{machine_only, program_only, file_only, same_machine, same_program}
 
 -- a text of a program is refused only for lack of memory
 source_only : (u : Units) (text : List ℕ) (p : Program) (s : Status) → ProgramText u text p → RefusesSource u text s → s ≡ status.NoMemory
@@ -34,12 +35,20 @@ source_only u text p status.NoMemory is bad = refl
 source_only u text p s is bad = absurd bad
 
 module _ (store : Store) (faults : ℕ) (latest : Option Fault) (after : World) (none : Rose faults after.faults → ⊥) where
+  -- what is written is written, or memory lacks
+  writing_only : (Makes : List ℕ → Type 0) (OUT : List ℕ) (s : Status) → WritingEnds Makes OUT (showing store faults latest) after s
+      → (s ≡ status.Ok) ⊎ (s ≡ status.NoMemory)
+  writing_only Makes OUT status.Ok ends = inl refl
+  writing_only Makes OUT status.WriteFault ends = absurd (none ends.rose)
+  writing_only Makes OUT status.NoMemory ends = inr refl
+  writing_only Makes OUT s ends = absurd ends
+
   pub text_completes : (u : Units) (P OUT : List ℕ) (a : Held (ProgramText u) (Some store) P) (s : Status)
       → WritesConverted u P OUT (showing store faults latest) after s → (s ≡ status.Ok) ⊎ (s ≡ status.NoMemory)
   text_completes u P OUT a s (inl fails) =
       inr (file_only store faults latest after none (ProgramText u) (RefusesSource u) P a.value 1 s (λ text. source_only u text a.value s) a.held fails)
   text_completes u P OUT a s (inr (b, inl lacks)) = inr lacks.1
-  text_completes u P OUT a s (inr (b, inr ends)) = writing_only store faults latest after none OUT (IsConvertedText u b.value) s ends
+  text_completes u P OUT a s (inr (b, inr ends)) = writing_only (IsConvertedText u b.value) OUT s ends
 
   module _ (u : Units) (M P OUT : List ℕ) (a : HasRoomyPair u store M P) where
     abbrev m : MachineFile
@@ -70,7 +79,7 @@ module _ (store : Store) (faults : ℕ) (latest : Option Fault) (after : World) 
     image_completes s (inr (b, inl lacks)) =
         inr (cause_only s (subst (λ (x : Machine). IsConvertedCauseOf u x p s) (same_machine store faults latest after none u M P OUT a b.machine)
         (subst (λ (q : Program). IsConvertedCauseOf u b.machine.value.machine q s) (same_program store faults latest after none u M P OUT a b) lacks.1)))
-    image_completes s (inr (b, inr ends)) = writing_only store faults latest after none OUT (IsConvertedImageOf u b.machine.value b.second.value) s ends
+    image_completes s (inr (b, inr ends)) = writing_only (IsConvertedImageOf u b.machine.value b.second.value) OUT s ends
 
 pub ifconv_completes_holds : IfconvCompletes
 ifconv_completes_holds u store faults latest P OUT after s a none ends = text_completes store faults latest after none u P OUT a s ends
