@@ -13,13 +13,22 @@ CHARACTER = r"'(?:\\.[^'\n]*|[^'\\\n])'"
 COMMENT_OR_LITERAL = re.compile(f"{COMMENT}|{STRING}|{CHARACTER}", re.S)
 LITERAL = re.compile(f"({STRING}|{CHARACTER})", re.S)
 
+# A program is started as C does.
+START = """#[unsafe(no_mangle)]
+pub extern \"C\" fn main() -> i32 {
+    kit::host::start(program)
+}
+"""
+IS_STARTED = "#![no_main]\n"
+
 # These are changed between strings alone.
 NAMES = [
     (r"^use (?:std::marker::Model|thiserror::Error);\n", ""),
     (r"^use std::env;\n", "use kit::host as env;\n"),
     (r"\bstd::rt::", "kit::host::"),
     (r"\bBox::new\(alloc, ", "kit::host::boxed(alloc, "),
-    (r"^fn main\(rt: HostRuntime\) -> ExitCode \{\n", "fn main() -> ExitCode {\n    let rt = HostRuntime;\n"),
+    (r"^use std::process::ExitCode;\n", "use kit::host::ExitCode;\n"),
+    (r"^fn main\(rt: HostRuntime\) -> ExitCode \{\n", f"{START}\nfn program(rt: HostRuntime) -> ExitCode {{\n"),
     (r"\bstd::alloc::", "kit::alloc::"),
     (r"\barrayvec::", "kit::array_vec::"),
     (r"\bindexmap::", "kit::index_map::"),
@@ -128,5 +137,6 @@ def plain_files(source):
                 continue
             with open(os.path.join(folder, base + ending)) as f:
                 text = f.read()
-            added = IN_THEIR_PLACE if "pub use real_files" in text else ""
-            yield os.path.join(os.path.relpath(folder, source), base + ".rs"), plain(text) + added
+            begin = IS_STARTED if base == "main" else ""
+            end = IN_THEIR_PLACE if "pub use real_files" in text else ""
+            yield os.path.join(os.path.relpath(folder, source), base + ".rs"), begin + plain(text) + end

@@ -42,6 +42,30 @@ pub fn print_error(line: Arguments<'_>) -> io::Result<()> {
     writeln!(io::stderr(), "{line}")
 }
 
+/// The status that a program ends with.
+pub struct ExitCode(u8);
+
+impl From<u8> for ExitCode {
+    fn from(status: u8) -> Self {
+        ExitCode(status)
+    }
+}
+
+unsafe extern "C" {
+    fn signal(number: i32, handler: usize) -> usize;
+}
+
+const BROKEN_PIPE: i32 = 13;
+const IGNORED: usize = 1;
+
+/// Runs a program as C does: Rust's own start would open what stands for a closed output, where the proved program ends with a
+/// fault of the write. An output whose reader is gone is a fault as well, and no signal.
+pub fn start(program: fn(HostRuntime) -> ExitCode) -> i32 {
+    // SAFETY: the call changes how a signal is handled, and nothing else.
+    unsafe { signal(BROKEN_PIPE, IGNORED) };
+    i32::from(program(HostRuntime).0)
+}
+
 /// A box for a value.
 pub fn boxed<T>(_: Global, value: T) -> Result<Box<T>, AllocError> {
     Ok(Box::new(value))
