@@ -1,0 +1,88 @@
+-- The laws: the order in which cores make their steps makes no difference to what they output.
+use Rattle.std.specs.Prelude.{◌≡◌, ℕ, List, Option, map, length}
+use Rattle.std.specs.List.{AllByRecursion}
+use Rattle.tta_ops.specs.Units.{Units}
+use Rattle.tta_arch.specs.Machine.{Machine}
+use Rattle.tta_arch.specs.Rules.{IsMachine}
+use Rattle.tta_list.specs.Laid.{over}
+use Rattle.tta_program.specs.Program.{Program, data_of}
+use Rattle.tta_program.specs.Rules.{IsProgram}
+use Rattle.tta_code.specs.Legal.{IsLegalCode}
+use Rattle.tta_code.specs.Whole.{Whole, data_in}
+use Rattle.tta_agree.specs.Agrees.{AgreesAt, AreWords, IsPrefixOf}
+use Rattle.tta_cores.specs.declared.cores.Core.{Core}
+use Rattle.tta_cores.specs.Network.{AreComparable}
+use Rattle.tta_cores.specs.Cluster.{cluster_output, IsClusterRest}
+use Rattle.tta_cores.specs.Programs.{group_output, IsGroupRest}
+
+-- ---- two orders
+
+-- a core: a machine by the rules of machines, and code that it can carry out
+pub record IsCore (c : Core) : Type 0 where
+  pub machine : IsMachine c.machine
+  pub legal : IsLegalCode c.machine c.code
+
+-- For any two orders of steps, each core's outputs in one begin those in the other, or the other way round. Where the cores are at
+-- rest after one, its outputs there are begun by those in the other; and at two rests they are the same.
+pub record Compare (output other : (steps : List ℕ) → (core : ℕ) → List ℕ) (IsRest IsOtherRest : (steps : List ℕ) → Type 0) : Type 0 where
+  pub comparable : (steps others : List ℕ) (core : ℕ) → AreComparable (output steps core) (other others core)
+  pub within : (steps others : List ℕ) (core : ℕ) → IsOtherRest others → IsPrefixOf (output steps core) (other others core)
+  pub beyond : (steps others : List ℕ) (core : ℕ) → IsRest steps → IsPrefixOf (other others core) (output steps core)
+  pub equal : (steps others : List ℕ) (core : ℕ) → IsRest steps → IsOtherRest others → output steps core ≡ other others core
+
+-- cores that take their cycles in one order and in another
+abbrev pub CoresCompare : Type 0
+CoresCompare =
+    (u : Units) (cores : List Core) (feeds : List (Option ℕ)) (memories : List (List ℕ)) → AllByRecursion IsCore cores
+    → Compare (cluster_output u cores feeds memories) (cluster_output u cores feeds memories)
+    (IsClusterRest u cores feeds memories) (IsClusterRest u cores feeds memories)
+
+-- programs that take their steps in one order and in another
+abbrev pub ProgramsCompare : Type 0
+ProgramsCompare =
+    (u : Units) (programs : List Program) (feeds : List (Option ℕ)) (memories : List (List ℕ))
+    → Compare (group_output u programs feeds memories) (group_output u programs feeds memories)
+    (IsGroupRest u programs feeds memories) (IsGroupRest u programs feeds memories)
+
+-- ---- cores and programs
+
+-- a core whose code with data agrees with a program, at a rate of so many of its steps a cycle, and the words that both are given for
+-- their data space
+pub record Pair : Type 0 where
+  pub machine : Machine
+  pub whole : Whole
+  pub program : Program
+  pub rate : ℕ
+  pub memory : List ℕ
+
+pub record IsPair (u : Units) (p : Pair) : Type 0 where
+  pub machine : IsMachine p.machine
+  pub legal : IsLegalCode p.machine p.whole.code
+  pub program : IsProgram p.program
+  pub agrees : AgreesAt u p.machine p.program p.rate p.whole
+  pub size : length p.memory ≡ p.machine.data_words
+  pub words : AreWords p.memory
+
+-- the core of each pair, and its data space at first, the data of its code laid over the words
+abbrev pub core_in : Pair → Core
+core_in p = record { machine = p.machine; code = p.whole.code }
+
+abbrev pub core_memory : Pair → List ℕ
+core_memory p = over (data_in p.whole) p.memory
+
+-- the data memory of each program at first, its data laid over the same words
+abbrev pub program_memory : Pair → List ℕ
+program_memory p = over (data_of p.program) p.memory
+
+-- the cores of pairs in one order of cycles, and their programs in another order of steps
+abbrev pub PairsCompare : Units → List Pair → (feeds : List (Option ℕ)) → Type 0
+PairsCompare u pairs feeds =
+    let cores = map core_in pairs in
+    let programs = map (λ p. p.program) pairs in
+    let cores_begin = map core_memory pairs in
+    let programs_begin = map program_memory pairs in
+    Compare (cluster_output u cores feeds cores_begin) (group_output u programs feeds programs_begin)
+    (IsClusterRest u cores feeds cores_begin) (IsGroupRest u programs feeds programs_begin)
+
+abbrev pub CoresAgree : Type 0
+CoresAgree = (u : Units) (pairs : List Pair) (feeds : List (Option ℕ)) → AllByRecursion (IsPair u) pairs → PairsCompare u pairs feeds
