@@ -1,0 +1,119 @@
+//! One core among others.
+
+ghost use Rattle.std.specs.Prelude.{◌≡◌, ◌+◌, ◌<◌, ◌≤◌, ◌++◌, ◌^◌, length, List, ℕ, option_to_list};
+ghost use Rattle.std.specs.Prelude.{if◌then◌else◌, IfOk};
+ghost use Rattle.tta_list.specs.Input.{IsFed};
+ghost use Rattle.tta_ops.specs.Set.{stated};
+ghost use Rattle.tta_code.specs.Cycle.{State};
+ghost use Rattle.tta_flight.specs.Flight.{StayBeside};
+ghost use Rattle.tta_sim.specs.Results.{AreKept};
+ghost use Rattle.tta_cores.specs.Network.{Joined, after_step, stepped};
+ghost use Rattle.tta_net.specs.Members.{IsMemberOf, StandsAs, alone, turn_of};
+ghost use Rattle.tta_net.specs.Loaded.{CanLoad, IsFirst};
+
+use crate::outputs::Outputs;
+use crate::turn::Turn;
+use std::alloc::{AllocError, Global};
+use tta_cores::Core;
+use tta_flight::Region;
+use tta_ops::UnitSet;
+use tta_sim::{CycleStep, SimState};
+
+/// A core among others: its run, the first of its units in the region of all, the core whose outputs
+/// are its input, what it has output, and how many words of its input it has taken.
+#[derive(Drop)]
+pub struct Member {
+    pub state: SimState,
+    pub base: u8,
+    pub feeder: Option<u8>,
+    pub output: Outputs,
+    pub taken: usize,
+}
+
+impl Member {
+    /// The start of a core's run, with its first unit at `base`, so many words of room for what it
+    /// outputs, and this core as its feeder. It takes all memory that the run needs.
+    pub fn load(
+        alloc: Global,
+        core: &Core,
+        base: u8,
+        feeder: Option<u8>,
+        memory: Vec<u32>,
+        rounds: u32,
+    ) -> Result<Self, AllocError>
+        requires { CanLoad core.now memory.items }
+        ensures { IfOk result (IsFirst core.now base feeder memory.items rounds) }
+    {
+        // So that it is known here that the machine's rules hold.
+        let _ = &core.machine.control;
+        let state = SimState::load(alloc, &core.machine, &core.code, memory)?;
+        let Ok(output) = Outputs::with_room(alloc, rounds as usize) else {
+            drop(state);
+            return Err(AllocError);
+        };
+        Ok(Member {
+            state,
+            base,
+            feeder,
+            output,
+            taken: 0,
+        })
+    }
+
+    /// Notes what a cycle output, and whether it took a word.
+    fn note(&mut self, put: Option<u32>, took: bool)
+        requires room { length self.old.output.words < self.old.output.room }
+        requires few { self.old.taken < 2 ^ 63 }
+        ensures { self.new ≡ record self.old {
+            output = record self.old.output {
+                words = self.old.output.words ++ option_to_list put };
+            taken = self.old.taken + (if took then 1 else 0) } }
+    {
+        self.output.add(put);
+        if took {
+            self.taken += 1;
+        }
+    }
+
+    /// Makes one cycle, where `next` is the next word of the core's input, `None` where none is left.
+    /// It takes no memory.
+    pub fn turn(
+        &mut self,
+        region: &mut Region,
+        core: &Core,
+        units: &UnitSet,
+        next: Option<u32>,
+    ) -> Turn
+        requires loaded { IsMemberOf region.old core.now self.old }
+        requires room { self.old.state.cycle < self.old.output.room }
+        ensures loaded { IsMemberOf region.new core.now self.new }
+        ensures kept { AreKept region.old region.new }
+        ensures beside { StayBeside self.old.base (length core.now.machine.units)
+            region.old region.new }
+        ensures base { self.new.base ≡ self.old.base }
+        ensures feeder { self.new.feeder ≡ self.old.feeder }
+        ensures room { self.new.output.room ≡ self.old.output.room }
+        ensures counted { self.new.state.cycle ≤ self.old.state.cycle + 1 }
+        ensures next { let U = stated unit_meaning units.now in (c : Joined State) (input : List ℕ)
+            → StandsAs region.old core.now self.old c → IsFed input next
+            → StandsAs region.new core.now self.new (stepped (alone U core.now) 0 input c) }
+        ensures answer { let U = stated unit_meaning units.now in
+            (c : Joined State) (input : List ℕ)
+            → StandsAs region.old core.now self.old c → IsFed input next
+            → result ≡ turn_of c.state (after_step (alone U core.now) 0 input c) }
+    {
+        let base = self.base;
+        match self
+            .state
+            .cycle(region, base, &core.machine, &core.code, units, next)
+        {
+            CycleStep::Ran { put, took } => {
+                self.note(put, took);
+                Turn::Ran
+            }
+            CycleStep::Halted => Turn::Halted,
+            CycleStep::Waiting => Turn::Waiting,
+            CycleStep::Fault(number) => Turn::Fault(number),
+        }
+    }
+}
