@@ -1,8 +1,9 @@
 -- What is known between two rounds.
-use Rattle.std.proofs.Common.{◌≡◌, ◌⊎◌, inl, inr, ⊎_elim, ℕ, zero, suc, ◌+◌, ◌≤◌, ◌<◌, Bool, true, false, ◌||◌, List, [], ◌∷◌, length, map, Option, Some, refl, sym, ap, subst, ◌∙◌, arith}
+use Rattle.std.proofs.Common.{◌≡◌, ◌⊎◌, inl, inr, ⊎_elim, ℕ, zero, suc, ◌+◌, ◌≤◌, ◌<◌, Bool, true, false, ◌||◌, List, [], ◌∷◌, length, map, replicate, Option, Some, refl, sym, ap, subst, ◌∙◌, arith}
 use Rattle.std.specs.Option.{option_map_or}
 use Rattle.std.specs.List.{list_any}
 use Rattle.std.proofs.lemmas.Bool.{cases_lt}
+use Rattle.std.proofs.lemmas.List.{length-replicate}
 use Rattle.std.proofs.lemmas.List.Sums.{fold-append}
 use Rattle.tta_ops.specs.Units.{Units}
 use Rattle.tta_code.specs.Cycle.{State}
@@ -10,8 +11,9 @@ use Rattle.tta_cores.specs.declared.cores.Core.{Core}
 use Rattle.tta_cores.specs.Network.{Network, Joined, turn}
 use Rattle.tta_cores.specs.Cluster.{cycles}
 use Rattle.tta_net.specs.declared.turn.Turn.{Turn}
+use Rattle.tta_net.specs.declared.turn.Turn.TheVariants as turn_told
 use Rattle.tta_net.specs.Clusters.{HeldCluster, IsClusterOf, StandsFor, feeds_of, made_by}
-use Rattle.tta_net.specs.Rounds.{numbers, steps_in, answers, is_ran, round, after_rounds, answers_in, went_in, StopsAfter, HasEnded}
+use Rattle.tta_net.specs.Rounds.{numbers, steps_in, answers, is_ran, round, after_rounds, answers_in, last_answers, went_in, StopsAfter, HasEnded}
 
 -- So many rounds are made, and in each some core ran.
 pub record IsRunSoFar (u : Units) (cores : List Core) (old now : HeldCluster) (last : List Turn) (made : ℕ) : Type 0 where
@@ -23,8 +25,7 @@ pub record IsRunSoFar (u : Units) (cores : List Core) (old now : HeldCluster) (l
   pub counted : (k : ℕ) → made_by now k ≤ made
   pub next : (cs : List (Joined State)) → StandsFor cores old cs → StandsFor cores now (after_rounds (cycles u cores (feeds_of old)) (length cores) cs made)
   pub went : (cs : List (Joined State)) → StandsFor cores old cs → (i : ℕ) → i < made → went_in (cycles u cores (feeds_of old)) (length cores) cs i ≡ true
-  pub told : (cs : List (Joined State)) → StandsFor cores old cs → (i : ℕ) → made ≡ i + 1
-      → map (λ t. Some t) last ≡ answers_in (cycles u cores (feeds_of old)) (length cores) cs i
+  pub told : (cs : List (Joined State)) → StandsFor cores old cs → map (λ t. Some t) last ≡ last_answers (cycles u cores (feeds_of old)) (length cores) cs made
 
 -- a round more is made from where the rounds before it led
 pub round_more : (net : Network State) (count : ℕ) (cs : List (Joined State)) (made : ℕ)
@@ -35,19 +36,24 @@ any_some : (ts : List Turn) → list_any (λ o. option_map_or is_ran o false) (m
 any_some [] = refl
 any_some (t ∷ ts) = ap (λ b. is_ran t || b) (any_some ts)
 
+-- as many of one
+same_each : {A B : Type 0} (f : A → B) (n : ℕ) (x : A) → map f (replicate n x) ≡ replicate n (f x)
+same_each f zero x = refl
+same_each f (suc n) x = ap (λ xs. f x ∷ xs) (same_each f n x)
+
 -- none is made
-pub run_begins : (u : Units) (cores : List Core) (old : HeldCluster) (last : List Turn) → IsClusterOf cores old → length last ≡ length cores → ((k : ℕ) → made_by old k ≡ 0)
-    → IsRunSoFar u cores old old last 0
+pub run_begins : (u : Units) (cores : List Core) (old : HeldCluster) (last : List Turn) → IsClusterOf cores old → last ≡ replicate (length cores) turn_told.Ran
+    → ((k : ℕ) → made_by old k ≡ 0) → IsRunSoFar u cores old old last 0
 run_begins u cores old last loaded turns none = record {
   within = omega arith;
   loaded = loaded;
   feeds = refl;
   rounds = refl;
-  turns = turns;
+  turns = ap length turns ∙ length-replicate {A = Turn} (length cores) turn_told.Ran;
   counted = λ k. omega (arith, none k);
   next = λ cs stands. stands;
   went = λ cs stands i less. absurd (omega (arith, less));
-  told = λ cs stands i is. absurd (omega (arith, is));
+  told = λ cs stands. ap (map (λ t. Some t)) turns ∙ same_each (λ t. Some t) (length cores) turn_told.Ran;
 }
 
 -- What a round leaves.
@@ -95,7 +101,7 @@ module _ (u : Units) (cores : List Core) (old now new : HeldCluster) (last turns
       | inl before ↦ was.went cs stands i before
       | inr past ↦ let same : i ≡ made = omega (arith, less', past) in ap (went_in net (length cores) cs) same ∙ went_is cs stands ∙ goes
     ];
-    told = λ cs stands i is. let same : made ≡ i = omega (arith, is) in answered cs stands ∙ ap (answers_in net (length cores) cs) same;
+    told = λ cs stands. answered cs stands ∙ ap (last_answers net (length cores) cs) number;
   }
 
   -- none did
@@ -109,7 +115,7 @@ module _ (u : Units) (cores : List Core) (old now new : HeldCluster) (last turns
     };
     running = λ is. absurd (let odd : false ≡ true = is in cc);
     resting = λ is. (made, refl, went_is cs stands ∙ rests);
-    answers = λ i is. let same : made ≡ i = omega (arith, is) in answered cs stands ∙ ap (answers_in net (length cores) cs) same;
+    answers = answered cs stands ∙ ap (last_answers net (length cores) cs) number;
     stands = subst (λ (n : ℕ). StandsFor cores new (after_rounds net (length cores) cs n)) number (stood cs stands);
   }
 

@@ -1,5 +1,5 @@
 -- Rounds: in each, every core by its number makes one cycle.
-use Rattle.std.specs.Prelude.{◌≡◌, ℕ, zero, suc, ◌+◌, ◌<◌, ◌≤◌, Bool, true, false, List, [], ◌∷◌, ◌++◌, map, Option, Some}
+use Rattle.std.specs.Prelude.{◌≡◌, ℕ, zero, suc, ◌+◌, ◌<◌, ◌≤◌, Bool, true, false, List, [], ◌∷◌, ◌++◌, map, replicate, Option, Some}
 use Rattle.std.specs.Option.{option_map_or}
 use Rattle.std.specs.List.{list_any}
 use Rattle.tta_code.specs.Cycle.{State}
@@ -45,18 +45,23 @@ answers_in net count cs made = answers net (after_rounds net count cs made) (num
 abbrev pub went_in : Network State → (count : ℕ) → List (Joined State) → (made : ℕ) → Bool
 went_in net count cs made = list_any (λ o. option_map_or is_ran o false) (answers_in net count cs made)
 
+-- what the last turn of each core answers after so many rounds: a core that had none counts as one that goes on
+abbrev pub last_answers : Network State → (count : ℕ) → List (Joined State) → (made : ℕ) → List (Option Turn)
+last_answers net count cs zero = replicate count (Some turn_told.Ran)
+last_answers net count cs (suc n) = answers_in net count cs n
+
 -- So many rounds are made of those that may be: it stops after the first in which no core ran.
 pub record StopsAfter (net : Network State) (count : ℕ) (cs : List (Joined State)) (most made : ℕ) : Type 0 where
   pub within : made ≤ most
   pub before : (i : ℕ) → i + 1 < made → went_in net count cs i ≡ true
   pub over : made < most → (last : ℕ) × (made ≡ last + 1) × (went_in net count cs last ≡ false)
 
--- What rounds came to: how many were made, whether some core ran in each that may be made, what the turns of the last answered, and
--- for which cluster the cores then stand.
+-- What rounds came to: how many were made, whether some core ran in each that may be made, what the last turn of each core answered,
+-- and for which cluster the cores then stand.
 pub record HasEnded (net : Network State) (count : ℕ) (cs : List (Joined State)) (most : ℕ) (is_running : Bool) (last : List Turn) (Stands : List (Joined State) → Type 0) : Type 0 where
   pub made : ℕ
   pub stops : StopsAfter net count cs most made
   pub running : is_running ≡ true → (i : ℕ) → i < most → went_in net count cs i ≡ true
   pub resting : is_running ≡ false → (i : ℕ) × (made ≡ i + 1) × (went_in net count cs i ≡ false)
-  pub answers : (i : ℕ) → made ≡ i + 1 → map (λ t. Some t) last ≡ answers_in net count cs i
+  pub answers : map (λ t. Some t) last ≡ last_answers net count cs made
   pub stands : Stands (after_rounds net count cs made)
