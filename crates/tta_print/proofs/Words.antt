@@ -3,7 +3,7 @@ use Rattle.std.proofs.Common.{◌≡◌, ◌<◌, ℕ, ◌+◌, ◌==◌, Bool, 
 use Rattle.std.proofs.lemmas.List.{drop_more}
 use Rattle.tta_print.specs.declared.line.Line.TheVariants as line
 use Rattle.tta_print.specs.declared.line.Line.{Line}
-use Rattle.tta_print.specs.Lines.{line_text, lines_text, memory_lines}
+use Rattle.tta_print.specs.Lines.{line_text, lines_text, memory_lines, word_lines}
 
 -- the line of the first word, if it has one, and then the others
 pub first_word : (address word : ℕ) (words : List ℕ)
@@ -30,3 +30,8 @@ word_at words address k below =
 pub line_at : (lines : List Line) (other : Line) (k : ℕ) → k < length lines
     → lines_text (drop k lines) ≡ line_text (slice_index_or lines k other) ++ lines_text (drop (k + 1) lines)
 line_at lines other k below = ap lines_text (drop_more lines k other below)
+
+-- the text of the words from one on: its own line, and those of the others
+pub output_at : (words : List ℕ) (k : ℕ) → k < length words
+    → lines_text (word_lines (drop k words)) ≡ line_text (line.Word (slice_index words k)) ++ lines_text (word_lines (drop (k + 1) words))
+output_at words k below = ap (λ l. lines_text (word_lines l)) (drop_more words k 0 below)

@@ -17,6 +17,7 @@ line_text (line.Cycles count) = codes "cycles " ++ decimal count ++ codes "\n"
 line_text (line.Lines count) = codes "lines " ++ decimal count ++ codes "\n"
 line_text (line.Words count) = codes "words " ++ decimal count ++ codes "\n"
 line_text (line.Outputs count) = codes "outputs " ++ decimal count ++ codes "\n"
+line_text (line.Core core) = codes "core " ++ decimal core ++ codes "\n"
 line_text (line.Equal true) = codes "equal yes\n"
 line_text (line.Equal false) = codes "equal no\n"
 
@@ -37,3 +38,7 @@ word_lines words = map line.Word words
 -- what follows the words of a run: how it ended, the data words that are not 0, and how long it was
 abbrev pub report_lines : (outcome : Line) → (memory : List ℕ) → (count : Line) → List Line
 report_lines outcome memory count = outcome ∷ (memory_lines 0 memory ++ count ∷ [])
+
+-- what is printed of a core: its number, the words that it has output, and how its last turn ended
+abbrev pub core_lines : (core : ℕ) → (words : List ℕ) → (last : Line) → List Line
+core_lines core words last = line.Core core ∷ (word_lines words ++ last ∷ [])

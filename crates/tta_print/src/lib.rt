@@ -2,6 +2,7 @@
 //! the numbers and its `arrayvec` holds the line.
 #![tactic(auto)]
 
+mod cores;
 mod line;
 mod memory;
 mod put;
@@ -9,6 +10,7 @@ mod reply;
 mod report;
 mod text;
 
+pub use cores::put_core;
 pub use line::Line;
 pub use put::{put_line, put_lines};
 pub use reply::{Reply, put_due, put_reply};

@@ -25,6 +25,8 @@ pub enum Line {
     Words(u64),
     /// How many words were output: `outputs K`.
     Outputs(u64),
+    /// The number of a core, before what it has output: `core K`.
+    Core(u8),
     /// Whether two runs have output the same and left the same data words: `equal yes` or
     /// `equal no`.
     Equal(bool),

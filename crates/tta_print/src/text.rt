@@ -72,6 +72,10 @@ fn push_line(text: &mut ArrayString<ROOM>, line: &Line)
             text.push_str("outputs ");
             push_number(text, *count);
         }
+        Line::Core(core) => {
+            text.push_str("core ");
+            push_number(text, u64::from(*core));
+        }
         Line::Equal(true) => text.push_str("equal yes"),
         Line::Equal(false) => text.push_str("equal no"),
     }
