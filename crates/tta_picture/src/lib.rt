@@ -2,9 +2,9 @@
 //! tta_given and languages, and on no pass.
 #![tactic(auto)]
 
+mod drawing;
 mod laws;
-mod picture;
 mod request;
 
+pub use drawing::picture;
 pub use laws::{code_by_status, machine_by_status};
-pub use picture::picture;

@@ -3,7 +3,7 @@ use Rattle.tta_given.specs.Held.{no_memory}
 use Rattle.tta_given.specs.Images.{IsImageFor, RefusesImage}
 use Rattle.tta_given.proofs.Endings.{puts}
 use Rattle.tta_picture.specs.Picture.{IsDrawn}
-use Rattle.tta_picture.proofs.picture.put_code.Goals as goal
+use Rattle.tta_picture.proofs.drawing.put_code.Goals as goal
 
 pub returns-in-Ok : goal.returns-in-Ok
 returns-in-Ok g c =

@@ -3,7 +3,7 @@ use Rattle.tta_ops.specs.Set.{stated}
 use Rattle.tta_draw.specs.MachinePicture.{picture_of_machine}
 use Rattle.tta_given.specs.Held.{no_memory}
 use Rattle.tta_given.proofs.Endings.{text_ends}
-use Rattle.tta_picture.proofs.picture.put_machine.Goals as goal
+use Rattle.tta_picture.proofs.drawing.put_machine.Goals as goal
 
 pub returns-in-Ok : goal.returns-in-Ok
 returns-in-Ok g c =
