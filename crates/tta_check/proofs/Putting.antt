@@ -1,0 +1,127 @@
+-- Tables into which something is put.
+use Rattle.std.proofs.Common.{◌≡◌, ℕ, zero, suc, ◌≤◌, length, List, [], ◌∷◌, map, Option, Some, None, refl, ap, sym, subst, ◌∙◌, ◌⊎◌, inl, inr, arith}
+use Rattle.std.specs.Prelude.{slice_get, slice_set}
+use Rattle.tta_arch.specs.Machine.{Machine}
+use Rattle.tta_arch.specs.Effects.{Kind}
+use Rattle.tta_code.specs.declared.code.Instruction.{Instruction}
+use Rattle.tta_code.specs.declared.code.Code.{Code}
+use Rattle.tta_code.specs.Cycle.{effects_of}
+use Rattle.tta_check.specs.declared.sense.Sense.{Sense}
+use Rattle.tta_check.specs.declared.turn.Turn.{Turn}
+use Rattle.tta_check.specs.Controls.{controller, does}
+use Rattle.tta_check.specs.Turns.{kept_after}
+use Rattle.tta_check.specs.Visits.{turn_at, IsWay, IsActs, IsStays, GoesOn}
+use Rattle.tta_check.specs.Carries.{CanCarry}
+use Rattle.tta_check.proofs.Visiting.{count_after}
+use Rattle.tta_check.proofs.Ways.{acts_way, stays_way}
+use Rattle.tta_check.specs.declared.row.Kept.{Kept}
+use Rattle.tta_check.specs.declared.entries.Table.{Table}
+use Rattle.tta_check.specs.declared.visit.Onward.{Onward}
+use Rattle.tta_check.specs.Joined.{joined_list}
+use Rattle.tta_check.specs.Going.{key_as}
+use Rattle.tta_check.specs.Tables.{place_at, Fits, FitsSome, FitsBoth, Sets, Puts, Fresh, Grown, Calm, PutSome}
+use Rattle.tta_check.proofs.Placing.{joined_count}
+
+pub set_get : {A : Type 0} (xs : List A) (p q : ℕ) (v e : A) → slice_get (slice_set xs p v) q ≡ Some e → ((p ≡ q) × (e ≡ v)) ⊎ (slice_get xs q ≡ Some e)
+set_get [] p q v e h = absurd cc
+set_get {A} (x ∷ xs) zero zero v e h = inl (refl, same h) where
+  same : Some v ≡ Some e → e ≡ v
+  same h = cc
+set_get (x ∷ xs) zero (suc q) v e h = inr h
+set_get (x ∷ xs) (suc p) zero v e h = inr h
+set_get {A} (x ∷ xs) (suc p) (suc q) v e h = on (set_get xs p q v e h) where
+  on : ((p ≡ q) × (e ≡ v)) ⊎ (slice_get xs q ≡ Some e) → ((suc p ≡ suc q) × (e ≡ v)) ⊎ (slice_get xs q ≡ Some e)
+  on (inl r) = inl (ap suc r.0, r.1)
+  on (inr r) = inr r
+
+pub set_count : {A : Type 0} (xs : List A) (p : ℕ) (v : A) → length (slice_set xs p v) ≡ length xs
+set_count [] p v = refl
+set_count (x ∷ xs) zero v = refl
+set_count (x ∷ xs) (suc p) v = let e = set_count xs p v in omega arith
+
+joined_cells_count : (ks ls : List Kept) → length (joined_list ks ls) ≡ length ks
+joined_cells_count [] ls = refl
+joined_cells_count (k ∷ ks) [] = refl
+joined_cells_count (k ∷ ks) (l ∷ ls) = let e = joined_cells_count ks ls in omega arith
+
+-- an entry that is set is as long
+fits_set : (delay len p : ℕ) (y b : Onward) (old new : Table) → Fits delay len y old → Sets p b old new → length b.row.cells.items ≡ length y.row.cells.items → length b.row.ports.items ≡ length y.row.ports.items
+    → Fits delay len y new
+fits_set delay len p y b old new fits sets cells ports = record {
+  count = ap length sets.entries ∙ set_count old.entries.items p (Some b) ∙ fits.count;
+  few = fits.few;
+  cells = λ q e h. by q e (set_get old.entries.items p q (Some b) (Some e) (ap (λ xs. slice_get xs q) (sym sets.entries) ∙ h));
+  ports = λ q e h. at q e (set_get old.entries.items p q (Some b) (Some e) (ap (λ xs. slice_get xs q) (sym sets.entries) ∙ h));
+} where
+  same : (e : Onward) → Some e ≡ Some b → e ≡ b
+  same e h = cc
+
+  by : (q : ℕ) (e : Onward) → ((p ≡ q) × (Some e ≡ Some b)) ⊎ (slice_get old.entries.items q ≡ Some (Some e)) → length e.row.cells.items ≡ length y.row.cells.items
+  by q e (inl r) = ap (λ x. length x.row.cells.items) (same e r.1) ∙ cells
+  by q e (inr r) = fits.cells q e r
+
+  at : (q : ℕ) (e : Onward) → ((p ≡ q) × (Some e ≡ Some b)) ⊎ (slice_get old.entries.items q ≡ Some (Some e)) → length e.row.ports.items ≡ length y.row.ports.items
+  at q e (inl r) = ap (λ x. length x.row.ports.items) (same e r.1) ∙ ports
+  at q e (inr r) = fits.ports q e r
+
+-- a table into which something as long was put
+pub fits_puts : (delay len : ℕ) (x y : Onward) (old new : Table) → Fits delay len y old → Puts delay x old new → length x.row.cells.items ≡ length y.row.cells.items → length x.row.ports.items ≡ length y.row.ports.items
+    → Fits delay len y new
+fits_puts delay len x y old new fits (Fresh none sets) cells ports = fits_set delay len (place_at delay (key_as x.key)) y x old new fits sets cells ports
+fits_puts delay len x y old new fits (Grown e both there joins more sets) cells ports =
+    fits_set delay len (place_at delay (key_as x.key)) y both old new fits sets
+    (ap length joins.joined.cells ∙ joined_cells_count e.row.cells.items x.row.cells.items ∙ fits.cells (place_at delay (key_as x.key)) e there)
+    (ap length joins.joined.ports ∙ joined_count e.row.ports.items x.row.ports.items ∙ fits.ports (place_at delay (key_as x.key)) e there)
+fits_puts delay len x y old new fits (Calm e both there joins same is) cells ports = subst (Fits delay len y) (sym is) fits
+
+pub fits_mid : (delay len : ℕ) (acts stays : Option Onward) (old mid : Table) → FitsBoth delay len acts stays old → PutSome delay len acts old mid None → FitsSome delay len stays mid
+fits_mid delay len None stays old mid both put = subst (FitsSome delay len stays) (sym put.0) both.other
+fits_mid delay len (Some x) None old mid both put = tt
+fits_mid delay len (Some x) (Some y) old mid both put = fits_puts delay len x y old mid both.other put (both.cells x y refl refl) (both.ports x y refl refl)
+
+-- ---- what an instruction leads to is as long
+
+kept_count : (m : Machine) (i : Instruction) (turn : Turn) (ks rest : List Kept) → length (map (kept_after m i turn ks) rest) ≡ length rest
+kept_count m i turn ks [] = refl
+kept_count m i turn ks (k ∷ rest) = let e = kept_count m i turn ks rest in omega arith
+
+-- as long as another
+abbrev AsLong : Onward → Onward → Type 0
+AsLong x at = (length x.row.cells.items ≡ length at.row.cells.items) × (length x.row.ports.items ≡ length at.row.ports.items)
+
+way_long : (m : Machine) (i : Instruction) (at x : Onward) (sense : Option Sense) (event : Option (Kind × ℕ)) → IsWay m i at sense event (Some x) → AsLong x at
+way_long m i at x sense event way =
+    let turn = turn_at m (key_as at.key) sense in
+    (ap length (way.cells x refl) ∙ kept_count m i turn at.row.cells.items at.row.cells.items, ap length (way.ports x refl) ∙ count_after m i turn 0 at.row.ports.items)
+
+acts_long : (m : Machine) (i : Instruction) (at x : Onward) (acts stays : Option Onward) → GoesOn m i at acts stays → acts ≡ Some x → AsLong x at
+acts_long m i at x acts stays g is =
+    let w = acts_way m i at g.word x (subst (λ o. IsActs m i at (controller (effects_of m i)) g.word o) is g.where_acts) in
+    way_long m i at x w.sense (does g.word (controller (effects_of m i)) w.acts) w.way
+
+stays_long : (m : Machine) (i : Instruction) (at x : Onward) (acts stays : Option Onward) → GoesOn m i at acts stays → stays ≡ Some x → AsLong x at
+stays_long m i at x acts stays g is =
+    let w = stays_way m i at g.word x (subst (λ o. IsStays m i at (controller (effects_of m i)) o) is g.where_stays) in
+    way_long m i at x w.sense (does g.word (controller (effects_of m i)) w.acts) w.way
+
+fits_one : (m : Machine) (code : Code) (place : ℕ) (t : Table) (at x : Onward) → CanCarry m code place t → slice_get t.entries.items place ≡ Some (Some at) → AsLong x at → Fits m.control.delay (length code.words) x t
+fits_one m code place t at x can there long = record {
+  count = can.count;
+  few = subst (λ n. n ≤ 256) (sym (long.1 ∙ can.ports place at there)) can.few;
+  cells = λ p e h. can.cells p e h ∙ sym (long.0 ∙ can.cells place at there);
+  ports = λ p e h. can.ports p e h ∙ sym (long.1 ∙ can.ports place at there);
+}
+
+fits_some : (m : Machine) (code : Code) (place : ℕ) (t : Table) (at : Onward) (o : Option Onward) → CanCarry m code place t → slice_get t.entries.items place ≡ Some (Some at) → ((x : Onward) → o ≡ Some x → AsLong x at)
+    → FitsSome m.control.delay (length code.words) o t
+fits_some m code place t at None can there long = tt
+fits_some m code place t at (Some x) can there long = fits_one m code place t at x can there (long x refl)
+
+pub goes_fit : (m : Machine) (code : Code) (place : ℕ) (t : Table) (at : Onward) (i : Instruction) (acts stays : Option Onward) → CanCarry m code place t → slice_get t.entries.items place ≡ Some (Some at)
+    → GoesOn m i at acts stays → FitsBoth m.control.delay (length code.words) acts stays t
+goes_fit m code place t at i acts stays can there g = record {
+  one = fits_some m code place t at acts can there (λ x is. acts_long m i at x acts stays g is);
+  other = fits_some m code place t at stays can there (λ x is. stays_long m i at x acts stays g is);
+  cells = λ x y is1 is2. (acts_long m i at x acts stays g is1).0 ∙ sym (stays_long m i at y acts stays g is2).0;
+  ports = λ x y is1 is2. (acts_long m i at x acts stays g is1).1 ∙ sym (stays_long m i at y acts stays g is2).1;
+}

@@ -1,0 +1,12 @@
+use Rattle.std.proofs.Common.{◌<◌, length, sym, subst, arith}
+use Rattle.tta_check.specs.Tables.{Leaves}
+use Rattle.tta_check.proofs.Placing.{place_below}
+use Rattle.tta_check.proofs.entries.Table.put.Goals as goal
+
+pub put_at-requires-clause-there : goal.put_at-requires-clause-there
+put_at-requires-clause-there c =
+    subst (λ n. n < length c.args.self.now.entries.items) (sym c.place_of-place.ensures)
+    (place_below c.args.delay c.args.len c.args.onward c.args.self.now c.requires (let e = c.if-len-onward.false in omega arith))
+
+pub returns-then-len-onward : goal.returns-then-len-onward
+returns-then-len-onward c = Leaves c.if-len-onward.true

@@ -1,0 +1,38 @@
+-- Lists of places.
+use Rattle.std.specs.Prelude.{◌≡◌, ℕ, Bool, true, false, List, Option, Some, slice_get}
+use Rattle.std.specs.Option.{option_map_or}
+use Rattle.std.specs.List.{list_any}
+use Rattle.tta_arch.specs.Machine.{Machine}
+use Rattle.tta_arch.specs.Effects.{Effect, Place, same_place, target_of}
+use Rattle.tta_code.specs.declared.code.Move.{Move}
+use Rattle.tta_code.specs.declared.code.Instruction.{Instruction}
+use Rattle.tta_code.specs.Cycle.{effects_of}
+use Rattle.tta_check.specs.declared.spot.Spot.{Spot}
+use Rattle.tta_check.specs.Facts.{goes_into}
+use Rattle.tta_check.specs.Rows.{place_of}
+
+-- whether a list has a place
+abbrev pub has_spot : List Spot → Place → Bool
+has_spot spots p = list_any (λ s. same_place (place_of s) p) spots
+
+-- a list has what another has
+abbrev pub Keeps : List Spot → List Spot → Type 0
+Keeps old new = (p : Place) → has_spot old p ≡ true → has_spot new p ≡ true
+
+-- a list has the place that a slot's move writes
+abbrev pub HasWritten : Option Move → List Spot → Type 0
+HasWritten slot spots =
+    (p : Place) → option_map_or (λ v. goes_into p (target_of v.dst)) slot false ≡ true → has_spot spots p ≡ true
+
+-- a list has each place that effects write
+abbrev pub HasAll : List Effect → List Spot → Type 0
+HasAll es spots = (p : Place) → list_any (λ e. goes_into p e.target) es ≡ true → has_spot spots p ≡ true
+
+-- a list has what another has, and besides it each place that some things write
+pub record Adds {A : Type 0} (Has : A → List Spot → Type 0) (xs : List A) (old new : List Spot) : Type 0 where
+  pub kept : Keeps old new
+  pub there : (k : ℕ) (x : A) → slice_get xs k ≡ Some x → Has x new
+
+-- a list has each place that code writes
+abbrev pub HasCodes : Machine → List Instruction → List Spot → Type 0
+HasCodes m words spots = (k : ℕ) (i : Instruction) → slice_get words k ≡ Some i → HasAll (effects_of m i) spots

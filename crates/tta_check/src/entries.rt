@@ -1,0 +1,230 @@
+//! What may hold of walks, by where they stand.
+
+ghost use Rattle.std.specs.Prelude.{◌≡◌, ◌+◌, ◌*◌, ◌≤◌, ◌<◌, length, replicate, []};
+ghost use Rattle.std.specs.Prelude.{slice_get, Some, None, OnOk, IfOk};
+ghost use Rattle.std.specs.Option.{option_map};
+ghost use Rattle.tta_check.specs.Going.{under_as, key_as};
+ghost use Rattle.tta_check.specs.Tables.{ago, place_at, Sets, Fits, FitsSome, FitsBoth};
+ghost use Rattle.tta_check.specs.Tables.{PutTo, PutSome, PutBoth, Grows};
+ghost use Rattle.tta_check.specs.Carries.{CanCarry, Carried};
+
+use crate::join::joined;
+use crate::key::{Key, Under, same_key};
+use crate::row::Row;
+use crate::verdict::Verdict;
+use crate::visit::{Onward, Outcome, visit};
+use crate::weigh::weight;
+use std::alloc::{AllocError, Global};
+use tta_arch::Machine;
+use tta_code::{Code, Instruction};
+
+/// The entries that are kept, and the places of those that wait: they are new, or have grown.
+#[derive(Drop)]
+pub struct Table {
+    pub entries: Vec<Option<Onward>>,
+    pub stack: Vec<usize>,
+}
+
+/// How many cycles ago the control move under way was made; 0 where there is none.
+fn ago(delay: u8, under: Option<Under>) -> u32
+    ensures value { result ≡ ago delay (option_map under_as under) }
+    ensures most { result ≤ delay }
+{
+    match under {
+        None => 0,
+        Some(u) => u32::from(delay).saturating_sub(u32::from(u.left)),
+    }
+}
+
+/// The place of an entry.
+fn place_of(delay: u8, key: Key) -> usize
+    ensures { result ≡ place_at delay (key_as key) }
+{
+    let since = ago(delay, key.under) as usize;
+    key.address as usize * (usize::from(delay) + 1) + since
+}
+
+/// An entry.
+fn entry_at(entries: &[Option<Onward>], place: usize) -> &Option<Onward>
+    requires { place < length entries.now }
+    ensures { slice_get entries.now place ≡ Some result.now }
+{
+    &entries[place]
+}
+
+/// An instruction.
+fn word_at(words: &[Instruction], at: usize) -> &Instruction
+    requires { at < length words.now }
+    ensures { slice_get words.now at ≡ Some result.now }
+{
+    &words[at]
+}
+
+/// A row joined with another, where it grows by that.
+fn grown(alloc: Global, row: &Row, other: &Row) -> Result<Option<Row>, AllocError>
+    requires cells { length row.now.cells.items ≡ length other.now.cells.items }
+    requires ports { length row.now.ports.items ≡ length other.now.ports.items }
+    requires few { length row.now.ports.items ≤ 256 }
+    ensures { IfOk result (λ r. Grows row.now other.now r) }
+{
+    let both = joined(alloc, row, other)?;
+    if weight(&both) == weight(row) {
+        Ok(None)
+    } else {
+        Ok(Some(both))
+    }
+}
+
+impl Table {
+    /// A table without entries.
+    pub fn new(alloc: Global, delay: u8, len: usize) -> Result<Table, AllocError>
+        requires { len ≤ 65536 }
+        ensures entries { IfOk result (λ t. t.entries.items
+            ≡ replicate (len * (delay + 1)) None) }
+        ensures stack { IfOk result (λ t. t.stack.items ≡ []) }
+    {
+        let count = len * (usize::from(delay) + 1);
+        let mut entries = Vec::with_capacity(alloc, count)?;
+        for _ in 0..count {
+            entries.push(None)?;
+        }
+        Ok(Table {
+            entries,
+            stack: Vec::new(alloc),
+        })
+    }
+
+    /// Puts an entry at a place, which waits.
+    fn set(&mut self, place: usize, onward: Onward) -> Result<(), AllocError>
+        requires { place < length self.old.entries.items }
+        ensures { OnOk result (Sets place onward self.old self.new) }
+    {
+        self.entries[place] = Some(onward);
+        self.stack.push(place)?;
+        Ok(())
+    }
+
+    /// Puts where walks go on into the table; it may be outside the code.
+    pub fn put(
+        &mut self,
+        alloc: Global,
+        delay: u8,
+        len: usize,
+        onward: Onward,
+    ) -> Result<Option<Verdict>, AllocError>
+        requires { Fits delay len onward self.old }
+        ensures { IfOk result (λ r. PutTo delay len onward self.old self.new r) }
+    {
+        if len <= onward.key.address as usize {
+            return Ok(Some(Verdict::Unsafe {
+                code: 65,
+                word: onward.key.address,
+            }));
+        }
+        let place = place_of(delay, onward.key);
+        let verdict = self.put_at(alloc, delay, len, place, onward)?;
+        Ok(verdict)
+    }
+
+    /// The same at its place in the table.
+    fn put_at(
+        &mut self,
+        alloc: Global,
+        delay: u8,
+        len: usize,
+        place: usize,
+        onward: Onward,
+    ) -> Result<Option<Verdict>, AllocError>
+        requires fits { Fits delay len onward self.old }
+        requires here { place ≡ place_at delay (key_as onward.key) }
+        requires there { place < length self.old.entries.items }
+        ensures { IfOk result (λ r. PutTo delay len onward self.old self.new r) }
+    {
+        let Some(old) = entry_at(&self.entries, place) else {
+            self.set(place, onward)?;
+            return Ok(None);
+        };
+        if !same_key(old.key, onward.key) {
+            return Ok(Some(Verdict::Unsafe {
+                code: 80,
+                word: onward
+                    .key
+                    .address
+                    .saturating_sub(ago(delay, onward.key.under)),
+            }));
+        }
+        match grown(alloc, &old.row, &onward.row)? {
+            None => Ok(None),
+            Some(row) => {
+                let key = onward.key;
+                self.set(place, Onward { key, row })?;
+                Ok(None)
+            }
+        }
+    }
+
+    /// The same where there is something.
+    fn put_some(
+        &mut self,
+        alloc: Global,
+        delay: u8,
+        len: usize,
+        onward: Option<Onward>,
+    ) -> Result<Option<Verdict>, AllocError>
+        requires { FitsSome delay len onward self.old }
+        ensures { IfOk result (λ r. PutSome delay len onward self.old self.new r) }
+    {
+        match onward {
+            None => Ok(None),
+            Some(o) => {
+                let verdict = self.put(alloc, delay, len, o)?;
+                Ok(verdict)
+            }
+        }
+    }
+
+    /// Puts where walks go on into the table: where the control move acts, and where it does not.
+    fn put_both(
+        &mut self,
+        alloc: Global,
+        delay: u8,
+        len: usize,
+        acts: Option<Onward>,
+        stays: Option<Onward>,
+    ) -> Result<Option<Verdict>, AllocError>
+        requires { FitsBoth delay len acts stays self.old }
+        ensures { IfOk result (λ r. PutBoth delay len acts stays self.old self.new r) }
+    {
+        match self.put_some(alloc, delay, len, acts)? {
+            Some(verdict) => Ok(Some(verdict)),
+            None => {
+                let verdict = self.put_some(alloc, delay, len, stays)?;
+                Ok(verdict)
+            }
+        }
+    }
+
+    /// Carries an entry on.
+    pub fn carry(
+        &mut self,
+        alloc: Global,
+        m: &Machine,
+        code: &Code,
+        place: usize,
+    ) -> Result<Option<Verdict>, AllocError>
+        requires { CanCarry m.now code.now place self.old }
+        ensures { IfOk result (λ r. Carried m.now code.now place self.old self.new r) }
+    {
+        let Some(at) = entry_at(&self.entries, place) else {
+            return Ok(None);
+        };
+        let words = code.words.as_slice();
+        match visit(alloc, m, word_at(words, at.key.address as usize), at)? {
+            Outcome::Ends(verdict) => Ok(Some(verdict)),
+            Outcome::Goes { acts, stays } => {
+                let verdict = self.put_both(alloc, m.control.delay, words.len(), acts, stays)?;
+                Ok(verdict)
+            }
+        }
+    }
+}
