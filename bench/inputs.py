@@ -156,6 +156,14 @@ def assembly(instructions):
     return "".join((line % (k // 6) if "%d" in line else line) + "\n" for k, line in enumerate(lines))
 
 
+def products(instructions):
+    """Assembly that starts a product in each instruction and keeps the one that shows, and halts."""
+    none = "... , ... , ... ;\n"
+    lines = ["1 -> MUL.o , 2 -> MUL.t.mul , ... ;\n", none, none]
+    lines += [f"MUL.r -> R.{at % 8} , 3 -> MUL.o , {at % 100} -> MUL.t.mul ;\n" for at in range(instructions - 6)]
+    return "".join([*lines, "0 -> gcu.t.halt , ... , ... ;\n", none, none])
+
+
 def wide_assembly(instructions):
     """Assembly for the machine near every limit: 16 moves in each instruction, into registers and triggers in turn."""
     def slot(k, bus):

@@ -94,6 +94,11 @@ def dis_wide(folder, work):
     return ["dis", "M", "IMAGE", "OUT"], 0
 
 
+def check_products(folder, work):
+    folder.run(asm(folder, inputs.three_buses(), inputs.products(work)))
+    return ["check", "M", "IMAGE"], 0
+
+
 def exec_nothing(folder, machine, program):
     """Both texts are read, and no step is made."""
     folder.write("M", machine)
@@ -132,6 +137,7 @@ ROWS = [
     Row("asm: labels alone", 2**24, "bytes", asm_labels),
     Row("dis: three buses", 65_536, "instructions", dis_instructions),
     Row("dis: 16 buses, all in use", 16_384, "instructions", dis_wide),
+    Row("check: three buses", 65_536, "instructions", check_products),
     Row("build: words that are output", 65_536, "lines", build_constants),
     Row("build: a block of arithmetic", 12_000, "lines", build_block),
     Row("build: jumps backward", 12_000, "lines", build_backward),

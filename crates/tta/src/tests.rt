@@ -1,6 +1,7 @@
 //! The commands over files in memory: a program is compiled or run, and each refusal is reported.
 
 mod assembly;
+mod check;
 mod compiled;
 mod covered;
 mod debug;

@@ -31,8 +31,11 @@ pub writes_converted : {T : Type 0} → (u : Units) (P OUT : List ℕ) (p : Prog
     (made : Result T Status) (s : Status) → IsTaken (ProgramText u) P p before between → MadeEnds (IsConvertedText u p) no_memory items made
     → WritesMade OUT items made between after s → WritesConverted u P OUT before after s
 writes_converted {T} u P OUT p before between after items made s taken ends wrote =
-    inr (record { value = p; held = taken.held }, of made ends
-    (subst (λ w. WritesMade OUT items made w after s) (same_world before between taken.untouched) wrote)) where
+    inr (
+      record { value = p; held = taken.held },
+      of made ends
+          (subst (λ w. WritesMade OUT items made w after s) (same_world before between taken.untouched) wrote),
+    ) where
       of : (r : Result T Status) → MadeEnds (IsConvertedText u p) no_memory items r → WritesMade OUT items r before after s
           → (IsUntouched before after × no_memory s) ⊎ WritingEnds (IsConvertedText u p) OUT before after s
       of (Ok v) ends wrote = inr (writing_ends (IsConvertedText u p) OUT (items v) before after s ends wrote)

@@ -5,12 +5,13 @@ use Rattle.tta_ports.specs.Output.{Output, IsQuiet}
 use Rattle.tta_ops.specs.Units.{Units}
 use Rattle.tta_given.specs.declared.status.Status.{Status}
 use Rattle.tta_given.specs.Ends.{IsUsage}
-use Rattle.tta_tool.specs.Request.{Request, Build, BuildConverted, Ifconv, Asm, Dis, Exec, Run, Debug, Sample}
+use Rattle.tta_tool.specs.Request.{Request, Build, BuildConverted, Ifconv, Asm, Dis, Check, Exec, Run, Debug, Sample}
 use Rattle.tta_tool.specs.Build.{Builds}
 use Rattle.tta_tool.specs.BuildConverted.{BuildsConverted}
 use Rattle.tta_tool.specs.Ifconv.{WritesConverted}
 use Rattle.tta_tool.specs.Asm.{Assembles}
 use Rattle.tta_tool.specs.Dis.{Shows}
+use Rattle.tta_tool.specs.Check.{ChecksCode}
 use Rattle.tta_tool.specs.Exec.{Execs}
 use Rattle.tta_tool.specs.Run.{Runs}
 use Rattle.tta_tool.specs.Debug.{Debugs}
@@ -24,6 +25,7 @@ Ends u (Some (BuildConverted machine program out)) before after old new s = Buil
 Ends u (Some (Ifconv program out)) before after old new s = WritesConverted u program out before after s × IsQuiet old new
 Ends u (Some (Asm machine assembly out)) before after old new s = Assembles u machine assembly out before after s × IsQuiet old new
 Ends u (Some (Dis machine image out)) before after old new s = Shows u machine image out before after s × IsQuiet old new
+Ends u (Some (Check machine image)) before after old new s = ChecksCode u machine image before after old new s
 Ends u (Some (Exec machine program input stream bound)) before after old new s = Execs u machine program input stream bound before after old new s
 Ends u (Some (Run machine image input stream bound)) before after old new s = Runs u machine image input stream bound before after old new s
 Ends u (Some (Debug machine image input script stream)) before after old new s = Debugs u machine image input script stream before after old new s

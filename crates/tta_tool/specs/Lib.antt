@@ -3,6 +3,7 @@ pub mod BuildConverted
 pub mod Ifconv
 pub mod Asm
 pub mod Dis
+pub mod Check
 pub mod Numbers
 pub mod Steps
 pub mod StepLaws

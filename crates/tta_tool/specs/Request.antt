@@ -11,6 +11,7 @@ pub data Request : Type 0 where
   BuildConverted : (machine program out : List ℕ) → Request
   Asm : (machine assembly out : List ℕ) → Request
   Dis : (machine image out : List ℕ) → Request
+  Check : (machine image : List ℕ) → Request
   Exec : (machine program input : List ℕ) (stream : Option (List ℕ)) (bound : ℕ) → Request
   Run : (machine image input : List ℕ) (stream : Option (List ℕ)) (bound : ℕ) → Request
   Debug : (machine image input script : List ℕ) (stream : Option (List ℕ)) → Request
@@ -61,9 +62,13 @@ abbrev pub short_request : (word first second third : List ℕ) → Option Reque
 short_request word first second third =
     if bytes_eq word (codes "sample") then sample_request first second third else writing_request word first second third
 
+-- the request of the name of a command with two words
+abbrev pub brief_request : (word first second : List ℕ) → Option Request
+brief_request word first second = if bytes_eq word (codes "check") then Some (Check first second) else lone_request word first second
+
 -- the request of some words; none where they are no command
 abbrev pub request_of : List (List ℕ) → Option Request
-request_of (word ∷ first ∷ out ∷ []) = lone_request word first out
+request_of (word ∷ first ∷ second ∷ []) = brief_request word first second
 request_of (word ∷ first ∷ second ∷ third ∷ []) = short_request word first second third
 request_of (word ∷ machine ∷ second ∷ input ∷ last ∷ []) = long_request word machine second input last None
 request_of (word ∷ machine ∷ second ∷ input ∷ last ∷ stream ∷ []) = running_request word machine second input last (Some stream)
@@ -75,6 +80,7 @@ asked (for.Build files) = Build files.machine.now files.second.now files.out.now
 asked (for.BuildConverted files) = BuildConverted files.machine.now files.second.now files.out.now
 asked (for.Asm files) = Asm files.machine.now files.second.now files.out.now
 asked (for.Dis files) = Dis files.machine.now files.second.now files.out.now
+asked (for.Check files) = Check files.machine.now files.image.now
 asked (for.Exec run) = Exec run.names.machine.now run.names.second.now run.names.input.now (option_map (λ s. s.now) run.names.stream) run.bound
 asked (for.Run run) = Run run.names.machine.now run.names.second.now run.names.input.now (option_map (λ s. s.now) run.names.stream) run.bound
 asked (for.Debug session) =

@@ -34,11 +34,7 @@ fn ending_of(error: BuildError, units: &UnitSet, machine: &Machine, program: &Pr
 }
 
 /// The image of the converted program for a machine, with the digest of the machine's text.
-fn image_of_converted(
-    alloc: Global,
-    units: &UnitSet,
-    pair: &ProgramPair,
-) -> Result<Vec<u8>, Status>
+fn image_of_converted(alloc: Global, units: &UnitSet, pair: &ProgramPair) -> Result<Vec<u8>, Status>
     requires machine { machines.StandsOver (stated unit_meaning units.now) pair.now.file.machine }
     requires program { programs.StandsOver (stated unit_meaning units.now) pair.now.program }
     requires inside { first_outside pair.now.file.machine.data_words pair.now.program.init ≡ None }

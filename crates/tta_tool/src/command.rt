@@ -9,6 +9,7 @@ ghost use Rattle.tta_tool.specs.Command.{Ends};
 use crate::asm::assemble_image;
 use crate::build::build_image;
 use crate::build_converted::build_converted_image;
+use crate::checking::check_image;
 use crate::debugging::debug_image;
 use crate::dis::show_image;
 use crate::exec::exec_program;
@@ -37,6 +38,7 @@ fn carry_out<F: Files, S: Sink>(
         Request::BuildConverted(names) => build_converted_image(alloc, units, files, names),
         Request::Asm(names) => assemble_image(alloc, units, files, names),
         Request::Dis(names) => show_image(alloc, units, files, names),
+        Request::Check(names) => check_image(alloc, units, files, sink, names),
         Request::Exec(run) => exec_program(alloc, units, files, sink, run),
         Request::Run(run) => run_image(alloc, units, files, sink, run),
         Request::Debug(session) => debug_image(alloc, units, files, sink, session),
@@ -59,6 +61,10 @@ fn carry_out<F: Files, S: Sink>(
 /// `asm M A OUT` reads the assembly of the file A for the machine of the file M and makes OUT hold
 /// the image of its code. `dis M IMG OUT` makes OUT hold the canonical assembly of the image in the
 /// file IMG. Both are otherwise as `build`.
+///
+/// `check M IMG` tells of the code of the image in the file IMG whether any run of it on the machine of
+/// the file M can fault. It outputs the line `safe` where none can, and else nothing. It changes no
+/// file.
 ///
 /// `exec M P IN N` runs the program of the file P for at most N steps, from the words of the file
 /// IN in the data space of the machine of the file M. It outputs each word as it comes, then how

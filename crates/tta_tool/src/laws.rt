@@ -3,6 +3,7 @@
 ghost use Rattle.tta_tool.specs.Build.{BuildByStatus};
 ghost use Rattle.tta_tool.specs.Asm.{AsmByStatus};
 ghost use Rattle.tta_tool.specs.Dis.{DisByStatus};
+ghost use Rattle.tta_tool.specs.Check.{CheckByStatus};
 ghost use Rattle.tta_tool.specs.Exec.{ExecByStatus};
 ghost use Rattle.tta_tool.specs.Run.{RunByStatus};
 ghost use Rattle.tta_tool.specs.Debug.{DebugByStatus};
@@ -42,6 +43,11 @@ pub fn asm_by_status()
 /// What holds where `dis` ends with a status, for each status.
 pub fn dis_by_status()
     ensures { DisByStatus }
+{}
+
+/// What holds where `check` ends with a status, for each status.
+pub fn check_by_status()
+    ensures { CheckByStatus }
 {}
 
 /// What holds where `exec` ends with a status, for each status.

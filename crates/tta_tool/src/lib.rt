@@ -4,6 +4,7 @@
 mod asm;
 mod build;
 mod build_converted;
+mod checking;
 mod code_run;
 mod command;
 mod comparing;
@@ -23,7 +24,7 @@ mod sampling;
 pub use command::tool;
 pub use laws::{
     asm_by_status, build_by_status, build_completes, build_converted_by_status,
-    build_converted_completes, debug_by_status, dis_by_status, exec_by_status, ifconv_by_status,
-    ifconv_completes, run_by_status, sample_by_status,
+    build_converted_completes, check_by_status, debug_by_status, dis_by_status, exec_by_status,
+    ifconv_by_status, ifconv_completes, run_by_status, sample_by_status,
 };
 pub use tta_given::Status;

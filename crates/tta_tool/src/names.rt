@@ -19,6 +19,14 @@ pub struct ConvertRequest<'w> {
     pub out: &'w str,
 }
 
+/// The names of the files of a command that asks whether code can fault: the machine's and that of the
+/// image.
+#[derive(Clone, Copy)]
+pub struct CheckRequest<'w> {
+    pub machine: &'w str,
+    pub image: &'w str,
+}
+
 /// The names of the files that a run reads: the machine's, that of the program or of the image that
 /// is run on it, that of the data words, and that of the input, where it has one.
 #[derive(Clone, Copy)]

@@ -3,11 +3,12 @@
 ghost use Rattle.std.specs.Prelude.{◌≡◌, ◌<◌, ◌^◌, map, option_map};
 ghost use Rattle.std.specs.String.{string_bytes};
 ghost use Rattle.tta_tool.specs.Request.{asked, request_of, writing_request, sample_request};
-ghost use Rattle.tta_tool.specs.Request.{short_request, bounded_request, running_request};
+ghost use Rattle.tta_tool.specs.Request.{brief_request, short_request};
+ghost use Rattle.tta_tool.specs.Request.{bounded_request, running_request};
 ghost use Rattle.tta_tool.specs.Request.{lone_request, mode_request, long_request};
 
 use crate::names::{
-    ConvertRequest, RunFiles, RunRequest, SampleRequest, SessionRequest, WriteRequest,
+    CheckRequest, ConvertRequest, RunFiles, RunRequest, SampleRequest, SessionRequest, WriteRequest,
 };
 use crate::numbers::{bound_of, lines_of, seed_of};
 
@@ -19,6 +20,7 @@ pub enum Request<'w> {
     BuildConverted(WriteRequest<'w>),
     Asm(WriteRequest<'w>),
     Dis(WriteRequest<'w>),
+    Check(CheckRequest<'w>),
     Exec(RunRequest<'w>),
     Run(RunRequest<'w>),
     Debug(SessionRequest<'w>),
@@ -115,6 +117,19 @@ fn of_lone<'w>(word: &str, first: &'w str, out: &'w str) -> Option<Request<'w>>
     None
 }
 
+/// The request of the name of a command with two words after it.
+fn of_brief<'w>(word: &str, first: &'w str, second: &'w str) -> Option<Request<'w>>
+    ensures { option_map asked result ≡ brief_request word.now first.now second.now }
+{
+    if word == "check" {
+        return Some(Request::Check(CheckRequest {
+            machine: first,
+            image: second,
+        }));
+    }
+    of_lone(word, first, second)
+}
+
 /// The request of `build` by the word after its files.
 fn of_mode<'w>(mode: &str, files: WriteRequest<'w>) -> Option<Request<'w>>
     ensures { option_map asked result
@@ -152,7 +167,7 @@ impl<'w> Request<'w> {
             ≡ request_of (map (λ w. string_bytes w) words.now.items) }
     {
         match words.as_slice() {
-            [word, first, out] => of_lone(word, first, out),
+            [word, first, second] => of_brief(word, first, second),
             [word, first, second, third] => of_short(word, first, second, third),
             [word, machine, second, input, last] => {
                 let names = RunFiles {

@@ -50,55 +50,66 @@ module _ (u : Units) (M IMG IN SCRIPT : List ℕ) (STREAM : Option (List ℕ)) (
       inr (a.1.0, inl (inr (a.1.1, inr (a.2, stream_at STREAM before after s Fault word at a.0 a.3)), quiet))
 
   by_status : (s : Status) → Debugs u M IMG IN SCRIPT STREAM before after old new s ↔ DebugEndings u M IMG IN SCRIPT STREAM before after old new s
-  by_status status.Ok =
-      (of status.Ok _ absurd none (λ m. absurd) (λ m. none) (λ p. absurd) (λ p. none) (λ t. absurd) (λ t script. unnamed STREAM)
-      (λ t script same. unheld before.contents STREAM) (λ p asked same e. (same, (p, (asked, e)))),
-      λ e. inr (e.1.0, inr (e.1.1.0, e.0, e.1.1.1)))
-  by_status status.WriteFault =
-      (of status.WriteFault _ absurd none (λ m. absurd) (λ m. none) (λ p. absurd) (λ p. none) (λ t. absurd) (λ t script. unnamed STREAM)
-      (λ t script same. unheld before.contents STREAM) (λ p asked same e. (same, (p, (asked, e)))),
-      λ e. inr (e.1.0, inr (e.1.1.0, e.0, e.1.1.1)))
-  by_status (status.MachineFault code cycle) =
-      (of (status.MachineFault code cycle) _ absurd none (λ m. absurd) (λ m. none) (λ p. absurd) (λ p. none) (λ t. absurd)
-      (λ t script. unnamed STREAM) (λ t script same. unheld before.contents STREAM) (λ p asked same e. (same, (p, (asked, e)))),
-      λ e. inr (e.1.0, inr (e.1.1.0, e.0, e.1.1.1)))
-  by_status (status.BadMachine line code) =
-      (of (status.BadMachine line code) _ absurd (λ e quiet. (e.0, quiet, e.1)) (λ m. absurd) (λ m. none) (λ p. absurd) (λ p. none)
-      (λ t. absurd) (λ t script. unnamed STREAM) (λ t script same. unheld before.contents STREAM) (λ p asked same. absurd),
-      λ e. inl (inl (inr (e.0, e.2)), e.1))
-  by_status (status.BadImage code word bus) =
-      (of (status.BadImage code word bus) _ absurd none (λ m. absurd) (λ m e quiet. (e.0, quiet, (m, e.1))) (λ p. absurd) (λ p. none)
-      (λ t. absurd) (λ t script. unnamed STREAM) (λ t script same. unheld before.contents STREAM) (λ p asked same. absurd),
-      λ e. inl (inr (e.2.0, inr (e.0, e.2.1)), e.1))
-  by_status (status.BadInput line) =
-      (of (status.BadInput line) _ absurd none (λ m. absurd) (λ m. none) (λ p. absurd) (λ p e quiet. (e.0, quiet, (p, e.1))) (λ t. absurd)
-      (λ t script. unnamed STREAM) (λ t script same. unheld before.contents STREAM) (λ p asked same. absurd),
-      λ e. inr (e.2.0, inl (inl (inr (e.0, e.2.1)), e.1)))
-  by_status (status.BadStream line) =
-      (of (status.BadStream line) _ absurd none (λ m. absurd) (λ m. none) (λ p. absurd) (λ p. none) (λ t. absurd)
-      (λ t script. unnamed STREAM) (λ t script same e quiet. (same, quiet, t, script, e)) (λ p asked same. absurd),
-      λ e. inr (e.2.0, inl (inr (e.2.1, inr (e.3, stream_refused STREAM before after (status.BadStream line) e.0 e.4)), e.1)))
-  by_status (status.ReadFault word) =
-      (of (status.ReadFault word) _ (λ e quiet. (quiet, inl (inl e))) none (λ m e quiet. (quiet, inl (inr (e.0, m, e.1)))) (λ m. none)
-      (λ p e quiet. (quiet, inr (inl (e.0, p, e.1)))) (λ p. none) (λ t e quiet. (quiet, inr (inr (inl (e.0, t, e.1)))))
-      (λ t script e quiet. let at = apart STREAM (λ name. ReadFailed name before after) e in (quiet, inr (inr (inr (at.0, t, script, at.1)))))
-      (λ t script same. unheld before.contents STREAM) (λ p asked same. absurd),
-      λ e. at_fault (status.ReadFault word) (λ name. ReadFailed name before after) word (λ k n a. a) e.0 e.1)
-  by_status (status.TooLong word) =
-      (of (status.TooLong word) _ (λ e quiet. (quiet, inl (inl e))) none (λ m e quiet. (quiet, inl (inr (e.0, m, e.1)))) (λ m. none)
-      (λ p e quiet. (quiet, inr (inl (e.0, p, e.1)))) (λ p. none) (λ t e quiet. (quiet, inr (inr (inl (e.0, t, e.1)))))
-      (λ t script e quiet. let at = apart STREAM (λ name. IsTooLong name before after) e in (quiet, inr (inr (inr (at.0, t, script, at.1)))))
-      (λ t script same. unheld before.contents STREAM) (λ p asked same. absurd),
-      λ e. at_fault (status.TooLong word) (λ name. IsTooLong name before after) word (λ k n a. a) e.0 e.1)
-  by_status status.NoMemory =
-      (of status.NoMemory _ (λ e quiet. (e, quiet)) (λ e quiet. (e.0, quiet)) (λ m e quiet. (e, quiet)) (λ m e quiet. (e.0, quiet))
-      (λ p e quiet. (e, quiet)) (λ p e quiet. (e.0, quiet)) (λ t e quiet. (e, quiet)) (λ t script e quiet. (alone STREAM e, quiet))
-      (λ t script same e quiet. (same, quiet)) (λ p asked same e. (same, e)),
-      λ e. inl (inl (inl e.0), e.1))
-  by_status s =
-      (of s _ absurd none (λ m. absurd) (λ m. none) (λ p. absurd) (λ p. none) (λ t. absurd) (λ t script. unnamed STREAM)
-      (λ t script same. unheld before.contents STREAM) (λ p asked same. absurd),
-      λ e. absurd e)
+  by_status status.Ok = (
+    of status.Ok _ absurd none (λ m. absurd) (λ m. none) (λ p. absurd) (λ p. none) (λ t. absurd) (λ t script. unnamed STREAM)
+        (λ t script same. unheld before.contents STREAM) (λ p asked same e. (same, (p, (asked, e)))),
+    λ e. inr (e.1.0, inr (e.1.1.0, e.0, e.1.1.1)),
+  )
+  by_status status.WriteFault = (
+    of status.WriteFault _ absurd none (λ m. absurd) (λ m. none) (λ p. absurd) (λ p. none) (λ t. absurd) (λ t script. unnamed STREAM)
+        (λ t script same. unheld before.contents STREAM) (λ p asked same e. (same, (p, (asked, e)))),
+    λ e. inr (e.1.0, inr (e.1.1.0, e.0, e.1.1.1)),
+  )
+  by_status (status.MachineFault code cycle) = (
+    of (status.MachineFault code cycle) _ absurd none (λ m. absurd) (λ m. none) (λ p. absurd) (λ p. none) (λ t. absurd)
+        (λ t script. unnamed STREAM) (λ t script same. unheld before.contents STREAM) (λ p asked same e. (same, (p, (asked, e)))),
+    λ e. inr (e.1.0, inr (e.1.1.0, e.0, e.1.1.1)),
+  )
+  by_status (status.BadMachine line code) = (
+    of (status.BadMachine line code) _ absurd (λ e quiet. (e.0, quiet, e.1)) (λ m. absurd) (λ m. none) (λ p. absurd) (λ p. none)
+        (λ t. absurd) (λ t script. unnamed STREAM) (λ t script same. unheld before.contents STREAM) (λ p asked same. absurd),
+    λ e. inl (inl (inr (e.0, e.2)), e.1),
+  )
+  by_status (status.BadImage code word bus) = (
+    of (status.BadImage code word bus) _ absurd none (λ m. absurd) (λ m e quiet. (e.0, quiet, (m, e.1))) (λ p. absurd) (λ p. none)
+        (λ t. absurd) (λ t script. unnamed STREAM) (λ t script same. unheld before.contents STREAM) (λ p asked same. absurd),
+    λ e. inl (inr (e.2.0, inr (e.0, e.2.1)), e.1),
+  )
+  by_status (status.BadInput line) = (
+    of (status.BadInput line) _ absurd none (λ m. absurd) (λ m. none) (λ p. absurd) (λ p e quiet. (e.0, quiet, (p, e.1))) (λ t. absurd)
+        (λ t script. unnamed STREAM) (λ t script same. unheld before.contents STREAM) (λ p asked same. absurd),
+    λ e. inr (e.2.0, inl (inl (inr (e.0, e.2.1)), e.1)),
+  )
+  by_status (status.BadStream line) = (
+    of (status.BadStream line) _ absurd none (λ m. absurd) (λ m. none) (λ p. absurd) (λ p. none) (λ t. absurd)
+        (λ t script. unnamed STREAM) (λ t script same e quiet. (same, quiet, t, script, e)) (λ p asked same. absurd),
+    λ e. inr (e.2.0, inl (inr (e.2.1, inr (e.3, stream_refused STREAM before after (status.BadStream line) e.0 e.4)), e.1)),
+  )
+  by_status (status.ReadFault word) = (
+    of (status.ReadFault word) _ (λ e quiet. (quiet, inl (inl e))) none (λ m e quiet. (quiet, inl (inr (e.0, m, e.1)))) (λ m. none)
+        (λ p e quiet. (quiet, inr (inl (e.0, p, e.1)))) (λ p. none) (λ t e quiet. (quiet, inr (inr (inl (e.0, t, e.1)))))
+        (λ t script e quiet. let at = apart STREAM (λ name. ReadFailed name before after) e in (quiet, inr (inr (inr (at.0, t, script, at.1)))))
+        (λ t script same. unheld before.contents STREAM) (λ p asked same. absurd),
+    λ e. at_fault (status.ReadFault word) (λ name. ReadFailed name before after) word (λ k n a. a) e.0 e.1,
+  )
+  by_status (status.TooLong word) = (
+    of (status.TooLong word) _ (λ e quiet. (quiet, inl (inl e))) none (λ m e quiet. (quiet, inl (inr (e.0, m, e.1)))) (λ m. none)
+        (λ p e quiet. (quiet, inr (inl (e.0, p, e.1)))) (λ p. none) (λ t e quiet. (quiet, inr (inr (inl (e.0, t, e.1)))))
+        (λ t script e quiet. let at = apart STREAM (λ name. IsTooLong name before after) e in (quiet, inr (inr (inr (at.0, t, script, at.1)))))
+        (λ t script same. unheld before.contents STREAM) (λ p asked same. absurd),
+    λ e. at_fault (status.TooLong word) (λ name. IsTooLong name before after) word (λ k n a. a) e.0 e.1,
+  )
+  by_status status.NoMemory = (
+    of status.NoMemory _ (λ e quiet. (e, quiet)) (λ e quiet. (e.0, quiet)) (λ m e quiet. (e, quiet)) (λ m e quiet. (e.0, quiet))
+        (λ p e quiet. (e, quiet)) (λ p e quiet. (e.0, quiet)) (λ t e quiet. (e, quiet)) (λ t script e quiet. (alone STREAM e, quiet))
+        (λ t script same e quiet. (same, quiet)) (λ p asked same e. (same, e)),
+    λ e. inl (inl (inl e.0), e.1),
+  )
+  by_status s = (
+    of s _ absurd none (λ m. absurd) (λ m. none) (λ p. absurd) (λ p. none) (λ t. absurd) (λ t script. unnamed STREAM)
+        (λ t script same. unheld before.contents STREAM) (λ p asked same. absurd),
+    λ e. absurd e,
+  )
 
 pub returns : goal.returns
 returns c = by_status
