@@ -65,9 +65,11 @@ impl Member {
         requires room { length self.old.output.words < self.old.output.room }
         requires few { self.old.taken < 2 ^ 63 }
         ensures { self.new ≡ record self.old {
-            output = record self.old.output {
-                words = self.old.output.words ++ option_to_list put };
-            taken = self.old.taken + (if took then 1 else 0) } }
+          output = record self.old.output {
+            words = self.old.output.words ++ option_to_list put;
+          };
+          taken = self.old.taken + (if took then 1 else 0);
+        } }
     {
         self.output.add(put);
         if took {

@@ -29,12 +29,7 @@ fn put_words<S: Sink>(sink: &mut S, words: &[u32]) -> Result<(), Failed>
 ///
 /// It answers `Failed` at the first line at which the sink does, which has then taken a prefix of
 /// all these lines.
-pub fn put_core<S: Sink>(
-    sink: &mut S,
-    core: u8,
-    words: &[u32],
-    last: &Line,
-) -> Result<(), Failed>
+pub fn put_core<S: Sink>(sink: &mut S, core: u8, words: &[u32], last: &Line) -> Result<(), Failed>
     ensures grows { PutsBytes (lines_text (core_lines core words.now last.now))
         (S.output sink.old).taken (S.output sink.new).taken result }
     ensures cause { CountsFault (is_err result) (S.output sink.old).faults (S.output sink.new).faults }

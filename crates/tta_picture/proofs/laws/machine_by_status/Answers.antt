@@ -26,41 +26,55 @@ module _ (u : Units) (M : List ℕ) (before after : World) (old new : Output) wh
   of s G a b ends (inr (m, same, x)) = ends m same x
 
   by_status : (s : Status) → Ends u (Some (OfMachine M)) before after old new s ↔ MachineEndings u M before after old new s
-  by_status status.Ok =
-      (of status.Ok _ absurd none (λ m same e. elim e [
-      inl put ↦ (same, (m, subst (λ text. IsPut text old new) put.1 put.2))
+  by_status status.Ok = (
+    of status.Ok _ absurd none (λ m same e. elim e [
+      | inl put ↦ (same, (m, subst (λ text. IsPut text old new) put.1 put.2))
       | inr lacks ↦ let is = lacks.0 in absurd cc
-      ]), λ e. inr (e.1.0, e.0, inl (picture_of_machine u e.1.0.value.machine, refl, e.1.1)))
-  by_status status.WriteFault =
-      (of status.WriteFault _ absurd none (λ m same e. elim e [
-      inl put ↦ (same, (m, subst (λ text. IsCut text old new) put.1 put.2))
+    ]),
+    λ e. inr (e.1.0, e.0, inl (picture_of_machine u e.1.0.value.machine, refl, e.1.1)),
+  )
+  by_status status.WriteFault = (
+    of status.WriteFault _ absurd none (λ m same e. elim e [
+      | inl put ↦ (same, (m, subst (λ text. IsCut text old new) put.1 put.2))
       | inr lacks ↦ let is = lacks.0 in absurd cc
-      ]), λ e. inr (e.1.0, e.0, inl (picture_of_machine u e.1.0.value.machine, refl, e.1.1)))
-  by_status (status.BadMachine line code) =
-      (of (status.BadMachine line code) _ absurd (λ e quiet. (e.0, quiet, e.1)) (λ m same e. elim e [
-      inl put ↦ absurd put.2
+    ]),
+    λ e. inr (e.1.0, e.0, inl (picture_of_machine u e.1.0.value.machine, refl, e.1.1)),
+  )
+  by_status (status.BadMachine line code) = (
+    of (status.BadMachine line code) _ absurd (λ e quiet. (e.0, quiet, e.1)) (λ m same e. elim e [
+      | inl put ↦ absurd put.2
       | inr lacks ↦ let is = lacks.0 in absurd cc
-      ]), λ e. inl (inr (e.0, e.2), e.1))
-  by_status (status.ReadFault word) =
-      (of (status.ReadFault word) _ (λ e quiet. (quiet, e.0, e.1)) none (λ m same e. elim e [
-      inl put ↦ absurd put.2
+    ]),
+    λ e. inl (inr (e.0, e.2), e.1),
+  )
+  by_status (status.ReadFault word) = (
+    of (status.ReadFault word) _ (λ e quiet. (quiet, e.0, e.1)) none (λ m same e. elim e [
+      | inl put ↦ absurd put.2
       | inr lacks ↦ let is = lacks.0 in absurd cc
-      ]), λ e. inl (inl (e.1, e.2), e.0))
-  by_status (status.TooLong word) =
-      (of (status.TooLong word) _ (λ e quiet. (quiet, e.0, e.1)) none (λ m same e. elim e [
-      inl put ↦ absurd put.2
+    ]),
+    λ e. inl (inl (e.1, e.2), e.0),
+  )
+  by_status (status.TooLong word) = (
+    of (status.TooLong word) _ (λ e quiet. (quiet, e.0, e.1)) none (λ m same e. elim e [
+      | inl put ↦ absurd put.2
       | inr lacks ↦ let is = lacks.0 in absurd cc
-      ]), λ e. inl (inl (e.1, e.2), e.0))
-  by_status status.NoMemory =
-      (of status.NoMemory _ (λ e quiet. (e, quiet)) (λ e quiet. (e.0, quiet)) (λ m same e. elim e [
-      inl put ↦ absurd put.2
+    ]),
+    λ e. inl (inl (e.1, e.2), e.0),
+  )
+  by_status status.NoMemory = (
+    of status.NoMemory _ (λ e quiet. (e, quiet)) (λ e quiet. (e.0, quiet)) (λ m same e. elim e [
+      | inl put ↦ absurd put.2
       | inr lacks ↦ (same, lacks.1)
-      ]), λ e. inl (inl e.0, e.1))
-  by_status s =
-      (of s _ absurd none (λ m same e. elim e [
-      inl put ↦ absurd put.2
+    ]),
+    λ e. inl (inl e.0, e.1),
+  )
+  by_status s = (
+    of s _ absurd none (λ m same e. elim e [
+      | inl put ↦ absurd put.2
       | inr lacks ↦ let is = lacks.0 in absurd cc
-      ]), λ e. absurd e)
+    ]),
+    λ e. absurd e,
+  )
 
 pub returns : goal.returns
 returns c = by_status
