@@ -8,6 +8,9 @@ pub mod RunStages
 pub mod Outcomes
 pub mod Debuggings
 pub mod Samplings
+pub mod CoresTaken
+pub mod NetLines
+pub mod RoundsMade
 pub mod OneProgram
 pub mod Completing
 pub mod Convertings

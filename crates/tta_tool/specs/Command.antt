@@ -5,7 +5,7 @@ use Rattle.tta_ports.specs.Output.{Output, IsQuiet}
 use Rattle.tta_ops.specs.Units.{Units}
 use Rattle.tta_given.specs.declared.status.Status.{Status}
 use Rattle.tta_given.specs.Ends.{IsUsage}
-use Rattle.tta_tool.specs.Request.{Request, Build, BuildConverted, Ifconv, Asm, Dis, Check, Exec, Run, Debug, Sample}
+use Rattle.tta_tool.specs.Request.{Request, Build, BuildConverted, Ifconv, Asm, Dis, Check, Exec, Run, Debug, Sample, Net}
 use Rattle.tta_tool.specs.Build.{Builds}
 use Rattle.tta_tool.specs.BuildConverted.{BuildsConverted}
 use Rattle.tta_tool.specs.Ifconv.{WritesConverted}
@@ -16,6 +16,7 @@ use Rattle.tta_tool.specs.Exec.{Execs}
 use Rattle.tta_tool.specs.Run.{Runs}
 use Rattle.tta_tool.specs.Debug.{Debugs}
 use Rattle.tta_tool.specs.Sample.{Samples}
+use Rattle.tta_tool.specs.Net.{Nets}
 
 -- How a request ends. What writes a file outputs nothing.
 abbrev pub Ends : Units → Option Request → (before after : World) → (old new : Output) → Status → Type 0
@@ -30,3 +31,4 @@ Ends u (Some (Exec machine program input stream bound)) before after old new s =
 Ends u (Some (Run machine image input stream bound)) before after old new s = Runs u machine image input stream bound before after old new s
 Ends u (Some (Debug machine image input script stream)) before after old new s = Debugs u machine image input script stream before after old new s
 Ends u (Some (Sample seed lines machine)) before after old new s = Samples u seed lines machine before after old new s
+Ends u (Some (Net rounds links names)) before after old new s = Nets u rounds links names before after old new s

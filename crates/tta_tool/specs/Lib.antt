@@ -19,3 +19,5 @@ pub mod Request
 pub mod Command
 pub mod Completes
 pub mod ConvertedCompletes
+pub mod NetFiles
+pub mod Net

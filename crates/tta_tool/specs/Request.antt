@@ -1,9 +1,10 @@
 -- What the words of a command line ask for.
-use Rattle.std.specs.Prelude.{ℕ, if◌then◌else◌, List, [], ◌∷◌, Option, Some, None, codes, option_and_then, option_map}
+use Rattle.std.specs.Prelude.{ℕ, if◌then◌else◌, List, [], ◌∷◌, length, map, Option, Some, None, codes, option_and_then, option_map}
 use Rattle.std.specs.Str.{bytes_eq}
+use Rattle.std.specs.String.{string_bytes}
 use Rattle.tta_tool.specs.declared.request.Request.{Request as Asked}
 use Rattle.tta_tool.specs.declared.request.Request.TheVariants as for
-use Rattle.tta_tool.specs.Numbers.{bound_of, seed_of, lines_of}
+use Rattle.tta_tool.specs.Numbers.{bound_of, seed_of, lines_of, rounds_of, is_net}
 
 -- what can be asked for
 pub data Request : Type 0 where
@@ -17,6 +18,7 @@ pub data Request : Type 0 where
   Debug : (machine image input script : List ℕ) (stream : Option (List ℕ)) → Request
   Sample : (seed lines : ℕ) (machine : List ℕ) → Request
   Ifconv : (program out : List ℕ) → Request
+  Net : (rounds : ℕ) (links : List ℕ) (names : List (List ℕ)) → Request
 
 -- the request of the name of a command whose last word is a file that it writes
 abbrev pub writing_request : (word machine second out : List ℕ) → Option Request
@@ -66,13 +68,23 @@ short_request word first second third =
 abbrev pub brief_request : (word first second : List ℕ) → Option Request
 brief_request word first second = if bytes_eq word (codes "check") then Some (Check first second) else lone_request word first second
 
+-- the request of a net by the words after its name: how many rounds, the file of its links, and three for each core
+abbrev pub net_request : List (List ℕ) → Option Request
+net_request (rounds ∷ links ∷ names) = if is_net (length names) then option_map (λ n. Net n links names) (rounds_of rounds) else None
+net_request words = None
+
+-- the request of a command whose number of words its name tells
+abbrev pub fixed_request : List (List ℕ) → Option Request
+fixed_request (word ∷ first ∷ second ∷ []) = brief_request word first second
+fixed_request (word ∷ first ∷ second ∷ third ∷ []) = short_request word first second third
+fixed_request (word ∷ machine ∷ second ∷ input ∷ last ∷ []) = long_request word machine second input last None
+fixed_request (word ∷ machine ∷ second ∷ input ∷ last ∷ stream ∷ []) = running_request word machine second input last (Some stream)
+fixed_request words = None
+
 -- the request of some words; none where they are no command
 abbrev pub request_of : List (List ℕ) → Option Request
-request_of (word ∷ first ∷ second ∷ []) = brief_request word first second
-request_of (word ∷ first ∷ second ∷ third ∷ []) = short_request word first second third
-request_of (word ∷ machine ∷ second ∷ input ∷ last ∷ []) = long_request word machine second input last None
-request_of (word ∷ machine ∷ second ∷ input ∷ last ∷ stream ∷ []) = running_request word machine second input last (Some stream)
-request_of words = None
+request_of [] = None
+request_of (word ∷ words) = if bytes_eq word (codes "net") then net_request words else fixed_request (word ∷ words)
 
 -- what the code's request asks for
 abbrev pub asked : Asked → Request
@@ -87,3 +99,4 @@ asked (for.Debug session) =
     Debug session.names.machine.now session.names.second.now session.names.input.now session.script.now (option_map (λ s. s.now) session.names.stream)
 asked (for.Sample sample) = Sample sample.seed sample.lines sample.machine.now
 asked (for.Ifconv files) = Ifconv files.program.now files.out.now
+asked (for.Net net) = Net net.rounds net.links.now (map (λ w. string_bytes w) net.names.now)

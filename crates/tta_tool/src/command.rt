@@ -14,6 +14,7 @@ use crate::debugging::debug_image;
 use crate::dis::show_image;
 use crate::exec::exec_program;
 use crate::ifconv::convert_program;
+use crate::net::run_net;
 use crate::request::Request;
 use crate::running::run_image;
 use crate::sampling::sample_on;
@@ -44,6 +45,7 @@ fn carry_out<F: Files, S: Sink>(
         Request::Debug(session) => debug_image(alloc, units, files, sink, session),
         Request::Sample(sample) => sample_on(alloc, units, files, sink, sample),
         Request::Ifconv(names) => convert_program(alloc, units, files, names),
+        Request::Net(net) => run_net(alloc, units, files, sink, net),
     }
 }
 
@@ -79,6 +81,12 @@ fn carry_out<F: Files, S: Sink>(
 ///
 /// `sample SEED LINES M` makes the program of a seed with so many body lines, compiles it for the
 /// machine of the file M, runs both from data words of 0, and outputs a summary. It changes no file.
+///
+/// `net N LINKS` with three words M, IMG and IN for each of one to eight cores runs the code of each
+/// image on its machine. The outputs of a core are the input of the core that the file LINKS names. In
+/// a round each core by its number makes one cycle; it makes at most N rounds, and stops after the
+/// first in which no core ran. It outputs of each core its number, the words that it has output, and
+/// how its last turn ended. It changes no file.
 ///
 /// `exec`, `run` and `debug` may have one more word, the file of the input, which is read last. Where
 /// a run takes a word of the input and none is left, it waits.

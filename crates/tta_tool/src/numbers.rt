@@ -13,6 +13,9 @@ const SEEDS: u64 = 1 << 32;
 /// A sample has fewer body lines than this.
 const LINES: u64 = 20_001;
 
+/// A net makes fewer rounds than this.
+const ROUNDS: u64 = (1 << 20) + 1;
+
 /// The bound that a word gives: one to fifteen decimal digits with a value below 2^48. `None` for
 /// any other word.
 pub fn bound_of(word: &[u8]) -> Option<u64>
@@ -43,6 +46,23 @@ pub fn lines_of(word: &[u8]) -> Option<u32>
         return None;
     }
     Some(lines as u32)
+}
+
+/// The number of rounds that a word gives: one to seven decimal digits with a value of at most
+/// 1,048,576. `None` for any other word.
+pub fn rounds_of(word: &[u8]) -> Option<u32>
+    ensures value { result ≡ spec.rounds_of word.now }
+    ensures few { IfSome result (λ n. n ≤ 2 ^ 20) }
+{
+    let rounds = digits_of(word, 7, ROUNDS)?;
+    Some(rounds as u32)
+}
+
+/// Whether so many names are three for each of one to eight cores.
+pub fn is_net(names: usize) -> bool
+    ensures { result ≡ spec.is_net names }
+{
+    0 < names && names < 25 && names % 3 == 0
 }
 
 /// The value of one to `most` decimal digits, where each byte is one and the value is below the

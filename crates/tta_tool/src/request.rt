@@ -6,11 +6,13 @@ ghost use Rattle.tta_tool.specs.Request.{asked, request_of, writing_request, sam
 ghost use Rattle.tta_tool.specs.Request.{brief_request, short_request};
 ghost use Rattle.tta_tool.specs.Request.{bounded_request, running_request};
 ghost use Rattle.tta_tool.specs.Request.{lone_request, mode_request, long_request};
+ghost use Rattle.tta_tool.specs.Request.{net_request, fixed_request};
 
 use crate::names::{
-    CheckRequest, ConvertRequest, RunFiles, RunRequest, SampleRequest, SessionRequest, WriteRequest,
+    CheckRequest, ConvertRequest, NetRequest, RunFiles, RunRequest, SampleRequest, SessionRequest,
+    WriteRequest,
 };
-use crate::numbers::{bound_of, lines_of, seed_of};
+use crate::numbers::{bound_of, is_net, lines_of, rounds_of, seed_of};
 
 /// What is asked for.
 #[derive(Clone, Copy)]
@@ -26,6 +28,7 @@ pub enum Request<'w> {
     Debug(SessionRequest<'w>),
     Sample(SampleRequest<'w>),
     Ifconv(ConvertRequest<'w>),
+    Net(NetRequest<'w>),
 }
 
 /// The request of the name of a command that makes a file of two others, with their names.
@@ -159,6 +162,55 @@ fn of_long<'w>(word: &str, names: RunFiles<'w>, last: &'w str) -> Option<Request
     of_running(word, names, last)
 }
 
+/// The request of a net by the words after its name.
+fn of_net<'w>(words: &'w [String]) -> Option<Request<'w>>
+    ensures { option_map asked result ≡ net_request (map (λ w. string_bytes w) words.now) }
+{
+    match words {
+        [rounds, links, names @ ..] => {
+            if !is_net(names.len()) {
+                return None;
+            }
+            let rounds = rounds_of(rounds.as_bytes())?;
+            Some(Request::Net(NetRequest {
+                rounds,
+                links,
+                names,
+            }))
+        }
+        _ => None,
+    }
+}
+
+/// The request of a command whose number of words its name tells.
+fn of_fixed<'w>(words: &'w [String]) -> Option<Request<'w>>
+    ensures { option_map asked result ≡ fixed_request (map (λ w. string_bytes w) words.now) }
+{
+    match words {
+        [word, first, second] => of_brief(word, first, second),
+        [word, first, second, third] => of_short(word, first, second, third),
+        [word, machine, second, input, last] => {
+            let names = RunFiles {
+                machine,
+                second,
+                input,
+                stream: None,
+            };
+            of_long(word, names, last)
+        }
+        [word, machine, second, input, last, stream] => {
+            let names = RunFiles {
+                machine,
+                second,
+                input,
+                stream: Some(stream.as_str()),
+            };
+            of_running(word, names, last)
+        }
+        _ => None,
+    }
+}
+
 impl<'w> Request<'w> {
     /// What the words ask for, the first of them the command's name. `None` where they are no
     /// command.
@@ -167,25 +219,11 @@ impl<'w> Request<'w> {
             ≡ request_of (map (λ w. string_bytes w) words.now.items) }
     {
         match words.as_slice() {
-            [word, first, second] => of_brief(word, first, second),
-            [word, first, second, third] => of_short(word, first, second, third),
-            [word, machine, second, input, last] => {
-                let names = RunFiles {
-                    machine,
-                    second,
-                    input,
-                    stream: None,
-                };
-                of_long(word, names, last)
-            }
-            [word, machine, second, input, last, stream] => {
-                let names = RunFiles {
-                    machine,
-                    second,
-                    input,
-                    stream: Some(stream.as_str()),
-                };
-                of_running(word, names, last)
+            [word, rest @ ..] => {
+                if word.as_str() == "net" {
+                    return of_net(rest);
+                }
+                of_fixed(words.as_slice())
             }
             _ => None,
         }

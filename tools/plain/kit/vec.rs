@@ -82,6 +82,15 @@ impl<T> DerefMut for Vec<T> {
     }
 }
 
+impl<T> IntoIterator for Vec<T> {
+    type Item = T;
+    type IntoIter = vec::IntoIter<T>;
+
+    fn into_iter(self) -> vec::IntoIter<T> {
+        self.0.into_iter()
+    }
+}
+
 impl<T> Borrow<[T]> for Vec<T> {
     fn borrow(&self) -> &[T] {
         &self.0
