@@ -11,10 +11,12 @@ TABLES = {
     "program": ("Program text", "Number"),
     "image": ("Image", "Number"),
     "assembly": ("Assembly", "Number"),
+    "links": ("Links", "Number"),
     "fault": ("Endings", "Number"),
     "debug": ("Scripts", "Number"),
 }
-FIRST_FAULT = 60
+# Which numbers of the endings are those of faults, and of what might be one.
+FAULTS = range(60, 81)
 
 
 def section(name):
@@ -45,4 +47,4 @@ def meanings(what, number):
     """What the table of this kind says of a number: a line for each cause."""
     name, head = TABLES[what]
     found = [cells for cells in rows(name, head) if str(number) in re.split(r", *", cells[0])]
-    return [cells[1] for cells in found if what != "fault" or int(number) >= FIRST_FAULT]
+    return [cells[1] for cells in found if what != "fault" or int(number) in FAULTS]

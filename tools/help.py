@@ -9,9 +9,9 @@ ABOVE = """Barthwyfa: a compiler, an assembler and simulators for transport-trig
 Commands, as words after ./tta:
 """
 BETWEEN = """
-M, P, A, IMG, IN, SCRIPT and STREAM name files that are read: the texts of a machine, a program and an assembly, an image, words of
-eight hexadecimal digits, a line each, and commands of the debugger. OUT is written. N is the greatest number of steps or cycles. SEED
-and LINES say which sample program is made, and how long it is.
+M, P, A, IMG, IN, SCRIPT, STREAM and LINKS name files that are read: the texts of a machine, a program and an assembly, an image, words
+of eight hexadecimal digits, a line each, commands of the debugger, and which core feeds which. OUT is written. N is the greatest number
+of steps, cycles or rounds. SEED and LINES say which sample program is made, and how long it is.
 
   --plain COMMAND
       carries out the command by a program that is made of the same sources without their proofs, in a minute
@@ -24,7 +24,7 @@ and LINES say which sample program is made, and how long it is.
   --version
       the version, and the prover that it is proved with
   explain WHAT NUMBER
-      what a number means: WHAT is status, machine, program, image, assembly, fault or debug
+      what a number means: WHAT is status, machine, program, image, assembly, links, fault or debug
 
 A command ends with one of these statuses, and says why on standard error:
 """

@@ -16,13 +16,17 @@ TEXTS = {
     "assembly": ("A", "assembly"),
     "input": ("IN", None),
     "stream": ("STREAM", None),
+    "links": ("LINKS", "links"),
 }
+# The tables of the numbers that a core's file is refused with.
+CORE_TABLES = ("machine", "image", "links")
 LONGEST = 120
 
 
 def form_of(words):
-    """The form of a command, or nothing."""
-    return next((form for form, _ in formats.commands() if form[0] == words[0] and len(form) == len(words)), [])
+    """The form of a command, or nothing. In the place of `..` stand words like those before it."""
+    forms = [form for form, _ in formats.commands() if form[0] == words[0]]
+    return next((form for form in forms if len(form) == len(words) or form[-1] == ".." and len(form) <= len(words) + 1), [])
 
 
 def file_of(name, words):
@@ -73,12 +77,13 @@ def reason(status, said, words):
         if found and TEXTS[kind][1]:
             return found
         return found + formats.meanings("status", status)[:1]
-    code = re.search(r"code (\d+)", said)
+    code, word = re.search(r"code (\d+)", said), re.search(r"word (\d+)", said)
+    if kind == "core file":
+        return [f"word {word[1]} is {words[int(word[1])]!r}"] + [line for table in CORE_TABLES for line in codes(table, code[1])]
     if kind == "image" and code:
         return codes("image", code[1])
     if code and formats.meanings("fault", code[1]):
         return codes("fault", code[1])
-    word = re.search(r"word (\d+)", said)
     if word and kind in ("read fault", "too long") and int(word[1]) < len(words):
         return [f"word {word[1]} is {words[int(word[1])]!r}", *formats.meanings("status", status)[:1]]
     return formats.meanings("status", status)[:1]

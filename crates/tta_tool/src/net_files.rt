@@ -16,8 +16,9 @@ ghost use Rattle.tta_tool.specs.NetFiles.{CoreFileEnds, CorePairEnds, CoreEnds};
 
 use std::alloc::Global;
 use tta_code::{Whole, lay};
-use tta_given::{CodePair, MachineFile, Status};
-use tta_given::{data_words, input_file, machine_file, read_file, whole_file};
+use tta_given::{
+    CodePair, MachineFile, Status, data_words, input_file, machine_file, read_file, whole_file,
+};
 use tta_links::{LinksError, read_links};
 use tta_net::Core;
 use tta_ops::UnitSet;
