@@ -1,6 +1,6 @@
-"""Cores that are joined by queues, written apart from the program as plainly as can be: a reader of links, and cores of which each
-makes one cycle at a turn, in any order."""
-from readers.meaning import Fault, Waits, begun, cycle
+"""Cores that are joined by queues, written apart from the program as plainly as can be: a reader of links, and machines or programs of
+which each goes on by one cycle or step at a turn, in any order."""
+from readers.meaning import Fault, Frame, Waits, begun, cycle, laid, step, steps_of, waits
 from readers.tokens import Refused, lines_of, tokens_of
 
 
@@ -23,37 +23,68 @@ def links(text, count):
     return feeds
 
 
-class Cluster:
-    """Cores, each a machine with the canonical text of its code and the words of its data space at first, and which core feeds each.
-    A core's input is what its feeder has output so far, less the words that it has taken."""
+class Queues:
+    """Cores that feed one another. What a core is, says the class that stands on this one: `outputs[k]` is what core k has output, and
+    `move(k, rest)` lets it go on with this rest of its input, and gives the rest that is left and how the core stands. A core's input is
+    what its feeder has output so far, less the words that it has taken."""
 
-    def __init__(self, cores, feeds):
-        self.cores = [begun(canonical, m, memory, []) for m, canonical, memory in cores]
-        self.feeds, self.taken = feeds, [0] * len(cores)
-
-    def output(self, k):
-        return self.cores[k][0].output
+    def __init__(self, feeds):
+        self.feeds, self.taken = feeds, [0] * len(feeds)
 
     def turn(self, k):
-        """Lets a core make one cycle, and answers how it stands. A cycle that waits changes nothing, and one that faults nothing but
-        that the core is at that fault from then on."""
-        state, code = self.cores[k]
-        if state.is_halted:
-            return "halted"
-        state.rest = [] if self.feeds[k] is None else self.output(self.feeds[k])[self.taken[k]:]
-        here = len(state.rest)
-        try:
-            cycle(state, code)
-        except Fault as fault:
-            return f"fault {fault.args[0]} {state.cycle}"
-        except Waits:
-            return "waiting"
-        self.taken[k] += here - len(state.rest)
-        return "running"
+        """Lets a core go on by one, and answers how it stands. A core that waits changes nothing."""
+        feeder = self.feeds[k]
+        rest = [] if feeder is None else self.outputs[feeder][self.taken[k]:]
+        left, stands = self.move(k, list(rest))
+        self.taken[k] += len(rest) - len(left)
+        return stands
 
     def is_at_rest(self):
         """Whether no turn changes anything. Only a turn of a core that runs does, so once each core has had one that did not."""
-        return all(self.turn(k) != "running" for k in range(len(self.cores)))
+        return all(self.turn(k) != "running" for k in range(len(self.feeds)))
+
+
+class Cluster(Queues):
+    """Cores of machines, each with the canonical text of its code and the words of its data space at first. One turn is one cycle; one
+    that faults changes nothing but that the core is at that fault from then on."""
+
+    def __init__(self, cores, feeds):
+        super().__init__(feeds)
+        self.cores = [begun(canonical, m, memory, []) for m, canonical, memory in cores]
+        self.outputs = [state.output for state, _ in self.cores]
+
+    def move(self, k, rest):
+        state, code = self.cores[k]
+        if state.is_halted:
+            return rest, "halted"
+        state.rest = rest
+        try:
+            cycle(state, code)
+        except Fault as fault:
+            return rest, f"fault {fault.args[0]} {state.cycle}"
+        except Waits:
+            return rest, "waiting"
+        return state.rest, "running"
+
+
+class Programs(Queues):
+    """Programs, each a text with the words of its data memory at first. One turn is one step."""
+
+    def __init__(self, programs, feeds):
+        super().__init__(feeds)
+        self.runs, self.outputs = [], [[] for _ in programs]
+        for text, memory in programs:
+            procs, data = steps_of(text)
+            self.runs.append((procs, [Frame(procs["main"], [], None)], laid(data.items(), memory)))
+
+    def move(self, k, rest):
+        procs, stack, memory = self.runs[k]
+        if not stack:
+            return rest, "halted"
+        if waits(stack, rest):
+            return rest, "waiting"
+        step(procs, stack, memory, rest, self.outputs[k])
+        return rest, "running"
 
 
 def run_net(cores, feeds, bound):
@@ -63,6 +94,6 @@ def run_net(cores, feeds, bound):
     while rounds < bound and runs:
         last = [cluster.turn(k) for k in range(len(cores))]
         rounds, runs = rounds + 1, "running" in last
-    lines = [line for k in range(len(cores)) for line in (f"core {k}", *cluster.output(k), last[k])]
+    lines = [line for k in range(len(cores)) for line in (f"core {k}", *cluster.outputs[k], last[k])]
     faults = [tuple(map(int, line.split()[1:])) for line in last if line.startswith("fault")]
     return "".join(f"{line}\n" for line in lines), runs, faults[0] if faults else None
