@@ -3,6 +3,8 @@
 //! the number of the status. A command whose first word is `picture` draws.
 #![tactic(auto)]
 
+ghost use Rattle.std.specs.Prelude.{◌≡◌, ◌<◌, true, length};
+
 use std::alloc::{AllocError, Global};
 use std::env;
 use std::io::ErrorKind;
@@ -31,6 +33,16 @@ fn words_of(rt: &(impl Env + AllocGlobal)) -> Result<Vec<String>, Status> {
     Ok(words)
 }
 
+/// Whether the first word is `picture`.
+fn begins_with_picture(words: &[String]) -> bool
+    ensures { result ≡ true → 0 < length words.now }
+{
+    match words.first() {
+        Some(word) => word.as_str() == "picture",
+        None => false,
+    }
+}
+
 /// Carries out the words over the units: after `picture` those of a drawing, else those of a command.
 fn carry_out<F: Files, S: Sink>(
     alloc: Global,
@@ -39,8 +51,8 @@ fn carry_out<F: Files, S: Sink>(
     files: &mut F,
     sink: &mut S,
 ) -> Status {
-    if words.first().is_some_and(|word| word == "picture") {
-        words.remove(0);
+    if begins_with_picture(words.as_slice()) {
+        let _ = words.remove(0);
         picture(alloc, words, units, files, sink)
     } else {
         tool(alloc, words, units, files, sink)
