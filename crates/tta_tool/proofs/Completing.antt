@@ -1,6 +1,6 @@
 -- Where files hold a pair that is accepted and has room, and no call on them fails, no cause of `build` but that of memory
 -- holds.
-use Rattle.std.proofs.Common.{◌≡◌, ℕ, ◌≤◌, List, length, Option, Some, None, Ok, refl, sym, ◌∙◌, ap, subst, inl, inr, ◌⊎◌}
+use Rattle.std.proofs.Common.{◌≡◌, ℕ, List, Option, Some, None, Ok, refl, sym, ◌∙◌, ap, subst, inl, inr, ◌⊎◌}
 use Rattle.std.specs.Prelude.{Result}
 use Rattle.tta_ports.specs.declared.fault.Fault.{Fault}
 use Rattle.tta_ports.specs.Store.{Store}
@@ -18,7 +18,7 @@ use Rattle.tta_build.proofs.Completes.{completes}
 use Rattle.tta_given.specs.declared.machine.MachineFile.{MachineFile}
 use Rattle.tta_given.specs.declared.status.Status.{Status}
 use Rattle.tta_given.specs.declared.status.Status.TheVariants as status
-use Rattle.tta_given.specs.Held.{limit, IsHeld, ReadFails, FileFails}
+use Rattle.tta_given.specs.Held.{IsHeld, ReadFails, FileFails}
 use Rattle.tta_given.specs.Machines.{IsDescribed, RefusesMachine, HasMachine}
 use Rattle.tta_given.specs.Programs.{IsProgramIn, IsProgramFor, RefusesProgram, RefusesProgramFor}
 use Rattle.tta_given.specs.Pairs.{HasPair}
@@ -29,11 +29,11 @@ use Rattle.tta_tool.proofs.OneProgram.{one_program, not_refused}
 use Rattle.tta_tool.proofs.TooLongs.{too_long_alone}
 
 -- what two things have in common that are there
-same_some : {A : Type 0} (a b : A) → ◌≡◌ {A = Option A} (Some a) (Some b) → a ≡ b
+pub same_some : {A : Type 0} (a b : A) → ◌≡◌ {A = Option A} (Some a) (Some b) → a ≡ b
 same_some a b e = cc
 
 -- a machine that was read is the one that the text describes
-same_read : {A E : Type 0} (r : Result A E) (a b : A) → r ≡ Ok a → r ≡ Ok b → a ≡ b
+pub same_read : {A E : Type 0} (r : Result A E) (a b : A) → r ≡ Ok a → r ≡ Ok b → a ≡ b
 same_read r a b e f = cc
 
 -- ---- texts
@@ -63,7 +63,7 @@ module _ (store : Store) (faults : ℕ) (latest : Option Fault) (after : World) 
   before = showing store faults latest
 
   -- a file that is not too long is not read only for lack of memory
-  read_only : {V : Type 0} → (Says : List ℕ → V → Type 0) (name : List ℕ) (value : V) (word : ℕ) (s : Status)
+  pub read_only : {V : Type 0} → (Says : List ℕ → V → Type 0) (name : List ℕ) (value : V) (word : ℕ) (s : Status)
       → IsHeld Says (Some store) name value → ReadFails name word before after s → s ≡ status.NoMemory
   read_only Says name value word (status.ReadFault w) held fails = absurd (none fails.1.rose)
   read_only Says name value word (status.TooLong w) held fails =

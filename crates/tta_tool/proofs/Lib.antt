@@ -13,5 +13,7 @@ pub mod NetLines
 pub mod RoundsMade
 pub mod OneProgram
 pub mod Completing
+pub mod PairsTaken
+pub mod RunsTaken
 pub mod Convertings
 pub mod ConvertedCompleting

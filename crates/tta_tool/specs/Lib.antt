@@ -19,5 +19,7 @@ pub mod Request
 pub mod Command
 pub mod Completes
 pub mod ConvertedCompletes
+pub mod WriteCompletes
+pub mod PutCompletes
 pub mod NetFiles
 pub mod Net

@@ -12,6 +12,9 @@ ghost use Rattle.tta_tool.specs.BuildConverted.{BuildConvertedByStatus};
 ghost use Rattle.tta_tool.specs.Ifconv.{IfconvByStatus};
 ghost use Rattle.tta_tool.specs.Completes.{BuildCompletes};
 ghost use Rattle.tta_tool.specs.ConvertedCompletes.{BuildConvertedCompletes, IfconvCompletes};
+ghost use Rattle.tta_tool.specs.WriteCompletes.{AsmCompletes, DisCompletes, BuildCompletesWithoutRoom};
+ghost use Rattle.tta_tool.specs.PutCompletes.{ExecCompletes, RunCompletes};
+ghost use Rattle.tta_tool.specs.PutCompletes.{DebugCompletes, CheckCompletes};
 
 /// `build` takes every machine and program that are accepted and have room: where no call on the
 /// files fails, it writes an image or is out of memory.
@@ -28,6 +31,48 @@ pub fn build_converted_completes()
 /// memory.
 pub fn ifconv_completes()
     ensures { IfconvCompletes }
+{}
+
+/// `build` takes every machine and program that are accepted, whatever their room: where no call
+/// on the files fails, it writes an image, is out of memory, or finds the code too long.
+pub fn build_completes_without_room()
+    ensures { BuildCompletesWithoutRoom }
+{}
+
+/// `asm` takes every assembly for a machine: where no call on the files fails, it writes the image
+/// or is out of memory.
+pub fn asm_completes()
+    ensures { AsmCompletes }
+{}
+
+/// `dis` takes every image for a machine: where no call on the files fails, it writes the text or
+/// is out of memory.
+pub fn dis_completes()
+    ensures { DisCompletes }
+{}
+
+/// `check` takes every image for a machine: where no call fails, it says that the code is safe or
+/// where it is not, or is out of memory.
+pub fn check_completes()
+    ensures { CheckCompletes }
+{}
+
+/// `exec` is done with every run of a program that has halted at the bound, or is out of memory,
+/// where no call fails.
+pub fn exec_completes()
+    ensures { ExecCompletes }
+{}
+
+/// `run` is done with every run of code that has halted at the bound, or is out of memory, where
+/// no call fails.
+pub fn run_completes()
+    ensures { RunCompletes }
+{}
+
+/// `debug` is done with every script that leaves the run at no fault, or is out of memory, where
+/// no call fails.
+pub fn debug_completes()
+    ensures { DebugCompletes }
 {}
 
 /// What holds where `build` ends with a status, for each status.

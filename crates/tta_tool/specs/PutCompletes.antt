@@ -1,0 +1,55 @@
+-- What `check`, `exec`, `run` and `debug` take without fail. Each of them puts a text to the output.
+use Rattle.std.specs.Prelude.{◌≡◌, ◌⊎◌, ℕ, false, List, Option, Some}
+use Rattle.tta_ports.specs.declared.fault.Fault.{Fault}
+use Rattle.tta_ports.specs.Store.{Store}
+use Rattle.tta_ports.specs.Faults.{Rose}
+use Rattle.tta_ports.specs.World.{World}
+use Rattle.tta_ports.specs.Output.{Output}
+use Rattle.tta_ops.specs.Units.{Units}
+use Rattle.tta_program.specs.Sequential as program
+use Rattle.tta_code.specs.Cycle as code
+use Rattle.tta_sim.specs.Held.{is_fault}
+use Rattle.tta_given.specs.declared.status.Status.{Status}
+use Rattle.tta_given.specs.declared.status.Status.TheVariants as status
+use Rattle.tta_given.specs.Images.{IsImageFor}
+use Rattle.tta_given.specs.Pairs.{HasPair}
+use Rattle.tta_tool.specs.Check.{ChecksCode}
+use Rattle.tta_tool.specs.Exec.{HasExecuted, Execs}
+use Rattle.tta_tool.specs.Run.{HasCycled, Runs}
+use Rattle.tta_tool.specs.Debug.{HasSession, Debugs}
+use Rattle.tta_tool.specs.Completes.{showing}
+
+-- no call on the files has failed, and no put to the output
+pub record IsUndisturbed (before after : World) (old new : Output) : Type 0 where
+  pub files : Rose before.faults after.faults → ⊥
+  pub output : Rose old.faults new.faults → ⊥
+
+-- `exec` of a machine, a program, data words and an input whose run has halted at the bound, where no call fails, is done or out of
+-- memory, and ends in no other way
+abbrev pub ExecCompletes : Type 0
+ExecCompletes =
+    (u : Units) (store : Store) (faults : ℕ) (latest : Option Fault) (M P IN : List ℕ) (STREAM : Option (List ℕ)) (bound : ℕ) (after : World) (old new : Output) (s : Status)
+    → HasExecuted u (Some store) M P IN STREAM bound (λ state. state.outcome ≡ program.Halted) → IsUndisturbed (showing store faults latest) after old new
+    → Execs u M P IN STREAM bound (showing store faults latest) after old new s → (s ≡ status.Ok) ⊎ (s ≡ status.NoMemory)
+
+-- and so is `run` of a machine, an image, data words and an input whose run has halted at the bound
+abbrev pub RunCompletes : Type 0
+RunCompletes =
+    (u : Units) (store : Store) (faults : ℕ) (latest : Option Fault) (M IMG IN : List ℕ) (STREAM : Option (List ℕ)) (bound : ℕ) (after : World) (old new : Output) (s : Status)
+    → HasCycled u (Some store) M IMG IN STREAM bound (λ state. state.outcome ≡ code.Halted) → IsUndisturbed (showing store faults latest) after old new
+    → Runs u M IMG IN STREAM bound (showing store faults latest) after old new s → (s ≡ status.Ok) ⊎ (s ≡ status.NoMemory)
+
+-- and `debug` of a machine, an image, data words, a script and an input, where the script leaves the run at no fault
+abbrev pub DebugCompletes : Type 0
+DebugCompletes =
+    (u : Units) (store : Store) (faults : ℕ) (latest : Option Fault) (M IMG IN SCRIPT : List ℕ) (STREAM : Option (List ℕ)) (after : World) (old new : Output) (s : Status)
+    → HasSession u (Some store) M IMG IN SCRIPT STREAM (λ said. is_fault said.1.state.outcome ≡ false) → IsUndisturbed (showing store faults latest) after old new
+    → Debugs u M IMG IN SCRIPT STREAM (showing store faults latest) after old new s → (s ≡ status.Ok) ⊎ (s ≡ status.NoMemory)
+
+-- `check` of a machine and an image for it, where no call fails, has a verdict or is out of memory, and ends in no other way
+abbrev pub CheckCompletes : Type 0
+CheckCompletes =
+    (u : Units) (store : Store) (faults : ℕ) (latest : Option Fault) (M IMG : List ℕ) (after : World) (old new : Output) (s : Status)
+    → HasPair u IsImageFor (Some store) M IMG → IsUndisturbed (showing store faults latest) after old new
+    → ChecksCode u M IMG (showing store faults latest) after old new s
+    → (s ≡ status.Ok) ⊎ (s ≡ status.NoMemory) ⊎ ((number : ℕ) × (word : ℕ) × (s ≡ status.Unsafe number word))
