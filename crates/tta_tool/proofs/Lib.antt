@@ -14,6 +14,7 @@ pub mod RoundsMade
 pub mod OneProgram
 pub mod Completing
 pub mod PairsTaken
+pub mod AcceptedPairs
 pub mod RunsTaken
 pub mod Convertings
 pub mod ConvertedCompleting

@@ -76,6 +76,16 @@ same_held store Says name v w one a b =
 pub same_file : (u : Units) (store : Store) (M : List ℕ) (a b : HasMachine u (Some store) M) → a.value ≡ b.value
 same_file u store M a b = same_held store (IsDescribed u) M a.value b.value (λ text. one_file u text a.value b.value) a.held b.held
 
+-- files hold one pair at most: what is true of one is true of another
+pub for_pair : {V : Type 0} → (u : Units) (store : Store) (Says : MachineFile → List ℕ → V → Type 0) (M name : List ℕ) (a b : HasPair u Says (Some store) M name)
+    → ((bytes : List ℕ) (v : V) → Says a.machine.value bytes v → Says a.machine.value bytes a.second.value → v ≡ a.second.value)
+    → (Is : MachineFile → V → Type 0) → Is b.machine.value b.second.value → Is a.machine.value a.second.value
+for_pair u store Says M name a b one Is is =
+    let file = same_file u store M b.machine a.machine in
+    let held = subst (λ (f : MachineFile). IsHeld (Says f) (Some store) name b.second.value) file b.second.held in
+    let value = same_held store (Says a.machine.value) name b.second.value a.second.value (λ bytes. one bytes b.second.value) held a.second.held in
+    subst (λ v. Is a.machine.value v) value (subst (λ (f : MachineFile). Is f b.second.value) file is)
+
 module _ (u : Units) (store : Store) (faults : ℕ) (latest : Option Fault) (after : World) (none : Rose faults after.faults → ⊥) where
   abbrev before : World
   before = showing store faults latest
@@ -108,9 +118,6 @@ module _ (u : Units) (store : Store) (faults : ℕ) (latest : Option Fault) (aft
       → ((s ≡ status.Ok) ⊎ (s ≡ status.NoMemory)) ⊎ Lacks a.machine.value a.second.value s
   writes_only Says Refuses Makes Lacks M name OUT s a only one (inl fails) = inl (inr (pair_only Says Refuses M name s a only fails))
   writes_only Says Refuses Makes Lacks M name OUT s a only one (inr (b, inl lacks)) =
-      let file = same_file u store M b.machine a.machine in
-      let held = subst (λ (f : MachineFile). IsHeld (Says f) (Some store) name b.second.value) file b.second.held in
-      let value = same_held store (Says a.machine.value) name b.second.value a.second.value (λ bytes. one bytes b.second.value) held a.second.held in
-      inr (subst (λ v. Lacks a.machine.value v s) value (subst (λ (f : MachineFile). Lacks f b.second.value s) file lacks.1))
+      inr (for_pair u store Says M name a b one (λ file v. Lacks file v s) lacks.1)
   writes_only Says Refuses Makes Lacks M name OUT s a only one (inr (b, inr ends)) =
       inl (writing_only (Makes b.machine.value b.second.value) OUT s ends)

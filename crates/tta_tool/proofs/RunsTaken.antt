@@ -12,13 +12,13 @@ use Rattle.tta_run.specs.declared.ended.Ended.TheVariants as ended
 use Rattle.tta_given.specs.declared.machine.MachineFile.{MachineFile}
 use Rattle.tta_given.specs.declared.status.Status.{Status}
 use Rattle.tta_given.specs.declared.status.Status.TheVariants as status
-use Rattle.tta_given.specs.Held.{IsHeld, FileFails}
+use Rattle.tta_given.specs.Held.{FileFails}
 use Rattle.tta_given.specs.Inputs.{Fills, RefusesInput, HasInput, IsInput, RefusesStream, IsStream, StreamFails}
 use Rattle.tta_given.specs.Pairs.{HasPair}
 use Rattle.tta_tool.specs.Runs.{ReportEnds, HasGiven, GivenRuns, PairRuns}
 use Rattle.tta_tool.specs.Completes.{showing}
 use Rattle.tta_tool.proofs.Completing.{same_read, file_only}
-use Rattle.tta_tool.proofs.PairsTaken.{same_held, same_file, pair_only}
+use Rattle.tta_tool.proofs.PairsTaken.{same_held, for_pair, pair_only}
 
 -- ---- bytes
 
@@ -94,10 +94,5 @@ module _ (u : Units) (store : Store) (faults : ℕ) (latest : Option Fault) (aft
     runs_only Says Refuses Reports M name a given only one done (inl (fails, q)) =
         inr (pair_only u store faults latest after none Says Refuses M name s a only fails)
     runs_only Says Refuses Reports M name a given only one done (inr (b, ends)) =
-        let file = same_file u store M b.machine a.machine in
-        let held = subst (λ (f : MachineFile). IsHeld (Says f) (Some store) name b.second.value) file b.second.held in
-        let value = same_held store (Says a.machine.value) name b.second.value a.second.value (λ bytes. one bytes b.second.value) held a.second.held in
-        let space = a.machine.value.machine.data_words in
-        given_only space (Reports a.machine.value a.second.value) given done
-        (subst (λ v. GivenRuns space (Reports a.machine.value v) IN STREAM before after old new s) value
-        (subst (λ (f : MachineFile). GivenRuns f.machine.data_words (Reports f b.second.value) IN STREAM before after old new s) file ends))
+        given_only a.machine.value.machine.data_words (Reports a.machine.value a.second.value) given done
+        (for_pair u store Says M name a b one (λ file v. GivenRuns file.machine.data_words (Reports file v) IN STREAM before after old new s) ends)

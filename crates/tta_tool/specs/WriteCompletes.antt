@@ -5,7 +5,8 @@ use Rattle.tta_ports.specs.Store.{Store}
 use Rattle.tta_ports.specs.Faults.{Rose}
 use Rattle.tta_ports.specs.World.{World}
 use Rattle.tta_ops.specs.Units.{Units}
-use Rattle.tta_build.specs.Statement.{IsAccepted}
+use Rattle.tta_build.specs.Statement.{IsAccepted, LacksRoom}
+use Rattle.tta_build.specs.Converted.{LacksConvertedRoom}
 use Rattle.tta_given.specs.declared.status.Status.{Status}
 use Rattle.tta_given.specs.declared.status.Status.TheVariants as status
 use Rattle.tta_given.specs.Assemblies.{IsAssemblyFor}
@@ -15,6 +16,7 @@ use Rattle.tta_given.specs.Pairs.{HasPair}
 use Rattle.tta_tool.specs.Asm.{Assembles}
 use Rattle.tta_tool.specs.Dis.{Shows}
 use Rattle.tta_tool.specs.Build.{Builds}
+use Rattle.tta_tool.specs.BuildConverted.{BuildsConverted}
 use Rattle.tta_tool.specs.Completes.{showing}
 
 -- `asm` of a machine and assembly for it, where no call on the files fails, writes the image or is out of memory, and ends in no
@@ -35,10 +37,24 @@ pub record HasAcceptedPair (u : Units) (store : Store) (M P : List ℕ) : Type 0
   pub pair : HasPair u (IsProgramFor u) (Some store) M P
   pub accepted : IsAccepted u pair.machine.value.machine pair.second.value
 
--- `build` of such a pair, whatever its room, where no call on the files fails, writes an image of it, is out of memory, or finds
--- the code longer than the machine has addresses; and it ends in no other way
+-- an ending says that code has more words than the machine has addresses, and with these two numbers it is so
+pub record IsFull (Lacks : (words have : ℕ) → Type 0) (s : Status) : Type 0 where
+  pub words : ℕ
+  pub have : ℕ
+  pub told : s ≡ status.CodeFull words have
+  pub lacks : Lacks words have
+
+-- `build` of such a pair, whatever its room, where no call on the files fails, writes an image of it, is out of memory, or has code
+-- that is too long; and it ends in no other way
 abbrev pub BuildCompletesWithoutRoom : Type 0
 BuildCompletesWithoutRoom =
-    (u : Units) (store : Store) (faults : ℕ) (latest : Option Fault) (M P OUT : List ℕ) (after : World) (s : Status) → HasAcceptedPair u store M P
+    (u : Units) (store : Store) (faults : ℕ) (latest : Option Fault) (M P OUT : List ℕ) (after : World) (s : Status) (has : HasAcceptedPair u store M P)
     → (Rose faults after.faults → ⊥) → Builds u M P OUT (showing store faults latest) after s
-    → (s ≡ status.Ok) ⊎ (s ≡ status.NoMemory) ⊎ ((words : ℕ) × (have : ℕ) × (s ≡ status.CodeFull words have))
+    → (s ≡ status.Ok) ⊎ (s ≡ status.NoMemory) ⊎ IsFull (LacksRoom u has.pair.machine.value.machine has.pair.second.value) s
+
+-- and so does `build` with the word `convert`
+abbrev pub BuildConvertedCompletesWithoutRoom : Type 0
+BuildConvertedCompletesWithoutRoom =
+    (u : Units) (store : Store) (faults : ℕ) (latest : Option Fault) (M P OUT : List ℕ) (after : World) (s : Status) (has : HasAcceptedPair u store M P)
+    → (Rose faults after.faults → ⊥) → BuildsConverted u M P OUT (showing store faults latest) after s
+    → (s ≡ status.Ok) ⊎ (s ≡ status.NoMemory) ⊎ IsFull (LacksConvertedRoom u has.pair.machine.value.machine has.pair.second.value) s

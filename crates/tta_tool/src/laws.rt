@@ -12,9 +12,11 @@ ghost use Rattle.tta_tool.specs.BuildConverted.{BuildConvertedByStatus};
 ghost use Rattle.tta_tool.specs.Ifconv.{IfconvByStatus};
 ghost use Rattle.tta_tool.specs.Completes.{BuildCompletes};
 ghost use Rattle.tta_tool.specs.ConvertedCompletes.{BuildConvertedCompletes, IfconvCompletes};
-ghost use Rattle.tta_tool.specs.WriteCompletes.{AsmCompletes, DisCompletes, BuildCompletesWithoutRoom};
+ghost use Rattle.tta_tool.specs.WriteCompletes.{AsmCompletes, DisCompletes};
+ghost use Rattle.tta_tool.specs.WriteCompletes.{BuildCompletesWithoutRoom};
+ghost use Rattle.tta_tool.specs.WriteCompletes.{BuildConvertedCompletesWithoutRoom};
 ghost use Rattle.tta_tool.specs.PutCompletes.{ExecCompletes, RunCompletes};
-ghost use Rattle.tta_tool.specs.PutCompletes.{DebugCompletes, CheckCompletes};
+ghost use Rattle.tta_tool.specs.PutCompletes.{DebugCompletes, CheckCompletes, SampleCompletes};
 
 /// `build` takes every machine and program that are accepted and have room: where no call on the
 /// files fails, it writes an image or is out of memory.
@@ -37,6 +39,11 @@ pub fn ifconv_completes()
 /// on the files fails, it writes an image, is out of memory, or finds the code too long.
 pub fn build_completes_without_room()
     ensures { BuildCompletesWithoutRoom }
+{}
+
+/// So does `build` with the word `convert`.
+pub fn build_converted_completes_without_room()
+    ensures { BuildConvertedCompletesWithoutRoom }
 {}
 
 /// `asm` takes every assembly for a machine: where no call on the files fails, it writes the image
@@ -73,6 +80,12 @@ pub fn run_completes()
 /// no call fails.
 pub fn debug_completes()
     ensures { DebugCompletes }
+{}
+
+/// `sample` puts its summary, or is out of memory, where the machine takes the sample's program, the
+/// program has halted at the bound and no call fails.
+pub fn sample_completes()
+    ensures { SampleCompletes }
 {}
 
 /// What holds where `build` ends with a status, for each status.

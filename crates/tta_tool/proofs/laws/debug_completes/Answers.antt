@@ -9,16 +9,14 @@ use Rattle.tta_arch.specs.Machine.{Machine}
 use Rattle.tta_code.specs.Whole.{Whole}
 use Rattle.tta_sim.specs.Held.{is_fault}
 use Rattle.tta_debug.specs.Debugged.{Debugged}
-use Rattle.tta_given.specs.declared.machine.MachineFile.{MachineFile}
 use Rattle.tta_given.specs.declared.status.Status.{Status}
 use Rattle.tta_given.specs.declared.status.Status.TheVariants as status
-use Rattle.tta_given.specs.Held.{IsHeld}
 use Rattle.tta_given.specs.Images.{IsImageFor, RefusesImage}
 use Rattle.tta_tool.specs.Completes.{showing}
 use Rattle.tta_tool.specs.Debug.{HasAsked, said, SessionEnds, AskedRuns}
 use Rattle.tta_tool.specs.PutCompletes.{DebugCompletes}
 use Rattle.tta_tool.proofs.Completing.{same_some, read_only}
-use Rattle.tta_tool.proofs.PairsTaken.{image_only, one_whole, same_held, same_file, pair_only}
+use Rattle.tta_tool.proofs.PairsTaken.{image_only, one_whole, for_pair, pair_only}
 use Rattle.tta_tool.proofs.RunsTaken.{same_memory, same_words, memory_only, stream_only}
 use Rattle.tta_tool.proofs.laws.debug_completes.Goals as goal
 
@@ -61,15 +59,11 @@ debug_completes_holds u store faults latest M IMG IN SCRIPT STREAM after old new
     let a = has.0 in
     let asked = has.1.0 in
     let m = a.machine.value.machine in
-    let text = a.machine.held in
-    let file = same_file u store M b.machine a.machine in
-    let held = subst (λ (f : MachineFile). IsHeld (IsImageFor f) (Some store) IMG b.second.value) file b.second.held in
-    let value = same_held store (IsImageFor a.machine.value) IMG b.second.value a.second.value
-    (λ bytes. one_whole u text.bytes a.machine.value bytes b.second.value a.second.value text.says) held a.second.held in
+    let held = a.machine.held in
     asked_only u store faults latest after calm.files IN SCRIPT STREAM old new s m a.second.value asked
     (session_only (said u m a.second.value asked.input.value asked.script.bytes asked.stream.words) old new s calm.output has.1.1)
-    (subst (λ w. AskedRuns u m w IN SCRIPT STREAM (showing store faults latest) after old new s) value
-    (subst (λ (f : MachineFile). AskedRuns u f.machine b.second.value IN SCRIPT STREAM (showing store faults latest) after old new s) file ends))
+    (for_pair u store IsImageFor M IMG a b (λ bytes v. one_whole u held.bytes a.machine.value bytes v a.second.value held.says)
+    (λ file whole. AskedRuns u file.machine whole IN SCRIPT STREAM (showing store faults latest) after old new s) ends)
 
 pub returns : goal.returns
 returns c = debug_completes_holds
