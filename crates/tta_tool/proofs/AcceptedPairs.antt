@@ -51,3 +51,11 @@ module _ (u : Units) (m : Machine) (p : Program) where
     | inr full ↦
         let more = full.lacks.more in let most = full.lacks.room in let there = full.lacks.addresses in let room = roomy.room in absurd (omega arith)
   ]
+
+  -- nor is that of the converted program
+  pub converted_roomy_only : (s : Status) → IsRoomy u m p → IsConvertedCauseOf u m p s → s ≡ status.NoMemory
+  converted_roomy_only s roomy c = elim (converted_cause_only s roomy.accepted c) [
+    | inl lacks ↦ lacks
+    | inr full ↦
+        let more = full.lacks.more in let most = full.lacks.room in let there = full.lacks.addresses in let room = roomy.room in absurd (omega arith)
+  ]

@@ -12,9 +12,8 @@ pub mod CoresTaken
 pub mod NetLines
 pub mod RoundsMade
 pub mod OneProgram
-pub mod Completing
+pub mod FilesTaken
 pub mod PairsTaken
 pub mod AcceptedPairs
 pub mod RunsTaken
 pub mod Convertings
-pub mod ConvertedCompleting

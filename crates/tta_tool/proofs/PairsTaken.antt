@@ -23,7 +23,7 @@ use Rattle.tta_given.specs.Images.{IsImageFor, RefusesImage}
 use Rattle.tta_given.specs.Pairs.{HasPair, PairFails}
 use Rattle.tta_given.specs.Ends.{WritingEnds, Writes}
 use Rattle.tta_tool.specs.Completes.{showing}
-use Rattle.tta_tool.proofs.Completing.{same_some, same_read, machine_only, file_only}
+use Rattle.tta_tool.proofs.FilesTaken.{same_some, same_read, machine_only, file_only}
 
 -- ---- bytes
 
@@ -102,7 +102,7 @@ module _ (u : Units) (store : Store) (faults : ℕ) (latest : Option Fault) (aft
       (subst (λ (f : MachineFile). FileFails (Refuses f) name 2 before after s) (same_file u store M b a.machine) fails)
 
   -- what is made is written, or memory lacks
-  writing_only : (Makes : List ℕ → Type 0) (OUT : List ℕ) (s : Status) → WritingEnds Makes OUT before after s → (s ≡ status.Ok) ⊎ (s ≡ status.NoMemory)
+  pub writing_only : (Makes : List ℕ → Type 0) (OUT : List ℕ) (s : Status) → WritingEnds Makes OUT before after s → (s ≡ status.Ok) ⊎ (s ≡ status.NoMemory)
   writing_only Makes OUT status.Ok ends = inl refl
   writing_only Makes OUT status.WriteFault ends = absurd (none ends.rose)
   writing_only Makes OUT status.NoMemory ends = inr refl

@@ -17,7 +17,7 @@ use Rattle.tta_given.specs.Inputs.{Fills, RefusesInput, HasInput, IsInput, Refus
 use Rattle.tta_given.specs.Pairs.{HasPair}
 use Rattle.tta_tool.specs.Runs.{ReportEnds, HasGiven, GivenRuns, PairRuns}
 use Rattle.tta_tool.specs.Completes.{showing}
-use Rattle.tta_tool.proofs.Completing.{same_read, file_only}
+use Rattle.tta_tool.proofs.FilesTaken.{same_read, file_only}
 use Rattle.tta_tool.proofs.PairsTaken.{same_held, for_pair, pair_only}
 
 -- ---- bytes

@@ -2,7 +2,7 @@ use Rattle.std.proofs.Common.{inl, inr}
 use Rattle.tta_given.specs.Programs.{IsProgramFor, RefusesProgramFor}
 use Rattle.tta_tool.specs.BuildConverted.{IsConvertedImageOf, IsConvertedCauseOf}
 use Rattle.tta_tool.proofs.OneProgram.{one_program}
-use Rattle.tta_tool.proofs.Completing.{program_only}
+use Rattle.tta_tool.proofs.FilesTaken.{program_only}
 use Rattle.tta_tool.proofs.PairsTaken.{writes_only}
 use Rattle.tta_tool.proofs.AcceptedPairs.{converted_cause_only}
 use Rattle.tta_tool.proofs.laws.build_converted_completes_without_room.Goals as goal

@@ -15,7 +15,7 @@ use Rattle.tta_given.specs.Images.{IsImageFor, RefusesImage}
 use Rattle.tta_tool.specs.Completes.{showing}
 use Rattle.tta_tool.specs.Debug.{HasAsked, said, SessionEnds, AskedRuns}
 use Rattle.tta_tool.specs.PutCompletes.{DebugCompletes}
-use Rattle.tta_tool.proofs.Completing.{same_some, read_only}
+use Rattle.tta_tool.proofs.FilesTaken.{same_some, read_only}
 use Rattle.tta_tool.proofs.PairsTaken.{image_only, one_whole, for_pair, pair_only}
 use Rattle.tta_tool.proofs.RunsTaken.{same_memory, same_words, memory_only, stream_only}
 use Rattle.tta_tool.proofs.laws.debug_completes.Goals as goal

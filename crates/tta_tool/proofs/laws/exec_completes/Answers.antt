@@ -4,7 +4,7 @@ use Rattle.tta_given.specs.Programs.{IsProgramFor, RefusesProgramFor}
 use Rattle.tta_tool.specs.Steps.{ended_of, run_text}
 use Rattle.tta_tool.specs.Exec.{Reports}
 use Rattle.tta_tool.proofs.OneProgram.{one_program}
-use Rattle.tta_tool.proofs.Completing.{program_only}
+use Rattle.tta_tool.proofs.FilesTaken.{program_only}
 use Rattle.tta_tool.proofs.RunsTaken.{report_only, runs_only}
 use Rattle.tta_tool.proofs.laws.exec_completes.Goals as goal
 

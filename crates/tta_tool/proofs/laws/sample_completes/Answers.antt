@@ -16,7 +16,7 @@ use Rattle.tta_given.specs.Programs.{IsProgramIn}
 use Rattle.tta_tool.specs.Sample.{step_bound, program_after, CompareEnds, CompileEnds, SampleForEnds}
 use Rattle.tta_tool.specs.PutCompletes.{SampleCompletes}
 use Rattle.tta_tool.proofs.OneProgram.{one_program}
-use Rattle.tta_tool.proofs.Completing.{machine_only, program_only, file_only}
+use Rattle.tta_tool.proofs.FilesTaken.{machine_only, program_only, file_only}
 use Rattle.tta_tool.proofs.PairsTaken.{same_file}
 use Rattle.tta_tool.proofs.AcceptedPairs.{roomy_only}
 use Rattle.tta_tool.proofs.laws.sample_completes.Goals as goal
