@@ -16,4 +16,5 @@ pub mod FilesTaken
 pub mod PairsTaken
 pub mod AcceptedPairs
 pub mod RunsTaken
+pub mod NetTaken
 pub mod Convertings

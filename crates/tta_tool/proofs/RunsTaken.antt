@@ -23,7 +23,7 @@ use Rattle.tta_tool.proofs.PairsTaken.{same_held, for_pair, pair_only}
 -- ---- bytes
 
 -- bytes that fill a data space are refused only for lack of memory
-input_only : (space : ℕ) (bytes memory : List ℕ) (s : Status) → Fills space bytes memory → RefusesInput space bytes s → s ≡ status.NoMemory
+pub input_only : (space : ℕ) (bytes memory : List ℕ) (s : Status) → Fills space bytes memory → RefusesInput space bytes s → s ≡ status.NoMemory
 input_only space bytes memory (status.BadInput line) is bad = absurd cc
 input_only space bytes memory status.NoMemory is bad = refl
 input_only space bytes memory s is bad = absurd bad

@@ -23,3 +23,4 @@ pub mod WriteCompletes
 pub mod PutCompletes
 pub mod NetFiles
 pub mod Net
+pub mod NetCompletes

@@ -55,7 +55,7 @@ DebugCompletes =
     → HasSession u (Some store) M IMG IN SCRIPT STREAM (λ said. is_fault said.1.state.outcome ≡ false) → IsUndisturbed (showing store faults latest) after old new
     → Debugs u M IMG IN SCRIPT STREAM (showing store faults latest) after old new s → (s ≡ status.Ok) ⊎ (s ≡ status.NoMemory)
 
--- an ending says that some walk of code has this code at this word, or that two disagree there, and it is so
+-- an ending names a word at which code is unsafe, with the number of what is wrong there, and it is so
 pub record IsFoundUnsafe (m : Machine) (code : Code) (s : Status) : Type 0 where
   pub number : ℕ
   pub word : ℕ

@@ -17,6 +17,7 @@ ghost use Rattle.tta_tool.specs.WriteCompletes.{BuildCompletesWithoutRoom};
 ghost use Rattle.tta_tool.specs.WriteCompletes.{BuildConvertedCompletesWithoutRoom};
 ghost use Rattle.tta_tool.specs.PutCompletes.{ExecCompletes, RunCompletes};
 ghost use Rattle.tta_tool.specs.PutCompletes.{DebugCompletes, CheckCompletes, SampleCompletes};
+ghost use Rattle.tta_tool.specs.NetCompletes.{NetCompletes};
 
 /// `build` takes every machine and program that are accepted and have room: where no call on the
 /// files fails, it writes an image or is out of memory.
@@ -86,6 +87,12 @@ pub fn debug_completes()
 /// program has halted at the bound and no call fails.
 pub fn sample_completes()
     ensures { SampleCompletes }
+{}
+
+/// `net` is done with cores that come to rest within the rounds and at no fault, or is out of
+/// memory, where no call fails.
+pub fn net_completes()
+    ensures { NetCompletes }
 {}
 
 /// What holds where `build` ends with a status, for each status.
