@@ -11,6 +11,7 @@ pub mod Samplings
 pub mod CoresTaken
 pub mod NetLines
 pub mod RoundsMade
+pub mod NetStages
 pub mod OneProgram
 pub mod FilesTaken
 pub mod PairsTaken

@@ -26,7 +26,7 @@ use Rattle.tta_tool.specs.Net.{net_lines, net_text, first_fault, rounds_status, 
 use Rattle.tta_tool.proofs.NetLines.{net_same, first_same, none_first}
 
 -- what rounds came to, with something else that is true of the cores then
-ended_with : {net : Network State} {count : ℕ} {cs : List (Joined State)} {most : ℕ} {is_running : Bool} {last : List Turn} {P Q : List (Joined State) → Type 0}
+pub ended_with : {net : Network State} {count : ℕ} {cs : List (Joined State)} {most : ℕ} {is_running : Bool} {last : List Turn} {P Q : List (Joined State) → Type 0}
     → (ended : HasEnded net count cs most is_running last P) → Q (after_rounds net count cs ended.made) → HasEnded net count cs most is_running last Q
 ended_with ended is = record {
   made = ended.made;

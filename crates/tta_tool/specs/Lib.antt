@@ -24,3 +24,4 @@ pub mod PutCompletes
 pub mod NetFiles
 pub mod Net
 pub mod NetCompletes
+pub mod NetEndings

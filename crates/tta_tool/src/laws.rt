@@ -10,6 +10,7 @@ ghost use Rattle.tta_tool.specs.Debug.{DebugByStatus};
 ghost use Rattle.tta_tool.specs.Sample.{SampleByStatus};
 ghost use Rattle.tta_tool.specs.BuildConverted.{BuildConvertedByStatus};
 ghost use Rattle.tta_tool.specs.Ifconv.{IfconvByStatus};
+ghost use Rattle.tta_tool.specs.NetEndings.{NetByStatus};
 ghost use Rattle.tta_tool.specs.Completes.{BuildCompletes};
 ghost use Rattle.tta_tool.specs.ConvertedCompletes.{BuildConvertedCompletes, IfconvCompletes};
 ghost use Rattle.tta_tool.specs.WriteCompletes.{AsmCompletes, DisCompletes};
@@ -143,4 +144,9 @@ pub fn build_converted_by_status()
 /// What holds where `ifconv` ends with a status, for each status.
 pub fn ifconv_by_status()
     ensures { IfconvByStatus }
+{}
+
+/// What holds where `net` ends with a status, for each status.
+pub fn net_by_status()
+    ensures { NetByStatus }
 {}
