@@ -7,10 +7,14 @@ in .stream; without them it has none."""
 import csv
 import os
 import re
+import signal
 import subprocess
 import sys
 import tempfile
 from concurrent.futures import ThreadPoolExecutor
+
+# A reader that has seen enough ends it without a word.
+signal.signal(signal.SIGPIPE, signal.SIG_DFL)
 
 HEADS = ["machine", "program", "words", "bits", "code bits", "steps", "cycles", "cycles/step", "ends"]
 STEPS = CYCLES = str(2**40)

@@ -1,8 +1,12 @@
 """What `./tta help` and `./tta explain` print, from the tables of docs/FORMATS.md."""
+import signal
 import sys
 
 sys.dont_write_bytecode = True
 import formats
+
+# A reader that has seen enough ends it without a word.
+signal.signal(signal.SIGPIPE, signal.SIG_DFL)
 
 ABOVE = """Barthwyfa: a compiler, an assembler and simulators for transport-triggered processors.
 
