@@ -43,3 +43,4 @@ pub mod Growing
 pub mod Sound
 pub mod Solving
 pub mod Checking
+pub mod Packing

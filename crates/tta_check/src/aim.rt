@@ -9,7 +9,7 @@ ghost use Rattle.tta_check.specs.Going.{event_as};
 
 use crate::held::Held;
 use crate::key::{Event, Kind};
-use crate::row::Kept;
+use crate::packed::Packed;
 use crate::write::{origin_of, words_of};
 use tta_arch::Dest;
 use tta_code::Move;
@@ -26,7 +26,7 @@ fn only_word(held: Held) -> Option<Option<u32>>
 }
 
 /// The word of the control move, if it has one alone.
-pub fn aim_of(cells: &[Kept], control: Option<Move>) -> Option<Option<u32>>
+pub fn aim_of(cells: &[Packed], control: Option<Move>) -> Option<Option<u32>>
     ensures { result ≡ aim_of cells.now (option_map effect_of control) }
 {
     let Some(v) = control else {

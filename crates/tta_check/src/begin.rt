@@ -5,23 +5,22 @@ ghost use Rattle.tta_check.specs.Rows.{idle};
 ghost use Rattle.tta_check.specs.Joined.{unwritten_at, IsFirst};
 
 use crate::held::Held;
-use crate::row::{Cell, Kept, Port, Row};
+use crate::packed::Packed;
+use crate::row::{Cell, Port, Row};
 use crate::spot::Spot;
 use std::alloc::{AllocError, Global};
 
 /// What is kept of spots that no walk has written.
-fn unwritten(alloc: Global, spots: &[Spot]) -> Result<Vec<Kept>, AllocError>
+fn unwritten(alloc: Global, spots: &[Spot]) -> Result<Vec<Packed>, AllocError>
     ensures { IfOk result (λ v. v.items ≡ map unwritten_at spots.now) }
 {
     let mut list = Vec::with_capacity(alloc, spots.len())?;
+    let nothing = Cell {
+        unset: true,
+        held: Held::Nothing,
+    };
     for spot in spots {
-        list.push(Kept {
-            at: *spot,
-            cell: Cell {
-                unset: true,
-                held: Held::Nothing,
-            },
-        })?;
+        list.push(Packed::of(*spot, nothing))?;
     }
     Ok(list)
 }

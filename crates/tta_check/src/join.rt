@@ -4,17 +4,15 @@ ghost use Rattle.std.specs.Prelude.{◌≡◌, length, IfOk};
 ghost use Rattle.tta_check.specs.Joined.{joined_kept, joined_list, joined_port, joined_ports};
 ghost use Rattle.tta_check.specs.Joined.{IsJoined};
 
-use crate::row::{Kept, Port, Row, joined_cells};
+use crate::packed::Packed;
+use crate::row::{Port, Row, joined_cells};
 use std::alloc::{AllocError, Global};
 
 /// What is kept of a place in both.
-fn joined_kept(kept: Kept, other: Kept) -> Kept
-    ensures { result ≡ joined_kept kept other }
+fn joined_kept(kept: &Packed, other: &Packed) -> Packed
+    ensures { result ≡ joined_kept kept.now other.now }
 {
-    Kept {
-        at: kept.at,
-        cell: joined_cells(kept.cell, other.cell),
-    }
+    Packed::of(kept.spot(), joined_cells(kept.cell(), other.cell()))
 }
 
 /// What is kept of a unit in both.
@@ -28,13 +26,13 @@ fn joined_port(port: Port, other: Port) -> Port
 }
 
 /// What is kept of the places of two rows.
-fn both_cells(alloc: Global, cells: &[Kept], other: &[Kept]) -> Result<Vec<Kept>, AllocError>
+fn both_cells(alloc: Global, cells: &[Packed], other: &[Packed]) -> Result<Vec<Packed>, AllocError>
     requires { length cells.now ≡ length other.now }
     ensures { IfOk result (λ v. v.items ≡ joined_list cells.now other.now) }
 {
     let mut list = Vec::with_capacity(alloc, cells.len())?;
     for (at, kept) in cells.iter().enumerate() {
-        list.push(joined_kept(*kept, other[at]))?;
+        list.push(joined_kept(kept, &other[at]))?;
     }
     Ok(list)
 }

@@ -10,6 +10,7 @@ mod held;
 mod join;
 mod key;
 mod laws;
+mod packed;
 mod row;
 mod sense;
 mod slot_causes;

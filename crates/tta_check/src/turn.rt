@@ -7,7 +7,8 @@ ghost use Rattle.tta_check.specs.Steps.{write_into, cell_from, has_latency};
 ghost use Rattle.tta_check.specs.Turns.{kept_after, ports_after, have_latency};
 
 use crate::effects::{start_on, write_into};
-use crate::row::{Cell, Kept, Port, Row};
+use crate::packed::Packed;
+use crate::row::{Cell, Port, Row};
 use crate::sense::Sense;
 use crate::start::port_after;
 use crate::write::cell_from;
@@ -24,12 +25,12 @@ pub struct Turn {
 }
 
 /// What is kept of a spot after an instruction.
-fn spot_after(m: &Machine, i: &Instruction, turn: Turn, cells: &[Kept], kept: Kept) -> Cell
-    ensures { result ≡ cell_from kept.cell cells.now turn.settled
-        (write_into m.now turn.back (place_of kept.at) (effects_of m.now i.now)) }
+fn spot_after(m: &Machine, i: &Instruction, turn: Turn, cells: &[Packed], kept: &Packed) -> Cell
+    ensures { result ≡ cell_from kept.now.cell cells.now turn.settled
+        (write_into m.now turn.back (place_of kept.now.at) (effects_of m.now i.now)) }
 {
-    let write = write_into(m, turn.back, i, kept.at);
-    cell_from(kept.cell, cells, turn.settled, write)
+    let write = write_into(m, turn.back, i, kept.spot());
+    cell_from(kept.cell(), cells, turn.settled, write)
 }
 
 /// What is kept of all spots after an instruction.
@@ -38,17 +39,15 @@ fn cells_after(
     m: &Machine,
     i: &Instruction,
     turn: Turn,
-    cells: &[Kept],
-) -> Result<Vec<Kept>, AllocError>
+    cells: &[Packed],
+) -> Result<Vec<Packed>, AllocError>
     ensures { IfOk result (λ v. v.items
         ≡ map (kept_after m.now i.now turn cells.now) cells.now) }
 {
     let mut list = Vec::with_capacity(alloc, cells.len())?;
     for kept in cells {
-        list.push(Kept {
-            at: kept.at,
-            cell: spot_after(m, i, turn, cells, *kept),
-        })?;
+        let cell = spot_after(m, i, turn, cells, kept);
+        list.push(Packed::of(kept.spot(), cell))?;
     }
     Ok(list)
 }

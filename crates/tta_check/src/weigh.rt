@@ -5,7 +5,8 @@ ghost use Rattle.tta_check.specs.Weights.{held_weight, cell_weight, cells_weight
 ghost use Rattle.tta_check.specs.Weights.{weight, most_weight};
 
 use crate::held::Held;
-use crate::row::{Cell, Kept, Port, Row};
+use crate::packed::Packed;
+use crate::row::{Cell, Port, Row};
 
 /// How much words admit.
 fn held_weight(held: Held) -> u64
@@ -40,14 +41,14 @@ fn port_weight(port: Port) -> u64
 }
 
 /// How much the cells of a row admit.
-fn cells_weight(cells: &[Kept]) -> u64
+fn cells_weight(cells: &[Packed]) -> u64
     ensures value { result ≡ cells_weight cells.now }
     ensures most { result ≤ 3 * length cells.now }
 {
     let _count = cells.len();
     let mut sum: u64 = 0;
     for kept in cells {
-        sum += cell_weight(kept.cell);
+        sum += cell_weight(kept.cell());
     }
     sum
 }
