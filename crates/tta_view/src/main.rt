@@ -1,6 +1,6 @@
-//! The program that draws: it takes the words of the command line, reads a machine and perhaps an
-//! image from the files of the host, puts a picture on the standard output, and ends with the number
-//! of the status.
+//! The program of the commands that show: it takes the words of the command line, reads a machine and
+//! perhaps an image from the files of the host, puts what is asked for on the standard output, and
+//! ends with the number of the status.
 #![tactic(auto)]
 
 #[cfg(test)]
@@ -11,9 +11,9 @@ use std::env;
 use std::io::ErrorKind;
 use std::process::ExitCode;
 use std::rt::Env;
+use tta_designer::show;
 use tta_given::Status;
 use tta_ops::{Arith, Compare, Divide, Logic, OpUnit, Shift, UnitSet};
-use tta_picture::picture;
 use tta_ports::{Files, RealFiles, RealSink, Sink};
 
 /// The words after the program's name. A word that is not UTF-8 makes no command.
@@ -32,7 +32,7 @@ fn words_of(rt: &(impl Env + AllocGlobal)) -> Result<Vec<String>, Status> {
     Ok(words)
 }
 
-/// Draws what the words ask for over the five standard units.
+/// Carries out the words over the five standard units.
 fn run<F: Files, S: Sink>(
     alloc: Global,
     words: &Vec<String>,
@@ -50,7 +50,7 @@ fn run<F: Files, S: Sink>(
         return Ok(Status::NoMemory);
     }
     match UnitSet::new(alloc, boxes) {
-        Ok(units) => Ok(picture(alloc, words, &units, files, sink)),
+        Ok(units) => Ok(show(alloc, words, &units, files, sink)),
         Err(_) => Ok(Status::NoMemory),
     }
 }

@@ -1,4 +1,4 @@
-//! Pictures of files in memory.
+//! What is shown of files in memory.
 
 use crate::run;
 use std::alloc::{AllocError, Global};
@@ -40,14 +40,18 @@ const NO_IMAGE: Status = Status::BadImage {
     bus: 0,
 };
 
-const CASES: [Case; 7] = [
-    (&["M"], Status::Ok, "</svg>\n"),
-    (&["M", "IMG"], Status::Ok, ROWS),
+const NO_MACHINE: Status = Status::BadMachine { line: 1, code: 10 };
+
+const CASES: [Case; 9] = [
+    (&["picture", "M"], Status::Ok, "</svg>\n"),
+    (&["picture", "M", "IMG"], Status::Ok, ROWS),
     (&[], Status::Usage, ""),
-    (&["IMG"], Status::BadMachine { line: 1, code: 10 }, ""),
-    (&["M", "M"], NO_IMAGE, ""),
-    (&["X", "IMG"], Status::ReadFault { word: 1 }, ""),
-    (&["M", "X"], Status::ReadFault { word: 2 }, ""),
+    (&["picture"], Status::Usage, ""),
+    (&["M", "IMG"], Status::Usage, ""),
+    (&["picture", "IMG"], NO_MACHINE, ""),
+    (&["picture", "M", "M"], NO_IMAGE, ""),
+    (&["picture", "X", "IMG"], Status::ReadFault { word: 1 }, ""),
+    (&["picture", "M", "X"], Status::ReadFault { word: 2 }, ""),
 ];
 
 /// Puts the words at the end.
@@ -61,7 +65,7 @@ fn add_words(alloc: Global, strings: &mut Vec<String>, words: &[&str]) -> Result
     Ok(())
 }
 
-/// Draws what these words ask for.
+/// Carries out these words.
 fn carry_out(
     alloc: Global,
     words: &[&str],
@@ -119,7 +123,7 @@ fn passes(alloc: Global, case: &Case) -> Result<bool, AllocError> {
 }
 
 #[test]
-fn pictures_and_refusals(rt: HostRuntime) -> Result<(), Fail> {
+fn views_and_refusals(rt: HostRuntime) -> Result<(), Fail> {
     for case in &CASES {
         assert!(rt; passes(rt.alloc(), case)?);
     }

@@ -1,9 +1,7 @@
 //! The program with the operations of `tta_bits` beside the standard ones: it takes the words of the
 //! command line, carries them out over the files of the host and its standard output, and ends with
-//! the number of the status. A command whose first word is `picture` draws.
+//! the number of the status. The commands that show are carried out here too.
 #![tactic(auto)]
-
-ghost use Rattle.std.specs.Prelude.{◌≡◌, ◌<◌, true, length};
 
 use std::alloc::{AllocError, Global};
 use std::env;
@@ -11,9 +9,9 @@ use std::io::ErrorKind;
 use std::process::ExitCode;
 use std::rt::Env;
 use tta_bits::Bits;
+use tta_designer::{is_named, show};
 use tta_given::Status;
 use tta_ops::{Arith, Compare, Divide, Logic, OpUnit, Shift, UnitSet};
-use tta_picture::picture;
 use tta_ports::{Files, RealFiles, RealSink, Sink};
 use tta_tool::tool;
 
@@ -33,27 +31,17 @@ fn words_of(rt: &(impl Env + AllocGlobal)) -> Result<Vec<String>, Status> {
     Ok(words)
 }
 
-/// Whether the first word is `picture`.
-fn begins_with_picture(words: &[String]) -> bool
-    ensures { result ≡ true → 0 < length words.now }
-{
-    match words.first() {
-        Some(word) => word.as_str() == "picture",
-        None => false,
-    }
-}
-
-/// Carries out the words over the units: after `picture` those of a drawing, else those of a command.
+/// Carries out the words over the units: those that `show` knows by their first, and all others as
+/// `tool` does.
 fn carry_out<F: Files, S: Sink>(
     alloc: Global,
-    words: &mut Vec<String>,
+    words: &Vec<String>,
     units: &UnitSet,
     files: &mut F,
     sink: &mut S,
 ) -> Status {
-    if begins_with_picture(words.as_slice()) {
-        let _ = words.remove(0);
-        picture(alloc, words, units, files, sink)
+    if is_named(words) {
+        show(alloc, words, units, files, sink)
     } else {
         tool(alloc, words, units, files, sink)
     }
@@ -62,7 +50,7 @@ fn carry_out<F: Files, S: Sink>(
 /// Carries out the words over the five standard units and that of `tta_bits`.
 fn run<F: Files, S: Sink>(
     alloc: Global,
-    words: &mut Vec<String>,
+    words: &Vec<String>,
     files: &mut F,
     sink: &mut S,
 ) -> Result<Status, AllocError> {
@@ -87,9 +75,7 @@ fn main(rt: HostRuntime) -> ExitCode {
     let mut files = RealFiles::new(&rt);
     let mut sink = RealSink::new(&rt);
     let status = match words_of(&rt) {
-        Ok(mut words) => run(rt.alloc(), &mut words, &mut files, &mut sink).unwrap_or(
-            Status::NoMemory,
-        ),
+        Ok(words) => run(rt.alloc(), &words, &mut files, &mut sink).unwrap_or(Status::NoMemory),
         Err(status) => status,
     };
     if status != Status::Ok {

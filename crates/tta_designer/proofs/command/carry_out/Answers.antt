@@ -1,4 +1,4 @@
-use Rattle.tta_picture.proofs.drawing.draw.Goals as goal
+use Rattle.tta_designer.proofs.command.carry_out.Goals as goal
 
 pub returns-in-Code : goal.returns-in-Code
 returns-in-Code g c = rw c.in-Code.is c.put_code.ensures

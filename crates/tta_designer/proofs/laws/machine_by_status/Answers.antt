@@ -2,43 +2,44 @@ use Rattle.std.proofs.Common.{◌≡◌, ◌⊎◌, ◌↔◌, ℕ, List, Some, 
 use Rattle.tta_ports.specs.World.{World, IsUntouched}
 use Rattle.tta_ports.specs.Output.{Output, IsQuiet, IsPut, IsCut}
 use Rattle.tta_ops.specs.Units.{Units}
-use Rattle.tta_draw.specs.MachinePicture.{picture_of_machine}
 use Rattle.tta_given.specs.declared.status.Status.{Status}
 use Rattle.tta_given.specs.declared.status.Status.TheVariants as status
 use Rattle.tta_given.specs.Held.{HasText, ReadFails, no_memory}
 use Rattle.tta_given.specs.Machines.{HasMachine, RefusesMachine}
 use Rattle.tta_given.specs.Ends.{TextEnds}
 use Rattle.tta_given.proofs.Stages.{none}
-use Rattle.tta_picture.specs.Asked.{OfMachine}
-use Rattle.tta_picture.specs.Picture.{Ends, MachineEndings}
-use Rattle.tta_picture.proofs.laws.machine_by_status.Goals as goal
+use Rattle.tta_designer.specs.declared.view.View.{View}
+use Rattle.tta_designer.specs.Views.{machine_view}
+use Rattle.tta_designer.specs.Request.{OfMachine}
+use Rattle.tta_designer.specs.Command.{Ends, MachineEndings}
+use Rattle.tta_designer.proofs.laws.machine_by_status.Goals as goal
 
-module _ (u : Units) (M : List ℕ) (before after : World) (old new : Output) where
+module _ (u : Units) (view : View) (M : List ℕ) (before after : World) (old new : Output) where
   -- the stages at which the command can end
   of : (s : Status) (G : Type 0)
       → (ReadFails M 1 before after s → IsQuiet old new → G)
       → (IsUntouched before after × HasText before.contents M (λ text. RefusesMachine u text s) → IsQuiet old new → G)
       → ((m : HasMachine u before.contents M) → IsUntouched before after
-      → TextEnds (λ text. text ≡ picture_of_machine u m.value.machine) no_memory old new s → G)
-      → Ends u (Some (OfMachine M)) before after old new s → G
+      → TextEnds (λ text. text ≡ machine_view u view m.value) no_memory old new s → G)
+      → Ends u (Some (OfMachine view M)) before after old new s → G
   of s G a b ends (inl (inl x, quiet)) = a x quiet
   of s G a b ends (inl (inr x, quiet)) = b x quiet
   of s G a b ends (inr (m, same, x)) = ends m same x
 
-  by_status : (s : Status) → Ends u (Some (OfMachine M)) before after old new s ↔ MachineEndings u M before after old new s
+  by_status : (s : Status) → Ends u (Some (OfMachine view M)) before after old new s ↔ MachineEndings u view M before after old new s
   by_status status.Ok = (
     of status.Ok _ absurd none (λ m same e. elim e [
       | inl put ↦ (same, (m, subst (λ text. IsPut text old new) put.1 put.2))
       | inr lacks ↦ let is = lacks.0 in absurd cc
     ]),
-    λ e. inr (e.1.0, e.0, inl (picture_of_machine u e.1.0.value.machine, refl, e.1.1)),
+    λ e. inr (e.1.0, e.0, inl (machine_view u view e.1.0.value, refl, e.1.1)),
   )
   by_status status.WriteFault = (
     of status.WriteFault _ absurd none (λ m same e. elim e [
       | inl put ↦ (same, (m, subst (λ text. IsCut text old new) put.1 put.2))
       | inr lacks ↦ let is = lacks.0 in absurd cc
     ]),
-    λ e. inr (e.1.0, e.0, inl (picture_of_machine u e.1.0.value.machine, refl, e.1.1)),
+    λ e. inr (e.1.0, e.0, inl (machine_view u view e.1.0.value, refl, e.1.1)),
   )
   by_status (status.BadMachine line code) = (
     of (status.BadMachine line code) _ absurd (λ e quiet. (e.0, quiet, e.1)) (λ m same e. elim e [

@@ -1,19 +1,19 @@
 use Rattle.std.proofs.Common.{◌≡◌, inr}
 use Rattle.tta_ops.specs.Set.{stated}
-use Rattle.tta_draw.specs.MachinePicture.{picture_of_machine}
 use Rattle.tta_given.specs.Held.{no_memory}
 use Rattle.tta_given.proofs.Endings.{text_ends}
-use Rattle.tta_picture.proofs.drawing.put_machine.Goals as goal
+use Rattle.tta_designer.specs.Views.{machine_view}
+use Rattle.tta_designer.proofs.command.put_machine.Goals as goal
 
 pub returns-in-Ok : goal.returns-in-Ok
 returns-in-Ok g c =
     let sink = g.S.Sink in
     let U = stated (λ v. (goal.OpUnit-dyn g v).unit_meaning v.1) c.args.units.now in
     let file = c.in-Ok.file in
-    let made = c.drawn_machine-made.result in
+    let made = c.text_of_machine-made.result in
     inr (
       record { value = file; held = c.in-Ok.ensures.ends.held },
       c.in-Ok.ensures.ends.untouched,
-      text_ends (λ text. text ≡ picture_of_machine U file.machine) no_memory (sink.output c.args.sink.now) (sink.output c.put_made.new.sink) (λ v. v.items) made c.put_made.result
-          c.drawn_machine-made.ensures c.put_made.ensures,
+      text_ends (λ text. text ≡ machine_view U c.args.names.now.view file) no_memory (sink.output c.args.sink.now) (sink.output c.put_made.new.sink) (λ v. v.items) made c.put_made.result
+          c.text_of_machine-made.ensures c.put_made.ensures,
     )

@@ -2,34 +2,35 @@ use Rattle.std.proofs.Common.{◌↔◌, ℕ, List, Some, refl, subst, inl, inr}
 use Rattle.tta_ports.specs.World.{World}
 use Rattle.tta_ports.specs.Output.{Output, IsPut, IsCut}
 use Rattle.tta_ops.specs.Units.{Units}
-use Rattle.tta_draw.specs.CodePicture.{picture_of_code}
 use Rattle.tta_given.specs.declared.status.Status.{Status}
 use Rattle.tta_given.specs.declared.status.Status.TheVariants as status
 use Rattle.tta_given.specs.Held.{ReadFailed, IsTooLong, no_memory}
 use Rattle.tta_given.specs.Images.{IsImageFor, RefusesImage}
 use Rattle.tta_given.proofs.Stages.{none, pair_at, PutStages, put_stages}
-use Rattle.tta_picture.specs.Asked.{OfCode}
-use Rattle.tta_picture.specs.Picture.{IsDrawn, Ends, CodeEndings}
-use Rattle.tta_picture.proofs.laws.code_by_status.Goals as goal
+use Rattle.tta_designer.specs.declared.view.View.{View}
+use Rattle.tta_designer.specs.Views.{code_view}
+use Rattle.tta_designer.specs.Request.{OfCode}
+use Rattle.tta_designer.specs.Command.{IsShown, Ends, CodeEndings}
+use Rattle.tta_designer.proofs.laws.code_by_status.Goals as goal
 
-module _ (u : Units) (M IMG : List ℕ) (before after : World) (old new : Output) where
-  of : (s : Status) (G : Type 0) → PutStages u IsImageFor RefusesImage (IsDrawn u) (λ file whole. no_memory) M IMG before after old new s G
-  of s G = put_stages u IsImageFor RefusesImage (IsDrawn u) (λ file whole. no_memory) M IMG before after old new s G
+module _ (u : Units) (view : View) (M IMG : List ℕ) (before after : World) (old new : Output) where
+  of : (s : Status) (G : Type 0) → PutStages u IsImageFor RefusesImage (IsShown u view) (λ file whole. no_memory) M IMG before after old new s G
+  of s G = put_stages u IsImageFor RefusesImage (IsShown u view) (λ file whole. no_memory) M IMG before after old new s G
 
-  by_status : (s : Status) → Ends u (Some (OfCode M IMG)) before after old new s ↔ CodeEndings u M IMG before after old new s
+  by_status : (s : Status) → Ends u (Some (OfCode view M IMG)) before after old new s ↔ CodeEndings u view M IMG before after old new s
   by_status status.Ok = (
     of status.Ok _ absurd none (λ m. absurd) (λ m. none) (λ p same e. elim e [
       | inl put ↦ (same, (p, subst (λ text. IsPut text old new) put.1 put.2))
       | inr lacks ↦ let is = lacks.0 in absurd cc
     ]),
-    λ e. inr (e.1.0, e.0, inl (picture_of_code u e.1.0.machine.value.machine e.1.0.second.value.code, refl, e.1.1)),
+    λ e. inr (e.1.0, e.0, inl (code_view u view e.1.0.machine.value e.1.0.second.value, refl, e.1.1)),
   )
   by_status status.WriteFault = (
     of status.WriteFault _ absurd none (λ m. absurd) (λ m. none) (λ p same e. elim e [
       | inl put ↦ (same, (p, subst (λ text. IsCut text old new) put.1 put.2))
       | inr lacks ↦ let is = lacks.0 in absurd cc
     ]),
-    λ e. inr (e.1.0, e.0, inl (picture_of_code u e.1.0.machine.value.machine e.1.0.second.value.code, refl, e.1.1)),
+    λ e. inr (e.1.0, e.0, inl (code_view u view e.1.0.machine.value e.1.0.second.value, refl, e.1.1)),
   )
   by_status (status.BadMachine line code) = (
     of (status.BadMachine line code) _ absurd (λ e quiet. (e.0, quiet, e.1)) (λ m. absurd) (λ m. none) (λ p same e. elim e [

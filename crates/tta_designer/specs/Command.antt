@@ -1,0 +1,84 @@
+-- How a command ends.
+use Rattle.std.specs.Prelude.{◌≡◌, ◌⊎◌, ◌↔◌, List, ℕ, Option, Some, None, Err}
+use Rattle.tta_ports.specs.World.{World, IsUntouched}
+use Rattle.tta_ports.specs.Output.{Output, IsQuiet, IsPut, IsCut}
+use Rattle.tta_ops.specs.Units.{Units}
+use Rattle.tta_code.specs.Whole.{Whole}
+use Rattle.tta_image.specs.declared.refusal.ImageError.TheVariants.{Refused}
+use Rattle.tta_image.specs.Reading.{decoded_image}
+use Rattle.tta_given.specs.declared.machine.MachineFile.{MachineFile}
+use Rattle.tta_given.specs.declared.status.Status.{Status}
+use Rattle.tta_given.specs.declared.status.Status.TheVariants as status
+use Rattle.tta_given.specs.Held.{HasText, ReadFailed, IsTooLong, no_memory}
+use Rattle.tta_given.specs.Machines.{IsBadMachine, HasMachine, MachineFails}
+use Rattle.tta_given.specs.Images.{IsImageFor, RefusesImage}
+use Rattle.tta_given.specs.Ends.{IsUsage, TextEnds, Puts}
+use Rattle.tta_given.specs.Endings as endings
+use Rattle.tta_designer.specs.declared.view.View.{View}
+use Rattle.tta_designer.specs.Views.{machine_view, code_view}
+use Rattle.tta_designer.specs.Request.{Request, OfMachine, OfCode}
+
+-- the machine is refused, and nothing is output; or its view is
+abbrev pub ShowsMachine : Units → View → (M : List ℕ) → (before after : World) → (old new : Output) → Status → Type 0
+ShowsMachine u view M before after old new s =
+    (MachineFails u M 1 before after s × IsQuiet old new)
+    ⊎ ((m : HasMachine u before.contents M)
+    × IsUntouched before after × TextEnds (λ text. text ≡ machine_view u view m.value) no_memory old new s)
+
+-- a text is the view of code with data for a machine
+abbrev pub IsShown : Units → View → MachineFile → Whole → (text : List ℕ) → Type 0
+IsShown u view file whole text = text ≡ code_view u view file whole
+
+-- How a request ends. Either its view is output, or nothing is and there is a cause. Each ending but out of memory comes only where its
+-- cause holds.
+abbrev pub Ends : Units → Option Request → (before after : World) → (old new : Output) → Status → Type 0
+Ends u None before after old new s = IsUsage before after old new s
+Ends u (Some (OfMachine view M)) before after old new s = ShowsMachine u view M before after old new s
+Ends u (Some (OfCode view M IMG)) before after old new s =
+    Puts u IsImageFor RefusesImage (IsShown u view) (λ file whole. no_memory) M IMG before after old new s
+
+-- ---- how it ends by its status
+
+-- what holds where a view of a machine ends with a status
+abbrev pub MachineEndings : Units → View → (M : List ℕ) → (before after : World) → (old new : Output) → Status → Type 0
+MachineEndings u view M before after old new status.Ok =
+    IsUntouched before after × endings.OfMachine u before.contents M (λ file. IsPut (machine_view u view file) old new)
+MachineEndings u view M before after old new (status.BadMachine line code) =
+    IsUntouched before after × IsQuiet old new × HasText before.contents M (λ text. IsBadMachine u text line code)
+MachineEndings u view M before after old new (status.ReadFault word) = IsQuiet old new × (word ≡ 1) × ReadFailed M before after
+MachineEndings u view M before after old new status.WriteFault =
+    IsUntouched before after × endings.OfMachine u before.contents M (λ file. IsCut (machine_view u view file) old new)
+MachineEndings u view M before after old new (status.TooLong word) = IsQuiet old new × (word ≡ 1) × IsTooLong M before after
+MachineEndings u view M before after old new status.NoMemory = IsUntouched before after × IsQuiet old new
+MachineEndings u view M before after old new s = ⊥
+
+-- what holds where a view of code ends with a status
+abbrev pub CodeEndings : Units → View → (M IMG : List ℕ) → (before after : World) → (old new : Output) → Status → Type 0
+CodeEndings u view M IMG before after old new status.Ok =
+    IsUntouched before after
+    × endings.OfPair u IsImageFor before.contents M IMG (λ file whole. IsPut (code_view u view file whole) old new)
+CodeEndings u view M IMG before after old new (status.BadMachine line code) =
+    IsUntouched before after × IsQuiet old new × HasText before.contents M (λ text. IsBadMachine u text line code)
+CodeEndings u view M IMG before after old new (status.BadImage code word bus) =
+    IsUntouched before after × IsQuiet old new
+    × endings.OfMachine u before.contents M (λ file. HasText before.contents IMG (λ bytes. decoded_image file.machine file.digest bytes ≡ Err (Refused code word bus)))
+CodeEndings u view M IMG before after old new (status.ReadFault word) =
+    IsQuiet old new × endings.PairFault u before.contents M IMG (λ name. ReadFailed name before after) word
+CodeEndings u view M IMG before after old new status.WriteFault =
+    IsUntouched before after
+    × endings.OfPair u IsImageFor before.contents M IMG (λ file whole. IsCut (code_view u view file whole) old new)
+CodeEndings u view M IMG before after old new (status.TooLong word) =
+    IsQuiet old new × endings.PairFault u before.contents M IMG (λ name. IsTooLong name before after) word
+CodeEndings u view M IMG before after old new status.NoMemory = IsUntouched before after × IsQuiet old new
+CodeEndings u view M IMG before after old new s = ⊥
+
+-- the command ends so with each status
+abbrev pub MachineByStatus : Type 0
+MachineByStatus =
+    (u : Units) (view : View) (M : List ℕ) (before after : World) (old new : Output) (s : Status)
+    → Ends u (Some (OfMachine view M)) before after old new s ↔ MachineEndings u view M before after old new s
+
+abbrev pub CodeByStatus : Type 0
+CodeByStatus =
+    (u : Units) (view : View) (M IMG : List ℕ) (before after : World) (old new : Output) (s : Status)
+    → Ends u (Some (OfCode view M IMG)) before after old new s ↔ CodeEndings u view M IMG before after old new s

@@ -1,0 +1,144 @@
+//! Putting the view that the words ask for. What was read is dropped by name, as a whole, so that no
+//! part of it is left to drop at the end.
+
+ghost use Rattle.std.specs.Prelude.{◌≡◌, map, Some};
+ghost use Rattle.std.specs.String.{string_bytes};
+ghost use Rattle.tta_ops.specs.Set.{stated};
+ghost use Rattle.tta_code.specs.Legal.{IsLegalCode};
+ghost use Rattle.tta_given.specs.Held.{MadeEnds, no_memory};
+ghost use Rattle.tta_designer.specs.Request.{OfMachine, OfCode, asked, request_of};
+ghost use Rattle.tta_designer.specs.Views.{machine_view, code_view};
+ghost use Rattle.tta_designer.specs.Command.{Ends};
+
+use crate::names::{CodeRequest, MachineRequest};
+use crate::request::Request;
+use crate::view::View;
+use std::alloc::Global;
+use tta_draw::{draw_code, draw_machine};
+use tta_given::{CodePair, MachineFile, Status, image_pair, machine_file, put_made};
+use tta_ops::UnitSet;
+use tta_ports::{Files, Sink};
+
+/// The text of a view of a machine.
+fn text_of_machine(
+    alloc: Global,
+    units: &UnitSet,
+    file: &MachineFile,
+    view: View,
+) -> Result<Vec<u8>, Status>
+    ensures { let U = stated unit_meaning units.now in
+        MadeEnds (λ text. text ≡ machine_view U view file.now) no_memory (λ v. v.items) result }
+{
+    let text = match view {
+        View::Picture => draw_machine(alloc, &file.machine, units),
+    };
+    match text {
+        Ok(text) => Ok(text),
+        Err(_) => Err(Status::NoMemory),
+    }
+}
+
+/// The text of a view of code for a machine.
+fn text_of_code(
+    alloc: Global,
+    units: &UnitSet,
+    pair: &CodePair,
+    view: View,
+) -> Result<Vec<u8>, Status>
+    requires { IsLegalCode pair.now.file.machine pair.now.whole.code }
+    ensures { let U = stated unit_meaning units.now in
+        MadeEnds (λ text. text ≡ code_view U view pair.now.file pair.now.whole) no_memory
+        (λ v. v.items) result }
+{
+    let text = match view {
+        View::Picture => draw_code(alloc, &pair.file.machine, units, &pair.whole.code),
+    };
+    match text {
+        Ok(text) => Ok(text),
+        Err(_) => Err(Status::NoMemory),
+    }
+}
+
+/// Puts a view of the machine of the file that word 1 names.
+fn put_machine<F: Files, S: Sink>(
+    alloc: Global,
+    units: &UnitSet,
+    files: &mut F,
+    sink: &mut S,
+    names: &MachineRequest<'_>,
+) -> Status
+    ensures { Ends (stated unit_meaning units.now)
+        (Some (OfMachine names.now.view names.now.machine.now))
+        (F.world files.old) (F.world files.new) (S.output sink.old) (S.output sink.new) result }
+{
+    match machine_file(alloc, units, files, names.machine, 1) {
+        Ok(file) => {
+            let made = text_of_machine(alloc, units, &file, names.view);
+            drop(file);
+            put_made(sink, made)
+        }
+        Err(status) => status,
+    }
+}
+
+/// Puts a view of the code of the image that word 2 names, for the machine that word 1 names.
+fn put_code<F: Files, S: Sink>(
+    alloc: Global,
+    units: &UnitSet,
+    files: &mut F,
+    sink: &mut S,
+    names: &CodeRequest<'_>,
+) -> Status
+    ensures { Ends (stated unit_meaning units.now)
+        (Some (OfCode names.now.view names.now.machine.now names.now.image.now))
+        (F.world files.old) (F.world files.new) (S.output sink.old) (S.output sink.new) result }
+{
+    match image_pair(alloc, units, files, names.machine, names.image) {
+        Ok(pair) => {
+            let made = text_of_code(alloc, units, &pair, names.view);
+            drop(pair);
+            put_made(sink, made)
+        }
+        Err(status) => status,
+    }
+}
+
+/// Carries out what is asked for.
+fn carry_out<F: Files, S: Sink>(
+    alloc: Global,
+    request: &Request<'_>,
+    units: &UnitSet,
+    files: &mut F,
+    sink: &mut S,
+) -> Status
+    ensures { Ends (stated unit_meaning units.now) (Some (asked request.now))
+        (F.world files.old) (F.world files.new) (S.output sink.old) (S.output sink.new) result }
+{
+    match request {
+        Request::Machine(names) => put_machine(alloc, units, files, sink, names),
+        Request::Code(names) => put_code(alloc, units, files, sink, names),
+    }
+}
+
+/// Carries out the command that the words ask for, the first of them the command's name, over these
+/// operation units, files and output.
+///
+/// `picture M` outputs the picture of the machine of the file M, and `picture M IMG` that of the code
+/// of the image in the file IMG for it. The output takes a text in one piece, and nothing where there
+/// is none. No file changes.
+pub fn show<F: Files, S: Sink>(
+    alloc: Global,
+    words: &Vec<String>,
+    units: &UnitSet,
+    files: &mut F,
+    sink: &mut S,
+) -> Status
+    ensures ends { Ends (stated unit_meaning units.now)
+        (request_of (map (λ w. string_bytes w) words.now.items))
+        (F.world files.old) (F.world files.new) (S.output sink.old) (S.output sink.new) result }
+{
+    match Request::of(words) {
+        Some(request) => carry_out(alloc, &request, units, files, sink),
+        None => Status::Usage,
+    }
+}

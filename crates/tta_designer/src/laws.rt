@@ -1,0 +1,13 @@
+//! Laws of the commands. A law is a function that does nothing, and whose contract is the law.
+
+ghost use Rattle.tta_designer.specs.Command.{MachineByStatus, CodeByStatus};
+
+/// What holds where a view of a machine ends with a status, for each status.
+pub fn machine_by_status()
+    ensures { MachineByStatus }
+{}
+
+/// What holds where a view of code ends with a status, for each status.
+pub fn code_by_status()
+    ensures { CodeByStatus }
+{}

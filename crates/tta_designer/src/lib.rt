@@ -1,0 +1,14 @@
+//! The commands that show a designer what a machine and its code are. They stand on tta_given and
+//! languages, and on no pass.
+#![tactic(auto)]
+
+mod command;
+mod laws;
+mod names;
+mod request;
+mod view;
+
+pub use command::show;
+pub use laws::{code_by_status, machine_by_status};
+pub use request::is_named;
+pub use view::View;
