@@ -27,6 +27,6 @@ mod target;
 
 pub use assembling::assemble;
 pub use laws::{assembles_legal, reads_back};
-pub use named::{imm_name, op_name, template_name};
-pub use print::{disassemble, push_move, push_place};
+pub use named::{file_name, imm_name, op_name, template_name, unit_name};
+pub use print::{disassemble, push_instruction, push_move, push_place};
 pub use refusal::{AsmError, AsmRefusal};

@@ -191,7 +191,7 @@ fn push_long(out: &mut Vec<u8>, m: &Machine, long: Option<Long>) -> Result<(), A
 
 /// Puts an instruction at the end, as a line.
 #[tactic(auto, unfolding(crate::specs::Canonical::instruction_text))]
-fn push_instruction(
+pub fn push_instruction(
     out: &mut Vec<u8>,
     units: &UnitSet,
     m: &Machine,

@@ -25,7 +25,7 @@ use Rattle.tta_image.proofs.WordsDecoded.{AreLegalWords, words_have, decoded_wor
 use Rattle.tta_image.proofs.PairsDecoded.{data_has, data_stands}
 use Rattle.tta_image.proofs.HeaderDecoded.{all_checked, header_has, decoded_header-header, small_drop}
 
-length-words_bits : (m : Machine) (is : List Instruction) → AreLegalWords m is → length (flat_map (instruction_bits m) is) ≡ length is * word_width m
+pub length-words_bits : (m : Machine) (is : List Instruction) → AreLegalWords m is → length (flat_map (instruction_bits m) is) ≡ length is * word_width m
 length-words_bits m [] legal = omega arith
 length-words_bits m (i ∷ is) legal =
     let w : ℕ = word_width m in
