@@ -1,3 +1,4 @@
 pub mod Request
 pub mod Views
 pub mod Command
+pub mod Laws

@@ -2,7 +2,7 @@
 use Rattle.std.specs.Prelude.{ℕ, List, [], ◌∷◌, Bool, false, Option, Some, None, codes, if◌then◌else◌, is_some, option_map}
 use Rattle.std.specs.Str.{bytes_eq}
 use Rattle.tta_designer.specs.declared.view.View.{View}
-use Rattle.tta_designer.specs.declared.view.View.TheVariants.{Picture}
+use Rattle.tta_designer.specs.declared.view.View.TheVariants.{Picture, Info}
 use Rattle.tta_designer.specs.declared.request.Request.{Request as Asked}
 use Rattle.tta_designer.specs.declared.request.Request.TheVariants as for
 
@@ -13,7 +13,7 @@ pub data Request : Type 0 where
 
 -- the view that a word names
 abbrev pub view_of : (word : List ℕ) → Option View
-view_of word = if bytes_eq word (codes "picture") then Some Picture else None
+view_of word = if bytes_eq word (codes "picture") then Some Picture else if bytes_eq word (codes "info") then Some Info else None
 
 -- the request of some words; none where they are no command
 abbrev pub request_of : List (List ℕ) → Option Request

@@ -4,14 +4,18 @@ use Rattle.tta_ops.specs.Units.{Units}
 use Rattle.tta_code.specs.Whole.{Whole}
 use Rattle.tta_draw.specs.MachinePicture.{picture_of_machine}
 use Rattle.tta_draw.specs.CodePicture.{picture_of_code}
+use Rattle.tta_info.specs.MachineInfo.{info_of_machine}
+use Rattle.tta_info.specs.ImageInfo.{info_of_image}
 use Rattle.tta_given.specs.declared.machine.MachineFile.{MachineFile}
 use Rattle.tta_designer.specs.declared.view.View.{View}
-use Rattle.tta_designer.specs.declared.view.View.TheVariants.{Picture}
+use Rattle.tta_designer.specs.declared.view.View.TheVariants.{Picture, Info}
 
 -- the text of a view of a machine
 abbrev pub machine_view : Units → View → MachineFile → List ℕ
 machine_view u Picture file = picture_of_machine u file.machine
+machine_view u Info file = info_of_machine file.machine
 
 -- the text of a view of code with data
 abbrev pub code_view : Units → View → MachineFile → Whole → List ℕ
 code_view u Picture file whole = picture_of_code u file.machine whole.code
+code_view u Info file whole = info_of_image file.machine file.digest whole

@@ -1,10 +1,11 @@
 //! Putting the view that the words ask for. What was read is dropped by name, as a whole, so that no
 //! part of it is left to drop at the end.
 
-ghost use Rattle.std.specs.Prelude.{◌≡◌, map, Some};
+ghost use Rattle.std.specs.Prelude.{◌≡◌, map, true, Some};
 ghost use Rattle.std.specs.String.{string_bytes};
 ghost use Rattle.tta_ops.specs.Set.{stated};
 ghost use Rattle.tta_code.specs.Legal.{IsLegalCode};
+ghost use Rattle.tta_code.specs.Whole.{fits};
 ghost use Rattle.tta_given.specs.Held.{MadeEnds, no_memory};
 ghost use Rattle.tta_designer.specs.Request.{OfMachine, OfCode, asked, request_of};
 ghost use Rattle.tta_designer.specs.Views.{machine_view, code_view};
@@ -16,6 +17,7 @@ use crate::view::View;
 use std::alloc::Global;
 use tta_draw::{draw_code, draw_machine};
 use tta_given::{CodePair, MachineFile, Status, image_pair, machine_file, put_made};
+use tta_info::{tell_image, tell_machine};
 use tta_ops::UnitSet;
 use tta_ports::{Files, Sink};
 
@@ -31,6 +33,7 @@ fn text_of_machine(
 {
     let text = match view {
         View::Picture => draw_machine(alloc, &file.machine, units),
+        View::Info => tell_machine(alloc, &file.machine),
     };
     match text {
         Ok(text) => Ok(text),
@@ -45,13 +48,15 @@ fn text_of_code(
     pair: &CodePair,
     view: View,
 ) -> Result<Vec<u8>, Status>
-    requires { IsLegalCode pair.now.file.machine pair.now.whole.code }
+    requires legal { IsLegalCode pair.now.file.machine pair.now.whole.code }
+    requires inside { fits pair.now.file.machine.data_words pair.now.whole.init ≡ true }
     ensures { let U = stated unit_meaning units.now in
         MadeEnds (λ text. text ≡ code_view U view pair.now.file pair.now.whole) no_memory
         (λ v. v.items) result }
 {
     let text = match view {
         View::Picture => draw_code(alloc, &pair.file.machine, units, &pair.whole.code),
+        View::Info => tell_image(alloc, &pair.file.machine, &pair.file.digest, &pair.whole),
     };
     match text {
         Ok(text) => Ok(text),
@@ -124,7 +129,12 @@ fn carry_out<F: Files, S: Sink>(
 /// operation units, files and output.
 ///
 /// `picture M` outputs the picture of the machine of the file M, and `picture M IMG` that of the code
-/// of the image in the file IMG for it. The output takes a text in one piece, and nothing where there
+/// of the image in the file IMG for it. `info M` outputs what is told of that machine: the bits of the
+/// fields of its instructions, the words that fit into them, what its buses join, its registers, and
+/// what `build` chooses on it or the rule that it breaks; and `info M IMG` what is told of that image:
+/// how many instructions, bytes and data it has, and its digest.
+///
+/// The output takes a text in one piece, and nothing where there
 /// is none. No file changes.
 pub fn show<F: Files, S: Sink>(
     alloc: Global,

@@ -1,5 +1,6 @@
 //! Laws of the commands. A law is a function that does nothing, and whose contract is the law.
 
+ghost use Rattle.tta_designer.specs.Laws.{ImageSize};
 ghost use Rattle.tta_designer.specs.Command.{MachineByStatus, CodeByStatus};
 
 /// What holds where a view of a machine ends with a status, for each status.
@@ -10,4 +11,9 @@ pub fn machine_by_status()
 /// What holds where a view of code ends with a status, for each status.
 pub fn code_by_status()
     ensures { CodeByStatus }
+{}
+
+/// The number of bytes that `info` tells of an image is that of the image's bytes.
+pub fn image_size()
+    ensures { ImageSize }
 {}

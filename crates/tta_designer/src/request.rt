@@ -21,6 +21,9 @@ fn view_of(word: &str) -> Option<View>
     if word == "picture" {
         return Some(View::Picture);
     }
+    if word == "info" {
+        return Some(View::Info);
+    }
     None
 }
 

@@ -5,4 +5,6 @@
 pub enum View {
     /// A picture, as SVG.
     Picture,
+    /// What is told of it, a line each.
+    Info,
 }

@@ -1,0 +1,13 @@
+-- What holds of what is told.
+use Rattle.std.specs.Prelude.{◌≡◌, ℕ, List, length}
+use Rattle.tta_arch.specs.Machine.{Machine}
+use Rattle.tta_arch.specs.Fields.{word_width}
+use Rattle.tta_code.specs.Whole.{Whole}
+use Rattle.tta_image.specs.Image.{Image}
+use Rattle.tta_info.specs.ImageInfo.{image_bytes}
+
+-- the number of bytes that is told of an image is that of its bytes
+abbrev pub ImageSize : Type 0
+ImageSize =
+    (m : Machine) (digest : List ℕ) (whole : Whole) (bytes : List ℕ) → length digest ≡ 32 → Image m digest whole bytes
+    → length bytes ≡ image_bytes (word_width m) (length whole.code.words) (length whole.init)
