@@ -11,7 +11,7 @@ sys.path.insert(0, os.path.join(os.path.dirname(os.path.abspath(__file__)), "pla
 from build import CannotBuild, crates_of
 
 TOP = os.path.normpath(os.path.join(os.path.dirname(os.path.abspath(__file__)), ".."))
-BEGUN = re.compile(r"^rt: (?:chose --jobs \d+ for|\S+ begins with) (\w+)|^crate (\w+):", re.M)
+BEGUN = re.compile(r"^rt: chose --jobs \d+ for (\w+)|^rt: (\w+): begins with|^crate (\w+):", re.M)
 LAST_LINES = 20
 CANNOT_BUILD = 70
 
@@ -32,7 +32,7 @@ class Progress:
     def read(self, text):
         """Takes more of the log, and tells of each crate that it names first."""
         for found in BEGUN.finditer(text):
-            name = found[1] or found[2]
+            name = found[1] or found[2] or found[3]
             if name in self.crates and name not in self.seen:
                 self.seen.append(name)
                 if not self.is_terminal:
