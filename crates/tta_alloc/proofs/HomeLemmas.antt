@@ -24,10 +24,10 @@ use Rattle.tta_alloc.specs.declared.home.Home.{Home}
 use Rattle.tta_alloc.specs.declared.home.Home.TheVariants.{Reg, Slot}
 use Rattle.tta_alloc.specs.declared.homes.Homes.{Homes}
 use Rattle.tta_alloc.specs.declared.interval.Interval.{Interval}
-use Rattle.tta_alloc.specs.Intervals.{AreTaken}
 use Rattle.tta_alloc.specs.Known.{Known}
-use Rattle.tta_alloc.specs.Scan.{scan, scan_step, scan_all, scan_start, slots_from, Scan, take_free, take_from, turn_out, first_free, last_from}
+use Rattle.tta_alloc.specs.Scan.{scan_step, scan_all, scan_start, slots_from, Scan, take_free, take_from, turn_out, first_free, last_from}
 use Rattle.tta_alloc.specs.Homes.{count_of, home_of, IsScanOf, IsScan}
+use Rattle.tta_alloc.specs.Turns.{AreInTurnOf, AreInTurn}
 
 -- ---- what is known of a procedure
 
@@ -104,17 +104,17 @@ slots_length first (suc n) = ap suc (slots_length (first + 1) n)
 
 -- ---- the procedures in turn
 
-pub record AreScanned (p : Program) (homes n : ℕ) (all : List (Vec Home Global)) : Type 0 where
+-- so many procedures have homes, of which something holds
+pub record AreGiven (P : Proc → List Home → Type 0) (p : Program) (n : ℕ) (all : List (Vec Home Global)) : Type 0 where
   pub count : length all ≡ n
-  pub each : (k : ℕ) (q : Proc) → k < n → slice_get p.procs k ≡ Some q → (v : Vec Home Global) × ((slice_get all k ≡ Some v) × IsScanOf q homes v.items)
+  pub each : (k : ℕ) (q : Proc) → k < n → slice_get p.procs k ≡ Some q → (v : Vec Home Global) × ((slice_get all k ≡ Some v) × P q v.items)
 
-pub scanned_none : (p : Program) (homes : ℕ) → AreScanned p homes 0 []
-scanned_none p homes = record { count = refl; each = λ k q below e. absurd (omega arith) }
+pub given_none : (P : Proc → List Home → Type 0) (p : Program) → AreGiven P p 0 []
+given_none P p = record { count = refl; each = λ k q below e. absurd (omega arith) }
 
-pub scanned_more : (p : Program) (homes n : ℕ) (all new : List (Vec Home Global)) (q : Proc) (v : Vec Home Global) (taken : List Interval)
-    → slice_get p.procs n ≡ Some q → AreScanned p homes n all → AreTaken q taken → v.items ≡ scan homes q.vars taken → new ≡ all ++ v ∷ []
-    → AreScanned p homes (n + 1) new
-scanned_more p homes n all new q v taken there h are is grown = record {
+pub given_more : (P : Proc → List Home → Type 0) (p : Program) (n : ℕ) (all new : List (Vec Home Global)) (q : Proc) (v : Vec Home Global)
+    → slice_get p.procs n ≡ Some q → AreGiven P p n all → P q v.items → new ≡ all ++ v ∷ [] → AreGiven P p (n + 1) new
+given_more P p n all new q v there h is grown = record {
   count = ap length grown ∙ (let e = length-append all (v ∷ []) in let c = h.count in omega arith);
   each = λ k r small e. each k r e (last k small);
 } where
@@ -122,7 +122,7 @@ scanned_more p homes n all new q v taken there h are is grown = record {
   last k small = grind arith
 
   each : (k : ℕ) (r : Proc) → slice_get p.procs k ≡ Some r → (k < n) ⊎ (k ≡ n)
-      → (w : Vec Home Global) × ((slice_get new k ≡ Some w) × IsScanOf r homes w.items)
+      → (w : Vec Home Global) × ((slice_get new k ≡ Some w) × P r w.items)
   each k r e (inl less) =
       let w = h.each k r less e in
       (w.0, (ap (λ l. slice_get l k) grown ∙ slice_get-longer all (v ∷ []) k w.0 w.1.0, w.1.1))
@@ -132,40 +132,61 @@ scanned_more p homes n all new q v taken there h are is grown = record {
         v,
         (
           ap (λ l. slice_get l k) grown ∙ ap (slice_get (all ++ v ∷ [])) at ∙ slice_get-back all (v ∷ []) 0,
-          subst (λ (s : Proc). IsScanOf s homes v.items) alike (record { taken = taken; are = are; is = is }),
+          subst (λ (s : Proc). P s v.items) alike is,
         ),
       )
     where
       some_same : {x y : Proc} → Some x ≡ Some y → x ≡ y
       some_same s = cc
 
+pub given_all : (P : Proc → List Home → Type 0) → ((q : Proc) (answer : List Home) → P q answer → length answer ≡ q.vars)
+    → (p : Program) (procs : List Proc) (n : ℕ) (h : Homes) → procs ≡ p.procs → length procs ≤ n → AreGiven P p n h.procs.items
+    → (owner : ℕ) (q : Proc) → slice_get p.procs owner ≡ Some q
+    → (answer : List Home) × (P q answer × ((x : ℕ) → x < q.vars → slice_get answer x ≡ Some (home_of h owner x)))
+unfolding home_of
+given_all P sized p procs n h are past all owner q is =
+    let e = ap (λ l. slice_get l owner) are ∙ is in
+    let within = slice_get_within procs owner q e in
+    let w = all.each owner q (omega arith) is in
+    (w.0.items, (w.1.1, λ x small. home_is owner q x w.0 w.1.0 w.1.1 small))
+  where
+    home_is : (owner : ℕ) (q : Proc) (x : ℕ) (v : Vec Home Global) → slice_get h.procs.items owner ≡ Some v → P q v.items → x < q.vars
+        → slice_get v.items x ≡ Some (option_map_or (λ (l : Vec Home Global). option_map_or (λ (home : Home). home) (slice_get l.items x) (Slot x)) (slice_get h.procs.items owner) (Slot x))
+    home_is owner q x v at s small = by (slice_get v.items x) refl where
+      length_is : length v.items ≡ q.vars
+      length_is = sized q v.items s
+
+      answer : (o : Option Home) → slice_get v.items x ≡ o
+          → option_map_or (λ (l : Vec Home Global). option_map_or (λ (home : Home). home) (slice_get l.items x) (Slot x)) (slice_get h.procs.items owner) (Slot x)
+          ≡ option_map_or (λ (home : Home). home) o (Slot x)
+      answer o e =
+          ap (λ (a : Option (Vec Home Global)). option_map_or (λ (l : Vec Home Global). option_map_or (λ (home : Home). home) (slice_get l.items x) (Slot x)) a (Slot x)) at
+          ∙ ap (λ (a : Option Home). option_map_or (λ (home : Home). home) a (Slot x)) e
+
+      by : (o : Option Home) → slice_get v.items x ≡ o
+          → slice_get v.items x ≡ Some (option_map_or (λ (l : Vec Home Global). option_map_or (λ (home : Home). home) (slice_get l.items x) (Slot x)) (slice_get h.procs.items owner) (Slot x))
+      by None e = let n = length_is in let t = some_within v.items x (omega arith) in absurd (no (sym (ap is_some e) ∙ t)) where
+        no : false ≡ true → ⊥
+        no f = cc
+      by (Some home) e = e ∙ ap (λ (y : Home). Some y) (sym (answer (Some home) e))
+
+-- ---- what is kept of a scan and of homes in turn
+
+pub scan_given : (q : Proc) (homes : ℕ) (answer : List Home) → IsScanOf q homes answer → length answer ≡ q.vars
+scan_given q homes answer s = ap length s.is ∙ scan_length homes (scan_start q.vars) s.taken ∙ slots_length 0 q.vars
+
 pub scanned_all : (p : Program) (procs : List Proc) (homes n : ℕ) (h : Homes) → h.count ≡ homes → procs ≡ p.procs → length procs ≤ n
-    → AreScanned p homes n h.procs.items → IsScan p homes h
-unfolding home_of count_of
+    → AreGiven (λ q answer. IsScanOf q homes answer) p n h.procs.items → IsScan p homes h
+unfolding count_of
 scanned_all p procs homes n h count are past all = record {
   count = count;
-  scanned = λ owner q is.
-      let e = ap (λ l. slice_get l owner) are ∙ is in
-      let within = slice_get_within procs owner q e in
-      let w = all.each owner q (omega arith) is in
-      (w.0.items, (w.1.1, λ x small. home_is owner q x w.0 w.1.0 w.1.1 small));
-} where
-  home_is : (owner : ℕ) (q : Proc) (x : ℕ) (v : Vec Home Global) → slice_get h.procs.items owner ≡ Some v → IsScanOf q homes v.items → x < q.vars
-      → slice_get v.items x ≡ Some (option_map_or (λ (l : Vec Home Global). option_map_or (λ (home : Home). home) (slice_get l.items x) (Slot x)) (slice_get h.procs.items owner) (Slot x))
-  home_is owner q x v at s small = by (slice_get v.items x) refl where
-    length_is : length v.items ≡ q.vars
-    length_is = ap length s.is ∙ scan_length homes (scan_start q.vars) s.taken ∙ slots_length 0 q.vars
+  scanned = given_all (λ q answer. IsScanOf q homes answer) (λ q answer. scan_given q homes answer) p procs n h are past all;
+}
 
-    answer : (o : Option Home) → slice_get v.items x ≡ o
-        → option_map_or (λ (l : Vec Home Global). option_map_or (λ (home : Home). home) (slice_get l.items x) (Slot x)) (slice_get h.procs.items owner) (Slot x)
-        ≡ option_map_or (λ (home : Home). home) o (Slot x)
-    answer o e =
-        ap (λ (a : Option (Vec Home Global)). option_map_or (λ (l : Vec Home Global). option_map_or (λ (home : Home). home) (slice_get l.items x) (Slot x)) a (Slot x)) at
-        ∙ ap (λ (a : Option Home). option_map_or (λ (home : Home). home) a (Slot x)) e
-
-    by : (o : Option Home) → slice_get v.items x ≡ o
-        → slice_get v.items x ≡ Some (option_map_or (λ (l : Vec Home Global). option_map_or (λ (home : Home). home) (slice_get l.items x) (Slot x)) (slice_get h.procs.items owner) (Slot x))
-    by None e = let n = length_is in let t = some_within v.items x (omega arith) in absurd (no (sym (ap is_some e) ∙ t)) where
-      no : false ≡ true → ⊥
-      no f = cc
-    by (Some home) e = e ∙ ap (λ (y : Home). Some y) (sym (answer (Some home) e))
+pub turned_all : (p : Program) (procs : List Proc) (homes n : ℕ) (h : Homes) → h.count ≡ homes → procs ≡ p.procs → length procs ≤ n
+    → AreGiven (λ q answer. AreInTurnOf q homes answer) p n h.procs.items → AreInTurn p homes h
+unfolding count_of
+turned_all p procs homes n h count are past all = record {
+  count = count;
+  turns = given_all (λ q answer. AreInTurnOf q homes answer) (λ q answer t. t.allotted.each) p procs n h are past all;
+}

@@ -51,7 +51,7 @@ module _ (homes vars : ℕ) (taken : List Interval)
 
 -- ---- every variable in its slot
 
-slots_are : (first n x : ℕ) (home : Home) → slice_get (slots_from first n) x ≡ Some home → home ≡ Slot (first + x)
+pub slots_are : (first n x : ℕ) (home : Home) → slice_get (slots_from first n) x ≡ Some home → home ≡ Slot (first + x)
 slots_are first zero x home e = absurd cc
 slots_are first (suc n) zero home e = let z : first ≡ first + 0 = omega arith in some_same (sym e) ∙ ap (λ (k : ℕ). Slot k) z
 slots_are first (suc n) (suc x) home e =
@@ -70,6 +70,37 @@ kept_start homes vars = record {
 
 -- ---- the law
 
+-- what a scan keeps when all intervals are taken
+pub scan_kept : (q : Proc) (homes : ℕ) (answer : List Home) (h : IsScanOf q homes answer)
+    → Kept homes h.taken (scan_all homes (record { holders = []; homes = slots_from 0 q.vars }) h.taken)
+scan_kept q homes answer h =
+    kept_all homes q.vars h.taken sane rising [] h.taken (record { holders = []; homes = slots_from 0 q.vars }) refl (slots_length 0 q.vars) (kept_start homes q.vars)
+  where
+    sane : (a : Interval) → In h.taken a → (a.start ≤ a.end) × (a.var < q.vars)
+    sane a i =
+        let t = h.are.sound i.0 a i.1 in
+        ((t.interval.all a.end t.interval.last).0, t.var)
+
+    rising : (j k : ℕ) (a b : Interval) → j < k → slice_get h.taken j ≡ Some a → slice_get h.taken k ≡ Some b → (a.start ≤ b.start) × (a.var ≢ b.var)
+    rising j k a b less e f = by (h.are.rising j k a b less e f) where
+      by : (a.start < b.start) ⊎ ((a.start ≡ b.start) × (a.var < b.var)) → (a.start ≤ b.start) × (a.var ≢ b.var)
+      by (inl l) = (
+        omega arith,
+        λ s.
+            let same = ap (λ (x : Interval). x.start) (same_interval q a b s (h.are.sound j a e) (h.are.sound k b f)) in absurd (omega arith),
+      )
+      by (inr s) = let m = s.1 in let n = s.0 in (omega arith, λ t. absurd (omega arith))
+
+-- each variable has a home
+pub scan_size : (q : Proc) (homes : ℕ) (answer : List Home) → IsScanOf q homes answer → length answer ≡ q.vars
+scan_size q homes answer h =
+    ap length h.is ∙ scan_length homes (record { holders = []; homes = slots_from 0 q.vars }) h.taken ∙ slots_length 0 q.vars
+
+-- a home is the variable's slot, or the variable has an interval that takes part and a home register
+pub scan_fresh : (q : Proc) (homes : ℕ) (answer : List Home) (h : IsScanOf q homes answer) (x : ℕ) (home : Home) → slice_get answer x ≡ Some home
+    → (home ≡ Slot x) ⊎ ((v : Interval) × ((In h.taken v) × ((v.var ≡ x) × ((k : ℕ) × (home ≡ Reg k)))))
+scan_fresh q homes answer h x home e = (scan_kept q homes answer h).fresh x home (sym (ap (λ l. slice_get l x) h.is) ∙ e)
+
 pub scan_keeps : (q : Proc) (homes : ℕ) (answer : List Home) → IsScanOf q homes answer → KeepsLaw q homes answer
 scan_keeps q homes answer h = record {
   apart = λ x y a b c d at sx sy other i j la ha lc hc e. apart x y a b c d at sx sy other i j la ha lc hc e;
@@ -78,29 +109,11 @@ scan_keeps q homes answer h = record {
   kept = λ x small k. is_slot x small k;
   range = λ x home e. range x home e (kept.fresh x home (sym (answer_is x) ∙ e));
 } where
-  taken : List Interval
-  taken = h.taken
-
-  sane : (a : Interval) → In h.taken a → (a.start ≤ a.end) × (a.var < q.vars)
-  sane a i =
-      let t = h.are.sound i.0 a i.1 in
-      ((t.interval.all a.end t.interval.last).0, t.var)
-
-  rising : (j k : ℕ) (a b : Interval) → j < k → slice_get h.taken j ≡ Some a → slice_get h.taken k ≡ Some b → (a.start ≤ b.start) × (a.var ≢ b.var)
-  rising j k a b less e f = by (h.are.rising j k a b less e f) where
-    by : (a.start < b.start) ⊎ ((a.start ≡ b.start) × (a.var < b.var)) → (a.start ≤ b.start) × (a.var ≢ b.var)
-    by (inl l) = (
-      omega arith,
-      λ s.
-          let same = ap (λ (x : Interval). x.start) (same_interval q a b s (h.are.sound j a e) (h.are.sound k b f)) in absurd (omega arith),
-    )
-    by (inr s) = let m = s.1 in let n = s.0 in (omega arith, λ t. absurd (omega arith))
-
   kept : Kept homes h.taken (scan_all homes (record { holders = []; homes = slots_from 0 q.vars }) h.taken)
-  kept = kept_all homes q.vars h.taken sane rising [] h.taken (record { holders = []; homes = slots_from 0 q.vars }) refl (slots_length 0 q.vars) (kept_start homes q.vars)
+  kept = scan_kept q homes answer h
 
   size : length answer ≡ q.vars
-  size = ap length h.is ∙ scan_length homes (record { holders = []; homes = slots_from 0 q.vars }) h.taken ∙ slots_length 0 q.vars
+  size = scan_size q homes answer h
 
   answer_is : (x : ℕ) → slice_get answer x ≡ slice_get (scan_all homes (record { holders = []; homes = slots_from 0 q.vars }) h.taken).homes x
   answer_is x = ap (λ l. slice_get l x) h.is

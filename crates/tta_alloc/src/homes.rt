@@ -7,13 +7,16 @@ ghost use Rattle.tta_flow.specs.Blocks.{IsFlow, Holds};
 ghost use Rattle.tta_flow.specs.Live.{IsLive};
 ghost use Rattle.tta_flow.specs.Table.{is_listed};
 ghost use Rattle.tta_alloc.specs.Homes.{IsScan, IsScanOf, count_of, home_of};
+ghost use Rattle.tta_alloc.specs.Allotted.{AreAllotted, ScansAllot};
 ghost use Rattle.tta_alloc.specs.Law.{KeepsLaw};
+ghost use Rattle.tta_alloc.specs.Turns.{AreInTurn, TurnsAllot};
 ghost use Rattle.tta_program.specs.declared.program.Proc.{Proc};
 ghost use Rattle.tta_alloc.specs.Ranges.{AddsRange};
 
 use crate::home::Home;
 use crate::scan::scan_homes;
 use crate::taken::taken_of;
+use crate::turns::turn_homes;
 use std::alloc::{AllocError, Global};
 use tta_flow::{Block, Flow, Live, Table};
 use tta_program::Program;
@@ -68,7 +71,8 @@ pub fn assign(
 ) -> Result<Homes, AllocError>
     requires flow { IsFlow p.now f.now.blocks }
     requires live { IsLive p.now live.now }
-    ensures { IfOk result (λ h. IsScan p.now homes h) }
+    ensures scan { IfOk result (λ h. IsScan p.now homes h) }
+    ensures allotted { IfOk result (λ h. AreAllotted p.now homes h) }
 {
     let procs = p.procs.as_slice();
     let steps = steps_of(alloc, f.blocks.as_slice(), procs.len())?;
@@ -77,6 +81,34 @@ pub fn assign(
         let q = &procs[owner];
         let taken = taken_of(alloc, q, owner as u32, steps.at(owner), live)?;
         all.push(scan_homes(alloc, taken.as_slice(), q.vars, homes)?)?;
+    }
+    Ok(Homes {
+        procs: all,
+        count: homes,
+    })
+}
+
+/// Homes that keep the law with the slots of the linear scan over so many home registers, where
+/// each of the other variables has the home register that has been free longest.
+pub fn in_turn(
+    alloc: Global,
+    p: &Program,
+    f: &Flow,
+    live: &Live,
+    homes: u32,
+) -> Result<Homes, AllocError>
+    requires flow { IsFlow p.now f.now.blocks }
+    requires live { IsLive p.now live.now }
+    ensures turns { IfOk result (λ h. AreInTurn p.now homes h) }
+    ensures allotted { IfOk result (λ h. AreAllotted p.now homes h) }
+{
+    let procs = p.procs.as_slice();
+    let steps = steps_of(alloc, f.blocks.as_slice(), procs.len())?;
+    let mut all = Vec::new(alloc);
+    for owner in 0..procs.len() {
+        let q = &procs[owner];
+        let taken = taken_of(alloc, q, owner as u32, steps.at(owner), live)?;
+        all.push(turn_homes(alloc, q, taken.as_slice(), homes)?)?;
     }
     Ok(Homes {
         procs: all,
@@ -113,4 +145,14 @@ fn add_steps(table: &mut Table, block: Block) -> Result<(), AllocError>
 pub fn scans_keep_apart()
     ensures { (q : Proc) (homes : ℕ) (answer : List Home)
         → IsScanOf q homes answer → KeepsLaw q homes answer }
+{}
+
+/// A linear scan is one of the ways to give homes.
+pub fn scans_allot()
+    ensures { ScansAllot }
+{}
+
+/// To give home registers in turn is another.
+pub fn turns_allot()
+    ensures { TurnsAllot }
 {}

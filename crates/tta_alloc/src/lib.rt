@@ -9,8 +9,9 @@ mod kept;
 mod met;
 mod scan;
 mod taken;
+mod turns;
 mod walks;
 
 pub use home::Home;
-pub use homes::{Homes, assign, scans_keep_apart};
+pub use homes::{Homes, assign, in_turn, scans_allot, scans_keep_apart, turns_allot};
 pub use interval::Interval;

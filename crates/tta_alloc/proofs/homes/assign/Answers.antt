@@ -1,11 +1,13 @@
+use Rattle.tta_alloc.proofs.AllotLemmas.{scans_allot}
 use Rattle.std.proofs.Common.{refl, ◌∙◌, ap}
 use Rattle.tta_flow.proofs.Programs.{procs_are, proc_is}
 use Rattle.tta_alloc.specs.Scan.{scan}
-use Rattle.tta_alloc.proofs.HomeLemmas.{held, back, known, scanned_none, scanned_more, scanned_all}
+use Rattle.tta_alloc.specs.Homes.{IsScanOf}
+use Rattle.tta_alloc.proofs.HomeLemmas.{held, back, known, given_none, given_more, scanned_all}
 use Rattle.tta_alloc.proofs.homes.assign.Goals as goal
 
 pub loop-owner-init : goal.loop-owner-init
-loop-owner-init c = rw c.new-all.ensures.items (scanned_none c.args.p.now c.args.homes)
+loop-owner-init c = rw c.new-all.ensures.items (given_none (λ q answer. IsScanOf q c.args.homes answer) c.args.p.now)
 
 pub taken_of-requires : goal.taken_of-requires
 taken_of-requires c =
@@ -15,11 +17,19 @@ taken_of-requires c =
 
 pub loop-owner-preserved : goal.loop-owner-preserved
 loop-owner-preserved c =
-    scanned_more _ _ _ _ _ c.index-procs-owner.result _ c.in_ok-taken.taken.items
+    given_more (λ q answer. IsScanOf q c.args.homes answer) _ _ _ _ c.index-procs-owner.result _
     (proc_is _ _ _ c.p.view_is c.as_slice-procs.ensures c.loop-owner.owner c.index-procs-owner.result c.loop-owner-test.true c.index-procs-owner.is)
-    c.loop-owner.invariant c.in_ok-taken.ensures
-    (c.in_ok-scan_homes.ensures ∙ ap (scan c.args.homes c.index-procs-owner.result.vars) c.as_slice-in-loop-owner.ensures.value)
+    c.loop-owner.invariant
+    (record {
+      taken = c.in_ok-taken.taken.items;
+      are = c.in_ok-taken.ensures;
+      is = c.in_ok-scan_homes.ensures ∙ ap (scan c.args.homes c.index-procs-owner.result.vars) c.as_slice-in-loop-owner.ensures.value;
+    })
     c.in_ok-push.ensures.items
 
-pub returns : goal.returns
-returns c = scanned_all _ _ _ _ _ refl (procs_are _ _ _ c.p.view_is c.as_slice-procs.ensures) c.loop-owner-test.false c.loop-owner.invariant
+pub returns-clause-scan : goal.returns-clause-scan
+returns-clause-scan c = scanned_all _ _ _ _ _ refl (procs_are _ _ _ c.p.view_is c.as_slice-procs.ensures) c.loop-owner-test.false c.loop-owner.invariant
+
+pub returns-clause-allotted : goal.returns-clause-allotted
+returns-clause-allotted c =
+    scans_allot _ _ _ (scanned_all _ _ _ _ _ refl (procs_are _ _ _ c.p.view_is c.as_slice-procs.ensures) c.loop-owner-test.false c.loop-owner.invariant)
