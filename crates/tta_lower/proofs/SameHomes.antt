@@ -15,10 +15,10 @@ use Rattle.tta_flow.specs.Live.{live_before, live_after}
 use Rattle.tta_alloc.specs.declared.home.Home.{Home}
 use Rattle.tta_alloc.specs.declared.home.Home.TheVariants.{Reg, Slot}
 use Rattle.tta_alloc.specs.declared.homes.Homes.{Homes}
-use Rattle.tta_alloc.specs.Homes.{home_of, count_of, IsScan}
+use Rattle.tta_alloc.specs.Homes.{home_of}
+use Rattle.tta_alloc.specs.Allotted.{AreAllotted}
 use Rattle.tta_alloc.specs.Law.{KeepsLaw}
 use Rattle.tta_alloc.specs.Intervals.{Counts, IsLiveAtEntry, IsRead, IsAssigned, IsLiveBefore, IsLiveAfter, IsKept, keeps}
-use Rattle.tta_alloc.proofs.LawLemmas.{scan_keeps}
 use Rattle.tta_lower.specs.Layout.{vars_of}
 use Rattle.tta_lower.specs.Liveness.{Reached, LiveAfter, Touches, ByRead, ByAssigned, ByBefore, ByAfter, IsHomes}
 use Rattle.tta_lower.proofs.Bridge.{is-flow, blocks-in-order}
@@ -54,7 +54,7 @@ reg_is (Slot x) k e = absurd cc
 reg_slot : {A : Type 0} (j x : ℕ) → Reg j ≡ Slot x → A
 reg_slot j x e = absurd cc
 
-module _ (p : Program) (rules : IsProgram p) (homes : ℕ) (h : Homes) (scan : IsScan p homes h) where
+module _ (p : Program) (rules : IsProgram p) (homes : ℕ) (h : Homes) (allotted : AreAllotted p homes h) where
   -- a variable's home, if it is a register
   pub record InReg (owner x k : ℕ) : Type 0 where
     pub var : Owned p owner x
@@ -70,11 +70,11 @@ module _ (p : Program) (rules : IsProgram p) (homes : ℕ) (h : Homes) (scan : I
     on false t f = absurd cc
     on true t f =
         let v = owned p owner x t in
-        let s = scan.scanned owner v.proc v.is in
+        let s = allotted.allotted owner v.proc v.is in
         record {
           var = v;
           answer = s.0;
-          law = scan_keeps v.proc homes s.0 s.1.0;
+          law = s.1.0.law;
           of = s.1.1;
           is = s.1.1 x v.below ∙ ap (λ (o : Home). Some o) (reg_is (home_of h owner x) k f);
         }
@@ -155,9 +155,9 @@ module _ (p : Program) (rules : IsProgram p) (homes : ℕ) (h : Homes) (scan : I
 
 -- all that lowering has to know
 pub answers_know : AnswersKnow
-answers_know p homes blocks l h rules flow live scan = record {
+answers_know p homes blocks l h rules flow live allotted = record {
   flow = is-flow p (spans blocks) (are_blocks p rules blocks flow);
-  apart = homes_are p rules homes h scan;
+  apart = homes_are p rules homes h allotted;
   answers = record {
     order = blocks-in-order p (spans blocks) (are_blocks p rules blocks flow);
     first_only = λ owner x e.
@@ -176,10 +176,6 @@ answers_know p homes blocks l h rules flow live scan = record {
         let low = small x (vars_of p b.owner) (live-after-below p rules b.owner x b.last a) in
         let v = owned p b.owner x low in
         rw (low, (live.after b.owner b.last x v.proc v.is v.below).1 (after_from p b.owner v.proc v.is x b.last a)) refl;
-    few = home_few p rules homes h scan;
+    few = home_few p rules homes h allotted;
   };
 }
-
--- the homes of a scan over so many home registers are those of a scan over as many as they use
-pub counted-scan : (p : Program) (homes : ℕ) (h : Homes) → IsScan p homes h → IsScan p (count_of h) h
-counted-scan p homes h scan = subst (λ (n : ℕ). IsScan p n h) (sym scan.count) scan

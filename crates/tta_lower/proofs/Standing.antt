@@ -21,7 +21,8 @@ use Rattle.tta_flow.specs.declared.live.Live.{Live}
 use Rattle.tta_flow.specs.Blocks as flows
 use Rattle.tta_flow.specs.Live.{IsLive}
 use Rattle.tta_alloc.specs.declared.homes.Homes.{Homes as HomesOf}
-use Rattle.tta_alloc.specs.Homes.{count_of, IsScan}
+use Rattle.tta_alloc.specs.Homes.{count_of}
+use Rattle.tta_alloc.specs.Allotted.{AreAllotted}
 use Rattle.tta_lower.specs.FlowFacts.{AreBlocks}
 use Rattle.tta_lower.specs.Liveness.{Span, Has, Homes, IsFlow, LiveBefore, LiveAfter}
 use Rattle.tta_lower.specs.Layout.{vars_of}
@@ -138,9 +139,9 @@ direct-of p q init e only = subst (λ (x : Program). (blocks : List Span) (home 
 
 -- all that is stated
 pub code-of : (p : Program) (blocks : List Block) (l : Live) (h : HomesOf) (frame_words : ℕ) (r : Rir) → IsProgram p → flows.IsFlow p blocks → IsLive p l
-    → IsScan p (count_of h) h → frame_need p ≤ frame_words → r ≡ lowered p (spans blocks) (first_by p l) (home_by p h) (after_by p l) (count_of h)
+    → AreAllotted p (count_of h) h → frame_need p ≤ frame_words → r ≡ lowered p (spans blocks) (first_by p l) (home_by p h) (after_by p l) (count_of h)
     → IsCodeOf p blocks l h frame_words r
-code-of p blocks l h frame_words r sound flow live scan room is = subst (IsCodeOf p blocks l h frame_words) (sym is) (record {
+code-of p blocks l h frame_words r sound flow live allotted room is = subst (IsCodeOf p blocks l h frame_words) (sym is) (record {
   room = room;
   is = refl;
   stands = stands p (spans blocks) (home_by p h) (first_by p l) (after_by p l) (count_of h) sound known.flow known.answers frame_words well;
@@ -152,7 +153,7 @@ code-of p blocks l h frame_words r sound flow live scan room is = subst (IsCodeO
       (direct-of p q init e only (spans blocks) (home_by p h) (first_by p l) (after_by p l) (count_of h) (are_blocks p sound blocks flow) known.answers);
 }) where
   known : IsKnown p (count_of h) (spans blocks) (home_by p h) (first_by p l) (after_by p l)
-  known = answers_know p (count_of h) blocks l h sound flow live scan
+  known = answers_know p (count_of h) blocks l h sound flow live allotted
 
   well : (u : Units) → IsRegisterCode u p (spans blocks) (home_by p h) (first_by p l) (after_by p l) (count_of h) frame_words
   well u = lowers_well u p (spans blocks) (home_by p h) (first_by p l) (after_by p l) (count_of h) frame_words sound known.flow known.apart known.answers

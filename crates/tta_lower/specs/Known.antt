@@ -9,7 +9,8 @@ use Rattle.tta_flow.specs.Live.{IsLive, live_before, live_after}
 use Rattle.tta_alloc.specs.declared.home.Home.{Home}
 use Rattle.tta_alloc.specs.declared.home.Home.TheVariants.{Reg, Slot}
 use Rattle.tta_alloc.specs.declared.homes.Homes.{Homes}
-use Rattle.tta_alloc.specs.Homes.{home_of, IsScan}
+use Rattle.tta_alloc.specs.Homes.{home_of}
+use Rattle.tta_alloc.specs.Allotted.{AreAllotted}
 use Rattle.tta_lower.specs.declared.part.Span.{Span}
 use Rattle.tta_lower.specs.Layout.{vars_of}
 use Rattle.tta_lower.specs.Law.{IsKnown}
@@ -43,5 +44,5 @@ module _ (p : Program) where
 -- all that lowering has to know follows from what blocks, liveness and homes answer
 abbrev pub AnswersKnow : Type 0
 AnswersKnow =
-    (p : Program) (homes : ℕ) (blocks : List Block) (l : Live) (h : Homes) → IsProgram p → IsFlow p blocks → IsLive p l → IsScan p homes h
+    (p : Program) (homes : ℕ) (blocks : List Block) (l : Live) (h : Homes) → IsProgram p → IsFlow p blocks → IsLive p l → AreAllotted p homes h
     → IsKnown p homes (spans blocks) (home_by p h) (first_by p l) (after_by p l)

@@ -14,3 +14,4 @@ pub mod Known
 pub mod Plan
 pub mod Statement
 pub mod Squares
+pub mod TwoWords

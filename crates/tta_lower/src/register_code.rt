@@ -4,7 +4,8 @@ ghost use Rattle.std.specs.Prelude.{◌≡◌, length, IfOk, IfErr};
 ghost use Rattle.tta_program.specs.Rules.{IsProgram};
 ghost use Rattle.tta_flow.specs.Blocks.{IsFlow};
 ghost use Rattle.tta_flow.specs.Live.{IsLive};
-ghost use Rattle.tta_alloc.specs.Homes.{IsScan, count_of};
+ghost use Rattle.tta_alloc.specs.Homes.{count_of};
+ghost use Rattle.tta_alloc.specs.Allotted.{AreAllotted};
 ghost use Rattle.tta_lower.specs.Known.{spans, first_by, after_by};
 ghost use Rattle.tta_lower.specs.Law.{IsKnown};
 ghost use Rattle.tta_lower.specs.Lower.{lowered};
@@ -37,7 +38,7 @@ pub fn lower(
 ) -> Result<Rir, LowerError>
     requires flow { IsFlow p.now f.now.blocks }
     requires live { IsLive p.now live.now }
-    requires homes { IsScan p.now (count_of homes.now) homes.now }
+    requires homes { AreAllotted p.now (count_of homes.now) homes.now }
     ensures code { IfOk result (λ r. IsCodeOf p.now f.now.blocks live.now homes.now frame_words r) }
     ensures cause { IfErr result (λ e. IsCause p.now frame_words e) }
 {

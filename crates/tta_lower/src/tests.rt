@@ -14,6 +14,8 @@ use tta_list::Items;
 use tta_ops::OpId;
 use tta_program::{Args, Proc, Program, Src, Step};
 
+mod turns;
+
 /// `proc sq x`, `y = mul x x`, `return y`, `end`
 fn square_proc(alloc: Global) -> Result<Proc, AllocError>
     ensures { IfOk result (λ q. q ≡ square) }
