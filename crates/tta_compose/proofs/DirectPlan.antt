@@ -22,7 +22,7 @@ use Rattle.tta_flow.specs.declared.live.Live.{Live}
 use Rattle.tta_flow.specs.Blocks.{IsFlow}
 use Rattle.tta_flow.specs.Live.{IsLive}
 use Rattle.tta_alloc.specs.declared.homes.Homes.{Homes}
-use Rattle.tta_alloc.specs.Homes.{IsScan}
+use Rattle.tta_alloc.specs.Allotted.{AreAllotted}
 use Rattle.tta_lower.specs.declared.part.Part.{Part}
 use Rattle.tta_lower.specs.Law.{IsRegisterCode}
 use Rattle.tta_lower.specs.Lower.{parts, block_of}
@@ -43,7 +43,7 @@ use Rattle.tta_compose.specs.Packed.{homes_on, IsPlan}
 use Rattle.tta_compose.proofs.Directly.{direct_lowers, direct_is_list, direct_means, only_one}
 use Rattle.tta_compose.proofs.Pairs.{is_alone}
 use Rattle.tta_compose.proofs.Planning.{in_get}
-use Rattle.tta_compose.proofs.NoVariables.{any_scan}
+use Rattle.tta_compose.proofs.NoVariables.{any_allotted}
 
 -- ---- the forms: words go to control and to a trigger alone
 
@@ -74,7 +74,7 @@ module _ (u : Units) (m : Machine) (p : Program) (machine : IsMachine m) (progra
       let a = is_alone m p program direct in
       subst (CanOutput m (out_of m)) (sym a.constants) (can m machine (puts (a.proc).steps) a.brought.all)
 
-  module _ (h : Homes) (scan : IsScan p (length (homes_on m)) h) where
+  module _ (h : Homes) (allotted : AreAllotted p (length (homes_on m)) h) where
     abbrev count : ℕ
     count = length (homes_on m)
 
@@ -86,11 +86,11 @@ module _ (u : Units) (m : Machine) (p : Program) (machine : IsMachine m) (progra
 
     law : IsRegisterCode u p (spans blocks) (home_by p h) (first_by p l) (after_by p l) count 0
     law =
-        let known = answers_know p count blocks l h program flow lives scan in
+        let known = answers_know p count blocks l h program flow lives allotted in
         lowers_well u p (spans blocks) (home_by p h) (first_by p l) (after_by p l) count 0 program known.flow known.apart known.answers
 
     one : map block parts_of ≡ one_block words ∷ []
-    one = ap (λ (r : Rir). r.blocks) (direct_lowers m p program direct count blocks l h flow lives scan)
+    one = ap (λ (r : Rir). r.blocks) (direct_lowers m p program direct count blocks l h flow lives allotted)
 
     block_is : (k : ℕ) (x : Part) → slice_get parts_of k ≡ Some x → one_block words ≡ block x
     block_is k x e =
@@ -128,18 +128,18 @@ module _ (u : Units) (m : Machine) (p : Program) (machine : IsMachine m) (progra
     lively = lively m (out_of m) words;
   })
 
-  scan_on : (h : Homes) → IsScan p 0 h → (k : Homes) × IsScan p (length (homes_on m)) k
-  scan_on h scan =
+  allotted_on : (h : Homes) → AreAllotted p 0 h → (k : Homes) × AreAllotted p (length (homes_on m)) k
+  allotted_on h allotted =
       let a = is_alone m p program direct in
-      subst (λ (r : Program). IsProgram r → IsScan r 0 h → (k : Homes) × IsScan r (length (homes_on m)) k) (sym a.is)
-      (λ rules is. any_scan a.proc p.init (no_params a.proc rules.main) a.only h (length (homes_on m)) is) program scan where
+      subst (λ (r : Program). IsProgram r → AreAllotted r 0 h → (k : Homes) × AreAllotted r (length (homes_on m)) k) (sym a.is)
+      (λ rules is. any_allotted a.proc p.init (no_params a.proc rules.main) a.only h (length (homes_on m)) is) program allotted where
         no_params : (q : Proc) → (q.params == 0) ≡ true → q.params ≡ 0
         no_params q e = grind (arith, nat_tests, e)
 
   -- the list is planned for the program
-  pub direct_plan : (h : Homes) → IsScan p 0 h → IsPlan u m p (list_of_direct m p ∷ [])
-  direct_plan h scan =
-      let k = scan_on h scan in record {
+  pub direct_plan : (h : Homes) → AreAllotted p 0 h → IsPlan u m p (list_of_direct m p ∷ [])
+  direct_plan h allotted =
+      let k = allotted_on h allotted in record {
         choice = choice;
         blocks = blocks;
         live = l;
@@ -147,8 +147,8 @@ module _ (u : Units) (m : Machine) (p : Program) (machine : IsMachine m) (progra
         homes = refl;
         flow = flow;
         lives = lives;
-        scan = k.1;
+        allotted = k.1;
         planned = planned k.0 k.1;
         forms = forms;
-        means = direct_means u m p machine program direct blocks l h flow lives scan;
+        means = direct_means u m p machine program direct blocks l h flow lives allotted;
       }

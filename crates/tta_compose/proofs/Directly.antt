@@ -12,7 +12,7 @@ use Rattle.tta_flow.specs.declared.live.Live.{Live}
 use Rattle.tta_flow.specs.Blocks.{IsFlow}
 use Rattle.tta_flow.specs.Live.{IsLive}
 use Rattle.tta_alloc.specs.declared.homes.Homes.{Homes}
-use Rattle.tta_alloc.specs.Homes.{IsScan}
+use Rattle.tta_alloc.specs.Allotted.{AreAllotted}
 use Rattle.tta_lower.specs.Keeps as lower
 use Rattle.tta_lower.specs.Lower.{lowered}
 use Rattle.tta_lower.specs.Law.{IsKnown}
@@ -37,17 +37,17 @@ use Rattle.tta_compose.proofs.Pairs.{IsAlone, is_alone}
 
 -- ---- the register code
 
-lowers_alone : (q : Proc) (init : List DataLine) → only_constants q.steps ≡ true → IsProgram (alone q init) → (homes : ℕ) (blocks : List Block) (l : Live) (h : Homes) → IsFlow (alone q init) blocks → IsLive (alone q init) l → IsScan (alone q init) homes h
+lowers_alone : (q : Proc) (init : List DataLine) → only_constants q.steps ≡ true → IsProgram (alone q init) → (homes : ℕ) (blocks : List Block) (l : Live) (h : Homes) → IsFlow (alone q init) blocks → IsLive (alone q init) l → AreAllotted (alone q init) homes h
     → lowered (alone q init) (spans blocks) (first_by (alone q init) l) (home_by (alone q init) h) (after_by (alone q init) l) homes ≡ record { blocks = one_block (puts q.steps) ∷ [] }
-lowers_alone q init only rules homes blocks l h flow live scan =
+lowers_alone q init only rules homes blocks l h flow live allotted =
     one-block q init only (home_by (alone q init) h) (first_by (alone q init) l) (after_by (alone q init) l) homes (spans blocks) (are_blocks (alone q init) rules blocks flow)
-    (answers_know (alone q init) homes blocks l h rules flow live scan).answers
+    (answers_know (alone q init) homes blocks l h rules flow live allotted).answers
 
 pub direct_lowers : DirectLowers
-direct_lowers m p rules direct homes blocks l h flow live scan =
+direct_lowers m p rules direct homes blocks l h flow live allotted =
     let a = is_alone m p rules direct in
-    subst (λ (r : Program). IsFlow r blocks → IsLive r l → IsScan r homes h → lowered r (spans blocks) (first_by r l) (home_by r h) (after_by r l) homes ≡ record { blocks = one_block (constants_of r) ∷ [] }) (sym a.is)
-    (λ flow live scan. lowers_alone a.proc p.init a.only (subst IsProgram a.is rules) homes blocks l h flow live scan) flow live scan
+    subst (λ (r : Program). IsFlow r blocks → IsLive r l → AreAllotted r homes h → lowered r (spans blocks) (first_by r l) (home_by r h) (after_by r l) homes ≡ record { blocks = one_block (constants_of r) ∷ [] }) (sym a.is)
+    (λ flow live allotted. lowers_alone a.proc p.init a.only (subst IsProgram a.is rules) homes blocks l h flow live allotted) flow live allotted
 
 -- ---- the list
 
@@ -61,17 +61,17 @@ direct_is_list m p machine rules direct =
 -- ---- its meaning
 
 pub direct_means : DirectMeans
-direct_means u m p machine rules direct blocks l h flow live scan addr memory input are given =
+direct_means u m p machine rules direct blocks l h flow live allotted addr memory input are given =
     mean_of u m p (record { blocks = one_block (constants_of p) ∷ [] }) (list_of_direct m p ∷ []) addr memory input keeps
     (alike u m (out_of m) addr memory input (constants_of p) (subst (CanOutput m (out_of m)) (sym a.constants) (can m machine (puts (a.proc).steps) a.brought.all))) where
       a : IsAlone m p
       a = is_alone m p rules direct
 
       known : IsKnown p 0 (spans blocks) (home_by p h) (first_by p l) (after_by p l)
-      known = answers_know p 0 blocks l h rules flow live scan
+      known = answers_know p 0 blocks l h rules flow live allotted
 
       keeps : lower.KeepsMeaning u p (record { blocks = one_block (constants_of p) ∷ [] })
-      keeps = subst (lower.KeepsMeaning u p) (direct_lowers m p rules direct 0 blocks l h flow live scan)
+      keeps = subst (lower.KeepsMeaning u p) (direct_lowers m p rules direct 0 blocks l h flow live allotted)
           (lowers_well u p (spans blocks) (home_by p h) (first_by p l) (after_by p l) 0 0 rules known.flow known.apart known.answers).keeps
 
 -- ---- its code
@@ -102,12 +102,12 @@ direct_links m p ps are = record {
       (are.respects 0 (list_of_direct m p) q refl (subst (λ (j : ℕ). slice_get ps j ≡ Some q) same e)) (length ps) (no_address (length ps) (out_of m) (constants_of p))
 
 pub direct_agrees : DirectAgrees
-direct_agrees u m p machine rules direct blocks l h flow live scan ps whole are linked legal laid =
+direct_agrees u m p machine rules direct blocks l h flow live allotted ps whole are linked legal laid =
     built_agrees u m machine p whole (list_of_direct m p ∷ []) ps (record {
       legal = legal;
       placed = record { count = are.count; closed = closed m p; respects = are.respects };
       linked = linked;
-      means = direct_means u m p machine rules direct blocks l h flow live scan;
+      means = direct_means u m p machine rules direct blocks l h flow live allotted;
       laid = laid;
       words = data_words p.init rules.init;
     })

@@ -10,3 +10,4 @@ pub mod Directly
 pub mod NoVariables
 pub mod DirectPlan
 pub mod Once
+pub mod OnceCounts

@@ -1,5 +1,5 @@
 -- A program of constants has no interval of any variable, so its homes are the same for any number of home registers.
-use Rattle.std.proofs.Common.{◌≡◌, ◌<◌, ℕ, zero, suc, Bool, true, false, List, [], ◌∷◌, Some, refl, sym, ap, ◌∙◌, arith, slice_get}
+use Rattle.std.proofs.Common.{◌≡◌, ◌<◌, ◌⊎◌, inl, inr, ℕ, zero, suc, Bool, true, false, List, [], ◌∷◌, Some, refl, sym, ap, ◌∙◌, arith, slice_get}
 use Rattle.tta_program.specs.declared.operand.Src.TheVariants.{Var, Word}
 use Rattle.tta_program.specs.declared.step.Step.{Step}
 use Rattle.tta_program.specs.declared.step.Step.TheVariants.{Put, Halt, End}
@@ -10,10 +10,12 @@ use Rattle.tta_flow.specs.Steps.{reads_at, assigns_at}
 use Rattle.tta_flow.specs.Paths.{LiveBefore, ReadHere, ReadLater}
 use Rattle.tta_alloc.specs.declared.interval.Interval.{Interval}
 use Rattle.tta_alloc.specs.declared.home.Home.{Home}
+use Rattle.tta_alloc.specs.declared.home.Home.TheVariants.{Reg, Slot}
 use Rattle.tta_alloc.specs.declared.homes.Homes.{Homes}
 use Rattle.tta_alloc.specs.Intervals.{Counts, IsParam, IsLiveAtEntry, IsRead, IsAssigned, IsLiveBefore, IsLiveAfter, AreTaken}
 use Rattle.tta_alloc.specs.Scan.{scan}
-use Rattle.tta_alloc.specs.Homes.{count_of, home_of, IsScanOf, IsScan}
+use Rattle.tta_alloc.specs.Homes.{count_of, home_of}
+use Rattle.tta_alloc.specs.Allotted.{AreAllotted, AreAllottedOf}
 
 none_read : (steps : List Step) → only_constants steps ≡ true → (i x : ℕ) → reads_at steps i x ≡ false
 none_read (Put (Word w) ∷ steps) only zero x = refl
@@ -60,32 +62,50 @@ none_taken : (q : Proc) → q.params ≡ 0 → only_constants q.steps ≡ true �
 none_taken q params only [] are = refl
 none_taken q params only (iv ∷ taken) are = absurd (none_counts q params only iv.var iv.start (are.sound 0 iv refl).interval.first)
 
+-- homes without home registers are homes with any number of them
+any_homes : (q : Proc) → q.params ≡ 0 → only_constants q.steps ≡ true → (answer : List Home) (homes : ℕ) → AreAllottedOf q 0 answer → AreAllottedOf q homes answer
+any_homes q params only answer homes is = record {
+  each = is.each;
+  law = record {
+    apart = λ x y a b c d at sx sy other i j la ha lc hc e. none_counts q params only x a i.first;
+    slots = λ x a b small i free e. absurd (none_counts q params only x a i.first);
+    meet = λ x y at sx sy other cx cy e. none_counts q params only x at cx;
+    kept = is.law.kept;
+    range = λ x home e. range (is.law.range x home e);
+  };
+  first = is.first;
+  scanned = record {
+    taken = is.scanned.taken;
+    are = is.scanned.are;
+    is = is.scanned.is ∙ ap (scan 0 q.vars) none ∙ sym (ap (scan homes q.vars) none);
+  };
+  slots = is.slots;
+} where
+  none : is.scanned.taken ≡ []
+  none = none_taken q params only is.scanned.taken is.scanned.are
+
+  range : {x : ℕ} {home : Home} → (home ≡ Slot x) ⊎ ((k : ℕ) × ((k < 0) × (home ≡ Reg k))) → (home ≡ Slot x) ⊎ ((k : ℕ) × ((k < homes) × (home ≡ Reg k)))
+  range (inl s) = inl s
+  range (inr k) = let l = k.1.0 in absurd (omega arith)
+
 -- so the homes are right for any number of home registers
-scan_alone : (q : Proc) (init : List DataLine) → q.params ≡ 0 → only_constants q.steps ≡ true → (h : Homes) (homes : ℕ) → IsScan (alone q init) 0 h
-    → IsScan (alone q init) homes (record h { count = homes })
+allotted_alone : (q : Proc) (init : List DataLine) → q.params ≡ 0 → only_constants q.steps ≡ true → (h : Homes) (homes : ℕ) → AreAllotted (alone q init) 0 h
+    → AreAllotted (alone q init) homes (record h { count = homes })
 unfolding count_of home_of
-scan_alone q init params only h homes is = record {
+allotted_alone q init params only h homes is = record {
   count = refl;
-  scanned = λ owner r e. of owner r e (is.scanned owner r e);
+  allotted = λ owner r e. of owner r e (is.allotted owner r e);
 } where
   of : (owner : ℕ) (r : Proc) → slice_get (q ∷ []) owner ≡ Some r
-      → (answer : List Home) × (IsScanOf r 0 answer × ((x : ℕ) → x < r.vars → slice_get answer x ≡ Some (home_of h owner x)))
-      → (answer : List Home) × (IsScanOf r homes answer × ((x : ℕ) → x < r.vars → slice_get answer x ≡ Some (home_of (record h { count = homes }) owner x)))
+      → (answer : List Home) × (AreAllottedOf r 0 answer × ((x : ℕ) → x < r.vars → slice_get answer x ≡ Some (home_of h owner x)))
+      → (answer : List Home) × (AreAllottedOf r homes answer × ((x : ℕ) → x < r.vars → slice_get answer x ≡ Some (home_of (record h { count = homes }) owner x)))
   of zero r e s =
       let same : q ≡ r = cc in
-      let none : s.1.0.taken ≡ [] = none_taken r (ap (λ (p : Proc). p.params) (sym same) ∙ params) (ap (λ (p : Proc). only_constants p.steps) (sym same) ∙ only) s.1.0.taken s.1.0.are in (
-        s.0,
-        (
-          record {
-            taken = s.1.0.taken;
-            are = s.1.0.are;
-            is = s.1.0.is ∙ ap (scan 0 r.vars) none ∙ sym (ap (scan homes r.vars) none);
-          },
-          s.1.1,
-        ),
-      )
+      let still : r.params ≡ 0 = ap (λ (p : Proc). p.params) (sym same) ∙ params in
+      let puts : only_constants r.steps ≡ true = ap (λ (p : Proc). only_constants p.steps) (sym same) ∙ only in
+      (s.0, (any_homes r still puts s.0 homes s.1.0, s.1.1))
   of (suc owner) r e s = absurd cc
 
-pub any_scan : (q : Proc) (init : List DataLine) → q.params ≡ 0 → only_constants q.steps ≡ true → (h : Homes) (homes : ℕ) → IsScan (alone q init) 0 h
-    → (k : Homes) × IsScan (alone q init) homes k
-any_scan q init params only h homes is = (record h { count = homes }, scan_alone q init params only h homes is)
+pub any_allotted : (q : Proc) (init : List DataLine) → q.params ≡ 0 → only_constants q.steps ≡ true → (h : Homes) (homes : ℕ) → AreAllotted (alone q init) 0 h
+    → (k : Homes) × AreAllotted (alone q init) homes k
+any_allotted q init params only h homes is = (record h { count = homes }, allotted_alone q init params only h homes is)

@@ -1,15 +1,17 @@
 -- Blocks, liveness and homes of a program are there once.
 use Rattle.std.proofs.Common.{◌≡◌, ◌<◌, ◌≤◌, inl, inr, ℕ, zero, suc, Bool, true, false, List, [], ◌∷◌, Some, refl, sym, ap, subst, ◌∙◌, arith, slice_get}
+use Rattle.std.specs.Prelude.{◌↔◌}
 use Rattle.tta_program.specs.declared.program.Proc.{Proc}
 use Rattle.tta_flow.specs.declared.flow.Block.{Block}
 use Rattle.tta_flow.specs.Blocks.{StandsBefore, IsFlow}
 use Rattle.tta_flow.specs.Live.{live_before, live_after}
 use Rattle.tta_alloc.specs.declared.interval.Interval.{Interval}
 use Rattle.tta_alloc.specs.declared.home.Home.{Home}
+use Rattle.tta_alloc.specs.declared.home.Home.TheVariants.{Slot}
 use Rattle.tta_alloc.specs.Intervals.{IsBefore, AreTaken}
 use Rattle.tta_alloc.specs.Scan.{scan}
 use Rattle.tta_alloc.specs.Homes.{home_of}
-use Rattle.tta_compose.specs.Once.{OneFlow, OneLiveness, OneScan}
+use Rattle.tta_compose.specs.Once.{OneFlow, OneLiveness, OneSlots}
 
 -- ---- lists in a strict order
 
@@ -105,11 +107,22 @@ one_taken : (q : Proc) (a b : List Interval) → AreTaken q a → AreTaken q b �
 one_taken q a b are other =
     one_order IsBefore never_before a b are.rising other.rising (λ k x e. other.whole x (are.sound k x e)) (λ k x e. are.whole x (other.sound k x e))
 
-pub one_scan : OneScan
-one_scan p homes h k is other owner x q there small =
-    let s = is.scanned owner q there in
-    let t = other.scanned owner q there in
-    let answers : s.0 ≡ t.0 = s.1.0.is ∙ ap (scan homes q.vars) (one_taken q s.1.0.taken t.1.0.taken s.1.0.are t.1.0.are) ∙ sym t.1.0.is in
-    let here : Some (home_of h owner x) ≡ Some (home_of k owner x) =
-    sym (s.1.1 x small) ∙ ap (λ (l : List Home). slice_get l x) answers ∙ t.1.1 x small in
-    cc
+-- two homes of a list by one number are one
+home_is : (answer : List Home) (x : ℕ) (home : Home) → slice_get answer x ≡ Some home → (slice_get answer x ≡ Some (Slot x)) ↔ (home ≡ Slot x)
+home_is answer x home e = (λ f. some_same (sym e ∙ f), λ f. e ∙ ap (λ (z : Home). Some z) f) where
+  some_same : {a b : Home} → Some a ≡ Some b → a ≡ b
+  some_same f = cc
+
+pub one_slots : OneSlots
+one_slots p homes h k is other owner x q there small =
+    let s = is.allotted owner q there in
+    let t = other.allotted owner q there in
+    let a = s.1.0.scanned in
+    let b = t.1.0.scanned in
+    let scans : s.1.0.first ≡ t.1.0.first = a.is ∙ ap (scan homes q.vars) (one_taken q a.taken b.taken a.are b.are) ∙ sym b.is in
+    let here = home_is s.0 x (home_of h owner x) (s.1.1 x small) in
+    let that = home_is t.0 x (home_of k owner x) (t.1.1 x small) in
+    let m = s.1.0.slots x small in
+    let n = t.1.0.slots x small in
+    let over = ap (λ (l : List Home). slice_get l x) scans in
+    (λ e. that.0 (n.1 (sym over ∙ m.0 (here.1 e))), λ e. here.0 (m.1 (over ∙ n.0 (that.1 e))))

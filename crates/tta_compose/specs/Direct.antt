@@ -25,7 +25,7 @@ use Rattle.tta_flow.specs.declared.live.Live.{Live}
 use Rattle.tta_flow.specs.Blocks.{IsFlow}
 use Rattle.tta_flow.specs.Live.{IsLive}
 use Rattle.tta_alloc.specs.declared.homes.Homes.{Homes}
-use Rattle.tta_alloc.specs.Homes.{IsScan}
+use Rattle.tta_alloc.specs.Allotted.{AreAllotted}
 use Rattle.tta_lower.specs.Lower.{lowered}
 use Rattle.tta_lower.specs.Known.{spans, home_by, first_by, after_by}
 use Rattle.tta_select.specs.Direct.{out_of, brings, direct_list}
@@ -75,7 +75,7 @@ list_of_direct m p = direct_list (out_of m) (constants_of p)
 -- the register code of such a program is one block that outputs the constants and halts
 abbrev pub DirectLowers : Type 0
 DirectLowers =
-    (m : Machine) (p : Program) → IsProgram p → is_direct m p ≡ true → (homes : ℕ) (blocks : List Block) (l : Live) (h : Homes) → IsFlow p blocks → IsLive p l → IsScan p homes h
+    (m : Machine) (p : Program) → IsProgram p → is_direct m p ≡ true → (homes : ℕ) (blocks : List Block) (l : Live) (h : Homes) → IsFlow p blocks → IsLive p l → AreAllotted p homes h
     → lowered p (spans blocks) (first_by p l) (home_by p h) (after_by p l) homes ≡ record { blocks = one_block (constants_of p) ∷ [] }
 
 -- the machine can carry out the list
@@ -85,7 +85,7 @@ DirectIsList = (m : Machine) (p : Program) → IsMachine m → IsProgram p → i
 -- the list means the program
 abbrev pub DirectMeans : Type 0
 DirectMeans =
-    (u : Units) (m : Machine) (p : Program) → IsMachine m → IsProgram p → is_direct m p ≡ true → (blocks : List Block) (l : Live) (h : Homes) → IsFlow p blocks → IsLive p l → IsScan p 0 h
+    (u : Units) (m : Machine) (p : Program) → IsMachine m → IsProgram p → is_direct m p ≡ true → (blocks : List Block) (l : Live) (h : Homes) → IsFlow p blocks → IsLive p l → AreAllotted p 0 h
     → Means u m p (list_of_direct m p ∷ [])
 
 -- the linker takes its placement
@@ -95,6 +95,6 @@ DirectLinks = (m : Machine) (p : Program) (ps : List Placed) → AreRespected m 
 -- and the code that it makes agrees with the program, where the data are the program's
 abbrev pub DirectAgrees : Type 0
 DirectAgrees =
-    (u : Units) (m : Machine) (p : Program) → IsMachine m → IsProgram p → is_direct m p ≡ true → (blocks : List Block) (l : Live) (h : Homes) → IsFlow p blocks → IsLive p l → IsScan p 0 h
+    (u : Units) (m : Machine) (p : Program) → IsMachine m → IsProgram p → is_direct m p ≡ true → (blocks : List Block) (l : Live) (h : Homes) → IsFlow p blocks → IsLive p l → AreAllotted p 0 h
     → (ps : List Placed) (whole : Whole) → AreRespected m (list_of_direct m p ∷ []) ps → IsLinked m whole.code ps → IsLegalCode m whole.code
     → ((memory : List ℕ) → over (data_in whole) memory ≡ over (data_of p) memory) → Agrees u m p whole

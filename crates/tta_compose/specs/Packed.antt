@@ -11,7 +11,7 @@ use Rattle.tta_flow.specs.declared.live.Live.{Live}
 use Rattle.tta_flow.specs.Blocks.{IsFlow}
 use Rattle.tta_flow.specs.Live.{IsLive}
 use Rattle.tta_alloc.specs.declared.homes.Homes.{Homes}
-use Rattle.tta_alloc.specs.Homes.{IsScan}
+use Rattle.tta_alloc.specs.Allotted.{AreAllotted}
 use Rattle.tta_lower.specs.Known.{spans, home_by, first_by, after_by}
 use Rattle.tta_code.specs.declared.code.Code.{Code}
 use Rattle.tta_moves.specs.declared.items.BlockList.{BlockList}
@@ -27,8 +27,8 @@ abbrev pub homes_on : Machine → List (ℕ × ℕ)
 homes_on m = option_map_or (homes_of m) (hub_of m) []
 
 -- Lists are planned for a program on a machine: there is one for each part of the program, in order, which does no more
--- than the part asks for where the variables have the homes that the scan gives them; each is in all forms; and together
--- they mean the program. Blocks, liveness and homes are the program's.
+-- than the part asks for where variables have their slots by the linear scan, and the others home registers that keep the
+-- home law; each is in all forms; and together they mean the program. Blocks, liveness and homes are the program's.
 pub record IsPlan (u : Units) (m : Machine) (p : Program) (lists : List BlockList) : Type 0 where
   pub choice : Choice
   pub blocks : List Block
@@ -37,7 +37,7 @@ pub record IsPlan (u : Units) (m : Machine) (p : Program) (lists : List BlockLis
   pub homes : choice.homes ≡ homes_on m
   pub flow : IsFlow p blocks
   pub lives : IsLive p live
-  pub scan : IsScan p (length choice.homes) kept
+  pub allotted : AreAllotted p (length choice.homes) kept
   pub planned : ArePlanned u m choice p (spans blocks) (home_by p kept) (first_by p live) (after_by p live) lists
   pub forms : (k : ℕ) (l : BlockList) → slice_get lists k ≡ Some l → HasForms m l
   pub means : Means u m p lists

@@ -7,7 +7,7 @@ ghost use Rattle.tta_compose.specs.Linking.{ListsLink, ListsAgree};
 ghost use Rattle.tta_compose.specs.Room.{ListsFit};
 ghost use Rattle.tta_compose.specs.Direct.{DirectLowers, DirectIsList, DirectMeans};
 ghost use Rattle.tta_compose.specs.Direct.{DirectLinks, DirectAgrees};
-ghost use Rattle.tta_compose.specs.Once.{OneFlow, OneLiveness, OneScan};
+ghost use Rattle.tta_compose.specs.Once.{OneFlow, OneLiveness, OneSlots, OneCounts};
 
 /// Lists that stand for the selected ones mean the program.
 pub fn lists_mean()
@@ -85,7 +85,12 @@ pub fn one_liveness()
     ensures { OneLiveness }
 {}
 
-/// Its variables have the same homes, for as many home registers.
-pub fn one_scan()
-    ensures { OneScan }
+/// The same of its variables have their slots, for as many home registers.
+pub fn one_slots()
+    ensures { OneSlots }
+{}
+
+/// And the parts of the program ask for as much, whichever home registers are chosen.
+pub fn one_counts()
+    ensures { OneCounts }
 {}
