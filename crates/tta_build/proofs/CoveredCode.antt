@@ -61,13 +61,13 @@ module _ (u : Units) (m : Machine) (c : Choice) (p : Program) (machine : IsMachi
   -- what is known of register code
   abbrev known : (r : Rir) (is : IsLowered p (length c.homes) m.frame_words r)
       → IsKnown p (length c.homes) (spans is.blocks) (home_by p is.kept) (first_by p is.live) (after_by p is.live)
-  known r is = answers_know p (length c.homes) is.blocks is.live is.kept program is.flow is.lives is.scan
+  known r is = answers_know p (length c.homes) is.blocks is.live is.kept program is.flow is.lives is.allotted
 
   -- it is the code that the laws of the parts speak of
   code_is : (r : Rir) (is : IsLowered p (length c.homes) m.frame_words r)
       → r ≡ lowered p (spans is.blocks) (first_by p is.live) (home_by p is.kept) (after_by p is.live) (length c.homes)
   code_is r is =
-      is.code.is ∙ ap (lowered p (spans is.blocks) (first_by p is.live) (home_by p is.kept) (after_by p is.live)) is.scan.count
+      is.code.is ∙ ap (lowered p (spans is.blocks) (first_by p is.live) (home_by p is.kept) (after_by p is.live)) is.allotted.count
 
   -- its blocks fit the machine
   pub blocks_fit : (r : Rir) → IsLowered p (length c.homes) m.frame_words r → list_all (fits_block u m c (length r.blocks)) r.blocks ≡ true
@@ -101,7 +101,7 @@ module _ (u : Units) (m : Machine) (c : Choice) (p : Program) (machine : IsMachi
     kept = is.kept;
     flow = is.flow;
     lives = is.lives;
-    scan = is.scan;
+    allotted = is.allotted;
     room = is.code.room;
     are = made ∙ ap (map (optimised m)) (selected_are r is lists same);
   }
@@ -114,7 +114,7 @@ module _ (u : Units) (m : Machine) (c : Choice) (p : Program) (lists : List Bloc
   pair_of = record { machine = machine; over = over; choice = choice; program = program; offered = offers; room = of.room }
 
   known_of : IsKnown p (length c.homes) (spans of.blocks) (home_by p of.kept) (first_by p of.live) (after_by p of.live)
-  known_of = answers_know p (length c.homes) of.blocks of.live of.kept program of.flow of.lives of.scan
+  known_of = answers_know p (length c.homes) of.blocks of.live of.kept program of.flow of.lives of.allotted
 
   abbrev raw_for : List BlockList
   raw_for = raw u m c p (spans of.blocks) (home_by p of.kept) (first_by p of.live) (after_by p of.live)
@@ -139,7 +139,7 @@ module _ (u : Units) (m : Machine) (c : Choice) (p : Program) (lists : List Bloc
     homes = choice.homes ∙ sym (ap (λ (o : Option ℕ). option_map_or (homes_of m) o []) choice.hub);
     flow = of.flow;
     lives = of.lives;
-    scan = of.scan;
+    allotted = of.allotted;
     planned = lists_planned u m c p (spans of.blocks) (home_by p of.kept) (first_by p of.live) (after_by p of.live) lists pair_of known_of stand_in;
     forms = λ k l e.
         compiled_forms u m c p (spans of.blocks) (home_by p of.kept) (first_by p of.live) (after_by p of.live) k l

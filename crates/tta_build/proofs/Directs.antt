@@ -64,16 +64,16 @@ never_full m p program direct need have same there more =
 pub list_is : (m : Machine) (p : Program) (r : Rir) (lists : List BlockList) → IsProgram p → is_direct m p ≡ true → IsLowered p 0 4096 r
     → ((words : List ℕ) → r.blocks ≡ one_block words ∷ [] → lists ≡ direct_list (out_of m) words ∷ []) → AreDirect m p lists
 list_is m p r lists program direct is one =
-    let lower = direct_lowers m p program direct 0 is.blocks is.live is.kept is.flow is.lives is.scan in
+    let lower = direct_lowers m p program direct 0 is.blocks is.live is.kept is.flow is.lives is.allotted in
     let same : r ≡ record { blocks = one_block (constants_of p) ∷ [] } =
-    is.code.is ∙ ap (lowered p (spans is.blocks) (first_by p is.live) (home_by p is.kept) (after_by p is.live)) is.scan.count ∙ lower in
+    is.code.is ∙ ap (lowered p (spans is.blocks) (first_by p is.live) (home_by p is.kept) (after_by p is.live)) is.allotted.count ∙ lower in
     record {
       blocks = is.blocks;
       live = is.live;
       kept = is.kept;
       flow = is.flow;
       lives = is.lives;
-      scan = is.scan;
+      allotted = is.allotted;
       are = one (constants_of p) (ap (λ (x : Rir). x.blocks) same);
     }
 
@@ -135,7 +135,7 @@ code_for u m p lists code machine program direct of is = record {
   packed = record {
     lists = list_of_direct m p ∷ [];
     placements = is.placements;
-    plan = direct_plan u m p machine program direct of.blocks of.live of.flow of.lives of.kept of.scan;
+    plan = direct_plan u m p machine program direct of.blocks of.live of.flow of.lives of.kept of.allotted;
     first = subst (λ (x : List BlockList). AreFirstFits m x is.placements) of.are is.first;
     linked = is.linked;
   };
@@ -143,7 +143,7 @@ code_for u m p lists code machine program direct of is = record {
       let fits = one_fits m p is.placements program direct (subst (λ (x : List BlockList). AreRoomy m x is.placements) of.are is.roomy) in
       let same = linked_length m code is.placements is.linked in omega (arith, fits, same);
   agrees = λ init laid.
-      direct_agrees u m p machine program direct of.blocks of.live of.kept of.flow of.lives of.scan is.placements (record { code = code; init = init })
+      direct_agrees u m p machine program direct of.blocks of.live of.kept of.flow of.lives of.allotted is.placements (record { code = code; init = init })
       (subst (λ (x : List BlockList). AreRespected m x is.placements) of.are is.roomy.respected) is.linked is.legal laid;
 }
 
@@ -160,7 +160,7 @@ room_for u m p lists machine program direct of words have is =
       length = record {
         lists = list_of_direct m p ∷ [];
         placements = is.placements;
-        plan = direct_plan u m p machine program direct of.blocks of.live of.flow of.lives of.kept of.scan;
+        plan = direct_plan u m p machine program direct of.blocks of.live of.flow of.lives of.kept of.allotted;
         first = subst (λ (x : List BlockList). AreFirstFits m x is.placements) of.are is.first;
         cycles = same;
       };

@@ -12,7 +12,7 @@ use Rattle.tta_flow.specs.declared.live.Live.{Live}
 use Rattle.tta_flow.specs.Blocks.{IsFlow}
 use Rattle.tta_flow.specs.Live.{IsLive}
 use Rattle.tta_alloc.specs.declared.homes.Homes.{Homes}
-use Rattle.tta_alloc.specs.Homes.{IsScan}
+use Rattle.tta_alloc.specs.Allotted.{AreAllotted}
 use Rattle.tta_lower.specs.Known.{spans, home_by, first_by, after_by}
 use Rattle.tta_lower.specs.Statement.{IsCodeOf}
 use Rattle.tta_moves.specs.declared.items.BlockList.{BlockList}
@@ -37,7 +37,7 @@ pub record IsLowered (p : Program) (homes frame_words : ℕ) (r : Rir) : Type 0 
   pub kept : Homes
   pub flow : IsFlow p blocks
   pub lives : IsLive p live
-  pub scan : IsScan p homes kept
+  pub allotted : AreAllotted p homes kept
   pub code : IsCodeOf p blocks live kept frame_words r
 
 -- The lists that are placed for a program: those that the passes make of the selected ones, by blocks, liveness and homes that are the program's; the frames have room.
@@ -47,7 +47,7 @@ pub record AreListsOf (u : Units) (m : Machine) (c : Choice) (p : Program) (list
   pub kept : Homes
   pub flow : IsFlow p blocks
   pub lives : IsLive p live
-  pub scan : IsScan p (length c.homes) kept
+  pub allotted : AreAllotted p (length c.homes) kept
   pub room : frame_need p ≤ m.frame_words
   pub are : lists ≡ compiled u m c p (spans blocks) (home_by p kept) (first_by p live) (after_by p live)
 
@@ -58,7 +58,7 @@ pub record AreDirect (m : Machine) (p : Program) (lists : List BlockList) : Type
   pub kept : Homes
   pub flow : IsFlow p blocks
   pub lives : IsLive p live
-  pub scan : IsScan p 0 kept
+  pub allotted : AreAllotted p 0 kept
   pub are : lists ≡ list_of_direct m p ∷ []
 
 -- Code for a pair that is accepted: the machine can carry it out, it is packed and has no more words than the pair's room, and

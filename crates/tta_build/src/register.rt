@@ -5,7 +5,7 @@ ghost use Rattle.tta_lower.specs.Statement.{IsCause};
 ghost use Rattle.tta_build.specs.Parts.{IsLowered};
 
 use std::alloc::Global;
-use tta_alloc::assign;
+use tta_alloc::in_turn;
 use tta_flow::{Flow, Live};
 use tta_lower::{LowerError, lower};
 use tta_program::Program;
@@ -23,7 +23,7 @@ pub fn register_code(
 {
     let flow = Flow::of(alloc, p)?;
     let live = Live::of(alloc, p, &flow)?;
-    let kept = assign(alloc, p, &flow, &live, homes)?;
+    let kept = in_turn(alloc, p, &flow, &live, homes)?;
     let code = lower(alloc, p, &flow, &live, &kept, frame_words)?;
     Ok(code)
 }

@@ -7,6 +7,6 @@ returns-clause-code c = record {
   kept = c.in_ok-kept.kept;
   flow = c.in_ok-flow.ensures;
   lives = c.in_ok-live.ensures;
-  scan = c.in_ok-kept.ensures;
+  allotted = c.in_ok-kept.ensures.allotted;
   code = c.in_ok-code.ensures.code;
 }
