@@ -5,7 +5,7 @@ use Rattle.tta_arch.specs.Effects.{Place, Written, kept}
 use Rattle.tta_moves.specs.declared.items.Item.{Item}
 use Rattle.tta_moves.specs.Meaning.{Held, is_waiting}
 use Rattle.tta_moves.specs.Runs.{lives}
-use Rattle.tta_optim.specs.Kept.{Alike, KeepsMeaning}
+use Rattle.tta_optim.specs.Kept.{Alike, KeepsMeaning, KeepsFramed}
 use Rattle.tta_optim.specs.Passes.{bypass_items, share_items, dead_items, optimise_items}
 use Rattle.tta_optim.proofs.Copies.{none_yet}
 use Rattle.tta_optim.proofs.Bypassing.{bypass_keeps}
@@ -65,3 +65,13 @@ optimise_meaning m live items =
     keeps_next m live items two (dead_items m live two)
     (keeps_next m live items one two (bypass_meaning m live items) (share_meaning m live one))
     (dead_meaning m live two)
+
+-- what keeps the meaning from every state does so from those with the machine's frame
+pub framed_of : (m : Machine) (live : List (ℕ × ℕ)) (a b : List Item) → KeepsMeaning m live a b → KeepsFramed m live a b
+framed_of m live a b f = record { meaning = λ u addr back h long ok. f.meaning u addr back h ok; end = λ u addr back h long ok. f.end u addr back h ok }
+
+pub framed_next : (m : Machine) (live : List (ℕ × ℕ)) (a b c : List Item) → KeepsFramed m live a b → KeepsFramed m live b c → KeepsFramed m live a c
+framed_next m live a b c f g = record {
+  meaning = λ u addr back h long ok. g.meaning u addr back h long (f.meaning u addr back h long ok);
+  end = λ u addr back h long ok. alike_next live _ _ _ (f.end u addr back h long ok) (g.end u addr back h long (f.meaning u addr back h long ok));
+}

@@ -1,5 +1,6 @@
 -- Lists that keep the meaning of others, block by block, run as the others do.
-use Rattle.std.proofs.Common.{◌≡◌, ◌≢◌, ℕ, ◌+◌, Bool, true, false, List, [], ◌∷◌, Option, None, refl, sym, ap, subst, ◌∙◌}
+use Rattle.std.proofs.Common.{◌≡◌, ◌≢◌, ℕ, ◌+◌, Bool, true, false, List, [], ◌∷◌, length, replicate, Option, None, refl, sym, ap, subst, ◌∙◌}
+use Rattle.std.proofs.lemmas.List.{length-replicate}
 use Rattle.std.specs.Prelude.{if◌then◌else◌, filter, map, slice_index}
 use Rattle.tta_ops.specs.Units.{Units}
 use Rattle.tta_arch.specs.Machine.{Machine}
@@ -12,6 +13,7 @@ use Rattle.tta_moves.proofs.Places.{either, same_is}
 use Rattle.tta_moves.proofs.LegsKept.{LeaveAlike, legs_alike}
 use Rattle.tta_optim.specs.Kept.{StandsFor, KeepsRuns}
 use Rattle.tta_optim.proofs.Alone.{Same, same_refl, Ends, same_list}
+use Rattle.tta_optim.proofs.FrameKept.{frame_all}
 
 -- ---- what a restart keeps
 
@@ -48,6 +50,11 @@ equal_but a b m f r o e =
     ∙ ap (λ x. held_of a.memory a.frame a.rest x b.exit b.written) o
     ∙ ap (λ (x : Exit). held_of a.memory a.frame a.rest a.output x b.written) e
 
+-- two states with the same words, and the machine's frame
+pub record Framed (m : Machine) (h k : Held) : Type 0 where
+  pub same : Ends Same h k
+  pub long : length h.frame ≡ m.frame_words
+
 -- what is compared at the end of a run
 pub record EndAlike (h k : Held) : Type 0 where
   pub memory : k.memory ≡ h.memory
@@ -61,17 +68,20 @@ waits_not addr Waits h = absurd (h refl)
 
 -- ---- one block
 
-block_alike : (u : Units) (m : Machine) (addr : List ℕ) (k : ℕ) (b c : BlockList) (h t : Held) → StandsFor m b c → Ends Same h t → (go_list u m addr k b h).1 ≢ ToNowhere
-    → LeaveAlike (Ends Same) EndAlike (go_list u m addr k b h) (go_list u m addr k c t)
-block_alike u m addr k b c h t stands fits somewhere =
+block_alike : (u : Units) (m : Machine) (addr : List ℕ) (k : ℕ) (b c : BlockList) (h t : Held) → StandsFor m b c → Framed m h t → (go_list u m addr k b h).1 ≢ ToNowhere
+    → LeaveAlike (Framed m) EndAlike (go_list u m addr k b h) (go_list u m addr k c t)
+block_alike u m addr k b c h t stands framed somewhere =
     either (has_meaning u m addr back h b.items) (λ ok. means ok) (λ no_meaning. absurd (somewhere (rw no_meaning refl))) where
       back : ℕ
       back = slice_index addr (k + 1)
 
-      means : has_meaning u m addr back h b.items ≡ true → LeaveAlike (Ends Same) EndAlike (go_list u m addr k b h) (go_list u m addr k c t)
+      fits : Ends Same h t
+      fits = framed.same
+
+      means : has_meaning u m addr back h b.items ≡ true → LeaveAlike (Framed m) EndAlike (go_list u m addr k b h) (go_list u m addr k c t)
       means ok =
-          let ok_c = stands.meaning.meaning u addr back h ok in
-          let alike = stands.meaning.end u addr back h ok in
+          let ok_c = stands.meaning.meaning u addr back h framed.long ok in
+          let alike = stands.meaning.end u addr back h framed.long ok in
           let from = same_list u m back (map (effect_of addr) c.items) h fits.writes fits.fits in
           let ok_t : has_meaning u m addr back t c.items ≡ true = ap (λ (s : Held). has_meaning u m addr back s c.items) fits.equal ∙ from.0 ∙ ok_c in
           let B : Held = do_items u m addr back h b.items in
@@ -83,15 +93,15 @@ block_alike u m addr k b c h t stands fits somewhere =
           let rest : D.rest ≡ B.rest = ap (λ (s : Held). s.rest) d_is ∙ alike.rest in
           let output : D.output ≡ B.output = ap (λ (s : Held). s.output) d_is ∙ alike.output in
           let exit : D.exit ≡ B.exit = ap (λ (s : Held). s.exit) d_is ∙ alike.exit in
-          let same : LeaveAlike (Ends Same) EndAlike (restart b.live_out B, leave_of addr B.exit) (restart c.live_out D, leave_of addr D.exit) = record {
+          let same : LeaveAlike (Framed m) EndAlike (restart b.live_out B, leave_of addr B.exit) (restart c.live_out D, leave_of addr D.exit) = record {
             leave = ap (leave_of addr) exit;
-            fits = λ goes_on. record {
+            fits = λ goes_on. record { long = frame_all u m back (map (effect_of addr) b.items) h ∙ framed.long; same = record {
               writes = filter (λ w. lives c.live_out w.0) D.written;
               equal = equal_but (restart b.live_out B) (restart c.live_out D) memory frame rest output refl;
               fits = subst (λ (l : List (ℕ × ℕ)). Same (filter (λ w. lives l w.0) D.written) (filter (λ w. lives b.live_out w.0) B.written)) (sym stands.live)
                   (same_filter b.live_out D.written B.written (λ p l.
                   ap (λ (s : Held). kept s.written p) d_is ∙ from.1.fits.all p ∙ alike.registers (waits_not addr B.exit goes_on) p l));
-            };
+            } };
             ends = record { memory = memory; rest = rest; output = output };
           } in
           rw (ok, ok_t) same
@@ -101,9 +111,9 @@ block_alike u m addr k b c h t stands fits somewhere =
 pub keeps_runs : KeepsRuns
 keeps_runs u m lists others addr memory input n pairs defined =
     let start : Held = begin m memory input in
-    let alike = legs_alike (Ends Same) EndAlike (StandsFor m) (go_list u m addr) (go_list u m addr)
+    let alike = legs_alike (Framed m) EndAlike (StandsFor m) (go_list u m addr) (go_list u m addr)
     (λ k b c s t stands fits somewhere. block_alike u m addr k b c s t stands fits somewhere)
     lists others start start n pairs
-    (record { writes = start.written; equal = refl; fits = same_refl start.written })
+    (record { same = record { writes = start.written; equal = refl; fits = same_refl start.written }; long = let zero : ℕ = 0 in length-replicate m.frame_words zero })
     (record { memory = refl; rest = refl; output = refl }) defined in
     record { outcome = alike.outcome; memory = alike.ends.memory; rest = alike.ends.rest; output = alike.ends.output }

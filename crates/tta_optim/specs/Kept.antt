@@ -1,10 +1,12 @@
 -- When one list of items can stand for another.
-use Rattle.std.specs.Prelude.{◌≡◌, ◌≢◌, ℕ, ◌≤◌, ◌==◌, Bool, true, false, List, length, count_by, Option, Some, None}
+use Rattle.std.specs.Prelude.{◌≡◌, ◌≢◌, ℕ, ◌≤◌, ◌==◌, Bool, true, false, ◌&&◌, nat_lt, List, length, count_by, Option, Some, None}
+use Rattle.std.specs.Option.{option_map_or}
 use Rattle.std.specs.List.{list_any, filter_map}
 use Rattle.tta_ops.specs.Units.{Units}
 use Rattle.tta_arch.specs.declared.ends.GuardRef.{GuardRef}
 use Rattle.tta_arch.specs.Machine.{Machine}
 use Rattle.tta_arch.specs.Effects.{Target, Reg, Imm, Operand, Trigger, Control, Place, kept}
+use Rattle.tta_connect.specs.Coverage.{hub_of}
 use Rattle.tta_moves.specs.declared.items.ItemSource.{ItemSource}
 use Rattle.tta_moves.specs.declared.items.ItemSource.TheVariants.{Port, Address}
 use Rattle.tta_moves.specs.declared.items.Item.{Item}
@@ -31,6 +33,13 @@ pub record KeepsMeaning (m : Machine) (live : List (ℕ × ℕ)) (items others :
   pub meaning : (u : Units) (addr : List ℕ) (back : ℕ) (h : Held)
       → has_meaning u m addr back h items ≡ true → has_meaning u m addr back h others ≡ true
   pub end : (u : Units) (addr : List ℕ) (back : ℕ) (h : Held)
+      → has_meaning u m addr back h items ≡ true → Alike live (do_items u m addr back h items) (do_items u m addr back h others)
+
+-- The same from the states that have the machine's frame, as all states of a run have.
+pub record KeepsFramed (m : Machine) (live : List (ℕ × ℕ)) (items others : List Item) : Type 0 where
+  pub meaning : (u : Units) (addr : List ℕ) (back : ℕ) (h : Held) → length h.frame ≡ m.frame_words
+      → has_meaning u m addr back h items ≡ true → has_meaning u m addr back h others ≡ true
+  pub end : (u : Units) (addr : List ℕ) (back : ℕ) (h : Held) → length h.frame ≡ m.frame_words
       → has_meaning u m addr back h items ≡ true → Alike live (do_items u m addr back h items) (do_items u m addr back h others)
 
 -- ---- what is triggered, and what is written
@@ -67,12 +76,36 @@ pub record DoesNoMore (m : Machine) (items others : List Item) : Type 0 where
   pub addresses : (block : ℕ) → list_any (names block) others ≡ true → list_any (names block) items ≡ true
   pub straight : (hub : Option ℕ) → is_straight m hub items ≡ true → is_straight m hub others ≡ true
 
+-- whether a target is a scratch register, one of the first three of the hub
+abbrev pub is_scratch : Machine → Target → Bool
+is_scratch m (Reg file index) = option_map_or (λ h. h == file && nat_lt index 3) (hub_of m) false
+is_scratch m (Imm unit index) = false
+is_scratch m (Operand unit) = false
+is_scratch m (Trigger unit op) = false
+is_scratch m (Control kind) = false
+
+-- A list asks for no more than another: it has no more items and is a list of the machine where that is one; it brings
+-- words to targets of any kind but scratch registers, as to a trigger port, no more often; the addresses in it stand in
+-- the other; and it is straight where the other is.
+pub record AsksNoMore (m : Machine) (items others : List Item) : Type 0 where
+  pub few : length others ≤ length items
+  pub list : is_list m items ≡ true → is_list m others ≡ true
+  pub targets : (p : Target → Bool) → ((t : Target) → is_scratch m t ≡ true → p t ≡ false)
+      → count_by (λ x. p (target_of_item x)) others ≤ count_by (λ x. p (target_of_item x)) items
+  pub addresses : (block : ℕ) → list_any (names block) others ≡ true → list_any (names block) items ≡ true
+  pub straight : is_straight m (hub_of m) items ≡ true → is_straight m (hub_of m) others ≡ true
+
 -- ---- runs
 
 -- a block's list stands for another: it leaves the same registers, and keeps the meaning
 pub record StandsFor (m : Machine) (b other : BlockList) : Type 0 where
   pub live : other.live_out ≡ b.live_out
-  pub meaning : KeepsMeaning m b.live_out b.items other.items
+  pub meaning : KeepsFramed m b.live_out b.items other.items
+
+-- a list may be placed for another: it stands for it, and asks for no more
+pub record IsStandIn (m : Machine) (b other : BlockList) : Type 0 where
+  pub stands : StandsFor m b other
+  pub spare : AsksNoMore m b.items other.items
 
 -- two runs of lists have the same outcome, data, rest of the input and output
 pub record SameRun (r q : Run Held) : Type 0 where
