@@ -7,22 +7,19 @@ use Rattle.std.proofs.lemmas.Bool.Decides.{nat_tests}
 use Rattle.tta_ops.specs.Units.{Units}
 use Rattle.tta_arch.specs.Machine.{Machine}
 use Rattle.tta_connect.specs.declared.choice.Choice.{Choice}
-use Rattle.tta_connect.specs.Coverage.{offered}
 use Rattle.tta_program.specs.declared.program.DataLine.{DataLine}
 use Rattle.tta_program.specs.Program.{Program, datum_of}
 use Rattle.tta_program.specs.Rules.{is_datum}
 use Rattle.tta_program.specs.Sequential as program
 use Rattle.tta_program.specs.Sequential.{Outcome}
 use Rattle.tta_moves.specs.declared.items.BlockList.{BlockList}
-use Rattle.tta_moves.specs.declared.items.Item.{Item}
 use Rattle.tta_list.specs.Legs as legs
 use Rattle.tta_list.specs.Legs.{AllPairs}
 use Rattle.tta_moves.specs.Runs.{AreAddresses, lrun}
 use Rattle.tta_optim.specs.Kept.{StandsFor}
-use Rattle.tta_optim.proofs.Meanings.{optimise_meaning}
 use Rattle.tta_optim.proofs.RunsKept.{keeps_runs}
-use Rattle.tta_optim.specs.Kept.{DoesNoMore}
-use Rattle.tta_optim.proofs.NoMore.{optimise_no_more}
+use Rattle.tta_optim.proofs.NoMore.{optimise_bypassed, optimise_shared, optimise_lively}
+use Rattle.tta_optim.proofs.StandIns.{stands_itself, stand_in_next, optimised_stands}
 use Rattle.tta_lower.specs.declared.part.Span.{Span}
 use Rattle.tta_lower.specs.declared.part.Part.{Part}
 use Rattle.tta_rcode.specs.declared.code.RBlock.{RBlock}
@@ -42,47 +39,27 @@ use Rattle.tta_select.proofs.Selecting.{selects}
 use Rattle.tta_overlap.specs.Means.{MeanAt}
 use Rattle.tta_lower.specs.Law.{IsKnown}
 use Rattle.tta_compose.specs.Compiler.{IsPair, AreStandIns, optimised, raw}
-use Rattle.tta_compose.specs.Laws.{ListsMean, SelectedStand, CompiledStand}
+use Rattle.tta_compose.specs.Laws.{ListsMean, SelectedStand, OptimisedStand}
 use Rattle.tta_compose.proofs.Offered.{part_steps, part_exit}
 use Rattle.tta_compose.proofs.Fitting.{block_fits, block_short}
 use Rattle.tta_compose.proofs.Words.{steps_words, exit_words}
 
 -- ---- the passes
 
-optimised_stands : (m : Machine) (b : BlockList) → StandsFor m b (optimised m b)
-optimised_stands m b = record { live = refl; meaning = optimise_meaning m b.live_out b.items }
-
-all_stand : (m : Machine) (lists : List BlockList) → AreStandIns m lists (map (optimised m) lists)
-all_stand m [] = tt
-all_stand m (b ∷ lists) = (record { stands = optimised_stands m b; spare = optimise_no_more m b.live_out b.items }, all_stand m lists)
-
-pub compiled_stand : CompiledStand
-compiled_stand u m c p blocks home live_first live_after = all_stand m (raw u m c p blocks home live_first live_after)
-
--- a list stands for itself
-self_stands : (m : Machine) (b : BlockList) → StandsFor m b b
-self_stands m b = record {
-  live = refl;
-  meaning = record {
-    meaning = λ u addr back h e. e;
-    end = λ u addr back h e. record { memory = refl; frame = refl; rest = refl; output = refl; exit = refl; registers = λ w p l. refl };
-  };
-}
-
--- and does no more than itself
-self_spare : (m : Machine) (items : List Item) → DoesNoMore m items items
-self_spare m items = record {
-  few = omega arith;
-  list = λ e. e;
-  triggers = refl;
-  targets = λ p. omega arith;
-  addresses = λ block e. e;
-  straight = λ hub e. e;
-}
+-- what the passes make of a stand-in stands in too, and is in all forms
+pub optimised_stand : OptimisedStand
+optimised_stand m b other f = (
+  stand_in_next m b other (optimised m other) f (optimised_stands m other),
+  record {
+    bypassed = optimise_bypassed m other.live_out other.items;
+    shared = optimise_shared m other.live_out other.items;
+    lively = optimise_lively m other.live_out other.items;
+  },
+)
 
 pub selected_stand : SelectedStand
 selected_stand m [] = tt
-selected_stand m (b ∷ lists) = (record { stands = self_stands m b; spare = self_spare m b.items }, selected_stand m lists)
+selected_stand m (b ∷ lists) = (stands_itself m b, selected_stand m lists)
 
 -- lists that may be placed for others stand for them
 pub stand_for : (m : Machine) (lists others : List BlockList) → AreStandIns m lists others → AllPairs (StandsFor m) lists others

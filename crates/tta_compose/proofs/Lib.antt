@@ -2,6 +2,7 @@ pub mod Words
 pub mod Fitting
 pub mod Offered
 pub mod Composed
+pub mod Apart
 pub mod Planning
 pub mod Linking
 pub mod Room

@@ -1,5 +1,5 @@
 -- Lists that may be placed for the selected ones are planned.
-use Rattle.std.proofs.Common.{◌≡◌, ◌≤◌, inl, inr, ℕ, zero, suc, Bool, true, false, List, [], ◌∷◌, Some, refl, ap, subst, ◌∙◌, arith, length, map, slice_get}
+use Rattle.std.proofs.Common.{◌≡◌, ◌≤◌, inl, inr, ℕ, zero, suc, Bool, true, false, List, [], ◌∷◌, Some, refl, ap, subst, ◌∙◌, arith, length, slice_get}
 use Rattle.std.specs.Prelude.{◌==◌, ◌||◌, nat_lt, option_map}
 use Rattle.std.specs.List.{list_all, list_any}
 use Rattle.std.proofs.lemmas.Bool.{and_parts, or_cases}
@@ -21,7 +21,6 @@ use Rattle.tta_list.specs.Legs.{AllPairs}
 use Rattle.tta_list.proofs.Lists.{list_all_one}
 use Rattle.tta_optim.specs.Kept.{is_address}
 use Rattle.tta_optim.specs.Kept as kept
-use Rattle.tta_optim.proofs.NoMore.{optimise_bypassed, optimise_shared, optimise_lively}
 use Rattle.tta_lower.specs.declared.part.Span.{Span}
 use Rattle.tta_lower.specs.declared.part.Part.{Part}
 use Rattle.tta_rcode.specs.declared.code.RBlock.{RBlock}
@@ -35,9 +34,11 @@ use Rattle.tta_select.specs.Lists.{is_closed}
 use Rattle.tta_select.specs.Statement.{IsListFor, TriggersNoMore, IsSelection}
 use Rattle.tta_select.proofs.Selecting.{selects}
 use Rattle.tta_lower.specs.Law.{IsKnown}
-use Rattle.tta_compose.specs.Compiler.{IsPair, IsStandIn, AreStandIns, optimised, raw}
-use Rattle.tta_compose.specs.Planned.{IsListOf, ArePlanned, HasForms, ListsPlanned, CompiledForms}
+use Rattle.tta_optim.specs.Kept.{IsStandIn}
+use Rattle.tta_compose.specs.Compiler.{IsPair, AreStandIns, raw}
+use Rattle.tta_compose.specs.Planned.{IsListOf, ArePlanned, ListsPlanned}
 use Rattle.tta_compose.proofs.Composed.{code, law, given, pairs_length}
+use Rattle.tta_compose.proofs.Apart.{trigger_apart, frame_apart, home_apart}
 
 pub in_get : {A : Type 0} (xs : List A) (k : ℕ) (x : A) → slice_get xs k ≡ Some x → In x xs
 in_get [] k x e = absurd cc
@@ -134,10 +135,10 @@ module _ (u : Units) (m : Machine) (c : Choice) (p : Program) (blocks : List Spa
         list = n.list f.list;
         addresses = all_closed (length (parts p blocks live_first)) l.items o.items
             (subst (λ (t : ℕ). list_all (λ y. is_closed t (source_of y)) l.items ≡ true) count closed) n.addresses;
-        straight = n.straight (hub_of m) straight;
-        triggers = λ unit k o there plain. let a = n.targets (is_trigger_of unit k) in let t = triggers unit k o there plain in let q = w.asked (is_need o.op) x i in omega (arith, a, t, q);
-        frame = let a = n.targets (is_frame_trigger m) in let q = w.slots x i in omega (arith, a, frame, q);
-        homes = let a = n.targets (is_home c) in let q = w.assigned x i in omega (arith, a, homes, q);
+        straight = n.straight straight;
+        triggers = λ unit k o there plain. let a = n.targets (is_trigger_of unit k) (trigger_apart m unit k) in let t = triggers unit k o there plain in let q = w.asked (is_need o.op) x i in omega (arith, a, t, q);
+        frame = let a = n.targets (is_frame_trigger m) (frame_apart m) in let q = w.slots x i in omega (arith, a, frame, q);
+        homes = let a = n.targets (is_home c) (home_apart m c pair.choice) in let q = w.assigned x i in omega (arith, a, homes, q);
       }
 
   pub planned : ArePlanned u m c p blocks home live_first live_after lists
@@ -148,18 +149,3 @@ module _ (u : Units) (m : Machine) (c : Choice) (p : Program) (blocks : List Spa
 
 pub lists_planned : ListsPlanned
 lists_planned u m c p blocks home live_first live_after lists pair known stand = planned u m c p blocks home live_first live_after pair known lists stand
-
--- each list of the passes is one that they made
-from_map : {A B : Type 0} (f : A → B) (xs : List A) (k : ℕ) (y : B) → slice_get (map f xs) k ≡ Some y → (x : A) × (f x ≡ y)
-from_map f [] k y e = absurd cc
-from_map f (x ∷ xs) zero y e = (x, cc)
-from_map f (x ∷ xs) (suc k) y e = from_map f xs k y e
-
-pub compiled_forms : CompiledForms
-compiled_forms u m c p blocks home live_first live_after k l e =
-    let s = from_map (optimised m) (raw u m c p blocks home live_first live_after) k l e in
-    subst (HasForms m) s.1 (record {
-      bypassed = optimise_bypassed m s.0.live_out s.0.items;
-      shared = optimise_shared m s.0.live_out s.0.items;
-      lively = optimise_lively m s.0.live_out s.0.items;
-    })

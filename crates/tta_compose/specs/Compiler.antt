@@ -1,5 +1,5 @@
 -- The lists of a program, as the parts of the compiler make them one after another.
-use Rattle.std.specs.Prelude.{◌≡◌, ℕ, ◌≤◌, Bool, true, List, length, map}
+use Rattle.std.specs.Prelude.{◌≡◌, ℕ, ◌≤◌, Bool, true, List, length}
 use Rattle.tta_ops.specs.Units.{Units}
 use Rattle.tta_arch.specs.Machine.{Machine}
 use Rattle.tta_arch.specs.Rules.{IsMachine}
@@ -12,7 +12,7 @@ use Rattle.tta_program.specs.Sizes.{frame_need}
 use Rattle.tta_moves.specs.declared.items.BlockList.{BlockList}
 use Rattle.tta_list.specs.Legs.{AllPairs}
 use Rattle.tta_optim.specs.Passes.{optimise_items}
-use Rattle.tta_optim.specs.Kept.{StandsFor, DoesNoMore}
+use Rattle.tta_optim.specs.Kept.{IsStandIn}
 use Rattle.tta_lower.specs.declared.part.Span.{Span}
 use Rattle.tta_lower.specs.Liveness.{Homes}
 use Rattle.tta_lower.specs.Lower.{lowered}
@@ -31,11 +31,6 @@ pub record IsPair (u : Units) (m : Machine) (c : Choice) (p : Program) : Type 0 
 
 -- ---- the lists
 
--- a list may be placed for another: it stands for it, and does no more
-pub record IsStandIn (m : Machine) (b other : BlockList) : Type 0 where
-  pub stands : StandsFor m b other
-  pub spare : DoesNoMore m b.items other.items
-
 -- each list may be placed for one of others, in order
 abbrev pub AreStandIns : Machine → List BlockList → List BlockList → Type 0
 AreStandIns m lists others = AllPairs (IsStandIn m) lists others
@@ -48,7 +43,3 @@ module _ (u : Units) (m : Machine) (c : Choice) (p : Program) (blocks : List Spa
   -- the lists as they are selected
   abbrev pub raw : List BlockList
   raw = selected m c u (lowered p blocks live_first home live_after (length c.homes))
-
-  -- the same after the passes
-  abbrev pub compiled : List BlockList
-  compiled = map (optimised m) raw

@@ -11,7 +11,9 @@ use Rattle.tta_lower.specs.declared.part.Span.{Span}
 use Rattle.tta_lower.specs.Liveness.{Homes}
 use Rattle.tta_overlap.specs.Means.{Means}
 use Rattle.tta_lower.specs.Law.{IsKnown}
-use Rattle.tta_compose.specs.Compiler.{IsPair, AreStandIns, raw, compiled}
+use Rattle.tta_optim.specs.Kept.{IsStandIn}
+use Rattle.tta_compose.specs.Compiler.{IsPair, AreStandIns, raw, optimised}
+use Rattle.tta_compose.specs.Planned.{HasForms}
 
 -- lists that stand for the selected ones mean the program
 abbrev pub ListsMean : Type 0
@@ -24,8 +26,7 @@ ListsMean =
 abbrev pub SelectedStand : Type 0
 SelectedStand = (m : Machine) (lists : List BlockList) → AreStandIns m lists lists
 
--- the lists that the passes make may be placed for the selected ones
-abbrev pub CompiledStand : Type 0
-CompiledStand =
-    (u : Units) (m : Machine) (c : Choice) (p : Program) (blocks : List Span) (home : Homes) (live_first : (owner x : ℕ) → Bool) (live_after : (owner at x : ℕ) → Bool)
-    → AreStandIns m (raw u m c p blocks home live_first live_after) (compiled u m c p blocks home live_first live_after)
+-- What the passes make of a list that may be placed for another may be placed for that too, and is in all forms. So other
+-- passes may come before them.
+abbrev pub OptimisedStand : Type 0
+OptimisedStand = (m : Machine) (b other : BlockList) → IsStandIn m b other → IsStandIn m b (optimised m other) × HasForms m (optimised m other)

@@ -22,7 +22,7 @@ use Rattle.tta_select.specs.Select.{home_pair}
 use Rattle.tta_select.specs.Counts.{targets, is_trigger_of, is_frame_trigger, is_home, is_need}
 use Rattle.tta_select.specs.Lists.{is_closed}
 use Rattle.tta_lower.specs.Law.{IsKnown}
-use Rattle.tta_compose.specs.Compiler.{IsPair, AreStandIns, raw, compiled}
+use Rattle.tta_compose.specs.Compiler.{IsPair, AreStandIns, raw}
 
 module _ (u : Units) (m : Machine) (c : Choice) (p : Program) (blocks : List Span) (home : Homes) (live_first : (owner x : ℕ) → Bool) (live_after : (owner at x : ℕ) → Bool) where
   -- The list of a part: with the part's registers that stay; a list for the machine whose addresses are those of blocks;
@@ -54,9 +54,3 @@ pub record HasForms (m : Machine) (l : BlockList) : Type 0 where
   pub bypassed : is_bypassed m l.items ≡ true
   pub shared : is_shared m l.items ≡ true
   pub lively : is_lively m l.live_out l.items ≡ true
-
--- the lists that the passes make have all forms
-abbrev pub CompiledForms : Type 0
-CompiledForms =
-    (u : Units) (m : Machine) (c : Choice) (p : Program) (blocks : List Span) (home : Homes) (live_first : (owner x : ℕ) → Bool) (live_after : (owner at x : ℕ) → Bool)
-    (k : ℕ) (l : BlockList) → slice_get (compiled u m c p blocks home live_first live_after) k ≡ Some l → HasForms m l

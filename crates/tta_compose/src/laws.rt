@@ -1,8 +1,8 @@
 //! Laws of the parts of the compiler together. A law is a function that does nothing, and whose
 //! contract is the law.
 
-ghost use Rattle.tta_compose.specs.Laws.{ListsMean, SelectedStand, CompiledStand};
-ghost use Rattle.tta_compose.specs.Planned.{ListsPlanned, CompiledForms};
+ghost use Rattle.tta_compose.specs.Laws.{ListsMean, SelectedStand, OptimisedStand};
+ghost use Rattle.tta_compose.specs.Planned.{ListsPlanned};
 ghost use Rattle.tta_compose.specs.Linking.{ListsLink, ListsAgree};
 ghost use Rattle.tta_compose.specs.Room.{ListsFit};
 ghost use Rattle.tta_compose.specs.Direct.{DirectLowers, DirectIsList, DirectMeans};
@@ -19,20 +19,16 @@ pub fn selected_stand()
     ensures { SelectedStand }
 {}
 
-/// The lists that the passes make may be placed for the selected ones.
-pub fn compiled_stand()
-    ensures { CompiledStand }
+/// What the passes make of a list that may be placed for another may be placed for that too, and is
+/// in all forms. So other passes may come before them.
+pub fn optimised_stand()
+    ensures { OptimisedStand }
 {}
 
 /// Lists that may be placed for the selected ones are lists of the machine, and do no more than the
 /// program asks for.
 pub fn lists_planned()
     ensures { ListsPlanned }
-{}
-
-/// The lists that the passes make are in all forms.
-pub fn compiled_forms()
-    ensures { CompiledForms }
 {}
 
 /// The linker takes placements that respect such lists.

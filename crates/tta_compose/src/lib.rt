@@ -6,7 +6,7 @@
 mod laws;
 
 pub use laws::{
-    compiled_forms, compiled_stand, direct_agrees, direct_is_list, direct_links, direct_lowers,
-    direct_means, lists_agree, lists_fit, lists_link, lists_mean, lists_planned, one_counts, one_flow,
-    one_liveness, one_slots, selected_stand,
+    direct_agrees, direct_is_list, direct_links, direct_lowers, direct_means, lists_agree,
+    lists_fit, lists_link, lists_mean, lists_planned, one_counts, one_flow, one_liveness,
+    one_slots, optimised_stand, selected_stand,
 };
