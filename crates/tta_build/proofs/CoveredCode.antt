@@ -1,5 +1,5 @@
 -- The code of a pair that is no direct one.
-use Rattle.std.proofs.Common.{◌≡◌, ℕ, suc, ◌≤◌, Bool, true, false, List, [], ◌∷◌, Option, Some, None, Result, Ok, Err, length, map, refl, sym, ◌∙◌, ap, subst, arith}
+use Rattle.std.proofs.Common.{◌≡◌, ℕ, suc, ◌≤◌, Bool, true, false, List, [], ◌∷◌, Option, Some, None, Result, Ok, Err, length, refl, sym, ◌∙◌, ap, subst, arith}
 use Rattle.std.specs.Prelude.{slice_get, IfOk, IfErr}
 use Rattle.std.specs.Option.{option_map_or}
 use Rattle.std.specs.List.{list_all}
@@ -24,22 +24,26 @@ use Rattle.tta_moves.specs.Slots.{is_list}
 use Rattle.tta_select.specs.Select.{selected}
 use Rattle.tta_select.specs.Needs.{fits_block}
 use Rattle.tta_link.specs.Blocks.{AreBlocks}
+use Rattle.tta_link.specs.Linked.{IsLinked}
 use Rattle.tta_link.proofs.Whole.{linked_length}
 use Rattle.tta_code.specs.declared.code.Code.{Code}
-use Rattle.tta_compose.specs.Compiler.{IsPair, AreStandIns, optimised, raw}
+use Rattle.tta_code.specs.Legal.{IsLegalCode}
+use Rattle.tta_compose.specs.Compiler.{IsPair, AreStandIns, raw}
 use Rattle.tta_compose.specs.Needs.{are_offered}
 use Rattle.tta_compose.specs.Direct.{is_direct}
 use Rattle.tta_compose.specs.Linking.{AreRespected}
-use Rattle.tta_build.specs.CodeOfLists.{IsCodeOf, IsTooLong}
 use Rattle.tta_compose.specs.Packed.{IsPlan}
-use Rattle.tta_compose.proofs.Composed.{fit, lists_mean, selected_stand, compiled_stand, stand_for}
-use Rattle.tta_compose.proofs.Planning.{lists_planned, compiled_forms}
+use Rattle.tta_compose.proofs.Composed.{fit, lists_mean, selected_stand, stand_for}
+use Rattle.tta_compose.proofs.Planning.{lists_planned}
 use Rattle.tta_compose.proofs.Linking.{lists_link, lists_agree}
 use Rattle.tta_compose.proofs.Room.{lists_fit}
 use Rattle.tta_build.specs.declared.error.BuildError.{BuildError}
 use Rattle.tta_build.specs.declared.error.BuildError.TheVariants as cause
 use Rattle.tta_build.specs.Statement.{IsAccepted, Covered, LacksRoom, HasCause, unsupplied}
-use Rattle.tta_build.specs.Parts.{IsLowered, AreListsOf, IsCodeFor, IsListsCause}
+use Rattle.tta_build.specs.Candidates.{AreChosen}
+use Rattle.tta_build.specs.Parts.{IsLowered, AreSelected, AreListsOf, ArePlacedFor, IsCodeFor, IsLinkCause}
+use Rattle.tta_build.proofs.Placements.{IsCodeOf, IsTooLong, IsListsCause, is_code, is_cause}
+use Rattle.tta_build.proofs.Shortest.{have_lists}
 
 -- a test of each element of a list, by the elements of another at the same places
 all_by : {A B : Type 0} (test : B → Bool) (xs : List A) (ys : List B) → length ys ≡ length xs
@@ -82,20 +86,9 @@ module _ (u : Units) (m : Machine) (c : Choice) (p : Program) (machine : IsMachi
   selected_are : (r : Rir) (is : IsLowered p (length c.homes) m.frame_words r) (lists : List BlockList) → lists ≡ selected m c u r → lists ≡ selected_for r is
   selected_are r is lists same = same ∙ ap (selected m c u) (code_is r is)
 
-  -- are lists of the machine
-  pub selected_lists : (r : Rir) (lists : List BlockList) → IsLowered p (length c.homes) m.frame_words r
-      → lists ≡ selected m c u r → list_all (λ (b : BlockList). is_list m b.items) lists ≡ true
-  selected_lists r lists is same =
-      let planned = lists_planned u m c p (spans is.blocks) (home_by p is.kept) (first_by p is.live) (after_by p is.live) (selected_for r is)
-      (pair is.code.room) (known r is) (selected_stand m (selected_for r is)) in
-      subst (λ (l : List BlockList). list_all (λ (b : BlockList). is_list m b.items) l ≡ true) (sym (selected_are r is lists same))
-      (all_by (λ (b : BlockList). is_list m b.items) (parts p (spans is.blocks) (first_by p is.live)) (selected_for r is) planned.count
-      (λ k x b e f. (planned.each k x b e f).list))
-
-  -- and those that the passes make of them are the program's
-  pub lists_are : (r : Rir) (lists others : List BlockList) → IsLowered p (length c.homes) m.frame_words r
-      → lists ≡ selected m c u r → others ≡ map (optimised m) lists → AreListsOf u m c p others
-  lists_are r lists others is same made = record {
+  -- the selected lists are the program's
+  pub selected_of : (r : Rir) (lists : List BlockList) → IsLowered p (length c.homes) m.frame_words r → lists ≡ selected m c u r → AreSelected u m c p lists
+  selected_of r lists is same = record {
     blocks = is.blocks;
     live = is.live;
     kept = is.kept;
@@ -103,13 +96,35 @@ module _ (u : Units) (m : Machine) (c : Choice) (p : Program) (machine : IsMachi
     lives = is.lives;
     allotted = is.allotted;
     room = is.code.room;
-    are = made ∙ ap (map (optimised m)) (selected_are r is lists same);
+    are = selected_are r is lists same;
   }
+
+  -- and lists of the machine
+  pub selected_lists : (lists : List BlockList) → AreSelected u m c p lists → list_all (λ (b : BlockList). is_list m b.items) lists ≡ true
+  selected_lists lists of =
+      let known = answers_know p (length c.homes) of.blocks of.live of.kept program of.flow of.lives of.allotted in
+      let planned = lists_planned u m c p (spans of.blocks) (home_by p of.kept) (first_by p of.live) (after_by p of.live) lists
+      (pair of.room) known (subst (λ (l : List BlockList). AreStandIns m l lists) of.are (selected_stand m lists)) in
+      all_by (λ (b : BlockList). is_list m b.items) (parts p (spans of.blocks) (first_by p of.live)) lists planned.count
+      (λ k x b e f. (planned.each k x b e f).list)
+
+  -- of the placements that are chosen for them each is one of a list that may be placed for them
+  pub placed_for : (lists : List BlockList) (ps : List Placed) → AreSelected u m c p lists → AreChosen m lists ps → ArePlacedFor u m c p ps
+  placed_for lists ps of chosen =
+      let have = have_lists m lists ps chosen in record {
+        lists = have.lists;
+        are = record { selected = lists; of = of; stand = have.stand; forms = have.forms };
+        first = have.first;
+        roomy = have.roomy;
+      }
 
 -- ---- the lists of a pair
 
 module _ (u : Units) (m : Machine) (c : Choice) (p : Program) (lists : List BlockList) (machine : IsMachine m) (over : StandsOver u m) (choice : IsChoice m c)
-    (program : IsProgram p) (offers : are_offered u m c p ≡ true) (of : AreListsOf u m c p lists) where
+    (program : IsProgram p) (offers : are_offered u m c p ≡ true) (are : AreListsOf u m c p lists) where
+  abbrev of : AreSelected u m c p are.selected
+  of = are.of
+
   pair_of : IsPair u m c p
   pair_of = record { machine = machine; over = over; choice = choice; program = program; offered = offers; room = of.room }
 
@@ -121,13 +136,7 @@ module _ (u : Units) (m : Machine) (c : Choice) (p : Program) (lists : List Bloc
 
   -- the lists may be placed for the selected ones
   stand_in : AreStandIns m raw_for lists
-  stand_in = subst (AreStandIns m raw_for) (sym of.are) (compiled_stand u m c p (spans of.blocks) (home_by p of.kept) (first_by p of.live) (after_by p of.live))
-
-  pub are_lists : list_all (λ (b : BlockList). is_list m b.items) lists ≡ true
-  are_lists =
-      let planned = lists_planned u m c p (spans of.blocks) (home_by p of.kept) (first_by p of.live) (after_by p of.live) lists pair_of known_of stand_in in
-      all_by (λ (b : BlockList). is_list m b.items) (parts p (spans of.blocks) (first_by p of.live)) lists planned.count
-      (λ k x b e f. (planned.each k x b e f).list)
+  stand_in = subst (λ (l : List BlockList). AreStandIns m l lists) of.are are.stand
 
   -- they are planned
   plan : IsPlan u m p lists
@@ -141,21 +150,20 @@ module _ (u : Units) (m : Machine) (c : Choice) (p : Program) (lists : List Bloc
     lives = of.lives;
     allotted = of.allotted;
     planned = lists_planned u m c p (spans of.blocks) (home_by p of.kept) (first_by p of.live) (after_by p of.live) lists pair_of known_of stand_in;
-    forms = λ k l e.
-        compiled_forms u m c p (spans of.blocks) (home_by p of.kept) (first_by p of.live) (after_by p of.live) k l
-        (subst (λ (ls : List BlockList). slice_get ls k ≡ Some l) of.are e);
+    forms = are.forms;
     means = lists_mean u m c p (spans of.blocks) (home_by p of.kept) (first_by p of.live) (after_by p of.live) lists pair_of known_of (stand_for m raw_for lists stand_in);
   }
 
-  pub can_link : (ps : List Placed) → AreRespected m lists ps → AreBlocks m ps
-  can_link ps are =
-      lists_link u m c p (spans of.blocks) (home_by p of.kept) (first_by p of.live) (after_by p of.live) lists ps pair_of known_of stand_in are
+  -- their placements can be linked
+  can_link : (ps : List Placed) → AreRespected m lists ps → AreBlocks m ps
+  can_link ps respected =
+      lists_link u m c p (spans of.blocks) (home_by p of.kept) (first_by p of.live) (after_by p of.live) lists ps pair_of known_of stand_in respected
 
   accepted : is_direct m p ≡ false → failed_rule m ≡ None → unsupplied u m p ≡ None → IsAccepted u m p
   accepted other kept supplied = Covered other kept supplied of.room
 
   -- their code is code for the pair
-  pub code_for : is_direct m p ≡ false → failed_rule m ≡ None → unsupplied u m p ≡ None → (code : Code) → IsCodeOf m lists code → IsCodeFor u m p code
+  code_for : is_direct m p ≡ false → failed_rule m ≡ None → unsupplied u m p ≡ None → (code : Code) → IsCodeOf m lists code → IsCodeFor u m p code
   code_for other kept supplied code is = record {
     accepted = accepted other kept supplied;
     legal = is.legal;
@@ -169,7 +177,7 @@ module _ (u : Units) (m : Machine) (c : Choice) (p : Program) (lists : List Bloc
   }
 
   -- and where it is too long, it has no more words than the pair's room
-  pub room_for : is_direct m p ≡ false → failed_rule m ≡ None → unsupplied u m p ≡ None → (words have : ℕ) → IsTooLong m lists words have → LacksRoom u m p words have
+  room_for : is_direct m p ≡ false → failed_rule m ≡ None → unsupplied u m p ≡ None → (words have : ℕ) → IsTooLong m lists words have → LacksRoom u m p words have
   room_for other kept supplied words have is =
       let fits = lists_fit u m c p (spans of.blocks) (home_by p of.kept) (first_by p of.live) (after_by p of.live) lists is.placements pair_of known_of stand_in is.roomy in
       let same = is.length in record {
@@ -181,16 +189,34 @@ module _ (u : Units) (m : Machine) (c : Choice) (p : Program) (lists : List Bloc
       }
 
   -- so what their linking answers is what is answered for the pair
-  pub ok_for : is_direct m p ≡ false → failed_rule m ≡ None → unsupplied u m p ≡ None → (xs : List BlockList) → xs ≡ lists → (r : Result Code BuildError)
-      → IfOk r (λ code. IsCodeOf m xs code) → IfOk r (λ code. IsCodeFor u m p code)
-  ok_for other kept supplied xs same (Ok code) is =
-      code_for other kept supplied code (subst (λ (l : List BlockList). IsCodeOf m l code) same is)
-  ok_for other kept supplied xs same (Err e) is = tt
+  ok_of : is_direct m p ≡ false → failed_rule m ≡ None → unsupplied u m p ≡ None → (r : Result Code BuildError)
+      → IfOk r (λ code. IsCodeOf m lists code) → IfOk r (λ code. IsCodeFor u m p code)
+  ok_of other kept supplied (Ok code) is = code_for other kept supplied code is
+  ok_of other kept supplied (Err e) is = tt
 
-  pub err_for : is_direct m p ≡ false → failed_rule m ≡ None → unsupplied u m p ≡ None → (xs : List BlockList) → xs ≡ lists → (r : Result Code BuildError)
-      → IfErr r (λ e. IsListsCause m xs e) → IfErr r (λ e. HasCause u m p e)
-  err_for other kept supplied xs same (Ok code) is = tt
-  err_for other kept supplied xs same (Err (cause.CodeFull words have)) is =
-      room_for other kept supplied words have (subst (λ (l : List BlockList). IsTooLong m l words have) same is)
-  err_for other kept supplied xs same (Err cause.NoMemory) is = tt
-  err_for other kept supplied xs same (Err e) is = absurd is
+  err_of : is_direct m p ≡ false → failed_rule m ≡ None → unsupplied u m p ≡ None → (r : Result Code BuildError)
+      → IfErr r (λ e. IsListsCause m lists e) → IfErr r (λ e. HasCause u m p e)
+  err_of other kept supplied (Ok code) is = tt
+  err_of other kept supplied (Err (cause.CodeFull words have)) is = room_for other kept supplied words have is
+  err_of other kept supplied (Err cause.NoMemory) is = tt
+  err_of other kept supplied (Err e) is = absurd is
+
+-- ---- placements for a pair
+
+module _ (u : Units) (m : Machine) (c : Choice) (p : Program) (ps qs : List Placed) (machine : IsMachine m) (over : StandsOver u m) (choice : IsChoice m c)
+    (program : IsProgram p) (offers : are_offered u m c p ≡ true) (for : ArePlacedFor u m c p ps) (same : qs ≡ ps) where
+  -- they can be linked
+  pub are_blocks : AreBlocks m qs
+  are_blocks =
+      subst (AreBlocks m) (sym same) (can_link u m c p for.lists machine over choice program offers for.are ps for.roomy.respected)
+
+  -- and what is linked from them is answered for the pair
+  pub ok_for : is_direct m p ≡ false → failed_rule m ≡ None → unsupplied u m p ≡ None → (r : Result Code BuildError)
+      → IfOk r (λ code. IsLinked m code qs) → IfOk r (λ code. IsLegalCode m code) → IfOk r (λ code. IsCodeFor u m p code)
+  ok_for other kept supplied r linked legal =
+      ok_of u m c p for.lists machine over choice program offers for.are other kept supplied r (is_code m for.lists ps qs r for.first for.roomy same linked legal)
+
+  pub err_for : is_direct m p ≡ false → failed_rule m ≡ None → unsupplied u m p ≡ None → (r : Result Code BuildError)
+      → IfErr r (λ e. IsLinkCause m qs e) → IfErr r (λ e. HasCause u m p e)
+  err_for other kept supplied r cause =
+      err_of u m c p for.lists machine over choice program offers for.are other kept supplied r (is_cause m for.lists ps qs r for.first for.roomy same cause)

@@ -32,14 +32,14 @@ use Rattle.tta_code.specs.declared.code.Code.{Code}
 use Rattle.tta_compose.specs.Direct.{is_direct, constants_of, list_of_direct}
 use Rattle.tta_compose.specs.Linking.{AreRespected, AreFirstFits}
 use Rattle.tta_compose.specs.Room.{AreRoomy, room_on}
-use Rattle.tta_build.specs.CodeOfLists.{IsCodeOf, IsTooLong}
 use Rattle.tta_compose.proofs.Pairs.{is_alone}
 use Rattle.tta_compose.proofs.Directly.{direct_lowers, direct_is_list, direct_links, direct_agrees}
 use Rattle.tta_compose.proofs.DirectPlan.{direct_plan}
 use Rattle.tta_build.specs.declared.error.BuildError.{BuildError}
 use Rattle.tta_build.specs.declared.error.BuildError.TheVariants as cause
 use Rattle.tta_build.specs.Statement.{Direct, LacksRoom, HasCause}
-use Rattle.tta_build.specs.Parts.{IsLowered, AreDirect, IsCodeFor, IsListsCause}
+use Rattle.tta_build.specs.Parts.{IsLowered, AreDirect, IsCodeFor}
+use Rattle.tta_build.proofs.Placements.{IsCodeOf, IsTooLong, IsListsCause}
 
 -- ---- frames
 
@@ -166,20 +166,18 @@ room_for u m p lists machine program direct of words have is =
       };
     }
 
--- so what the linking of the list answers is what is answered for the pair
-pub ok_for : (m : Machine) (p : Program) (lists xs : List BlockList) → IsMachine m → IsProgram p → is_direct m p ≡ true → AreDirect m p lists → xs ≡ lists
-    → (r : Result Code BuildError) → IfOk r (λ code. IsCodeOf m xs code) → IfOk r (λ code. (u : Units) → IsCodeFor u m p code)
-ok_for m p lists xs machine program direct of same (Ok code) is =
-    λ u. code_for u m p lists code machine program direct of (subst (λ (l : List BlockList). IsCodeOf m l code) same is)
-ok_for m p lists xs machine program direct of same (Err e) is = tt
+-- so what is linked from its placement is answered for the pair
+pub ok_for : (m : Machine) (p : Program) (lists : List BlockList) → IsMachine m → IsProgram p → is_direct m p ≡ true → AreDirect m p lists
+    → (r : Result Code BuildError) → IfOk r (λ code. IsCodeOf m lists code) → IfOk r (λ code. (u : Units) → IsCodeFor u m p code)
+ok_for m p lists machine program direct of (Ok code) is = λ u. code_for u m p lists code machine program direct of is
+ok_for m p lists machine program direct of (Err e) is = tt
 
-pub err_for : (m : Machine) (p : Program) (lists xs : List BlockList) → IsMachine m → IsProgram p → is_direct m p ≡ true → AreDirect m p lists → xs ≡ lists
-    → (r : Result Code BuildError) → IfErr r (λ e. IsListsCause m xs e) → IfErr r (λ e. (u : Units) → HasCause u m p e)
-err_for m p lists xs machine program direct of same (Ok code) is = tt
-err_for m p lists xs machine program direct of same (Err (cause.CodeFull words have)) is =
-    λ u. room_for u m p lists machine program direct of words have (subst (λ (l : List BlockList). IsTooLong m l words have) same is)
-err_for m p lists xs machine program direct of same (Err cause.NoMemory) is = λ u. tt
-err_for m p lists xs machine program direct of same (Err e) is = absurd is
+pub err_for : (m : Machine) (p : Program) (lists : List BlockList) → IsMachine m → IsProgram p → is_direct m p ≡ true → AreDirect m p lists
+    → (r : Result Code BuildError) → IfErr r (λ e. IsListsCause m lists e) → IfErr r (λ e. (u : Units) → HasCause u m p e)
+err_for m p lists machine program direct of (Ok code) is = tt
+err_for m p lists machine program direct of (Err (cause.CodeFull words have)) is = λ u. room_for u m p lists machine program direct of words have is
+err_for m p lists machine program direct of (Err cause.NoMemory) is = λ u. tt
+err_for m p lists machine program direct of (Err e) is = absurd is
 
 -- the one list, whether the selection answers it
 pub lists_for : (m : Machine) (p : Program) (r : Rir) → IsProgram p → is_direct m p ≡ true → IsLowered p 0 4096 r → (q : Result (Vec BlockList Global) AllocError)

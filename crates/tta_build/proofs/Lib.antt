@@ -5,6 +5,8 @@ pub mod Served
 pub mod Only
 pub mod Sorted
 pub mod Placements
+pub mod Shortest
+pub mod Standing
 pub mod CoveredCode
 pub mod Directs
 pub mod Completes

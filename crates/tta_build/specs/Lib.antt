@@ -1,6 +1,6 @@
 pub mod Statement
 pub mod Errors
-pub mod CodeOfLists
+pub mod Candidates
 pub mod Data
 pub mod Parts
 pub mod Completes

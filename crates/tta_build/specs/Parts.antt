@@ -1,5 +1,5 @@
 -- What the parts of `build` give one another.
-use Rattle.std.specs.Prelude.{◌≡◌, ◌≤◌, ℕ, List, [], ◌∷◌, length}
+use Rattle.std.specs.Prelude.{◌≡◌, ◌<◌, ◌≤◌, ◌^◌, ℕ, List, [], ◌∷◌, length, Some, slice_get}
 use Rattle.tta_ops.specs.Units.{Units}
 use Rattle.tta_arch.specs.Machine.{Machine}
 use Rattle.tta_connect.specs.declared.choice.Choice.{Choice}
@@ -16,15 +16,18 @@ use Rattle.tta_alloc.specs.Allotted.{AreAllotted}
 use Rattle.tta_lower.specs.Known.{spans, home_by, first_by, after_by}
 use Rattle.tta_lower.specs.Statement.{IsCodeOf}
 use Rattle.tta_moves.specs.declared.items.BlockList.{BlockList}
+use Rattle.tta_moves.specs.declared.items.Placed.{Placed}
+use Rattle.tta_link.specs.Blocks.{total_length}
 use Rattle.tta_code.specs.declared.code.Code.{Code}
 use Rattle.tta_code.specs.declared.whole.Datum.{Datum}
 use Rattle.tta_code.specs.Whole.{laid_by}
 use Rattle.tta_code.specs.Legal.{IsLegalCode}
 use Rattle.tta_agree.specs.Agrees.{Agrees}
-use Rattle.tta_compose.specs.Compiler.{compiled}
+use Rattle.tta_compose.specs.Compiler.{AreStandIns, raw}
 use Rattle.tta_compose.specs.Direct.{list_of_direct}
-use Rattle.tta_build.specs.CodeOfLists.{IsTooLong}
-use Rattle.tta_compose.specs.Room.{room_on}
+use Rattle.tta_compose.specs.Planned.{HasForms}
+use Rattle.tta_compose.specs.Linking.{AreFirstFits}
+use Rattle.tta_compose.specs.Room.{AreRoomy, room_on}
 use Rattle.tta_compose.specs.Packed.{IsPacked}
 use Rattle.tta_build.specs.declared.error.BuildError.{BuildError}
 use Rattle.tta_build.specs.declared.error.BuildError.TheVariants.{CodeFull, NoMemory}
@@ -40,8 +43,8 @@ pub record IsLowered (p : Program) (homes frame_words : ℕ) (r : Rir) : Type 0 
   pub allotted : AreAllotted p homes kept
   pub code : IsCodeOf p blocks live kept frame_words r
 
--- The lists that are placed for a program: those that the passes make of the selected ones, by blocks, liveness and homes that are the program's; the frames have room.
-pub record AreListsOf (u : Units) (m : Machine) (c : Choice) (p : Program) (lists : List BlockList) : Type 0 where
+-- The lists that are selected for a program, by blocks, liveness and homes that are the program's; the frames have room.
+pub record AreSelected (u : Units) (m : Machine) (c : Choice) (p : Program) (lists : List BlockList) : Type 0 where
   pub blocks : List Block
   pub live : Live
   pub kept : Homes
@@ -49,7 +52,21 @@ pub record AreListsOf (u : Units) (m : Machine) (c : Choice) (p : Program) (list
   pub lives : IsLive p live
   pub allotted : AreAllotted p (length c.homes) kept
   pub room : frame_need p ≤ m.frame_words
-  pub are : lists ≡ compiled u m c p (spans blocks) (home_by p kept) (first_by p live) (after_by p live)
+  pub are : lists ≡ raw u m c p (spans blocks) (home_by p kept) (first_by p live) (after_by p live)
+
+-- The lists that are placed for a program: each may be placed for the selected one, and is in all forms.
+pub record AreListsOf (u : Units) (m : Machine) (c : Choice) (p : Program) (lists : List BlockList) : Type 0 where
+  pub selected : List BlockList
+  pub of : AreSelected u m c p selected
+  pub stand : AreStandIns m selected lists
+  pub forms : (k : ℕ) (l : BlockList) → slice_get lists k ≡ Some l → HasForms m l
+
+-- First fits of such lists, which have room.
+pub record ArePlacedFor (u : Units) (m : Machine) (c : Choice) (p : Program) (placements : List Placed) : Type 0 where
+  pub lists : List BlockList
+  pub are : AreListsOf u m c p lists
+  pub first : AreFirstFits m lists placements
+  pub roomy : AreRoomy m lists placements
 
 -- The one list of a direct pair, where blocks, liveness and homes of the program are known.
 pub record AreDirect (m : Machine) (p : Program) (lists : List BlockList) : Type 0 where
@@ -71,8 +88,9 @@ pub record IsCodeFor (u : Units) (m : Machine) (p : Program) (code : Code) : Typ
   pub agrees : (init : List Datum) → ((memory : List ℕ) → over (laid_by init) memory ≡ over (data_of p) memory)
       → Agrees u m p (record { code = code; init = init })
 
--- why lists have no code: it is too long; being out of memory needs no cause
-abbrev pub IsListsCause : Machine → List BlockList → BuildError → Type 0
-IsListsCause m lists (CodeFull words have) = IsTooLong m lists words have
-IsListsCause m lists NoMemory = Unit {0}
-IsListsCause m lists e = ⊥
+-- Why placed lists were not linked: they take more words than the machine has addresses, and the error has these two
+-- numbers; being out of memory needs no cause.
+abbrev pub IsLinkCause : Machine → List Placed → BuildError → Type 0
+IsLinkCause m placements (CodeFull words have) = (words ≡ total_length placements) × (have ≡ 2 ^ m.control.address) × (have < words)
+IsLinkCause m placements NoMemory = Unit {0}
+IsLinkCause m placements e = ⊥

@@ -10,26 +10,26 @@ ghost use Rattle.tta_program.specs.Rules.{IsProgram};
 ghost use Rattle.tta_lower.specs.Statement.{IsCause};
 ghost use Rattle.tta_compose.specs.Needs.{are_offered};
 ghost use Rattle.tta_compose.specs.Direct.{is_direct};
-ghost use Rattle.tta_build.specs.Parts.{AreListsOf, IsCodeFor};
+ghost use Rattle.tta_build.specs.Parts.{AreSelected, ArePlacedFor, IsCodeFor};
 ghost use Rattle.tta_build.specs.Statement.{HasCause, unsupplied};
 
+use crate::choosing::place_chosen;
 use crate::error::BuildError;
-use crate::lists::code_of_lists;
+use crate::linking::link_placed;
 use crate::needs::unoffered;
-use crate::passes::optimise_all;
 use crate::register::register_code;
 use std::alloc::Global;
 use tta_arch::Machine;
 use tta_code::Code;
 use tta_connect::{Choice, CoverError, Net, cover};
 use tta_lower::LowerError;
-use tta_moves::BlockList;
+use tta_moves::{BlockList, Placed};
 use tta_ops::UnitSet;
 use tta_program::Program;
 use tta_select::select;
 
-/// The lists of a program whose needs usable units offer.
-fn lists_of(
+/// The lists that are selected for a program whose needs usable units offer.
+fn selected_lists(
     alloc: Global,
     m: &Machine,
     net: &Net,
@@ -44,14 +44,37 @@ fn lists_of(
     requires choice { IsChoice m.now c.now }
     requires offered { are_offered (stated unit_meaning units.now) m.now c.now p.now ≡ true }
     ensures lists { let U = stated unit_meaning units.now in
-        IfOk result (λ lists. AreListsOf U m.now c.now p.now lists.items) }
+        IfOk result (λ lists. AreSelected U m.now c.now p.now lists.items) }
     ensures cause { IfErr result (λ e. IsCause p.now m.now.frame_words e) }
 {
     let homes = c.homes.len() as u32;
     let code = register_code(alloc, p, homes, m.frame_words)?;
-    let selected = select(alloc, &code, m, net, c, units)?;
-    let lists = optimise_all(alloc, selected.as_slice(), m, net)?;
+    let lists = select(alloc, &code, m, net, c, units)?;
     Ok(lists)
+}
+
+/// For each of these lists the placement that is chosen among its candidates.
+fn placements(
+    alloc: Global,
+    m: &Machine,
+    net: &Net,
+    c: &Choice,
+    p: &Program,
+    units: &UnitSet,
+) -> Result<Vec<Placed>, LowerError>
+    requires machine { IsMachine m.now }
+    requires program { IsProgram p.now }
+    requires over { StandsOver (stated unit_meaning units.now) m.now }
+    requires net { IsNetOf net.now m.now }
+    requires choice { IsChoice m.now c.now }
+    requires offered { are_offered (stated unit_meaning units.now) m.now c.now p.now ≡ true }
+    ensures placed { let U = stated unit_meaning units.now in
+        IfOk result (λ ps. ArePlacedFor U m.now c.now p.now ps.items) }
+    ensures cause { IfErr result (λ e. IsCause p.now m.now.frame_words e) }
+{
+    let lists = selected_lists(alloc, m, net, c, p, units)?;
+    let ps = place_chosen(alloc, lists.as_slice(), m, net)?;
+    Ok(ps)
 }
 
 /// The code of a program whose needs usable units offer.
@@ -77,10 +100,10 @@ fn code_with(
     ensures cause { let U = stated unit_meaning units.now in
         IfErr result (λ e. HasCause U m.now p.now e) }
 {
-    let lists = lists_of(alloc, m, net, c, p, units)?;
-    let code = code_of_lists(alloc, m, net, lists.as_slice());
+    let ps = placements(alloc, m, net, c, p, units)?;
+    let code = link_placed(alloc, ps.as_slice(), m);
     // Dropped here as a whole, so that no part of it is left to drop at the end.
-    drop(lists);
+    drop(ps);
     code
 }
 

@@ -10,7 +10,8 @@ ghost use Rattle.tta_build.specs.Parts.{AreDirect, IsCodeFor};
 ghost use Rattle.tta_build.specs.Statement.{HasCause};
 
 use crate::error::BuildError;
-use crate::lists::code_of_lists;
+use crate::linking::link_placed;
+use crate::placing::place_all;
 use crate::register::register_code;
 use std::alloc::{AllocError, Global};
 use tta_arch::Machine;
@@ -53,8 +54,9 @@ pub fn direct_code(alloc: Global, m: &Machine, net: &Net, p: &Program) -> Result
     ensures cause { IfErr result (λ e. (u : Units) → HasCause u m.now p.now e) }
 {
     let lists = lists_of(alloc, m, p)?;
-    let code = code_of_lists(alloc, m, net, lists.as_slice());
+    let ps = place_all(alloc, lists.as_slice(), m, net)?;
+    let code = link_placed(alloc, ps.as_slice(), m);
     // Dropped here as a whole, so that no part of it is left to drop at the end.
-    drop(lists);
+    drop(ps);
     code
 }

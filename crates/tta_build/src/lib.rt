@@ -1,9 +1,11 @@
 //! The compiler: code for a machine that does what a program does. It calls the compiler's passes in
 //! their order, and holds the steps between them: which needs of a program no unit offers, direct
-//! pairs, lists through the passes, code from lists, and a program's data in order. What the passes
-//! prove together stands in `tta_compose`.
+//! pairs, the candidates of each block and which of their placements stays, code from placements,
+//! and a program's data in order. What the passes prove together stands in `tta_compose`.
 #![tactic(auto)]
 
+mod candidates;
+mod choosing;
 mod converted;
 mod covered;
 mod data_order;
@@ -11,19 +13,19 @@ mod direct;
 mod direct_pair;
 mod error;
 mod laws;
-mod lists;
+mod linking;
 mod needs;
-mod passes;
 mod placing;
 mod program;
 mod register;
 
+pub use choosing::place_chosen;
 pub use converted::build_converted;
 pub use data_order::data_in_order;
 pub use direct_pair::is_direct;
 pub use error::BuildError;
 pub use laws::{build_completes, build_converted_completes, converted_agrees};
+pub use linking::link_placed;
 pub use needs::unoffered;
-pub use passes::optimise_all;
-pub use placing::place_and_link;
+pub use placing::place_all;
 pub use program::{Built, build};
