@@ -1,0 +1,59 @@
+-- When items that are taken in another order do what they did.
+use Rattle.std.specs.Prelude.{◌≡◌, ◌≤◌, ⊤, ℕ, zero, suc, Bool, true, false, not, if◌then◌else◌, List, [], ◌∷◌, length, map, replicate, count_by, Option, Some, None, slice_get, slice_set}
+use Rattle.std.specs.Option.{option_map_or}
+use Rattle.std.specs.List.{list_all, list_any}
+use Rattle.tta_arch.specs.Machine.{Machine}
+use Rattle.tta_arch.specs.Effects.{Target}
+use Rattle.tta_moves.specs.declared.items.Item.{Item}
+use Rattle.tta_moves.specs.Touches.{target_of_item}
+use Rattle.tta_moves.specs.Slots.{is_list, control_is_last}
+use Rattle.tta_moves.specs.Forms.{is_straight}
+use Rattle.tta_optim.specs.Kept.{names}
+use Rattle.tta_order.specs.Channels.{Channel, alters, asks, survives, may_wait}
+
+-- items, each with the number that it has in the list that they come from
+abbrev pub Numbered : Type 0
+Numbered = List (ℕ × Item)
+
+-- the items without their numbers
+abbrev pub bare : Numbered → List Item
+bare order = map (λ y. y.1) order
+
+-- ---- what an item finds
+
+-- the number of the last of some items, the newest first, that may change what is in a channel
+abbrev pub last : Machine → Channel → Numbered → Option ℕ
+last m c [] = None
+last m c (y ∷ front) = if alters m c y.1 then Some y.0 else last m c front
+
+-- the same of the first n items of a list
+abbrev pub last_before : Machine → Channel → List Item → (n : ℕ) → Option ℕ
+last_before m c items zero = None
+last_before m c items (suc n) = if option_map_or (alters m c) (slice_get items n) false then Some n else last_before m c items n
+
+-- an item has its number in a list, and after these items, the newest first, it finds what the same items brought
+pub record IsDrawn (m : Machine) (items : List Item) (front : Numbered) (y : ℕ × Item) : Type 0 where
+  pub there : slice_get items y.0 ≡ Some y.1
+  pub same : (c : Channel) → asks m c y.1 ≡ true → last m c front ≡ last_before m c items y.0
+
+-- each item finds what the same items brought, and so does the next list
+abbrev pub AreDrawn : Machine → (live : List (ℕ × ℕ)) → List Item → (front : Numbered) → Numbered → Type 0
+AreDrawn m live items front [] = (c : Channel) → survives live c ≡ true → last m c front ≡ last_before m c items (length items)
+AreDrawn m live items front (y ∷ ys) = IsDrawn m items front y × AreDrawn m live items (y ∷ front) ys
+
+-- each item has a number that is not marked yet, and marks it
+abbrev pub AreUnmarked : (marks : List Bool) → Numbered → Type 0
+AreUnmarked marks [] = ⊤
+AreUnmarked marks (y ∷ ys) = (slice_get marks y.0 ≡ Some false) × AreUnmarked (slice_set marks y.0 true) ys
+
+-- a list that never waits within
+abbrev pub goes_through : Machine → List Item → Bool
+goes_through m items = list_all (λ x. not (may_wait m x)) items
+
+-- Items of a list that never waits within, none of them twice and control last, in an order in which each finds what the
+-- same items brought. Items may be missing for which nothing asks.
+pub record IsOrder (m : Machine) (live : List (ℕ × ℕ)) (items : List Item) (order : Numbered) : Type 0 where
+  pub through : goes_through m items ≡ true
+  pub drawn : AreDrawn m live items [] order
+  pub once : AreUnmarked (replicate (length items) false) order
+  pub control : control_is_last (bare order) ≡ true

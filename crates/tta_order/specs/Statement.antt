@@ -1,0 +1,14 @@
+-- What is proved of orders.
+use Rattle.std.specs.Prelude.{ℕ, List}
+use Rattle.tta_arch.specs.Machine.{Machine}
+use Rattle.tta_moves.specs.declared.items.Item.{Item}
+use Rattle.tta_optim.specs.Kept.{KeepsMeaning, AsksNoMore}
+use Rattle.tta_order.specs.Orders.{Numbered, bare, IsOrder}
+
+-- the items of a list in another order keep its meaning
+abbrev pub OrdersKeep : Type 0
+OrdersKeep = (m : Machine) (live : List (ℕ × ℕ)) (items : List Item) (order : Numbered) → IsOrder m live items order → KeepsMeaning m live items (bare order)
+
+-- and ask for no more than the list
+abbrev pub OrdersAskNoMore : Type 0
+OrdersAskNoMore = (m : Machine) (live : List (ℕ × ℕ)) (items : List Item) (order : Numbered) → IsOrder m live items order → AsksNoMore m items (bare order)
