@@ -30,6 +30,7 @@ NAMES = [
     (r"^use std::process::ExitCode;\n", "use kit::host::ExitCode;\n"),
     (r"^fn main\(rt: HostRuntime\) -> ExitCode \{\n", f"{START}\nfn program(rt: HostRuntime) -> ExitCode {{\n"),
     (r"\bstd::alloc::", "kit::alloc::"),
+    (r"\bstd::collections::", "kit::collections::"),
     (r"\barrayvec::", "kit::array_vec::"),
     (r"\bindexmap::", "kit::index_map::"),
     (r"\bsmallvec::", "kit::small_vec::"),

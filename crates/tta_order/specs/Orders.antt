@@ -19,6 +19,11 @@ Numbered = List (ℕ × Item)
 abbrev pub bare : Numbered → List Item
 bare order = map (λ y. y.1) order
 
+-- the items of numbers, of those that are numbers of items
+abbrev pub picked : List Item → (numbers : List ℕ) → Numbered
+picked items [] = []
+picked items (n ∷ ns) = option_map_or (λ x. (n, x) ∷ picked items ns) (slice_get items n) (picked items ns)
+
 -- ---- what an item finds
 
 -- the number of the last of some items, the newest first, that may change what is in a channel

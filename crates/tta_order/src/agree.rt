@@ -1,7 +1,7 @@
 //! Whether numbers are an order of a list's items, and the list in that order.
 
 ghost use Rattle.std.specs.Prelude.{◌≡◌, ◌==◌, not, true, false, map, length, replicate};
-ghost use Rattle.std.specs.Prelude.{slice_get, slice_set, slice_index, IfOk, IfSome};
+ghost use Rattle.std.specs.Prelude.{slice_get, slice_set, slice_index, IfOk, OnOk, IfSome};
 ghost use Rattle.std.specs.Option.{option_map_or};
 ghost use Rattle.std.specs.List.{list_all};
 ghost use Rattle.tta_arch.specs.Effects.{KeptReg};
@@ -10,10 +10,11 @@ ghost use Rattle.tta_moves.specs.Numbers.{is_place, place_number};
 ghost use Rattle.tta_moves.specs.Slots.{is_list};
 ghost use Rattle.tta_optim.specs.Kept.{KeepsMeaning, AsksNoMore};
 ghost use Rattle.tta_order.specs.Channels.{may_wait};
-ghost use Rattle.tta_order.specs.Orders.{bare, goes_through};
-ghost use Rattle.tta_order.specs.Rows.{rows_from, table_after, same_ends, picked, agrees};
+ghost use Rattle.tta_order.specs.Orders.{bare, picked, goes_through, IsOrder};
+ghost use Rattle.tta_order.specs.Rows.{none_changed, rows_from, table_after, same_ends, agrees, table_by};
 ghost use Rattle.tta_order.specs.Rows.{found, same_found};
 
+use crate::channels::{DATA, ENDING, FRAME, TRAFFIC};
 use crate::parts::started;
 use crate::rows::{Found, Table, same_found};
 use std::alloc::{AllocError, Global};
@@ -23,27 +24,7 @@ use tta_list::Items;
 use tta_moves::numbers::{register, return_address};
 use tta_moves::{BlockList, Item, is_list, keeps_rules};
 
-/// What each item of a list finds, and the table after the list.
-#[derive(Drop)]
-struct Rows {
-    found: Vec<Found>,
-    end: Table,
-}
-
-fn rows_of(alloc: Global, m: &Machine, items: &[Item]) -> Result<Rows, AllocError>
-    ensures found { IfOk result (λ r. r.found.items ≡ rows_from m.now (replicate 645 0) 0 items.now) }
-    ensures end { IfOk result (λ r. r.end ≡ table_after m.now (replicate 645 0) 0 items.now) }
-{
-    let mut end = Table::new(alloc)?;
-    let mut found = Vec::with_capacity(alloc, items.len())?;
-    for (n, x) in items.iter().enumerate() {
-        let row = end.found(m, *x);
-        end.pass(m, n, *x);
-        found.push(row)?;
-    }
-    Ok(Rows { found, end })
-}
-
+/// Whether an item takes a word of the input.
 fn may_wait(m: &Machine, x: Item) -> bool
     ensures { result ≡ may_wait m.now x }
 {
@@ -53,39 +34,46 @@ fn may_wait(m: &Machine, x: Item) -> bool
     }
 }
 
+/// Whether a list never waits within.
 fn goes_through(m: &Machine, items: &[Item]) -> bool
     ensures { result ≡ goes_through m.now items.now }
 {
     items.iter().all(|x| !may_wait(m, *x))
 }
 
+/// Whether registers have numbers as those of a machine.
 fn in_limits(live: &[(u8, u8)]) -> bool
     ensures { result ≡ list_all (λ r. is_place (KeptReg r.0 r.1)) live.now }
 {
     live.iter().all(|r| r.0 < 8 && r.1 < 64)
 }
 
+/// Whether two tables have the same entry for a channel.
 fn same_entry(a: &Table, b: &Table, channel: usize) -> bool
     ensures { result ≡ (slice_index a.now channel == slice_index b.now channel) }
 {
     a.entry(Some(channel)) == b.entry(Some(channel))
 }
 
+/// Whether they have the same entries for registers.
 fn same_live(live: &[(u8, u8)], a: &Table, b: &Table) -> bool
-    ensures { result ≡ list_all (λ r. slice_index a.now (place_number (KeptReg r.0 r.1)) == slice_index b.now (place_number (KeptReg r.0 r.1))) live.now }
+    ensures { result ≡ list_all (λ r. slice_index a.now (place_number (KeptReg r.0 r.1))
+        == slice_index b.now (place_number (KeptReg r.0 r.1))) live.now }
 {
     live.iter().all(|r| same_entry(a, b, register(r.0, r.1)))
 }
 
+/// Whether they have the same entries for what the next list finds.
 fn same_ends(live: &[(u8, u8)], a: &Table, b: &Table) -> bool
     ensures { result ≡ same_ends live.now a.now b.now }
 {
     same_live(live, a, b)
         && (same_entry(a, b, return_address())
-            && (same_entry(a, b, 641)
-                && (same_entry(a, b, 642) && (same_entry(a, b, 643) && same_entry(a, b, 644)))))
+            && (same_entry(a, b, DATA)
+                && (same_entry(a, b, FRAME) && (same_entry(a, b, TRAFFIC) && same_entry(a, b, ENDING)))))
 }
 
+/// The item of a number, if there is one.
 fn item_at(items: &[Item], n: usize) -> Option<Item>
     ensures { result ≡ slice_get items.now n }
 {
@@ -95,6 +83,7 @@ fn item_at(items: &[Item], n: usize) -> Option<Item>
     }
 }
 
+/// Whether a number is that of an item and not marked.
 fn is_free(marks: &[bool], n: usize) -> bool
     ensures { result ≡ option_map_or (λ b. not b) (slice_get marks.now n) false }
 {
@@ -104,6 +93,7 @@ fn is_free(marks: &[bool], n: usize) -> bool
     }
 }
 
+/// Marks a number.
 fn mark(marks: &mut Vec<bool>, n: usize)
     ensures { marks.new.items ≡ slice_set marks.old.items n true }
 {
@@ -112,8 +102,10 @@ fn mark(marks: &mut Vec<bool>, n: usize)
     }
 }
 
+/// Whether an item finds what the same item of the list found.
 fn finds(m: &Machine, table: &Table, rows: &[Found], n: usize, x: Item) -> bool
-    ensures { result ≡ option_map_or (λ row. same_found (found m.now table.now x) row) (slice_get rows.now n) false }
+    ensures { result ≡ option_map_or (λ row. same_found (found m.now table.now x) row)
+        (slice_get rows.now n) false }
 {
     match rows.get(n) {
         None => false,
@@ -121,27 +113,49 @@ fn finds(m: &Machine, table: &Table, rows: &[Found], n: usize, x: Item) -> bool
     }
 }
 
-/// Whether numbers are an order of a list's items, by the rows of the list. The only error is out of
+/// What each item of a list finds; the table is then that after the list. The only error is out of
 /// memory.
-fn agrees(
+fn rows_of(
     alloc: Global,
+    table: &mut Table,
     m: &Machine,
     items: &[Item],
-    rows: &Rows,
-    live: &[(u8, u8)],
+) -> Result<Vec<Found>, AllocError>
+    ensures found { IfOk result (λ v. v.items ≡ rows_from m.now none_changed 0 items.now) }
+    ensures end { OnOk result (table.new ≡ table_after m.now none_changed 0 items.now) }
+{
+    table.begin();
+    let mut found = Vec::with_capacity(alloc, items.len())?;
+    for (n, x) in items.iter().enumerate() {
+        let row = table.found(m, *x);
+        table.pass(m, n, *x);
+        found.push(row)?;
+    }
+    Ok(found)
+}
+
+/// Whether each number is that of an item, none is there twice, and each item finds what it found in
+/// the list, by the rows; the table is then that after the items. The only error is out of memory.
+fn agrees(
+    alloc: Global,
+    table: &mut Table,
+    m: &Machine,
+    items: &[Item],
+    rows: &[Found],
     numbers: &[usize],
 ) -> Result<bool, AllocError>
-    ensures { IfOk result (λ b. b ≡ true
-        → agrees m.now live.now items.now rows.now.found.items rows.now.end (replicate 645 0)
+    ensures agree { IfOk result (λ b. b ≡ true → agrees m.now items.now rows.now none_changed
         (replicate (length items.now) false) numbers.now ≡ true) }
+    ensures end { IfOk result (λ b. b ≡ true
+        → table.new ≡ table_by m.now items.now none_changed numbers.now) }
 {
-    let mut table = Table::new(alloc)?;
+    table.begin();
     let mut marks = vec![in alloc; false; items.len()]?;
     for n in numbers {
         let Some(x) = item_at(items, *n) else {
             return Ok(false);
         };
-        if !finds(m, &table, rows.found.as_slice(), *n, x) {
+        if !finds(m, table, rows, *n, x) {
             return Ok(false);
         }
         if !is_free(marks.as_slice(), *n) {
@@ -150,7 +164,7 @@ fn agrees(
         table.pass(m, *n, x);
         mark(&mut marks, *n);
     }
-    Ok(same_ends(live, &table, &rows.end))
+    Ok(true)
 }
 
 /// The items of numbers. The only error is out of memory.
@@ -166,9 +180,77 @@ fn pick(alloc: Global, items: &[Item], numbers: &[usize]) -> Result<Vec<Item>, A
     Ok(out)
 }
 
-/// The list of a block in another order, which is given by the numbers of its items, counted from 0;
-/// none where they are no order, or where it is not known that they are one. Numbers may be missing
-/// of items for which nothing asks. The only error is out of memory.
+/// What orders are checked with: a table for the list as it is and one for its items in another
+/// order. They serve one list after another.
+#[derive(Drop)]
+pub struct Checker {
+    own: Table,
+    other: Table,
+}
+
+impl Checker {
+    /// The tables for any number of lists. The only error is out of memory.
+    pub fn new(alloc: Global) -> Result<Self, AllocError> {
+        let own = Table::new(alloc)?;
+        let other = Table::new(alloc)?;
+        Ok(Checker { own, other })
+    }
+
+    /// The list of a block in another order, which is given by the numbers of its items, counted
+    /// from 0; none where they are no order, or where it is not known that they are one. Numbers may
+    /// be missing of items for which nothing asks. The only error is out of memory.
+    pub fn in_order(
+        &mut self,
+        alloc: Global,
+        b: &BlockList,
+        m: &Machine,
+        net: &Net,
+        numbers: &[usize],
+    ) -> Result<Option<BlockList>, AllocError>
+        requires net { IsNetOf net.now m.now }
+        requires list { is_list m.now b.now.items ≡ true }
+        ensures order { IfOk result (λ o. IfSome o (λ r.
+            IsOrder m.now b.now.live_out b.now.items (picked b.now.items numbers.now))) }
+        ensures items { IfOk result (λ o. IfSome o (λ r.
+            r.items ≡ bare (picked b.now.items numbers.now))) }
+        ensures meaning { IfOk result (λ o. IfSome o (λ r.
+            KeepsMeaning m.now b.now.live_out b.now.items r.items)) }
+        ensures no_more { IfOk result (λ o. IfSome o (λ r. AsksNoMore m.now b.now.items r.items)) }
+        ensures live { IfOk result (λ o. IfSome o (λ r. r.live_out ≡ b.now.live_out)) }
+    {
+        keeps_rules(m);
+        let items = b.items.as_slice();
+        let live = b.live_out.as_slice();
+        if !goes_through(m, items) {
+            return Ok(None);
+        }
+        if !in_limits(live) {
+            return Ok(None);
+        }
+        let rows = rows_of(alloc, &mut self.own, m, items)?;
+        let other = &mut self.other;
+        let fits = agrees(alloc, other, m, items, rows.as_slice(), numbers)?;
+        if !fits {
+            return Ok(None);
+        }
+        if !same_ends(live, other, &self.own) {
+            return Ok(None);
+        }
+        let others = pick(alloc, items, numbers)?;
+        let kept = Vec::from_slice(alloc, live)?;
+        let r = BlockList {
+            items: Items::of(others),
+            live_out: Items::of(kept),
+        };
+        if !is_list(m, net, &r) {
+            return Ok(None);
+        }
+        Ok(Some(r))
+    }
+}
+
+/// The list of a block in another order, as `Checker::in_order` gives it. The only error is out of
+/// memory. Whoever has many lists keeps a `Checker` instead.
 pub fn in_order(
     alloc: Global,
     b: &BlockList,
@@ -178,32 +260,15 @@ pub fn in_order(
 ) -> Result<Option<BlockList>, AllocError>
     requires net { IsNetOf net.now m.now }
     requires list { is_list m.now b.now.items ≡ true }
-    ensures meaning { IfOk result (λ o. IfSome o (λ r. KeepsMeaning m.now b.now.live_out b.now.items r.items)) }
+    ensures order { IfOk result (λ o. IfSome o (λ r.
+        IsOrder m.now b.now.live_out b.now.items (picked b.now.items numbers.now))) }
+    ensures items { IfOk result (λ o. IfSome o (λ r.
+        r.items ≡ bare (picked b.now.items numbers.now))) }
+    ensures meaning { IfOk result (λ o. IfSome o (λ r.
+        KeepsMeaning m.now b.now.live_out b.now.items r.items)) }
     ensures no_more { IfOk result (λ o. IfSome o (λ r. AsksNoMore m.now b.now.items r.items)) }
     ensures live { IfOk result (λ o. IfSome o (λ r. r.live_out ≡ b.now.live_out)) }
 {
-    keeps_rules(m);
-    let items = b.items.as_slice();
-    let live = b.live_out.as_slice();
-    if !goes_through(m, items) {
-        return Ok(None);
-    }
-    if !in_limits(live) {
-        return Ok(None);
-    }
-    let rows = rows_of(alloc, m, items)?;
-    let fits = agrees(alloc, m, items, &rows, live, numbers)?;
-    if !fits {
-        return Ok(None);
-    }
-    let others = pick(alloc, items, numbers)?;
-    let kept = Vec::from_slice(alloc, live)?;
-    let r = BlockList {
-        items: Items::of(others),
-        live_out: Items::of(kept),
-    };
-    if !is_list(m, net, &r) {
-        return Ok(None);
-    }
-    Ok(Some(r))
+    let mut checker = Checker::new(alloc)?;
+    checker.in_order(alloc, b, m, net, numbers)
 }

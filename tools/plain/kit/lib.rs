@@ -2,6 +2,7 @@
 
 pub mod alloc;
 pub mod array_vec;
+pub mod collections;
 pub mod digest;
 pub mod host;
 pub mod index_map;

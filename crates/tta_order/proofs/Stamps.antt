@@ -1,0 +1,66 @@
+-- Tables that serve one list after another.
+use Rattle.std.proofs.Common.{◌≡◌, ℕ, zero, suc, ◌+◌, ◌<◌, ◌≤◌, true, false, List, [], ◌∷◌, length, replicate, refl, sym, ap, subst, arith, ◌∙◌, length-set}
+use Rattle.std.specs.Prelude.{◌==◌, if◌then◌else◌, map, nat_le, slice_set}
+use Rattle.std.specs.List.{list_all}
+use Rattle.std.proofs.lemmas.Bool.{and_parts, and_from}
+use Rattle.std.proofs.lemmas.Bool.Decides.{nat_tests}
+use Rattle.std.proofs.lemmas.List.{length-map}
+use Rattle.tta_order.specs.declared.rows.Entry.{Entry}
+use Rattle.tta_order.specs.Rows.{none_changed, last_in, AreStamps}
+
+-- ---- what the entries say
+
+map_set : {A B : Type 0} (f : A → B) (xs : List A) (k : ℕ) (x : A) → map f (slice_set xs k x) ≡ slice_set (map f xs) k (f x)
+map_set f [] k x = refl
+map_set f (y ∷ ys) zero x = refl
+map_set f (y ∷ ys) (suc k) x = ap (λ l. f y ∷ l) (map_set f ys k x)
+
+-- where all stamps are of earlier lists, no entry says anything
+none_last : (list : ℕ) (entries : List Entry) → list_all (λ s. nat_le s list) (map (λ (e : Entry). e.list) entries) ≡ true
+    → map (last_in (list + 1)) entries ≡ replicate (length entries) 0
+none_last list [] all = refl
+none_last list (e ∷ es) all =
+    let parts = and_parts (nat_le e.list list) (list_all (λ s. nat_le s list) (map (λ (e : Entry). e.list) es)) all in
+    let other : (e.list == list + 1) ≡ false = grind (arith, nat_tests, parts.0) in
+    rw (other, none_last list es parts.1) refl
+
+-- ---- the stamps
+
+past_set : (list : ℕ) (stamps : List ℕ) (k s : ℕ) → s ≤ list → list_all (λ t. nat_le t list) stamps ≡ true → list_all (λ t. nat_le t list) (slice_set stamps k s) ≡ true
+past_set list [] k s le all = refl
+past_set list (t ∷ ts) zero s le all =
+    and_from (nat_le s list) (list_all (λ t. nat_le t list) ts) (grind (arith, nat_tests)) (and_parts (nat_le t list) (list_all (λ t. nat_le t list) ts) all).1
+past_set list (t ∷ ts) (suc k) s le all =
+    let parts = and_parts (nat_le t list) (list_all (λ t. nat_le t list) ts) all in
+    and_from (nat_le t list) (list_all (λ t. nat_le t list) (slice_set ts k s)) parts.0 (past_set list ts k s le parts.1)
+
+past_next : (list : ℕ) (stamps : List ℕ) → list_all (λ t. nat_le t list) stamps ≡ true → list_all (λ t. nat_le t (list + 1)) stamps ≡ true
+past_next list [] all = refl
+past_next list (t ∷ ts) all =
+    let parts = and_parts (nat_le t list) (list_all (λ t. nat_le t list) ts) all in
+    and_from (nat_le t (list + 1)) (list_all (λ t. nat_le t (list + 1)) ts) (grind (arith, nat_tests, parts.0)) (past_next list ts parts.1)
+
+pub stamps_next : (list : ℕ) (stamps : List ℕ) → AreStamps list stamps → AreStamps (list + 1) stamps
+stamps_next list stamps t = record { some = omega arith; size = t.size; past = past_next list stamps t.past }
+
+-- ---- the table
+
+pub table_begin : (list : ℕ) (entries : List Entry) → AreStamps list (map (λ (e : Entry). e.list) entries) → map (last_in (list + 1)) entries ≡ none_changed
+table_begin list entries t =
+    let long : length entries ≡ 645 = sym (length-map entries (λ (e : Entry). e.list)) ∙ t.size in
+    none_last list entries t.past ∙ ap (λ n. replicate n 0) long
+
+pub table_put : (list : ℕ) (entries : List Entry) (k n : ℕ)
+    → map (last_in list) (slice_set entries k (record { list = list; last = n })) ≡ slice_set (map (last_in list) entries) k n
+table_put list entries k n =
+    let same : (list == list) ≡ true = grind (arith, nat_tests) in
+    map_set (last_in list) entries k (record { list = list; last = n }) ∙ ap (λ b. slice_set (map (last_in list) entries) k (if b then n else 0)) same
+
+pub table_put_stamps : (list : ℕ) (entries : List Entry) (k n : ℕ) → AreStamps list (map (λ (e : Entry). e.list) entries)
+    → AreStamps list (map (λ (e : Entry). e.list) (slice_set entries k (record { list = list; last = n })))
+table_put_stamps list entries k n t =
+    subst (AreStamps list) (sym (map_set (λ (e : Entry). e.list) entries k (record { list = list; last = n }))) (record {
+      some = t.some;
+      size = length-set (map (λ (e : Entry). e.list) entries) k list ∙ t.size;
+      past = past_set list (map (λ (e : Entry). e.list) entries) k list (omega arith) t.past;
+    })

@@ -1,0 +1,40 @@
+use Rattle.std.proofs.Common.{ℕ, List, length, replicate, false, true, ◌≡◌, sym, ap, ◌∙◌}
+use Rattle.std.specs.List.{list_all}
+use Rattle.tta_arch.specs.Effects.{KeptReg}
+use Rattle.tta_moves.specs.declared.items.Item.{Item}
+use Rattle.tta_moves.specs.Numbers.{is_place}
+use Rattle.tta_order.specs.declared.rows.Found.{Found}
+use Rattle.tta_order.specs.Orders.{bare, picked, goes_through}
+use Rattle.tta_order.specs.Rows.{none_changed, rows_from, table_after, table_by, agrees, same_ends}
+use Rattle.tta_order.proofs.Ordered.{Tested, order_is, ordered_meaning, ordered_no_more}
+use Rattle.tta_order.proofs.agree.Checker.in_order.Goals as goal
+
+tested : (c : goal.After-drop-rows-2)
+    → Tested c.args.m.now c.args.b.now.live_out c.args.b.now.items c.of.result c.in_ok-rows.rows.items c.rows_of.new.table c.agrees.new.table c.args.numbers.now
+tested c =
+    let m = c.args.m.now in
+    let items = c.args.b.now.items in
+    let fits = c.in_ok-fits.ensures.agree c.if-not-fits.false in
+    let by = c.in_ok-fits.ensures.end c.if-not-fits.false in
+    record {
+      rules = c.keeps_rules.ensures;
+      list = c.requires.list;
+      through = ap (λ (l : List Item). goes_through m l) (sym c.as_slice-items.ensures) ∙ sym c.goes_through.ensures ∙ c.if-not-goes_through.false;
+      limits = ap (λ (l : List (ℕ × ℕ)). list_all (λ r. is_place (KeptReg r.0 r.1)) l) (sym c.as_slice-live.ensures) ∙ sym c.in_limits.ensures ∙ c.if-not-in_limits.false;
+      rows_are = c.in_ok-rows.ensures.found ∙ ap (λ (l : List Item). rows_from m none_changed 0 l) c.as_slice-items.ensures;
+      end_is = c.in_ok-rows.ensures.end ∙ ap (λ (l : List Item). table_after m none_changed 0 l) c.as_slice-items.ensures;
+      agree = rw (sym c.as_slice-items.ensures, sym c.as_slice.ensures.value) fits;
+      other_is = by ∙ ap (λ (l : List Item). table_by m l none_changed c.args.numbers.now) c.as_slice-items.ensures;
+      ends = ap (λ (l : List (ℕ × ℕ)). same_ends l c.agrees.new.table c.rows_of.new.table) (sym c.as_slice-live.ensures) ∙ sym c.same_ends.ensures ∙ c.if-not-same_ends.false;
+      picked_are = c.of.ensures ∙ c.in_ok-others.ensures ∙ ap (λ (l : List Item). bare (picked l c.args.numbers.now)) c.as_slice-items.ensures;
+      other_list = sym c.is_list.ensures ∙ c.if-not-is_list.false;
+    }
+
+pub returns-clause-order : goal.returns-clause-order
+returns-clause-order c = order_is c.args.m.now c.args.b.now.live_out c.args.b.now.items c.of.result c.in_ok-rows.rows.items c.rows_of.new.table c.agrees.new.table c.args.numbers.now (tested c)
+
+pub returns-clause-meaning : goal.returns-clause-meaning
+returns-clause-meaning c = ordered_meaning c.args.m.now c.args.b.now.live_out c.args.b.now.items c.of.result c.in_ok-rows.rows.items c.rows_of.new.table c.agrees.new.table c.args.numbers.now (tested c)
+
+pub returns-clause-no_more : goal.returns-clause-no_more
+returns-clause-no_more c = ordered_no_more c.args.m.now c.args.b.now.live_out c.args.b.now.items c.of.result c.in_ok-rows.rows.items c.rows_of.new.table c.agrees.new.table c.args.numbers.now (tested c)

@@ -1,0 +1,28 @@
+//! The numbers of channels, for tables with an entry for each channel.
+
+ghost use Rattle.std.specs.Prelude.{◌≡◌};
+ghost use Rattle.tta_order.specs.Rows.{if_so};
+
+use tta_moves::numbers::PLACES;
+
+/// The number of the data space. The channels before it are the places, by their numbers.
+pub const DATA: usize = PLACES;
+
+/// The number of the frame space.
+pub const FRAME: usize = PLACES + 1;
+
+/// The number of the input and the output.
+pub const TRAFFIC: usize = PLACES + 2;
+
+/// The number of how a list goes on.
+pub const ENDING: usize = PLACES + 3;
+
+/// How many channels there are.
+pub const CHANNELS: usize = PLACES + 4;
+
+/// A number, if something is so.
+pub fn if_so(b: bool, k: usize) -> Option<usize>
+    ensures { result ≡ if_so b k }
+{
+    if b { Some(k) } else { None }
+}

@@ -1,0 +1,211 @@
+//! Edges by where they begin, how far each node is from the end, and the nodes one by one.
+
+use crate::edges::Edge;
+use std::alloc::{AllocError, Global};
+use std::collections::BinaryHeap;
+
+/// The entry of a list, 0 beyond its end.
+pub fn at(list: &[usize], n: usize) -> usize {
+    match list.get(n) {
+        None => 0,
+        Some(k) => *k,
+    }
+}
+
+fn put(list: &mut Vec<usize>, n: usize, k: usize) {
+    if n < list.len() {
+        list[n] = k;
+    }
+}
+
+/// The entry of a list of paths, 0 beyond its end.
+pub fn path_at(list: &[i32], n: usize) -> i32 {
+    match list.get(n) {
+        None => 0,
+        Some(k) => *k,
+    }
+}
+
+const NONE: Edge = Edge {
+    from: 0,
+    to: 0,
+    channel: 0,
+    gap: 0,
+};
+
+/// Edges by where they begin: those of node n are at the places from first[n] to first[n + 1].
+#[derive(Drop)]
+pub struct Graph {
+    first: Vec<usize>,
+    edges: Vec<Edge>,
+}
+
+fn count_firsts(first: &mut Vec<usize>, edges: &[Edge]) {
+    for e in edges {
+        let n = e.from.saturating_add(1);
+        let count = at(first.as_slice(), n);
+        put(first, n, count.saturating_add(1));
+    }
+    let mut sum = 0usize;
+    for n in 0..first.len() {
+        sum = sum.saturating_add(first[n]);
+        first[n] = sum;
+    }
+}
+
+impl Graph {
+    /// The graph of edges between so many nodes. The only error is out of memory.
+    pub fn of(alloc: Global, nodes: usize, edges: &[Edge]) -> Result<Self, AllocError> {
+        let mut first = vec![in alloc; 0; nodes.saturating_add(1)]?;
+        count_firsts(&mut first, edges);
+        let mut next = Vec::from_slice(alloc, first.as_slice())?;
+        let mut sorted = vec![in alloc; NONE; edges.len()]?;
+        for e in edges {
+            let k = at(next.as_slice(), e.from);
+            if k < sorted.len() {
+                sorted[k] = *e;
+            }
+            put(&mut next, e.from, k.saturating_add(1));
+        }
+        Ok(Graph {
+            first,
+            edges: sorted,
+        })
+    }
+
+    fn edge(&self, k: usize) -> Edge {
+        match self.edges.get(k) {
+            None => NONE,
+            Some(e) => *e,
+        }
+    }
+
+    fn from(&self, node: usize) -> usize {
+        at(self.first.as_slice(), node)
+    }
+
+    fn to(&self, node: usize) -> usize {
+        at(self.first.as_slice(), node.saturating_add(1))
+    }
+
+    fn path(&self, paths: &[i32], node: usize, own: i32) -> i32 {
+        let mut path = own;
+        for k in self.from(node)..self.to(node) {
+            let e = self.edge(k);
+            path = path.max(path_at(paths, e.to).saturating_add(e.gap));
+        }
+        path
+    }
+
+    /// How many cycles it takes at least from each node to the end, where it takes so many by
+    /// itself.
+    pub fn paths(&self, own: Vec<i32>) -> Vec<i32> {
+        let mut paths = own;
+        for node in (0..paths.len()).rev() {
+            let path = self.path(paths.as_slice(), node, paths[node]);
+            paths[node] = path;
+        }
+        paths
+    }
+
+    /// How many edges end in each of so many nodes.
+    fn waits(&self, alloc: Global, nodes: usize) -> Result<Vec<usize>, AllocError> {
+        let mut waits = vec![in alloc; 0; nodes]?;
+        for e in self.edges.as_slice() {
+            let count = at(waits.as_slice(), e.to);
+            put(&mut waits, e.to, count.saturating_add(1));
+        }
+        Ok(waits)
+    }
+
+    /// The nodes, each after those from which an edge leads to it: of those that may be next, the
+    /// one with the longest path, and of such the first. A node that has to stay last does.
+    pub fn in_turn(
+        &self,
+        alloc: Global,
+        paths: &[i32],
+        last: Option<usize>,
+    ) -> Result<Vec<usize>, AllocError> {
+        let mut ready = Ready::new(alloc, paths.len(), last)?;
+        let mut waits = self.waits(alloc, paths.len())?;
+        for node in 0..paths.len() {
+            if at(waits.as_slice(), node) == 0 {
+                ready.add(paths, node)?;
+            }
+        }
+        let mut taken = Vec::with_capacity(alloc, paths.len())?;
+        for _ in 0..paths.len() {
+            let Some(node) = ready.take() else {
+                break;
+            };
+            taken.push(node)?;
+            self.free(paths, node, &mut waits, &mut ready)?;
+        }
+        if let Some(node) = last {
+            taken.push(node)?;
+        }
+        Ok(taken)
+    }
+
+    /// The edges from a node hold nothing back any more.
+    fn free(
+        &self,
+        paths: &[i32],
+        node: usize,
+        waits: &mut Vec<usize>,
+        ready: &mut Ready,
+    ) -> Result<(), AllocError> {
+        for k in self.from(node)..self.to(node) {
+            let e = self.edge(k);
+            let count = at(waits.as_slice(), e.to).saturating_sub(1);
+            put(waits, e.to, count);
+            if count == 0 {
+                ready.add(paths, e.to)?;
+            }
+        }
+        Ok(())
+    }
+}
+
+/// A node that may be next: its path, and how many nodes come after it in the list.
+#[derive(Clone, Copy, PartialEq, Eq, PartialOrd, Ord)]
+struct Next {
+    path: i32,
+    behind: usize,
+}
+
+/// The nodes that may be next.
+#[derive(Drop)]
+struct Ready {
+    nodes: usize,
+    last: Option<usize>,
+    heap: BinaryHeap<Next>,
+}
+
+impl Ready {
+    fn new(alloc: Global, nodes: usize, last: Option<usize>) -> Result<Self, AllocError> {
+        Ok(Ready {
+            nodes,
+            last,
+            heap: BinaryHeap::with_capacity(alloc, nodes)?,
+        })
+    }
+
+    fn add(&mut self, paths: &[i32], node: usize) -> Result<(), AllocError> {
+        if self.last == Some(node) {
+            return Ok(());
+        }
+        self.heap.push(Next {
+            path: path_at(paths, node),
+            behind: self.nodes.saturating_sub(node),
+        })?;
+        Ok(())
+    }
+
+    fn take(&mut self) -> Option<usize> {
+        match self.heap.pop() {
+            None => None,
+            Some(next) => Some(self.nodes.saturating_sub(next.behind)),
+        }
+    }
+}

@@ -1,0 +1,112 @@
+//! Groups of items: the list is cut where nothing but home registers and spaces goes on.
+
+use crate::edges::Edge;
+use crate::graph::at;
+use crate::marks::Marks;
+use crate::uses::Uses;
+use std::alloc::{AllocError, Global};
+use tta_moves::numbers::{immediate, register, return_address};
+
+/// How many of the first registers of the hub are scratch registers.
+const SCRATCH: u8 = 3;
+
+/// Whether a channel is a scratch register of the hub, an immediate register or a port.
+pub fn is_passing(hub: u8, channel: usize) -> bool {
+    (register(hub, 0) <= channel && channel < register(hub, SCRATCH))
+        || (immediate(0, 0) <= channel && channel < return_address())
+}
+
+/// The passing channels whose words are still asked for, on the way up a list, and how many.
+#[derive(Drop)]
+struct Awaited<'m> {
+    hub: u8,
+    count: usize,
+    marks: &'m mut Marks,
+}
+
+impl Awaited<'_> {
+    fn done(&mut self, channel: Option<usize>) {
+        let Some(c) = channel else {
+            return;
+        };
+        if self.marks.get(c).is_some() {
+            self.marks.unset(c);
+            self.count = self.count.saturating_sub(1);
+        }
+    }
+
+    fn asked(&mut self, channel: Option<usize>) {
+        let Some(c) = channel else {
+            return;
+        };
+        if is_passing(self.hub, c) && self.marks.get(c).is_none() {
+            self.marks.set(c, 0);
+            self.count = self.count.saturating_add(1);
+        }
+    }
+
+    fn before(&mut self, u: Uses) {
+        self.done(u.written);
+        self.asked(u.source);
+        self.asked(u.operand);
+        if u.is_guarded {
+            self.asked(u.guard);
+            self.asked(u.written);
+        }
+    }
+}
+
+/// The numbers of the first items of the groups, in rising order. The only error is out of memory.
+pub fn starts(
+    alloc: Global,
+    marks: &mut Marks,
+    hub: u8,
+    all: &[Uses],
+) -> Result<Vec<usize>, AllocError> {
+    marks.begin();
+    let mut awaited = Awaited {
+        hub,
+        count: 0,
+        marks,
+    };
+    let mut starts = Vec::new(alloc);
+    for n in (0..all.len()).rev() {
+        awaited.before(all[n]);
+        if awaited.count == 0 || n == 0 {
+            starts.push(n)?;
+        }
+    }
+    starts.reverse();
+    Ok(starts)
+}
+
+/// The group of each item.
+pub fn groups_of(alloc: Global, items: usize, starts: &[usize]) -> Result<Vec<usize>, AllocError> {
+    let mut groups = Vec::with_capacity(alloc, items)?;
+    let mut group = 0usize;
+    for n in 0..items {
+        if at(starts, group.saturating_add(1)) == n && n > 0 {
+            group = group.saturating_add(1);
+        }
+        groups.push(group)?;
+    }
+    Ok(groups)
+}
+
+/// The edges between groups, without those for passing channels.
+pub fn between(
+    alloc: Global,
+    hub: u8,
+    groups: &[usize],
+    edges: &[Edge],
+) -> Result<Vec<Edge>, AllocError> {
+    let mut kept = Vec::new(alloc);
+    for e in edges {
+        let from = at(groups, e.from);
+        let to = at(groups, e.to);
+        if from != to && !is_passing(hub, e.channel) {
+            kept.push(Edge { from, to, ..*e })?;
+        }
+    }
+    Ok(kept)
+}

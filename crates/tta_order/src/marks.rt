@@ -1,0 +1,72 @@
+//! A number for each channel, on the way through a list.
+
+use crate::channels::CHANNELS;
+use std::alloc::{AllocError, Global};
+
+/// A number, and the walk in which it was noted.
+#[derive(Clone, Copy)]
+struct Mark {
+    walk: u64,
+    number: usize,
+}
+
+const UNUSED: Mark = Mark { walk: 0, number: 0 };
+
+/// A number for each channel, or none. The table serves one walk after another and is not cleared
+/// between them: what was noted in earlier walks counts no more.
+#[derive(Drop)]
+pub struct Marks {
+    walk: u64,
+    marks: Vec<Mark>,
+}
+
+impl Marks {
+    /// A table for any number of walks. The only error is out of memory.
+    pub fn new(alloc: Global) -> Result<Self, AllocError> {
+        Ok(Marks {
+            walk: 1,
+            marks: vec![in alloc; UNUSED; CHANNELS]?,
+        })
+    }
+
+    /// Begins a walk: no channel has a number.
+    pub fn begin(&mut self) {
+        if self.walk == u64::MAX {
+            self.marks.fill(UNUSED);
+            self.walk = 1;
+        } else {
+            self.walk += 1;
+        }
+    }
+
+    /// The number of a channel, if it has one.
+    pub fn get(&self, channel: usize) -> Option<usize> {
+        match self.marks.get(channel) {
+            None => None,
+            Some(mark) => {
+                if mark.walk == self.walk {
+                    Some(mark.number)
+                } else {
+                    None
+                }
+            }
+        }
+    }
+
+    fn put(&mut self, channel: usize, mark: Mark) {
+        if channel < self.marks.len() {
+            self.marks[channel] = mark;
+        }
+    }
+
+    /// Gives a channel a number.
+    pub fn set(&mut self, channel: usize, number: usize) {
+        let walk = self.walk;
+        self.put(channel, Mark { walk, number });
+    }
+
+    /// Takes the number of a channel away.
+    pub fn unset(&mut self, channel: usize) {
+        self.put(channel, UNUSED);
+    }
+}

@@ -1,0 +1,88 @@
+//! The list of a block in an order that a rule chooses.
+
+ghost use Rattle.std.specs.Prelude.{◌≡◌, true, IfOk, IfSome};
+ghost use Rattle.tta_connect.specs.Net.{IsNetOf};
+ghost use Rattle.tta_moves.specs.Slots.{is_list};
+ghost use Rattle.tta_optim.specs.Kept.{IsStandIn};
+
+use crate::agree::Checker;
+use crate::choice::{Rule, chosen};
+use crate::marks::Marks;
+use std::alloc::{AllocError, Global};
+use tta_arch::Machine;
+use tta_connect::Net;
+use tta_moves::BlockList;
+
+/// Whether numbers count from 0.
+fn count_up(numbers: &[usize]) -> bool {
+    for (n, k) in numbers.iter().enumerate() {
+        if *k != n {
+            return false;
+        }
+    }
+    true
+}
+
+/// Orders by rules, with the tables that they keep, which serve one list after another.
+#[derive(Drop)]
+pub struct Orders {
+    hub: u8,
+    marks: Marks,
+    checker: Checker,
+}
+
+impl Orders {
+    /// Orders for a machine with this hub and any number of lists. They know by the hub which
+    /// registers are scratch. It fails only where there is no memory.
+    pub fn new(alloc: Global, hub: u8) -> Result<Self, AllocError> {
+        let marks = Marks::new(alloc)?;
+        let checker = Checker::new(alloc)?;
+        Ok(Orders {
+            hub,
+            marks,
+            checker,
+        })
+    }
+
+    /// The list of a block in the order that a rule chooses; none where that is the list's own, or
+    /// is not known to be an order. It fails only where there is no memory.
+    pub fn order(
+        &mut self,
+        alloc: Global,
+        b: &BlockList,
+        m: &Machine,
+        net: &Net,
+        rule: Rule,
+    ) -> Result<Option<BlockList>, AllocError>
+        requires net { IsNetOf net.now m.now }
+        requires list { is_list m.now b.now.items ≡ true }
+        ensures { IfOk result (λ o. IfSome o (λ r. IsStandIn m.now b.now r)) }
+    {
+        let items = b.items.as_slice();
+        let numbers = chosen(alloc, &mut self.marks, m, self.hub, items, rule)?;
+        if count_up(numbers.as_slice()) {
+            return Ok(None);
+        }
+        let r = self.checker.in_order(alloc, b, m, net, numbers.as_slice())?;
+        Ok(r)
+    }
+}
+
+/// The list of a block in the order that a rule chooses, for a machine with this hub; none where
+/// that is the list's own, or is not known to be an order. The only error is out of memory. Whoever
+/// has many lists keeps `Orders` instead.
+pub fn order(
+    alloc: Global,
+    b: &BlockList,
+    m: &Machine,
+    net: &Net,
+    hub: u8,
+    rule: Rule,
+) -> Result<Option<BlockList>, AllocError>
+    requires net { IsNetOf net.now m.now }
+    requires list { is_list m.now b.now.items ≡ true }
+    ensures { IfOk result (λ o. IfSome o (λ r. IsStandIn m.now b.now r)) }
+{
+    let mut orders = Orders::new(alloc, hub)?;
+    orders.order(alloc, b, m, net, rule)
+}
