@@ -70,7 +70,8 @@ fn same_ends(live: &[(u8, u8)], a: &Table, b: &Table) -> bool
     same_live(live, a, b)
         && (same_entry(a, b, return_address())
             && (same_entry(a, b, DATA)
-                && (same_entry(a, b, FRAME) && (same_entry(a, b, TRAFFIC) && same_entry(a, b, ENDING)))))
+                && (same_entry(a, b, FRAME)
+                    && (same_entry(a, b, TRAFFIC) && same_entry(a, b, ENDING)))))
 }
 
 /// The item of a number, if there is one.

@@ -3,7 +3,7 @@
 ghost use Rattle.std.specs.Prelude.{◌≡◌};
 ghost use Rattle.tta_order.specs.Rows.{if_so};
 
-use tta_moves::numbers::PLACES;
+use tta_moves::numbers::{PLACES, UNITS};
 
 /// The number of the data space. The channels before it are the places, by their numbers.
 pub const DATA: usize = PLACES;
@@ -19,6 +19,9 @@ pub const ENDING: usize = PLACES + 3;
 
 /// How many channels there are.
 pub const CHANNELS: usize = PLACES + 4;
+
+/// How many numbers there are where each unit has one too, after the channels.
+pub const MARKED: usize = CHANNELS + UNITS;
 
 /// A number, if something is so.
 pub fn if_so(b: bool, k: usize) -> Option<usize>

@@ -1,9 +1,11 @@
 //! Numbers of items in an order that is likely to be short.
 
+use crate::clock::{Clock, end_of};
 use crate::edges::{flows, overwrites, rewrites};
 use crate::graph::{Graph, at, path_at};
-use crate::groups::{between, groups_of, starts};
+use crate::groups::{between, groups_of, starts_of};
 use crate::marks::Marks;
+use crate::ready::Ready;
 use crate::uses::{Uses, all_uses};
 use std::alloc::{AllocError, Global};
 use tta_arch::Machine;
@@ -13,14 +15,18 @@ use tta_moves::Item;
 /// By what an order is chosen. Ties go to the first in the list.
 #[derive(Clone, Copy, Debug, PartialEq, Eq)]
 pub enum Rule {
-    /// Groups of items, each with all that one step of register code became: the group with the
-    /// longest path to the block's end comes first.
-    Groups,
-    /// Item by item: the one with the longest path to the block's end comes first.
+    /// Item by item: that with the longest path to the block's end comes first.
     Items,
+    /// By groups, each of which is what one step of register code became: that with the longest
+    /// path to the block's end comes first.
+    Groups,
+    /// By the same groups: that comes first which can begin first beside those before it, and of
+    /// such that with the longest path.
+    Cycles,
 }
 
-fn lasts(alloc: Global, all: &[Uses]) -> Result<Vec<i32>, AllocError> {
+/// How many cycles each item takes by itself. The only error is out of memory.
+fn own_paths(alloc: Global, all: &[Uses]) -> Result<Vec<i32>, AllocError> {
     let mut own = Vec::with_capacity(alloc, all.len())?;
     for u in all {
         own.push(u.takes)?;
@@ -28,14 +34,15 @@ fn lasts(alloc: Global, all: &[Uses]) -> Result<Vec<i32>, AllocError> {
     Ok(own)
 }
 
-fn last_control(items: &[Item]) -> Option<usize> {
+/// The number of the control item, if there is one.
+fn control_of(items: &[Item]) -> Option<usize> {
     match items.last() {
         Some(x) if is_control(*x) => Some(items.len() - 1),
         _ => None,
     }
 }
 
-/// The numbers of items, of those that may be next the one with the longest path first.
+/// The numbers of items in the order of single items. The only error is out of memory.
 fn by_items(
     alloc: Global,
     marks: &mut Marks,
@@ -46,19 +53,25 @@ fn by_items(
     rewrites(marks, all, &mut edges)?;
     overwrites(marks, all, &mut edges)?;
     let graph = Graph::of(alloc, all.len(), edges.as_slice())?;
-    let paths = graph.paths(lasts(alloc, all)?);
-    graph.in_turn(alloc, paths.as_slice(), last)
+    let paths = graph.paths(own_paths(alloc, all)?);
+    let mut ready = Ready::new(alloc, all.len(), last, None);
+    let order = graph.in_turn(alloc, paths.as_slice(), &mut ready);
+    // Dropped here as a whole, so that no part of it is left to drop at the end.
+    drop(ready);
+    order
 }
 
-/// The uses of items whose results are read from their ports.
-fn bypassed(all: &mut Vec<Uses>) {
+/// Lets copies of results show as early as the results do: what reads them will mostly read the
+/// port.
+fn bypass_copies(all: &mut Vec<Uses>) {
     for u in all.iter_mut() {
-        if u.is_copy && !u.is_guarded {
+        if u.is_copy {
             u.shows = 0;
         }
     }
 }
 
+/// The longest path of an item of each group. The only error is out of memory.
 fn longest(
     alloc: Global,
     groups: &[usize],
@@ -73,14 +86,6 @@ fn longest(
         }
     }
     Ok(most)
-}
-
-/// The number of the item after the last one of a group.
-fn end_of(starts: &[usize], group: usize, items: usize) -> usize {
-    match starts.get(group.saturating_add(1)) {
-        None => items,
-        Some(n) => *n,
-    }
 }
 
 /// The numbers of the items of groups. The only error is out of memory.
@@ -99,27 +104,50 @@ fn members(
     Ok(numbers)
 }
 
+/// The numbers of items in an order of groups, of which the last stays last where it has control;
+/// with a number of buses, cycle by cycle. The only error is out of memory.
 fn by_groups(
     alloc: Global,
     marks: &mut Marks,
     hub: u8,
     all: &mut Vec<Uses>,
     is_ended: bool,
+    buses: Option<usize>,
 ) -> Result<Vec<usize>, AllocError> {
-    let starts = starts(alloc, marks, hub, all.as_slice())?;
+    let starts = starts_of(alloc, marks, hub, all.as_slice())?;
     let groups = groups_of(alloc, all.len(), starts.as_slice())?;
-    bypassed(all);
+    let count = starts.len();
+    bypass_copies(all);
     let mut edges = flows(alloc, marks, all.as_slice())?;
-    let own = lasts(alloc, all.as_slice())?;
+    let own = own_paths(alloc, all.as_slice())?;
     let paths = Graph::of(alloc, all.len(), edges.as_slice())?.paths(own);
-    let most = longest(alloc, groups.as_slice(), starts.len(), paths.as_slice())?;
+    let most = longest(alloc, groups.as_slice(), count, paths.as_slice())?;
     rewrites(marks, all.as_slice(), &mut edges)?;
     overwrites(marks, all.as_slice(), &mut edges)?;
     let kept = between(alloc, hub, groups.as_slice(), edges.as_slice())?;
-    let graph = Graph::of(alloc, starts.len(), kept.as_slice())?;
-    let last = if is_ended { starts.len().checked_sub(1) } else { None };
-    let order = graph.in_turn(alloc, most.as_slice(), last)?;
+    let graph = Graph::of(alloc, count, kept.as_slice())?;
+    let last = if is_ended { count.checked_sub(1) } else { None };
+    let clock = clock_with(alloc, all.as_slice(), starts.as_slice(), marks, buses);
+    let mut ready = Ready::new(alloc, count, last, clock);
+    let order = graph.in_turn(alloc, most.as_slice(), &mut ready);
+    // Dropped here as a whole, so that no part of it is left to drop at the end.
+    drop(ready);
+    let order = order?;
     members(alloc, order.as_slice(), starts.as_slice(), all.len())
+}
+
+/// A clock, where a number of buses is given.
+fn clock_with<'c>(
+    alloc: Global,
+    all: &'c [Uses],
+    starts: &'c [usize],
+    marks: &'c mut Marks,
+    buses: Option<usize>,
+) -> Option<Clock<'c>> {
+    match buses {
+        None => None,
+        Some(n) => Some(Clock::new(alloc, all, starts, marks, n)),
+    }
 }
 
 /// The numbers of a list's items in the order that a rule gives. The only error is out of memory.
@@ -132,9 +160,12 @@ pub fn chosen(
     rule: Rule,
 ) -> Result<Vec<usize>, AllocError> {
     let mut all = all_uses(alloc, m, items)?;
-    let last = last_control(items);
+    let last = control_of(items);
+    let is_ended = last.is_some();
+    let buses = Some(m.buses.len());
     match rule {
-        Rule::Groups => by_groups(alloc, marks, hub, &mut all, last.is_some()),
         Rule::Items => by_items(alloc, marks, all.as_slice(), last),
+        Rule::Groups => by_groups(alloc, marks, hub, &mut all, is_ended, None),
+        Rule::Cycles => by_groups(alloc, marks, hub, &mut all, is_ended, buses),
     }
 }

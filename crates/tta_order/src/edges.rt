@@ -99,11 +99,7 @@ fn rewrite(
 }
 
 /// Each item that changes a channel comes after the last before it that changed it.
-pub fn rewrites(
-    marks: &mut Marks,
-    all: &[Uses],
-    edges: &mut Vec<Edge>,
-) -> Result<(), AllocError> {
+pub fn rewrites(marks: &mut Marks, all: &[Uses], edges: &mut Vec<Edge>) -> Result<(), AllocError> {
     marks.begin();
     for (to, u) in all.iter().enumerate() {
         rewrite(edges, marks, all, to, u.written)?;

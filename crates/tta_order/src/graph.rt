@@ -1,8 +1,8 @@
-//! Edges by where they begin, how far each node is from the end, and the nodes one by one.
+//! Edges by where they begin: how far each node is from the end, and the nodes one by one.
 
 use crate::edges::Edge;
+use crate::ready::Ready;
 use std::alloc::{AllocError, Global};
-use std::collections::BinaryHeap;
 
 /// The entry of a list, 0 beyond its end.
 pub fn at(list: &[usize], n: usize) -> usize {
@@ -118,15 +118,14 @@ impl Graph {
         Ok(waits)
     }
 
-    /// The nodes, each after those from which an edge leads to it: of those that may be next, the
-    /// one with the longest path, and of such the first. A node that has to stay last does.
+    /// The nodes, each after those from which an edge leads to it: of those that may be next always
+    /// the one that is taken. A node that has to stay last does. The only error is out of memory.
     pub fn in_turn(
         &self,
         alloc: Global,
         paths: &[i32],
-        last: Option<usize>,
+        ready: &mut Ready<'_>,
     ) -> Result<Vec<usize>, AllocError> {
-        let mut ready = Ready::new(alloc, paths.len(), last)?;
         let mut waits = self.waits(alloc, paths.len())?;
         for node in 0..paths.len() {
             if at(waits.as_slice(), node) == 0 {
@@ -135,13 +134,13 @@ impl Graph {
         }
         let mut taken = Vec::with_capacity(alloc, paths.len())?;
         for _ in 0..paths.len() {
-            let Some(node) = ready.take() else {
+            let Some(node) = ready.take()? else {
                 break;
             };
             taken.push(node)?;
-            self.free(paths, node, &mut waits, &mut ready)?;
+            self.free(paths, node, &mut waits, ready)?;
         }
-        if let Some(node) = last {
+        if let Some(node) = ready.last() {
             taken.push(node)?;
         }
         Ok(taken)
@@ -153,7 +152,7 @@ impl Graph {
         paths: &[i32],
         node: usize,
         waits: &mut Vec<usize>,
-        ready: &mut Ready,
+        ready: &mut Ready<'_>,
     ) -> Result<(), AllocError> {
         for k in self.from(node)..self.to(node) {
             let e = self.edge(k);
@@ -164,48 +163,5 @@ impl Graph {
             }
         }
         Ok(())
-    }
-}
-
-/// A node that may be next: its path, and how many nodes come after it in the list.
-#[derive(Clone, Copy, PartialEq, Eq, PartialOrd, Ord)]
-struct Next {
-    path: i32,
-    behind: usize,
-}
-
-/// The nodes that may be next.
-#[derive(Drop)]
-struct Ready {
-    nodes: usize,
-    last: Option<usize>,
-    heap: BinaryHeap<Next>,
-}
-
-impl Ready {
-    fn new(alloc: Global, nodes: usize, last: Option<usize>) -> Result<Self, AllocError> {
-        Ok(Ready {
-            nodes,
-            last,
-            heap: BinaryHeap::with_capacity(alloc, nodes)?,
-        })
-    }
-
-    fn add(&mut self, paths: &[i32], node: usize) -> Result<(), AllocError> {
-        if self.last == Some(node) {
-            return Ok(());
-        }
-        self.heap.push(Next {
-            path: path_at(paths, node),
-            behind: self.nodes.saturating_sub(node),
-        })?;
-        Ok(())
-    }
-
-    fn take(&mut self) -> Option<usize> {
-        match self.heap.pop() {
-            None => None,
-            Some(next) => Some(self.nodes.saturating_sub(next.behind)),
-        }
     }
 }

@@ -57,7 +57,7 @@ impl Awaited<'_> {
 }
 
 /// The numbers of the first items of the groups, in rising order. The only error is out of memory.
-pub fn starts(
+pub fn starts_of(
     alloc: Global,
     marks: &mut Marks,
     hub: u8,

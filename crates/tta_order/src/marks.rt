@@ -1,6 +1,6 @@
-//! A number for each channel, on the way through a list.
+//! A number for each channel and for each unit, on the way through a list.
 
-use crate::channels::CHANNELS;
+use crate::channels::MARKED;
 use std::alloc::{AllocError, Global};
 
 /// A number, and the walk in which it was noted.
@@ -12,7 +12,7 @@ struct Mark {
 
 const UNUSED: Mark = Mark { walk: 0, number: 0 };
 
-/// A number for each channel, or none. The table serves one walk after another and is not cleared
+/// A number for each channel and for each unit, or none. The table serves one walk after another and is not cleared
 /// between them: what was noted in earlier walks counts no more.
 #[derive(Drop)]
 pub struct Marks {
@@ -25,7 +25,7 @@ impl Marks {
     pub fn new(alloc: Global) -> Result<Self, AllocError> {
         Ok(Marks {
             walk: 1,
-            marks: vec![in alloc; UNUSED; CHANNELS]?,
+            marks: vec![in alloc; UNUSED; MARKED]?,
         })
     }
 

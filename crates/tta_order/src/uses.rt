@@ -1,12 +1,13 @@
 //! What each item of a list asks for and what it changes, for whoever chooses an order.
 
+use crate::channels::{CHANNELS, DATA, FRAME, TRAFFIC};
 use crate::parts::{
     guard_number, is_unguarded, operand_number, source_number, started, written_number,
 };
-use crate::channels::{DATA, FRAME, TRAFFIC};
 use std::alloc::{AllocError, Global};
 use tta_arch::{Dest, Machine, Op, Source};
 use tta_depend::{is_control, lasts};
+use tta_list::entry_at;
 use tta_moves::{Item, ItemSource};
 
 /// The channels that an item asks for and those that it may change, each by its number.
@@ -20,8 +21,10 @@ pub struct Uses {
     pub written: Option<usize>,
     /// The space that its operation stores into, or the traffic that it is part of.
     pub stored: Option<usize>,
+    /// The unit that it starts, by the number after those of channels.
+    pub trigger: Option<usize>,
     pub is_guarded: bool,
-    /// Whether it moves a result into a register.
+    /// Whether it moves a result into a register of 32 bits, in any case.
     pub is_copy: bool,
     /// How many cycles after its own what it writes shows.
     pub shows: u8,
@@ -29,6 +32,7 @@ pub struct Uses {
     pub takes: i32,
 }
 
+/// The space that an item's operation loads from or stores into, or the traffic that it is part of.
 fn used(m: &Machine, x: Item) -> Option<usize> {
     let Some(op) = started(m, x) else {
         return None;
@@ -41,6 +45,7 @@ fn used(m: &Machine, x: Item) -> Option<usize> {
     }
 }
 
+/// The space that an item's operation stores into, or the traffic that it is part of.
 fn stored(m: &Machine, x: Item) -> Option<usize> {
     let Some(op) = started(m, x) else {
         return None;
@@ -53,15 +58,37 @@ fn stored(m: &Machine, x: Item) -> Option<usize> {
     }
 }
 
-fn is_copy(x: Item) -> bool {
-    match x {
-        Item::Move { src, dst, .. } => {
-            matches!(src, ItemSource::Port(Source::Shown { .. })) && matches!(dst, Dest::Reg { .. })
-        }
-        Item::Long { .. } => false,
+fn is_wide(m: &Machine, file: u8) -> bool {
+    match entry_at(m.files.as_slice(), file) {
+        None => false,
+        Some(f) => f.width == 32,
     }
 }
 
+/// Whether an item without a guard moves a result into a register of 32 bits.
+fn is_copy(m: &Machine, x: Item) -> bool {
+    match x {
+        Item::Move {
+            guard: None,
+            src: ItemSource::Port(Source::Shown { .. }),
+            dst: Dest::Reg { file, .. },
+        } => is_wide(m, file),
+        _ => false,
+    }
+}
+
+/// The number of the unit that an item starts.
+fn trigger(x: Item) -> Option<usize> {
+    match x {
+        Item::Move {
+            dst: Dest::Trigger { unit, .. },
+            ..
+        } => Some(CHANNELS + usize::from(unit)),
+        _ => None,
+    }
+}
+
+/// How many cycles after its own what an item writes shows.
 fn shows(m: &Machine, x: Item) -> u8 {
     match x {
         Item::Move {
@@ -89,8 +116,9 @@ pub fn uses_of(m: &Machine, x: Item) -> Uses {
         used: used(m, x),
         written: written_number(m, x),
         stored: stored(m, x),
+        trigger: trigger(x),
         is_guarded: !is_unguarded(x),
-        is_copy: is_copy(x),
+        is_copy: is_copy(m, x),
         shows: shows(m, x),
         takes: takes(m, x),
     }

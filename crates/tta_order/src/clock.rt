@@ -1,0 +1,156 @@
+//! When groups of items could begin, as far as is guessed while an order is chosen.
+
+use crate::graph::at;
+use crate::marks::Marks;
+use crate::uses::Uses;
+use std::alloc::{AllocError, Global};
+
+/// How many cycles are looked at for one that has a bus.
+const FAR: usize = 64;
+
+/// How many items of a group are looked at for the first that starts an operation.
+const DEEP: usize = 16;
+
+/// The number of the item after the last one of a group.
+pub fn end_of(starts: &[usize], group: usize, items: usize) -> usize {
+    match starts.get(group.saturating_add(1)) {
+        None => items,
+        Some(n) => *n,
+    }
+}
+
+/// A guess of the cycles that the items take: each its first one from which on what it asks for
+/// shows, its unit is free and a bus is.
+#[derive(Drop)]
+pub struct Clock<'c> {
+    all: &'c [Uses],
+    starts: &'c [usize],
+    /// From which cycle on each channel shows, and each unit is free.
+    shown: &'c mut Marks,
+    /// How many moves each cycle has.
+    moves: Vec<usize>,
+    buses: usize,
+    /// Each cycle before this one has a move on each bus.
+    full: usize,
+}
+
+impl<'c> Clock<'c> {
+    /// A clock before the list, for a machine with so many buses.
+    pub fn new(
+        alloc: Global,
+        all: &'c [Uses],
+        starts: &'c [usize],
+        shown: &'c mut Marks,
+        buses: usize,
+    ) -> Self {
+        shown.begin();
+        Clock {
+            all,
+            starts,
+            shown,
+            moves: Vec::new(alloc),
+            buses,
+            full: 0,
+        }
+    }
+
+    fn since(&self, channel: Option<usize>) -> usize {
+        let Some(c) = channel else {
+            return 0;
+        };
+        match self.shown.get(c) {
+            None => 0,
+            Some(cycle) => cycle,
+        }
+    }
+
+    /// The first cycle in which what an item asks for shows and its unit is free.
+    fn least(&self, u: Uses) -> usize {
+        let read = self.since(u.source).max(self.since(u.guard));
+        // An operation takes its operand as the cycle's own moves leave it.
+        let operand = self.since(u.operand).saturating_sub(1);
+        let own = if u.is_guarded {
+            self.since(u.written)
+        } else {
+            0
+        };
+        read.max(operand).max(own).max(self.since(u.trigger))
+    }
+
+    /// The first cycle from one on that has a bus.
+    fn with_bus(&self, cycle: usize) -> usize {
+        let first = cycle.max(self.full);
+        let end = first.saturating_add(FAR);
+        for c in first..end {
+            if at(self.moves.as_slice(), c) < self.buses {
+                return c;
+            }
+        }
+        end
+    }
+
+    /// The cycle in which a group's first operation could start.
+    pub fn start_of(&self, group: usize) -> usize {
+        let first = at(self.starts, group);
+        let end = end_of(self.starts, group, self.all.len());
+        let mut cycle = 0;
+        for n in first..end.min(first.saturating_add(DEEP)) {
+            let Some(u) = self.all.get(n) else {
+                break;
+            };
+            cycle = cycle.max(self.least(*u));
+            if u.trigger.is_some() {
+                break;
+            }
+        }
+        self.with_bus(cycle)
+    }
+
+    /// One more move in a cycle.
+    fn book(&mut self, cycle: usize) -> Result<(), AllocError> {
+        if self.moves.len() <= cycle {
+            self.moves.resize(cycle.saturating_add(1), 0)?;
+        }
+        if cycle < self.moves.len() {
+            self.moves[cycle] = self.moves[cycle].saturating_add(1);
+        }
+        for _ in 0..FAR {
+            if at(self.moves.as_slice(), self.full) < self.buses {
+                break;
+            }
+            self.full = self.full.saturating_add(1);
+        }
+        Ok(())
+    }
+
+    fn show(&mut self, channel: Option<usize>, cycle: usize) {
+        if let Some(c) = channel {
+            self.shown.set(c, cycle);
+        }
+    }
+
+    fn place(&mut self, u: Uses) -> Result<(), AllocError> {
+        let least = self.least(u);
+        // A copy of a result is mostly left out later.
+        let cycle = if u.is_copy {
+            least
+        } else {
+            self.with_bus(least)
+        };
+        self.book(cycle)?;
+        self.show(u.written, cycle.saturating_add(usize::from(u.shows)));
+        self.show(u.trigger, cycle.saturating_add(1));
+        Ok(())
+    }
+
+    /// Places a group's items. It fails only where there is no memory.
+    pub fn begin(&mut self, group: usize) -> Result<(), AllocError> {
+        let end = end_of(self.starts, group, self.all.len());
+        for n in at(self.starts, group)..end {
+            if let Some(u) = self.all.get(n) {
+                self.place(*u)?;
+            }
+        }
+        Ok(())
+    }
+}

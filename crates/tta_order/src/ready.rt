@@ -1,0 +1,127 @@
+//! The nodes that may be next.
+
+use crate::clock::Clock;
+use crate::graph::path_at;
+use std::alloc::{AllocError, Global};
+use std::collections::BinaryHeap;
+
+/// How many nodes are compared for the next one, at most.
+const WINDOW: usize = 8;
+
+/// A node that may be next: the greater, the sooner it is taken.
+#[derive(Clone, Copy, PartialEq, Eq, PartialOrd, Ord)]
+struct Next {
+    /// How early it could begin: the greatest number less its cycle.
+    early: usize,
+    path: i32,
+    /// How many nodes come after it in the list.
+    behind: usize,
+}
+
+/// The nodes that may be next: with a clock, that which can begin first; of such, or without a
+/// clock, that with the longest path; of such the first of the list.
+#[derive(Drop)]
+pub struct Ready<'c> {
+    nodes: usize,
+    /// The node that has to stay last.
+    last: Option<usize>,
+    clock: Option<Clock<'c>>,
+    heap: BinaryHeap<Next>,
+    passed: Vec<Next>,
+}
+
+impl<'c> Ready<'c> {
+    /// No node of so many is ready.
+    pub fn new(alloc: Global, nodes: usize, last: Option<usize>, clock: Option<Clock<'c>>) -> Self {
+        Ready {
+            nodes,
+            last,
+            clock,
+            heap: BinaryHeap::new(alloc),
+            passed: Vec::new(alloc),
+        }
+    }
+
+    /// The node that has to stay last, if there is one.
+    pub fn last(&self) -> Option<usize> {
+        self.last
+    }
+
+    fn early(&self, node: usize) -> usize {
+        match &self.clock {
+            None => 0,
+            Some(clock) => usize::MAX.saturating_sub(clock.start_of(node)),
+        }
+    }
+
+    fn node(&self, next: Next) -> usize {
+        self.nodes.saturating_sub(next.behind)
+    }
+
+    /// A node may be next from now on. It fails only where there is no memory.
+    pub fn add(&mut self, paths: &[i32], node: usize) -> Result<(), AllocError> {
+        if self.last == Some(node) {
+            return Ok(());
+        }
+        let early = self.early(node);
+        self.heap.push(Next {
+            early,
+            path: path_at(paths, node),
+            behind: self.nodes.saturating_sub(node),
+        })?;
+        Ok(())
+    }
+
+    /// The best of the nodes that were ready earliest. How early each could begin is looked at
+    /// again, since other nodes were taken meanwhile.
+    fn best(&mut self) -> Result<Option<Next>, AllocError> {
+        let mut best = None;
+        for _ in 0..WINDOW {
+            let Some(x) = self.heap.pop() else {
+                break;
+            };
+            let early = self.early(self.node(x));
+            let y = Next { early, ..x };
+            best = self.better(best, y)?;
+            if early == x.early {
+                break;
+            }
+        }
+        Ok(best)
+    }
+
+    fn better(&mut self, best: Option<Next>, y: Next) -> Result<Option<Next>, AllocError> {
+        let Some(x) = best else {
+            return Ok(Some(y));
+        };
+        if x < y {
+            self.passed.push(x)?;
+            Ok(Some(y))
+        } else {
+            self.passed.push(y)?;
+            Ok(best)
+        }
+    }
+
+    fn put_back(&mut self) -> Result<(), AllocError> {
+        for x in self.passed.as_slice() {
+            self.heap.push(*x)?;
+        }
+        self.passed.clear();
+        Ok(())
+    }
+
+    /// Takes the next node. It fails only where there is no memory.
+    pub fn take(&mut self) -> Result<Option<usize>, AllocError> {
+        let best = self.best()?;
+        self.put_back()?;
+        let Some(x) = best else {
+            return Ok(None);
+        };
+        let node = self.node(x);
+        if let Some(clock) = &mut self.clock {
+            clock.begin(node)?;
+        }
+        Ok(Some(node))
+    }
+}
