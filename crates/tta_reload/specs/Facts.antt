@@ -1,0 +1,45 @@
+-- What a table of facts says of the items before, the newest first.
+use Rattle.std.specs.Prelude.{◌≡◌, ℕ, ◌==◌, Bool, true, ◌&&◌, List, [], ◌∷◌, Option, Some, None, IfSome}
+use Rattle.std.specs.List.{list_all, list_any}
+use Rattle.tta_arch.specs.declared.ends.Source.TheVariants as source
+use Rattle.tta_arch.specs.Machine.{Machine}
+use Rattle.tta_arch.specs.Effects.{KeptOperand}
+use Rattle.tta_moves.specs.declared.items.ItemSource.TheVariants.{Port}
+use Rattle.tta_moves.specs.declared.items.Item.{Item}
+use Rattle.tta_moves.specs.Forms.{same_end, copied}
+use Rattle.tta_moves.specs.Touches.{target_of_item, is_unguarded}
+use Rattle.tta_order.specs.Channels.{starts, stores_frame, operand_place}
+use Rattle.tta_reload.specs.declared.accesses.Operand.{Operand}
+use Rattle.tta_reload.specs.declared.known.Known.{Known}
+use Rattle.tta_reload.specs.declared.facts.Fact.{Fact}
+use Rattle.tta_reload.specs.Known.{known}
+
+abbrev pub same_fact : Fact → Fact → Bool
+same_fact f g = f.slot == g.slot && same_end f.from g.from
+
+abbrev pub is_among : (all : List Fact) → Fact → Bool
+is_among all f = list_any (same_fact f) all
+
+-- all of some facts are among others
+abbrev pub are_among : (all : List Fact) → List Fact → Bool
+are_among all fs = list_all (is_among all) fs
+
+-- the operand port of a unit still has a word that was moved there in any case, if one is noted
+abbrev pub IsOperand : Machine → (before : List Item) → Option Operand → Type 0
+IsOperand m before o = IfSome o (λ a. IfSome a.word (λ w. copied m (KeptOperand a.unit) before ≡ Some (Port (source.Value w))))
+
+-- an item stores into the frame in any case, with the operand of a unit
+pub record StoresBy (m : Machine) (x : Item) (unit : ℕ) : Type 0 where
+  pub store : starts m stores_frame (target_of_item x) ≡ true
+  pub operand : operand_place m (target_of_item x) ≡ Some (KeptOperand unit)
+  pub sure : is_unguarded x ≡ true
+
+-- an item is the newest, if one is noted
+abbrev pub IsNewest : (before : List Item) → Option Item → Type 0
+IsNewest before o = IfSome o (λ w. (older : List Item) × (before ≡ w ∷ older))
+
+-- what is noted is so
+pub record Knows (m : Machine) (before : List Item) (k : Known) : Type 0 where
+  pub operand : IsOperand m before k.operand
+  pub newest : IsNewest before k.newest
+  pub facts : are_among (known m before) k.facts.items ≡ true

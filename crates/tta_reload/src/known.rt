@@ -1,0 +1,242 @@
+//! What is known of frame slots on the way down a list: which sources have whose words.
+
+ghost use Rattle.std.specs.Prelude.{◌≡◌, ℕ, List, [], true, false, filter, ◌++◌, ◌∷◌, Some, IfSome};
+ghost use Rattle.tta_arch.specs.Machine.{Machine};
+ghost use Rattle.tta_arch.specs.declared.ends.Source.{Source};
+ghost use Rattle.tta_connect.specs.Net.{IsNetOf};
+ghost use Rattle.tta_moves.specs.declared.items.Item.{Item};
+ghost use Rattle.tta_moves.specs.Touches.{target_of_item};
+ghost use Rattle.tta_reload.specs.Known as spec;
+ghost use Rattle.tta_reload.specs.declared.facts.Fact.{Fact};
+ghost use Rattle.tta_reload.specs.Facts.{are_among, Knows};
+
+use crate::accesses::{Operand, loaded, operand_after, stored, sure_port, unit_of};
+use crate::facts::{Fact, note, same_end};
+use arrayvec::ArrayVec;
+use tta_arch::{Dest, GuardRef, Machine, Source};
+use tta_connect::Net;
+use tta_list::entry_at;
+use tta_moves::numbers::read_place;
+use tta_moves::{Item, ItemSource, is_joined};
+use tta_order::parts::{stores_frame, written_number};
+
+/// What is known after some items of a list.
+#[derive(Drop)]
+pub struct Known {
+    /// The operand port that was written last.
+    pub operand: Option<Operand>,
+    /// Slots, each with a source that has its word, the newest first.
+    pub facts: ArrayVec<Fact, 16>,
+    /// The last item.
+    pub newest: Option<Item>,
+}
+
+/// Whether an item may write the place of a source.
+fn spoils(m: &Machine, x: Item, src: Source) -> bool
+    ensures { result ≡ false → spec.spoils m.now x src ≡ false }
+{
+    match written_number(m, x) {
+        None => false,
+        Some(n) => read_place(ItemSource::Port(src)) == Some(n),
+    }
+}
+
+/// The register of whole words that an item writes, as a source.
+fn register_in(m: &Machine, x: Item) -> Option<Source>
+    ensures { IfSome result (λ reg. spec.register_in m.now (target_of_item x) ≡ Some reg) }
+{
+    let Item::Move {
+        dst: Dest::Reg { file, index },
+        ..
+    } = x
+    else {
+        return None;
+    };
+    match entry_at(m.files.as_slice(), file) {
+        Some(f) if f.width != 1 => Some(Source::Reg { file, index }),
+        _ => None,
+    }
+}
+
+/// The slot whose word a source has by a fact, if the fact is of the source.
+fn slot_from(f: Fact, src: Source) -> Option<u32>
+    ensures { IfSome result (λ slot. f ≡ spec.fact slot src) }
+{
+    if same_end(f.from, src) {
+        Some(f.slot)
+    } else {
+        None
+    }
+}
+
+/// Whether a source is worth reading in place of a load: an immediate register is not, since its
+/// word may be joined to a destination itself.
+fn is_kept(src: Source) -> bool {
+    !matches!(src, Source::Imm { .. })
+}
+
+impl Known {
+    /// Nothing is known at the begin of a list.
+    pub fn new() -> Self
+        ensures { (m : Machine) → Knows m [] result }
+    {
+        Known {
+            operand: None,
+            facts: ArrayVec::new(),
+            newest: None,
+        }
+    }
+
+    /// Adds what a load leaves.
+    fn note_load(facts: &mut ArrayVec<Fact, 16>, m: &Machine, x: Item)
+        ensures { (all : List Fact) → are_among all facts.old.items ≡ true
+            → are_among all (spec.by_load m.now x) ≡ true → are_among all facts.new.items ≡ true }
+    {
+        let Some(slot) = loaded(m, x) else {
+            return;
+        };
+        if let Some(unit) = unit_of(x) {
+            note(facts, slot, Source::Shown { unit });
+        }
+    }
+
+    /// The register that the item before has moved a source into as well.
+    fn twin(&self, m: &Machine, src: Source) -> Option<Source>
+        ensures { (before : List Item) → Knows m.now before self.now
+            → IfSome result (λ reg. spec.twin m.now before src ≡ Some reg) }
+    {
+        let Some(w) = self.newest else {
+            return None;
+        };
+        let Some(reg) = register_in(m, w) else {
+            return None;
+        };
+        match sure_port(w) {
+            None => None,
+            Some(other) => {
+                if same_end(other, src) {
+                    Some(reg)
+                } else {
+                    None
+                }
+            }
+        }
+    }
+
+    /// Adds what a store leaves.
+    fn note_store(&self, facts: &mut ArrayVec<Fact, 16>, m: &Machine, x: Item)
+        ensures { (before : List Item) (all : List Fact) → Knows m.now before self.now
+            → are_among all facts.old.items ≡ true → are_among all (spec.by_twin m.now before x) ≡ true
+            → are_among all (spec.by_store m.now before x) ≡ true
+            → are_among all facts.new.items ≡ true }
+    {
+        let Some(slot) = stored(m, self.operand, x) else {
+            return;
+        };
+        let Some(src) = sure_port(x) else {
+            return;
+        };
+        if let Some(reg) = self.twin(m, src) {
+            note(facts, slot, reg);
+        }
+        note(facts, slot, src);
+    }
+
+    /// Whether an item leaves a fact as it is.
+    fn stays(&self, m: &Machine, x: Item, slot: u32, src: Source) -> bool
+        ensures { (before : List Item) → Knows m.now before self.now → result ≡ true
+            → spec.stays m.now before x (spec.fact slot src) ≡ true }
+    {
+        if spoils(m, x, src) {
+            return false;
+        }
+        if !stores_frame(m, x) {
+            return true;
+        }
+        match stored(m, self.operand, x) {
+            None => false,
+            Some(other) => other != slot,
+        }
+    }
+
+    /// Adds what an item moves into a register.
+    fn note_copies(&self, facts: &mut ArrayVec<Fact, 16>, m: &Machine, x: Item)
+        ensures { (before : List Item) (all : List Fact) → Knows m.now before self.now
+            → are_among all facts.old.items ≡ true
+            → are_among all (spec.by_copy m.now (spec.known m.now before) x) ≡ true
+            → are_among all facts.new.items ≡ true }
+    {
+        let Some(src) = sure_port(x) else {
+            return;
+        };
+        let Some(reg) = register_in(m, x) else {
+            return;
+        };
+        for f in self.facts.as_slice() {
+            if !same_end(f.from, src) {
+                continue;
+            }
+            note(facts, f.slot, reg);
+        }
+    }
+
+    /// Adds what an item leaves as it is.
+    fn note_rest(&self, facts: &mut ArrayVec<Fact, 16>, m: &Machine, x: Item)
+        ensures { (before : List Item) (all : List Fact) → Knows m.now before self.now
+            → are_among all facts.old.items ≡ true
+            → are_among all (filter (spec.stays m.now before x) (spec.known m.now before)) ≡ true
+            → are_among all facts.new.items ≡ true }
+    {
+        for f in self.facts.as_slice() {
+            if !self.stays(m, x, f.slot, f.from) {
+                continue;
+            }
+            note(facts, f.slot, f.from);
+        }
+    }
+
+    /// Goes past an item.
+    pub fn pass(&mut self, m: &Machine, x: Item)
+        ensures { (before : List Item) → Knows m.now before self.old
+            → Knows m.now (x ∷ before) self.new }
+    {
+        let mut facts = ArrayVec::new();
+        Known::note_load(&mut facts, m, x);
+        self.note_store(&mut facts, m, x);
+        self.note_copies(&mut facts, m, x);
+        self.note_rest(&mut facts, m, x);
+        self.operand = operand_after(self.operand, x);
+        self.facts = facts;
+        self.newest = Some(x);
+    }
+
+    /// An older source with the word of a slot whose word a source has, if a bus joins it to a
+    /// destination.
+    pub fn other(
+        &self,
+        m: &Machine,
+        net: &Net,
+        src: Source,
+        guard: Option<GuardRef>,
+        dst: Dest,
+    ) -> Option<Source>
+        requires { IsNetOf net.now m.now }
+        ensures { (before : List Item) → Knows m.now before self.now
+            → IfSome result (λ b. spec.have_one (spec.known m.now before) src b ≡ true) }
+    {
+        let mut slot: Option<u32> = None;
+        for f in self.facts.as_slice() {
+            let Some(v) = slot else {
+                slot = slot_from(*f, src);
+                continue;
+            };
+            if f.slot != v {
+                continue;
+            }
+            if is_kept(f.from) && is_joined(m, net, ItemSource::Port(f.from), dst, guard) {
+                return Some(f.from);
+            }
+        }
+        None
+    }
+}
