@@ -6,6 +6,9 @@ use Rattle.tta_moves.specs.declared.items.Item.{Item}
 use Rattle.tta_reload.specs.declared.known.Known.{Known}
 use Rattle.tta_reload.specs.Known.{IsServed, AreServed}
 use Rattle.tta_reload.specs.Facts.{Knows}
+use Rattle.tta_arch.specs.Effects.{KeptReg}
+use Rattle.tta_moves.specs.Touches.{is_unguarded}
+use Rattle.tta_reload.specs.Copied.{is_one_of, copy_of, AreCopied, ends, stays, copies}
 
 -- ---- served items
 
@@ -33,3 +36,35 @@ served_next m items k later out i x y d lt is serves passes t = record {
 pub served_done : (m : Machine) (items : List Item) (k : Known) (out : List Item) (i : ℕ) → ServedTo m items k out i → length items ≤ i → AreServed m [] items out
 served_done m items k out i t le =
     subst (λ (l : List Item). AreServed m [] items l) (append-nil out) (t.all [] (subst (λ (l : List Item). AreServed m t.before l []) (sym (drop_all i items le)) tt))
+
+-- ---- copied words
+
+-- The copies so far are made.
+pub record CopiedTo (fresh : List (ℕ × ℕ)) (items out : List Item) (i : ℕ) : Type 0 where
+  pub all : (ys : List Item) → AreCopied fresh (drop i items) ys → AreCopied fresh items (out ++ ys)
+
+pub copied_begin : (fresh : List (ℕ × ℕ)) (items : List Item) → CopiedTo fresh items [] 0
+copied_begin fresh items = record { all = λ ys are. are }
+
+split_at : (items : List Item) (i : ℕ) (x d : Item) → i < length items → x ≡ get_or items i d → drop i items ≡ x ∷ drop (i + 1) items
+split_at items i x d lt is = drop_more items i d lt ∙ ap (λ z. z ∷ drop (i + 1) items) (sym is)
+
+pub copied_stays : (fresh : List (ℕ × ℕ)) (items out : List Item) (i : ℕ) (x d : Item) → i < length items → x ≡ get_or items i d → CopiedTo fresh items out i → CopiedTo fresh items (out ++ x ∷ []) (i + 1)
+copied_stays fresh items out i x d lt is t = record {
+  all = λ ys are.
+      let longer : AreCopied fresh (drop i items) (x ∷ ys) = subst (λ (l : List Item). AreCopied fresh l (x ∷ ys)) (sym (split_at items i x d lt is)) (stays x (drop (i + 1) items) ys are) in
+      subst (λ (l : List Item). AreCopied fresh items l) (sym (append_assoc out (x ∷ []) ys)) (t.all (x ∷ ys) longer);
+}
+
+pub copied_more : (fresh : List (ℕ × ℕ)) (items out : List Item) (i : ℕ) (r : ℕ × ℕ) (x d : Item) → i < length items → x ≡ get_or items i d → is_unguarded x ≡ true → is_one_of fresh (KeptReg r.0 r.1) ≡ true
+    → CopiedTo fresh items out i → CopiedTo fresh items ((out ++ copy_of x r ∷ []) ++ x ∷ []) (i + 1)
+copied_more fresh items out i r x d lt is sure one t = record {
+  all = λ ys are.
+      let longer : AreCopied fresh (drop i items) (copy_of x r ∷ x ∷ ys) =
+      subst (λ (l : List Item). AreCopied fresh l (copy_of x r ∷ x ∷ ys)) (sym (split_at items i x d lt is)) (copies x r (drop (i + 1) items) ys sure one are) in
+      subst (λ (l : List Item). AreCopied fresh items l) (sym (append_assoc (out ++ copy_of x r ∷ []) (x ∷ []) ys ∙ append_assoc out (copy_of x r ∷ []) (x ∷ ys))) (t.all (copy_of x r ∷ x ∷ ys) longer);
+}
+
+pub copied_done : (fresh : List (ℕ × ℕ)) (items out : List Item) (i : ℕ) → CopiedTo fresh items out i → length items ≤ i → AreCopied fresh items out
+copied_done fresh items out i t le =
+    subst (λ (l : List Item). AreCopied fresh items l) (append-nil out) (t.all [] (subst (λ (l : List Item). AreCopied fresh l []) (sym (drop_all i items le)) ends))

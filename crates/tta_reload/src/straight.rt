@@ -1,0 +1,152 @@
+//! Whether a list is straight.
+
+ghost use Rattle.std.specs.Prelude.{◌≡◌, true, Some, slice_set, IfOk};
+ghost use Rattle.tta_connect.specs.Net.{IsNetOf};
+ghost use Rattle.tta_moves.specs.Slots.{is_list};
+ghost use Rattle.tta_moves.specs.Forms.{is_passing, is_port_source, is_straight};
+ghost use Rattle.tta_reload.specs.Trails.{longer, trail_in, next_trail, trails_after};
+ghost use Rattle.tta_reload.specs.Trails.{could_take, may_detour};
+
+use std::alloc::{AllocError, Global};
+use tta_arch::{Machine, Source};
+use tta_connect::Net;
+use tta_moves::numbers::{PLACES, read_place};
+use tta_moves::{Item, ItemSource, is_joined, keeps_rules};
+use tta_order::parts::{is_unguarded, source_of, written_number};
+
+/// The sources from which the word of a place has come, the newest first.
+#[derive(Clone, Copy)]
+pub struct Trail {
+    pub one: Option<ItemSource>,
+    pub two: Option<ItemSource>,
+    /// Whether there are more than these two.
+    pub is_long: bool,
+}
+
+const EMPTY: Trail = Trail {
+    one: None,
+    two: None,
+    is_long: false,
+};
+
+/// Whether a source is a scratch register or an immediate register.
+fn is_passing(hub: u8, src: ItemSource) -> bool
+    ensures { result ≡ is_passing (Some hub) src }
+{
+    let ItemSource::Port(from) = src else {
+        return false;
+    };
+    match from {
+        Source::Reg { file, index } => hub == file && index < 3,
+        Source::Imm { .. } => true,
+        Source::Shown { .. } | Source::Ra | Source::Value(_) => false,
+    }
+}
+
+fn is_port_source(src: ItemSource) -> bool
+    ensures { result ≡ is_port_source src }
+{
+    match src {
+        ItemSource::Port(from) => matches!(from, Source::Shown { .. }),
+        ItemSource::Address(_) => false,
+    }
+}
+
+fn longer(src: ItemSource, t: Trail) -> Trail
+    ensures { result ≡ longer src t }
+{
+    Trail {
+        one: Some(src),
+        two: t.one,
+        is_long: t.is_long || t.two.is_some(),
+    }
+}
+
+fn trail_in(trails: &[Trail], src: ItemSource) -> Trail
+    ensures { result ≡ trail_in trails.now src }
+{
+    match read_place(src) {
+        None => EMPTY,
+        Some(n) => match trails.get(n) {
+            None => EMPTY,
+            Some(t) => *t,
+        },
+    }
+}
+
+/// The trail of the place that an item writes.
+fn next_trail(hub: u8, trails: &[Trail], x: Item) -> Trail
+    ensures { result ≡ next_trail hub trails.now x }
+{
+    if !is_unguarded(x) {
+        return EMPTY;
+    }
+    let src = source_of(x);
+    if is_passing(hub, src) {
+        longer(src, trail_in(trails, src))
+    } else {
+        longer(src, EMPTY)
+    }
+}
+
+/// Goes past an item.
+fn pass(m: &Machine, hub: u8, trails: &mut Vec<Trail>, x: Item)
+    ensures { trails.new.items ≡ trails_after m.now hub trails.old.items x }
+{
+    let t = next_trail(hub, trails.as_slice(), x);
+    if let Some(n) = written_number(m, x) {
+        if n < trails.len() {
+            trails[n] = t;
+        }
+    }
+}
+
+/// Whether a move could take another source than a result port in place of its own.
+fn could_take(m: &Machine, net: &Net, x: Item, other: Option<ItemSource>) -> bool
+    requires { IsNetOf net.now m.now }
+    ensures { result ≡ could_take m.now x other }
+{
+    let Some(src) = other else {
+        return false;
+    };
+    match x {
+        Item::Move { guard, dst, .. } => !is_port_source(src) && is_joined(m, net, src, dst, guard),
+        Item::Long { .. } => false,
+    }
+}
+
+/// Whether a move may be a detour.
+fn may_detour(m: &Machine, net: &Net, hub: u8, trails: &[Trail], x: Item) -> bool
+    requires { IsNetOf net.now m.now }
+    ensures { result ≡ may_detour m.now hub trails.now x }
+{
+    let src = source_of(x);
+    if !is_passing(hub, src) {
+        return false;
+    }
+    let t = trail_in(trails, src);
+    t.is_long || (could_take(m, net, x, t.one) || could_take(m, net, x, t.two))
+}
+
+/// Whether it is known that a list is straight. The only error is out of memory.
+pub fn is_straight(
+    alloc: Global,
+    m: &Machine,
+    net: &Net,
+    hub: u8,
+    items: &[Item],
+) -> Result<bool, AllocError>
+    requires net { IsNetOf net.now m.now }
+    requires list { is_list m.now items.now ≡ true }
+    ensures { IfOk result (λ is. is ≡ true → is_straight m.now (Some hub) items.now ≡ true) }
+{
+    keeps_rules(m);
+    let mut trails = vec![in alloc; EMPTY; PLACES]?;
+    for x in items {
+        if may_detour(m, net, hub, trails.as_slice(), *x) {
+            return Ok(false);
+        }
+        pass(m, hub, &mut trails, *x);
+    }
+    Ok(true)
+}
