@@ -33,6 +33,7 @@ const NOTHING: Kept = Kept {
 
 /// What the choice of copies looks at: the machine, and of each item what it does with the frame and
 /// which item next loads its slot.
+#[derive(Clone, Copy)]
 pub struct Plan<'a> {
     pub m: &'a Machine,
     pub net: &'a Net,

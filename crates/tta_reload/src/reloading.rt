@@ -1,0 +1,107 @@
+//! The pass: copies, served reads, and only what something asks for.
+
+ghost use Rattle.std.specs.Prelude.{◌≡◌, ℕ, List, [], true, IfOk, IfSome};
+ghost use Rattle.tta_connect.specs.Net.{IsNetOf};
+ghost use Rattle.tta_connect.specs.Coverage.{IsChoice};
+ghost use Rattle.tta_moves.specs.Slots.{is_list};
+ghost use Rattle.tta_optim.specs.Kept.{IsStandIn};
+ghost use Rattle.tta_moves.specs.declared.items.Item.{Item};
+ghost use Rattle.tta_reload.specs.Copied.{AreSpare, AreCopied};
+ghost use Rattle.tta_reload.specs.Known.{AreServed};
+
+use crate::accesses::{Access, accesses};
+use crate::asking::asked;
+use crate::copying::{Plan, copied};
+use crate::serving::serve;
+use crate::sparing::spare_registers;
+use crate::straight::is_straight;
+use crate::upcoming::next_loads;
+use std::alloc::{AllocError, Global};
+use tta_arch::Machine;
+use tta_connect::{Choice, Net};
+use tta_list::Items;
+use tta_moves::{BlockList, Item, is_list};
+use tta_order::in_order;
+
+/// Whether some item loads or stores a slot, and none takes input or stores into an unknown slot.
+fn is_worth(accesses: &[Access]) -> bool {
+    accesses.iter().any(|a| matches!(a, Access::Loads(_)))
+}
+
+/// A list with these items, and the registers of another that are read after it.
+fn with_items(alloc: Global, b: &BlockList, items: Vec<Item>) -> Result<BlockList, AllocError>
+    ensures items { IfOk result (λ r. r.items ≡ items.items) }
+    ensures live { IfOk result (λ r. r.live_out ≡ b.now.live_out) }
+{
+    let live = Vec::from_slice(alloc, b.live_out.as_slice())?;
+    Ok(BlockList {
+        items: Items::of(items),
+        live_out: Items::of(live),
+    })
+}
+
+/// The items of a list with copies, each reading a source with its word that is no load, where there
+/// is one. The only error is out of memory.
+fn served(
+    alloc: Global,
+    m: &Machine,
+    net: &Net,
+    hub: u8,
+    b: &BlockList,
+    accesses: &[Access],
+) -> Result<Vec<Item>, AllocError>
+    requires { IsNetOf net.now m.now }
+    ensures { IfOk result (λ v. (fresh : List (ℕ × ℕ)) × (one : List Item)
+        × AreSpare hub b.now fresh × AreCopied fresh b.now.items one × AreServed m.now [] one v.items) }
+{
+    let items = b.items.as_slice();
+    let next = next_loads(alloc, accesses)?;
+    let fresh = spare_registers(alloc, hub, b)?;
+    let plan = Plan {
+        m,
+        net,
+        hub,
+        accesses,
+        next: next.as_slice(),
+    };
+    let one = copied(alloc, &plan, fresh.as_slice(), items)?;
+    let two = serve(alloc, m, net, hub, fresh.as_slice(), one.as_slice())?;
+    Ok(two)
+}
+
+/// A list that may stand for the list of a block, with fewer loads of frame slots; none where
+/// nothing is gained, or where it is not known that the list may stand for it. The only error is out
+/// of memory.
+pub fn reload(
+    alloc: Global,
+    m: &Machine,
+    net: &Net,
+    c: &Choice,
+    b: &BlockList,
+) -> Result<Option<BlockList>, AllocError>
+    requires net { IsNetOf net.now m.now }
+    requires choice { IsChoice m.now c.now }
+    requires list { is_list m.now b.now.items ≡ true }
+    ensures { IfOk result (λ o. IfSome o (λ r. IsStandIn m.now b.now r)) }
+{
+    let all = accesses(alloc, m, b.items.as_slice())?;
+    if !is_worth(all.as_slice()) {
+        return Ok(None);
+    }
+    let items = served(alloc, m, net, c.hub, b, all.as_slice())?;
+    let more = with_items(alloc, b, items)?;
+    if !is_list(m, net, &more) {
+        return Ok(None);
+    }
+    let numbers = asked(alloc, m, more.live_out.as_slice(), more.items.as_slice())?;
+    let Some(r) = in_order(alloc, &more, m, net, numbers.as_slice())? else {
+        return Ok(None);
+    };
+    if r.items.len() > b.items.len() {
+        return Ok(None);
+    }
+    if !is_straight(alloc, m, net, c.hub, r.items.as_slice())? {
+        return Ok(None);
+    }
+    Ok(Some(r))
+}
