@@ -21,8 +21,9 @@ use Rattle.tta_moves.proofs.Places.{either}
 use Rattle.tta_optim.specs.Kept.{KeepsMeaning, names, is_scratch, AsksNoMore, IsStandIn}
 use Rattle.tta_optim.specs.Passes.{with_source}
 use Rattle.tta_optim.proofs.Meanings.{framed_of, framed_next}
+use Rattle.tta_reload.specs.Reworked.{IsReworked}
 use Rattle.tta_reload.specs.Known.{IsServed, AreServed}
-use Rattle.tta_reload.specs.Copied.{is_one_of, copy_of, AreCopied, ends, stays, copies, AreSpare}
+use Rattle.tta_reload.specs.Copied.{is_one_of, copy_of, AreCopied, ends, stays, copies}
 use Rattle.tta_reload.specs.Thinned.{AreThinned, ends as none_thinned, stays as stays_thinned, goes}
 use Rattle.tta_reload.proofs.ServedReads.{served_keep}
 use Rattle.tta_reload.proofs.CopiedWords.{copies_keep}
@@ -139,43 +140,29 @@ spare_scratch m hub (q ∷ fresh) r is all one =
 
 -- ---- all steps
 
--- what is made, step by step
-pub record Made (m : Machine) (hub : ℕ) (b r : BlockList) (fresh : List (ℕ × ℕ)) (one two three : List Item) : Type 0 where
-  pub hub_is : hub_of m ≡ Some hub
-  pub spare : AreSpare hub b fresh
-  pub copied : AreCopied fresh b.items one
-  pub served : AreServed m [] one two
-  pub thinned : AreThinned m [] two three
-  pub meaning : KeepsMeaning m b.live_out three r.items
-  pub no_more : AsksNoMore m three r.items
-  pub list : is_list m three ≡ true
-  pub live : r.live_out ≡ b.live_out
-  pub few : length r.items ≤ length b.items
-  pub straight : is_straight m (Some hub) r.items ≡ true
-
-pub made_stands : (m : Machine) (hub : ℕ) (b r : BlockList) (fresh : List (ℕ × ℕ)) (one two three : List Item) → Made m hub b r fresh one two three → IsStandIn m b r
-made_stands m hub b r fresh one two three d = record {
+-- What is picked of a reworked list may stand for the list.
+pub reworked_stands : (m : Machine) (hub : ℕ) (b more r : BlockList) → hub_of m ≡ Some hub → IsReworked m hub b more → KeepsMeaning m more.live_out more.items r.items → AsksNoMore m more.items r.items
+    → r.live_out ≡ more.live_out → length r.items ≤ length b.items → is_straight m (Some hub) r.items ≡ true → IsStandIn m b r
+reworked_stands m hub b more r hub_is d meaning no_more live few straight = record {
   stands = record {
-    live = d.live;
+    live = live ∙ d.live;
     meaning =
-        framed_next m b.live_out b.items one r.items (framed_of m b.live_out b.items one (copies_keep m b.live_out fresh b.items one d.spare.unread d.copied))
-        (framed_next m b.live_out one two r.items (served_keep m b.live_out one two d.served)
-        (framed_next m b.live_out two three r.items (framed_of m b.live_out two three (thinned_keep m b.live_out two three d.thinned)) (framed_of m b.live_out three r.items d.meaning)));
+        framed_next m b.live_out b.items d.with_copies r.items (framed_of m b.live_out b.items d.with_copies (copies_keep m b.live_out d.fresh b.items d.with_copies d.spare.unread d.copied))
+        (framed_next m b.live_out d.with_copies d.with_served r.items (served_keep m b.live_out d.with_copies d.with_served d.served)
+        (framed_next m b.live_out d.with_served more.items r.items (framed_of m b.live_out d.with_served more.items (thinned_keep m b.live_out d.with_served more.items d.thinned))
+        (framed_of m b.live_out more.items r.items (subst (λ (l : List (ℕ × ℕ)). KeepsMeaning m l more.items r.items) d.live meaning))));
   };
   spare = record {
-    few = d.few;
-    list = λ e. d.no_more.list d.list;
+    few = few;
+    list = λ e. no_more.list d.list;
     targets = λ p apart.
-        let a = copied_targets p fresh b.items one (λ q is. apart (Reg q.0 q.1) (spare_scratch m hub fresh q d.hub_is d.spare.scratch is)) d.copied in
-        let c = served_targets p m [] one two d.served in
-        let f = thinned_targets p m [] two three d.thinned in
-        let g = d.no_more.targets p apart in
+        let a = copied_targets p d.fresh b.items d.with_copies (λ q is. apart (Reg q.0 q.1) (spare_scratch m hub d.fresh q hub_is d.spare.scratch is)) d.copied in
+        let c = served_targets p m [] d.with_copies d.with_served d.served in
+        let f = thinned_targets p m [] d.with_served more.items d.thinned in
+        let g = no_more.targets p apart in
         omega (arith, a, c, f, g);
-    addresses = λ block e. copied_named block fresh b.items one d.copied (served_named block m [] one two d.served (thinned_named block m [] two three d.thinned (d.no_more.addresses block e)));
-    straight = λ e. ap (λ (h : Option ℕ). is_straight m h r.items) d.hub_is ∙ d.straight;
+    addresses = λ block e.
+        copied_named block d.fresh b.items d.with_copies d.copied (served_named block m [] d.with_copies d.with_served d.served (thinned_named block m [] d.with_served more.items d.thinned (no_more.addresses block e)));
+    straight = λ e. ap (λ (h : Option ℕ). is_straight m h r.items) hub_is ∙ straight;
   };
 }
-
-pub thinned_none : (m : Machine) (before xs : List Item) → AreThinned m before xs xs
-thinned_none m before [] = none_thinned before
-thinned_none m before (x ∷ xs) = stays_thinned before x xs xs (thinned_none m (x ∷ before) xs)

@@ -46,7 +46,7 @@ pub record CopiedTo (fresh : List (ℕ × ℕ)) (items out : List Item) (i : ℕ
 pub copied_begin : (fresh : List (ℕ × ℕ)) (items : List Item) → CopiedTo fresh items [] 0
 copied_begin fresh items = record { all = λ ys are. are }
 
-split_at : (items : List Item) (i : ℕ) (x d : Item) → i < length items → x ≡ get_or items i d → drop i items ≡ x ∷ drop (i + 1) items
+pub split_at : (items : List Item) (i : ℕ) (x d : Item) → i < length items → x ≡ get_or items i d → drop i items ≡ x ∷ drop (i + 1) items
 split_at items i x d lt is = drop_more items i d lt ∙ ap (λ z. z ∷ drop (i + 1) items) (sym is)
 
 pub copied_stays : (fresh : List (ℕ × ℕ)) (items out : List Item) (i : ℕ) (x d : Item) → i < length items → x ≡ get_or items i d → CopiedTo fresh items out i → CopiedTo fresh items (out ++ x ∷ []) (i + 1)

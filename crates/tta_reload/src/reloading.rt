@@ -3,11 +3,11 @@
 ghost use Rattle.std.specs.Prelude.{◌≡◌, ℕ, List, [], true, IfOk, IfSome};
 ghost use Rattle.tta_connect.specs.Net.{IsNetOf};
 ghost use Rattle.tta_connect.specs.Coverage.{IsChoice};
-ghost use Rattle.tta_moves.specs.Slots.{is_list};
 ghost use Rattle.tta_optim.specs.Kept.{IsStandIn};
 ghost use Rattle.tta_moves.specs.declared.items.Item.{Item};
 ghost use Rattle.tta_reload.specs.Copied.{AreSpare, AreCopied};
 ghost use Rattle.tta_reload.specs.Known.{AreServed};
+ghost use Rattle.tta_reload.specs.Reworked.{IsReworked};
 
 use crate::accesses::{Access, accesses};
 use crate::asking::asked;
@@ -15,6 +15,7 @@ use crate::copying::{Plan, copied};
 use crate::serving::serve;
 use crate::sparing::spare_registers;
 use crate::straight::is_straight;
+use crate::thinning::thinned;
 use crate::upcoming::next_loads;
 use std::alloc::{AllocError, Global};
 use tta_arch::Machine;
@@ -23,9 +24,14 @@ use tta_list::Items;
 use tta_moves::{BlockList, Item, is_list};
 use tta_order::in_order;
 
-/// Whether some item loads or stores a slot, and none takes input or stores into an unknown slot.
+/// Whether an item loads or stores a slot.
+fn uses_slot(access: Access) -> bool {
+    matches!(access, Access::Loads(_) | Access::Stores(_))
+}
+
+/// Whether there can be something to gain: some item loads a slot, or more than one stores.
 fn is_worth(accesses: &[Access]) -> bool {
-    accesses.iter().any(|a| matches!(a, Access::Loads(_)))
+    accesses.iter().any(|a| uses_slot(*a))
 }
 
 /// A list with these items, and the registers of another that are read after it.
@@ -69,9 +75,38 @@ fn served(
     Ok(two)
 }
 
-/// A list that may stand for the list of a block, with fewer loads of frame slots; none where
-/// nothing is gained, or where it is not known that the list may stand for it. The only error is out
-/// of memory.
+/// The list of a block with copies and served reads, and without stores that are stored over; none
+/// where it loads and stores no slot, or where the machine cannot carry the list out. The only error
+/// is out of memory.
+fn reworked(
+    alloc: Global,
+    m: &Machine,
+    net: &Net,
+    hub: u8,
+    b: &BlockList,
+) -> Result<Option<BlockList>, AllocError>
+    requires { IsNetOf net.now m.now }
+    ensures { IfOk result (λ o. IfSome o (λ r. IsReworked m.now hub b.now r)) }
+{
+    let uses = accesses(alloc, m, b.items.as_slice())?;
+    if !is_worth(uses.as_slice()) {
+        return Ok(None);
+    }
+    let all = served(alloc, m, net, hub, b, uses.as_slice())?;
+    let Some(items) = thinned(alloc, m, all.as_slice())? else {
+        return Ok(None);
+    };
+    let more = with_items(alloc, b, items)?;
+    if is_list(m, net, &more) {
+        Ok(Some(more))
+    } else {
+        Ok(None)
+    }
+}
+
+/// A list that may stand for the list of a block, with fewer loads and stores of frame slots; none
+/// where nothing is gained, or where it is not known that the list may stand for it. The only error
+/// is out of memory.
 pub fn reload(
     alloc: Global,
     m: &Machine,
@@ -81,18 +116,11 @@ pub fn reload(
 ) -> Result<Option<BlockList>, AllocError>
     requires net { IsNetOf net.now m.now }
     requires choice { IsChoice m.now c.now }
-    requires list { is_list m.now b.now.items ≡ true }
     ensures { IfOk result (λ o. IfSome o (λ r. IsStandIn m.now b.now r)) }
 {
-    let all = accesses(alloc, m, b.items.as_slice())?;
-    if !is_worth(all.as_slice()) {
+    let Some(more) = reworked(alloc, m, net, c.hub, b)? else {
         return Ok(None);
-    }
-    let items = served(alloc, m, net, c.hub, b, all.as_slice())?;
-    let more = with_items(alloc, b, items)?;
-    if !is_list(m, net, &more) {
-        return Ok(None);
-    }
+    };
     let numbers = asked(alloc, m, more.live_out.as_slice(), more.items.as_slice())?;
     let Some(r) = in_order(alloc, &more, m, net, numbers.as_slice())? else {
         return Ok(None);
@@ -100,8 +128,9 @@ pub fn reload(
     if r.items.len() > b.items.len() {
         return Ok(None);
     }
-    if !is_straight(alloc, m, net, c.hub, r.items.as_slice())? {
-        return Ok(None);
+    if is_straight(alloc, m, net, c.hub, r.items.as_slice())? {
+        Ok(Some(r))
+    } else {
+        Ok(None)
     }
-    Ok(Some(r))
 }

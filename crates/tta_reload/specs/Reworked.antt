@@ -1,0 +1,21 @@
+-- A block's list with copies and served reads, and without stores that are stored over.
+use Rattle.std.specs.Prelude.{◌≡◌, ℕ, true, List, []}
+use Rattle.tta_arch.specs.Machine.{Machine}
+use Rattle.tta_moves.specs.declared.items.Item.{Item}
+use Rattle.tta_moves.specs.declared.items.BlockList.{BlockList}
+use Rattle.tta_moves.specs.Slots.{is_list}
+use Rattle.tta_reload.specs.Known.{AreServed}
+use Rattle.tta_reload.specs.Copied.{AreCopied, AreSpare}
+use Rattle.tta_reload.specs.Thinned.{AreThinned}
+
+-- A list came from another in three steps: copies into spare registers, served reads, and fewer stores.
+pub record IsReworked (m : Machine) (hub : ℕ) (b r : BlockList) : Type 0 where
+  pub fresh : List (ℕ × ℕ)
+  pub with_copies : List Item
+  pub with_served : List Item
+  pub spare : AreSpare hub b fresh
+  pub copied : AreCopied fresh b.items with_copies
+  pub served : AreServed m [] with_copies with_served
+  pub thinned : AreThinned m [] with_served r.items
+  pub list : is_list m r.items ≡ true
+  pub live : r.live_out ≡ b.live_out
