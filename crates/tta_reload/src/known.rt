@@ -210,8 +210,8 @@ impl Known {
         self.newest = Some(x);
     }
 
-    /// An older source with the word of a slot whose word a source has, if a bus joins it to a
-    /// destination.
+    /// The oldest source that is noted to have the word of the slot whose word another source has,
+    /// of those that a bus joins to a destination.
     pub fn other(
         &self,
         m: &Machine,
@@ -225,6 +225,7 @@ impl Known {
             → IfSome result (λ b. spec.have_one (spec.known m.now before) src b ≡ true) }
     {
         let mut slot: Option<u32> = None;
+        let mut oldest: Option<Source> = None;
         for f in self.facts.as_slice() {
             let Some(v) = slot else {
                 slot = slot_from(*f, src);
@@ -233,10 +234,14 @@ impl Known {
             if f.slot != v {
                 continue;
             }
-            if is_kept(f.from) && is_joined(m, net, ItemSource::Port(f.from), dst, guard) {
-                return Some(f.from);
+            if !is_kept(f.from) {
+                continue;
             }
+            if !is_joined(m, net, ItemSource::Port(f.from), dst, guard) {
+                continue;
+            }
+            oldest = Some(f.from);
         }
-        None
+        oldest
     }
 }

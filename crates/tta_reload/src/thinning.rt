@@ -137,7 +137,11 @@ fn unmarked(
         pending = without(pending.as_slice(), slot);
         out.push(*x)?;
     }
-    if pending.is_empty() { Ok(Some(out)) } else { Ok(None) }
+    if pending.as_slice().is_empty() {
+        Ok(Some(out))
+    } else {
+        Ok(None)
+    }
 }
 
 /// The items but stores into slots that a later item stores into before any loads them; none where

@@ -19,5 +19,5 @@ loop-i-preserved c =
 
 pub returns-then-is_empty : goal.returns-then-is_empty
 returns-then-is_empty c =
-    let empty : (length c.loop-i.pending.items) ≡ 0 = (let a = c.is_empty.ensures in let b = c.if-is_empty.true in grind (arith, nat_tests, a, b)) in
+    let empty : (length c.loop-i.pending.items) ≡ 0 = (let a = c.is_empty.ensures in let b = c.if-is_empty.true in let d = c.as_slice-2.ensures.value in grind (arith, nat_tests, a, b, d)) in
     thinned_done c.args.m.now c.args.items.now c.loop-i.last c.loop-i.pending.items c.loop-i.out.items c.loop-i.i c.loop-i.invariant c.loop-i-test.false empty

@@ -1,7 +1,11 @@
-use Rattle.std.proofs.Common.{◌≡◌, true, IfSome}
-use Rattle.tta_reload.specs.Known.{fact}
-use Rattle.tta_reload.specs.Facts.{is_among}
+use Rattle.std.proofs.Common.{◌≡◌, List, true, IfSome}
+use Rattle.tta_moves.specs.declared.items.Item.{Item}
+use Rattle.tta_reload.specs.Known.{fact, known, have_one}
+use Rattle.tta_reload.specs.Facts.{is_among, Knows}
 use Rattle.tta_reload.proofs.known.Known.other.Given as goal
 
 abbrev pub invariant-loop-f : goal.invariant-loop-f
-invariant-loop-f l = IfSome l.slot (λ v. is_among l.self.facts.items (fact v l.src) ≡ true)
+invariant-loop-f l = record {
+  asked : IfSome l.slot (λ v. is_among l.self.facts.items (fact v l.src) ≡ true);
+  found : (before : List Item) → Knows l.m before l.self → IfSome l.oldest (λ b. have_one (known l.m before) l.src b ≡ true);
+}
