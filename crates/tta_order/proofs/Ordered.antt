@@ -1,6 +1,6 @@
 -- A list whose numbers agree keeps the meaning of the list, and asks for no more.
-use Rattle.std.proofs.Common.{◌≡◌, ℕ, true, false, List, length, replicate, sym, ap, subst, ◌∙◌}
-use Rattle.std.specs.Prelude.{◌&&◌, nat_le}
+use Rattle.std.proofs.Common.{◌≡◌, ℕ, ◌<◌, Some, true, false, List, length, replicate, sym, ap, subst, ◌∙◌}
+use Rattle.std.specs.Prelude.{◌&&◌, nat_le, slice_get}
 use Rattle.std.specs.List.{list_all}
 use Rattle.std.proofs.lemmas.Bool.{and_parts}
 use Rattle.tta_arch.specs.Machine.{Machine}
@@ -12,18 +12,18 @@ use Rattle.tta_moves.specs.Slots.{is_list, has_slot, control_is_last}
 use Rattle.tta_optim.specs.Kept.{KeepsMeaning, AsksNoMore}
 use Rattle.tta_optim.proofs.Slotted.{slotted}
 use Rattle.tta_order.specs.declared.rows.Found.{Found}
-use Rattle.tta_order.specs.Orders.{bare, picked, goes_through, IsOrder}
+use Rattle.tta_order.specs.Orders.{bare, picked, settled, IsOrder}
 use Rattle.tta_order.specs.Rows.{none_changed, rows_from, table_after, table_by, agrees, same_ends}
 use Rattle.tta_order.proofs.Drawn.{orders_keep}
 use Rattle.tta_order.proofs.Counts.{orders_ask_no_more}
-use Rattle.tta_order.proofs.Agreed.{agree_is}
+use Rattle.tta_order.proofs.Agreed.{agree_is, numbers_are}
 use Rattle.tta_order.proofs.Ranges.{all_ranged}
 
 -- all that is tested
 pub record Tested (m : Machine) (live : List (ℕ × ℕ)) (items others : List Item) (rows : List Found) (end other numbers : List ℕ) : Type 0 where
   pub rules : IsMachine m
   pub list : is_list m items ≡ true
-  pub through : goes_through m items ≡ true
+  pub front : (k : ℕ) → k < settled m items → slice_get numbers k ≡ Some k
   pub limits : list_all (λ r. is_place (KeptReg r.0 r.1)) live ≡ true
   pub rows_are : rows ≡ rows_from m none_changed 0 items
   pub end_is : end ≡ table_after m none_changed 0 items
@@ -39,7 +39,7 @@ order_is m live items others rows end other numbers t =
     let ends = rw (t.other_is, t.end_is) at t.ends in
     let two = agree_is m items (all_ranged m t.rules items (slotted m items t.list)) live t.limits numbers agree ends in
     record {
-      through = t.through;
+      front = λ k lt. ap (λ l. slice_get l k) (numbers_are m items (all_ranged m t.rules items (slotted m items t.list)) numbers none_changed (replicate (length items) false) agree) ∙ t.front k lt;
       drawn = two.0;
       once = two.1;
       control = ap control_is_last (sym t.picked_are) ∙ (and_parts (nat_le (length others) 16777216 && list_all (has_slot m) others) (control_is_last others) t.other_list).1;

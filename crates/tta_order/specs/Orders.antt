@@ -1,14 +1,10 @@
 -- When items that are taken in another order do what they did.
-use Rattle.std.specs.Prelude.{◌≡◌, ◌≤◌, ⊤, ℕ, zero, suc, Bool, true, false, not, if◌then◌else◌, List, [], ◌∷◌, length, map, replicate, count_by, Option, Some, None, slice_get, slice_set}
+use Rattle.std.specs.Prelude.{◌≡◌, ◌<◌, ⊤, ℕ, zero, suc, Bool, true, false, not, if◌then◌else◌, List, [], ◌∷◌, length, map, replicate, Option, Some, None, slice_get, slice_set}
 use Rattle.std.specs.Option.{option_map_or}
-use Rattle.std.specs.List.{list_all, list_any}
+use Rattle.std.specs.List.{list_all}
 use Rattle.tta_arch.specs.Machine.{Machine}
-use Rattle.tta_arch.specs.Effects.{Target}
 use Rattle.tta_moves.specs.declared.items.Item.{Item}
-use Rattle.tta_moves.specs.Touches.{target_of_item}
-use Rattle.tta_moves.specs.Slots.{is_list, control_is_last}
-use Rattle.tta_moves.specs.Forms.{is_straight}
-use Rattle.tta_optim.specs.Kept.{names}
+use Rattle.tta_moves.specs.Slots.{control_is_last}
 use Rattle.tta_order.specs.Channels.{Channel, alters, asks, survives, may_wait}
 
 -- items, each with the number that it has in the list that they come from
@@ -55,10 +51,19 @@ AreUnmarked marks (y ∷ ys) = (slice_get marks y.0 ≡ Some false) × AreUnmark
 abbrev pub goes_through : Machine → List Item → Bool
 goes_through m items = list_all (λ x. not (may_wait m x)) items
 
--- Items of a list that never waits within, none of them twice and control last, in an order in which each finds what the
--- same items brought. Items may be missing for which nothing asks.
+-- the first numbers, so many, count up from 0
+abbrev pub AreInPlace : (count : ℕ) → (numbers : List ℕ) → Type 0
+AreInPlace count numbers = (k : ℕ) → k < count → slice_get numbers k ≡ Some k
+
+-- how many items of a list are the last that may wait and those before it
+abbrev pub settled : Machine → List Item → ℕ
+settled m [] = 0
+settled m (x ∷ xs) = if goes_through m (x ∷ xs) then 0 else suc (settled m xs)
+
+-- Items of a list, none of them twice and control last, in an order in which each finds what the same items brought. The last
+-- that may wait and those before it stay where they are. Items may be missing for which nothing asks.
 pub record IsOrder (m : Machine) (live : List (ℕ × ℕ)) (items : List Item) (order : Numbered) : Type 0 where
-  pub through : goes_through m items ≡ true
+  pub front : AreInPlace (settled m items) (map (λ y. y.0) order)
   pub drawn : AreDrawn m live items [] order
   pub once : AreUnmarked (replicate (length items) false) order
   pub control : control_is_last (bare order) ≡ true

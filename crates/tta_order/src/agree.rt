@@ -10,7 +10,7 @@ ghost use Rattle.tta_moves.specs.Numbers.{is_place, place_number};
 ghost use Rattle.tta_moves.specs.Slots.{is_list};
 ghost use Rattle.tta_optim.specs.Kept.{KeepsMeaning, AsksNoMore};
 ghost use Rattle.tta_order.specs.Channels.{may_wait};
-ghost use Rattle.tta_order.specs.Orders.{bare, picked, goes_through, IsOrder};
+ghost use Rattle.tta_order.specs.Orders.{bare, picked, settled, AreInPlace, IsOrder};
 ghost use Rattle.tta_order.specs.Rows.{none_changed, rows_from, table_after, same_ends, agrees, table_by};
 ghost use Rattle.tta_order.specs.Rows.{found, same_found};
 
@@ -34,11 +34,28 @@ fn may_wait(m: &Machine, x: Item) -> bool
     }
 }
 
-/// Whether a list never waits within.
-fn goes_through(m: &Machine, items: &[Item]) -> bool
-    ensures { result ≡ goes_through m.now items.now }
+/// How many items the last that may wait and those before it are.
+pub fn settled(m: &Machine, items: &[Item]) -> usize
+    ensures { result ≡ settled m.now items.now }
 {
-    items.iter().all(|x| !may_wait(m, *x))
+    let mut count = 0;
+    for (n, x) in items.iter().enumerate() {
+        count = if may_wait(m, *x) { n + 1 } else { count };
+    }
+    count
+}
+
+/// Whether the first numbers, so many, count up from 0.
+pub fn count_up(numbers: &[usize], count: usize) -> bool
+    ensures { result ≡ true → AreInPlace count numbers.now }
+{
+    for k in 0..count {
+        match numbers.get(k) {
+            Some(n) if *n == k => {}
+            _ => return false,
+        }
+    }
+    true
 }
 
 /// Whether registers have numbers as those of a machine.
@@ -199,7 +216,8 @@ impl Checker {
 
     /// The list of a block in another order, which is given by the numbers of its items, counted
     /// from 0; none where they are no order, or where it is not known that they are one. Numbers may
-    /// be missing of items for which nothing asks. The only error is out of memory.
+    /// be missing of items for which nothing asks, but the last item that may wait and those before
+    /// it stay where they are. The only error is out of memory.
     pub fn in_order(
         &mut self,
         alloc: Global,
@@ -222,7 +240,8 @@ impl Checker {
         keeps_rules(m);
         let items = b.items.as_slice();
         let live = b.live_out.as_slice();
-        if !goes_through(m, items) {
+        let front = settled(m, items);
+        if !count_up(numbers, front) {
             return Ok(None);
         }
         if !in_limits(live) {

@@ -5,22 +5,34 @@ ghost use Rattle.tta_connect.specs.Net.{IsNetOf};
 ghost use Rattle.tta_moves.specs.Slots.{is_list};
 ghost use Rattle.tta_optim.specs.Kept.{IsStandIn};
 
-use crate::agree::Checker;
+use crate::agree::{Checker, count_up, settled};
 use crate::choice::{Rule, chosen};
 use crate::marks::Marks;
 use std::alloc::{AllocError, Global};
 use tta_arch::Machine;
 use tta_connect::Net;
-use tta_moves::BlockList;
+use tta_moves::{BlockList, Item};
 
-/// Whether numbers count from 0.
-fn count_up(numbers: &[usize]) -> bool {
-    for (n, k) in numbers.iter().enumerate() {
-        if *k != n {
-            return false;
-        }
+/// The items from a number on. The only error is out of memory.
+fn items_from(alloc: Global, items: &[Item], front: usize) -> Result<Vec<Item>, AllocError> {
+    let mut rest = Vec::new(alloc);
+    for n in front..items.len() {
+        rest.push(items[n])?;
     }
-    true
+    Ok(rest)
+}
+
+/// The numbers of the items before a number, and then other numbers, counted from it. The only error
+/// is out of memory.
+fn numbers_after(alloc: Global, front: usize, rest: &[usize]) -> Result<Vec<usize>, AllocError> {
+    let mut numbers = Vec::new(alloc);
+    for n in 0..front {
+        numbers.push(n)?;
+    }
+    for n in rest {
+        numbers.push(front.saturating_add(*n))?;
+    }
+    Ok(numbers)
 }
 
 /// Orders by rules, with the tables that they keep, which serve one list after another.
@@ -59,8 +71,11 @@ impl Orders {
         ensures { IfOk result (λ o. IfSome o (λ r. IsStandIn m.now b.now r)) }
     {
         let items = b.items.as_slice();
-        let numbers = chosen(alloc, &mut self.marks, m, self.hub, items, rule)?;
-        if count_up(numbers.as_slice()) {
+        let front = settled(m, items);
+        let rest = items_from(alloc, items, front)?;
+        let order = chosen(alloc, &mut self.marks, m, self.hub, rest.as_slice(), rule)?;
+        let numbers = numbers_after(alloc, front, order.as_slice())?;
+        if count_up(numbers.as_slice(), numbers.len()) {
             return Ok(None);
         }
         let r = self.checker.in_order(alloc, b, m, net, numbers.as_slice())?;

@@ -1,11 +1,10 @@
-use Rattle.std.proofs.Common.{ℕ, List, length, replicate, false, true, ◌≡◌, sym, ap, ◌∙◌}
+use Rattle.std.proofs.Common.{ℕ, List, sym, ap, ◌∙◌}
 use Rattle.std.specs.List.{list_all}
 use Rattle.tta_arch.specs.Effects.{KeptReg}
 use Rattle.tta_moves.specs.declared.items.Item.{Item}
 use Rattle.tta_moves.specs.Numbers.{is_place}
-use Rattle.tta_order.specs.declared.rows.Found.{Found}
-use Rattle.tta_order.specs.Orders.{bare, picked, goes_through}
-use Rattle.tta_order.specs.Rows.{none_changed, rows_from, table_after, table_by, agrees, same_ends}
+use Rattle.tta_order.specs.Orders.{bare, picked}
+use Rattle.tta_order.specs.Rows.{none_changed, rows_from, table_after, table_by, same_ends}
 use Rattle.tta_order.proofs.Ordered.{Tested, order_is, ordered_meaning, ordered_no_more}
 use Rattle.tta_order.proofs.agree.Checker.in_order.Goals as goal
 
@@ -19,7 +18,7 @@ tested c =
     record {
       rules = c.keeps_rules.ensures;
       list = c.requires.list;
-      through = ap (λ (l : List Item). goes_through m l) (sym c.as_slice-items.ensures) ∙ sym c.goes_through.ensures ∙ c.if-not-goes_through.false;
+      front = rw (sym c.as_slice-items.ensures, sym c.settled-front.ensures) (c.count_up.ensures c.if-not-count_up.false);
       limits = ap (λ (l : List (ℕ × ℕ)). list_all (λ r. is_place (KeptReg r.0 r.1)) l) (sym c.as_slice-live.ensures) ∙ sym c.in_limits.ensures ∙ c.if-not-in_limits.false;
       rows_are = c.in_ok-rows.ensures.found ∙ ap (λ (l : List Item). rows_from m none_changed 0 l) c.as_slice-items.ensures;
       end_is = c.in_ok-rows.ensures.end ∙ ap (λ (l : List Item). table_after m none_changed 0 l) c.as_slice-items.ensures;
