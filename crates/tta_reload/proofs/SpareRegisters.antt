@@ -1,8 +1,8 @@
 -- One more register that a list leaves alone.
-use Rattle.std.proofs.Common.{◌≡◌, ℕ, ◌<◌, Bool, true, false, List, [], ◌∷◌, ◌++◌, refl, sym, ap, arith, ◌∙◌}
+use Rattle.std.proofs.Common.{◌≡◌, ℕ, ◌<◌, Bool, true, false, List, [], ◌∷◌, ◌++◌, refl, arith, ◌∙◌}
 use Rattle.std.specs.Prelude.{◌==◌, ◌&&◌, not, nat_lt}
 use Rattle.std.specs.List.{list_all}
-use Rattle.std.proofs.lemmas.Bool.{and_parts, and_from, lt-ltb}
+use Rattle.std.proofs.lemmas.Bool.{and_parts, lt-ltb}
 use Rattle.std.proofs.lemmas.Bool.Decides.{nat_tests}
 use Rattle.std.proofs.lemmas.List.Folds.{list_all-append}
 use Rattle.tta_arch.specs.Effects.{KeptReg}
@@ -10,7 +10,7 @@ use Rattle.tta_moves.specs.declared.items.Item.{Item}
 use Rattle.tta_moves.specs.declared.items.BlockList.{BlockList}
 use Rattle.tta_moves.specs.Touches.{reads}
 use Rattle.tta_moves.specs.Runs.{lives}
-use Rattle.tta_reload.specs.Copied.{are_unread, AreSpare}
+use Rattle.tta_reload.specs.Copied.{AreSpare}
 
 all_true : {A : Type 0} (xs : List A) → list_all (λ (x : A). true) xs ≡ true
 all_true [] = refl

@@ -1,21 +1,19 @@
 -- A list with copies, served reads, fewer stores and fewer items may be placed for the list.
-use Rattle.std.proofs.Common.{◌≡◌, ℕ, ◌+◌, ◌≤◌, Bool, true, false, cond, List, [], ◌∷◌, length, Option, Some, None, refl, sym, ap, subst, arith, ◌∙◌, inl, inr}
+use Rattle.std.proofs.Common.{◌≡◌, ℕ, ◌≤◌, Bool, true, false, cond, List, [], ◌∷◌, length, Option, Some, refl, sym, ap, subst, arith, ◌∙◌, inl, inr}
 use Rattle.std.specs.Prelude.{◌==◌, ◌&&◌, ◌||◌, nat_lt, count_by}
-use Rattle.std.specs.Option.{option_map_or}
 use Rattle.std.specs.List.{list_all, list_any}
-use Rattle.std.proofs.lemmas.Bool.{and_parts, or_left, or_right}
+use Rattle.std.proofs.lemmas.Bool.{and_parts}
 use Rattle.std.proofs.lemmas.Bool.Decides.{nat_tests}
 use Rattle.std.proofs.lemmas.List.Sums.{sum_by-cons}
 use Rattle.tta_arch.specs.declared.ends.Source.{Source}
 use Rattle.tta_arch.specs.Machine.{Machine}
-use Rattle.tta_arch.specs.Effects.{Target, Reg, Place, KeptReg, same_place}
+use Rattle.tta_arch.specs.Effects.{Target, Reg, KeptReg, same_place}
 use Rattle.tta_connect.specs.Coverage.{hub_of}
 use Rattle.tta_moves.specs.declared.items.ItemSource.TheVariants.{Port}
 use Rattle.tta_moves.specs.declared.items.Item.{Item}
 use Rattle.tta_moves.specs.declared.items.Item.TheVariants.{Move, Long}
 use Rattle.tta_moves.specs.declared.items.BlockList.{BlockList}
-use Rattle.tta_moves.specs.Touches.{source_of, target_of_item}
-use Rattle.tta_moves.specs.Slots.{is_list}
+use Rattle.tta_moves.specs.Touches.{target_of_item}
 use Rattle.tta_moves.specs.Forms.{is_straight}
 use Rattle.tta_moves.proofs.Places.{either}
 use Rattle.tta_optim.specs.Kept.{KeepsMeaning, names, is_scratch, AsksNoMore, IsStandIn}

@@ -1,6 +1,6 @@
 -- A list without a detour by the table of trails is straight.
-use Rattle.std.proofs.Common.{◌≡◌, ◌≢◌, ℕ, ◌+◌, ◌<◌, ◌≤◌, Bool, true, false, List, [], ◌∷◌, ◌++◌, length, drop, replicate, get_or, Option, Some, None, refl, sym, ap, subst, arith, ◌∙◌, length-set, append-nil}
-use Rattle.std.specs.Prelude.{not, ◌&&◌, ◌||◌, ◌==◌, if◌then◌else◌, nat_le, is_some, option_map, slice_get, slice_set}
+use Rattle.std.proofs.Common.{◌≡◌, ◌≢◌, ℕ, ◌+◌, ◌<◌, ◌≤◌, Bool, true, false, List, [], ◌∷◌, ◌++◌, length, drop, replicate, get_or, Option, Some, None, refl, sym, ap, arith, ◌∙◌, length-set, append-nil}
+use Rattle.std.specs.Prelude.{not, ◌&&◌, ◌||◌, if◌then◌else◌, is_some, option_map, slice_get, slice_set}
 use Rattle.std.specs.Option.{option_map_or, option_to_list}
 use Rattle.std.specs.List.{list_any, list_all}
 use Rattle.std.proofs.lemmas.Bool.{and_parts, or_parts, not-true}
@@ -12,7 +12,7 @@ use Rattle.tta_arch.specs.Effects.{Place, same_place}
 use Rattle.tta_moves.specs.declared.items.ItemSource.{ItemSource}
 use Rattle.tta_moves.specs.declared.items.Item.{Item}
 use Rattle.tta_moves.specs.declared.items.Item.TheVariants.{Move, Long}
-use Rattle.tta_moves.specs.Touches.{source_of, target_of_item, place_of_source, place_written, writes, is_at, is_unguarded}
+use Rattle.tta_moves.specs.Touches.{source_of, target_of_item, place_of_source, place_written, is_at, is_unguarded}
 use Rattle.tta_moves.specs.Numbers.{place_number, is_place}
 use Rattle.tta_moves.specs.Slots.{joined, has_slot}
 use Rattle.tta_moves.specs.Forms.{sure_source, is_port_source, is_passing, trail, is_detour, none_after, is_straight}

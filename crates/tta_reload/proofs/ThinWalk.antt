@@ -2,19 +2,17 @@
 use Rattle.std.proofs.Common.{◌≡◌, ℕ, ◌+◌, ◌<◌, ◌≤◌, Bool, true, false, List, [], ◌∷◌, ◌++◌, length, drop, get_or, Option, Some, None, refl, sym, ap, subst, arith, ◌∙◌, append_assoc, append-nil}
 use Rattle.std.specs.Prelude.{if◌then◌else◌, ◌==◌, ◌&&◌, ◌||◌, not, filter, IfSome}
 use Rattle.std.specs.Option.{option_map_or}
-use Rattle.std.specs.List.{list_any}
-use Rattle.std.proofs.lemmas.Bool.{and_parts, not-true}
 use Rattle.std.proofs.lemmas.Bool.Decides.{nat_tests}
-use Rattle.std.proofs.lemmas.List.{drop_more, drop_all}
+use Rattle.std.proofs.lemmas.List.{drop_all}
 use Rattle.std.proofs.lemmas.List.Folds.{list_any-append}
 use Rattle.tta_arch.specs.Machine.{Machine}
 use Rattle.tta_arch.specs.Effects.{Target}
 use Rattle.tta_moves.specs.declared.items.Item.{Item}
 use Rattle.tta_moves.specs.Touches.{target_of_item}
 use Rattle.tta_moves.proofs.Places.{either}
-use Rattle.tta_order.specs.Channels.{starts, stores_frame, may_wait}
+use Rattle.tta_order.specs.Channels.{starts, stores_frame}
 use Rattle.tta_reload.specs.declared.accesses.Operand.{Operand}
-use Rattle.tta_reload.specs.Known.{is_load, loaded, stored}
+use Rattle.tta_reload.specs.Known.{is_load, stored}
 use Rattle.tta_reload.specs.Facts.{IsOperand}
 use Rattle.tta_reload.specs.Thinned.{is_in, lets_stay, is_over, AreThinned, ends, stays, goes}
 use Rattle.tta_reload.proofs.Opened.{load_keeps, store_dry}

@@ -1,5 +1,5 @@
 -- What a table of facts says of the items before, the newest first.
-use Rattle.std.specs.Prelude.{◌≡◌, ℕ, ◌==◌, Bool, true, ◌&&◌, List, [], ◌∷◌, Option, Some, None, IfSome}
+use Rattle.std.specs.Prelude.{◌≡◌, ℕ, ◌==◌, Bool, true, ◌&&◌, List, ◌∷◌, Option, Some, IfSome}
 use Rattle.std.specs.List.{list_all, list_any}
 use Rattle.tta_arch.specs.declared.ends.Source.TheVariants as source
 use Rattle.tta_arch.specs.Machine.{Machine}

@@ -53,13 +53,7 @@ fn kept_after(k: Kept, access: Access, next: usize) -> Kept {
                 k
             }
         }
-        Access::Stores(slot) => {
-            if k.slot == slot {
-                NOTHING
-            } else {
-                k
-            }
-        }
+        Access::Stores(slot) => { if k.slot == slot { NOTHING } else { k } }
         Access::Unknown => NOTHING,
     }
 }

@@ -59,4 +59,3 @@ pub fn note(facts: &mut ArrayVec<Fact, 16>, slot: u32, src: Source)
         facts.push(Fact { slot, from: src });
     }
 }
-

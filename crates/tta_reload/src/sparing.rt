@@ -64,12 +64,7 @@ fn lives(live: &[(u8, u8)], file: u8, index: u8) -> bool
 
 /// Adds a scratch register that a list leaves alone, and that is not read after it. The only error is
 /// out of memory.
-fn add_spare(
-    fresh: &mut Vec<(u8, u8)>,
-    hub: u8,
-    index: u8,
-    b: &BlockList,
-) -> Result<(), AllocError>
+fn add_spare(fresh: &mut Vec<(u8, u8)>, hub: u8, index: u8, b: &BlockList) -> Result<(), AllocError>
     requires { index < 3 }
     ensures { OnOk result (AreSpare hub b.now fresh.old.items → AreSpare hub b.now fresh.new.items) }
 {

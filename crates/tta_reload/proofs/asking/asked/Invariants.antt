@@ -1,4 +1,4 @@
-use Rattle.std.proofs.Common.{ℕ, ◌≤◌, length}
+use Rattle.std.proofs.Common.{◌≤◌, length}
 use Rattle.tta_reload.proofs.asking.asked.Given as goal
 
 abbrev pub invariant-loop-i : goal.invariant-loop-i

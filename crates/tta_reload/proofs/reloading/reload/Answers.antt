@@ -1,4 +1,4 @@
-use Rattle.std.proofs.Common.{◌≡◌, ℕ, ◌≤◌, true, List, length, Some, sym, ap, arith, ◌∙◌}
+use Rattle.std.proofs.Common.{◌≡◌, ◌≤◌, true, List, length, Some, sym, ap, arith, ◌∙◌}
 use Rattle.tta_moves.specs.declared.items.Item.{Item}
 use Rattle.tta_moves.specs.Forms.{is_straight}
 use Rattle.tta_optim.specs.Kept.{KeepsMeaning, AsksNoMore}

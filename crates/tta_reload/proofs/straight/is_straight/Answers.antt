@@ -1,4 +1,3 @@
-use Rattle.std.proofs.Common.{sym, ◌∙◌}
 use Rattle.tta_optim.proofs.Slotted.{slotted}
 use Rattle.tta_reload.proofs.Straightness.{detours_begin, detours_done}
 use Rattle.tta_reload.proofs.straight.is_straight.Goals as goal

@@ -1,4 +1,4 @@
-use Rattle.std.proofs.Common.{◌≡◌, ℕ, List, true, length, refl, sym, ap, arith, ◌∙◌}
+use Rattle.std.proofs.Common.{◌≡◌, ℕ, List, length, refl, ap, arith, ◌∙◌}
 use Rattle.std.proofs.lemmas.Bool.Decides.{nat_tests}
 use Rattle.tta_reload.specs.Thinned.{is_in}
 use Rattle.tta_reload.proofs.ThinWalk.{thinned_goes, thinned_stays, thinned_done}

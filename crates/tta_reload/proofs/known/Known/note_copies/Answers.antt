@@ -1,9 +1,8 @@
-use Rattle.std.proofs.Common.{◌≡◌, ℕ, List, true, get_or, sym, refl, ap, ◌∙◌}
+use Rattle.std.proofs.Common.{◌≡◌, true, get_or, sym, refl, ◌∙◌}
 use Rattle.tta_arch.specs.declared.ends.Source.TheVariants as source
-use Rattle.tta_moves.specs.declared.items.Item.{Item}
 use Rattle.tta_reload.specs.declared.facts.Fact.{Fact}
 use Rattle.tta_reload.specs.Known.{fact, known, by_copy}
-use Rattle.tta_reload.specs.Facts.{is_among, are_among, Knows}
+use Rattle.tta_reload.specs.Facts.{is_among, are_among}
 use Rattle.tta_reload.proofs.Among.{among_in, among_at}
 use Rattle.tta_reload.proofs.Noting.{copies_among}
 use Rattle.tta_reload.proofs.known.Known.note_copies.Goals as goal

@@ -1,4 +1,4 @@
-use Rattle.std.proofs.Common.{◌≡◌, ℕ, List, true, IfSome, get_or, sym, refl, ap, ◌∙◌}
+use Rattle.std.proofs.Common.{◌≡◌, List, true, get_or, sym, refl, ap, ◌∙◌}
 use Rattle.tta_arch.specs.declared.ends.Source.TheVariants as source
 use Rattle.tta_moves.specs.declared.items.Item.{Item}
 use Rattle.tta_reload.specs.declared.facts.Fact.{Fact}

@@ -1,5 +1,4 @@
-use Rattle.std.proofs.Common.{◌≡◌, ℕ, List, true, ◌∷◌, refl}
-use Rattle.tta_moves.specs.declared.items.Item.{Item}
+use Rattle.std.proofs.Common.{◌≡◌, List, true, ◌∷◌, refl}
 use Rattle.tta_reload.specs.declared.facts.Fact.{Fact}
 use Rattle.tta_reload.specs.Known.{known}
 use Rattle.tta_reload.specs.Facts.{are_among}
