@@ -1,49 +1,136 @@
 //! The lists that may be placed for a block.
 
-ghost use Rattle.std.specs.Prelude.{◌≡◌, ◌++◌, ◌∷◌, [], true, IfOk, OnOk};
+ghost use Rattle.std.specs.Prelude.{◌≡◌, ◌++◌, true, IfOk, OnOk, IfSome, option_to_list};
 ghost use Rattle.tta_connect.specs.Net.{IsNetOf};
+ghost use Rattle.tta_connect.specs.Coverage.{IsChoice};
 ghost use Rattle.tta_moves.specs.Slots.{is_list};
-ghost use Rattle.tta_compose.specs.Compiler.{optimised};
-ghost use Rattle.tta_build.specs.Candidates.{AreCandidates};
+ghost use Rattle.tta_build.specs.Candidates.{IsCandidate, AddsCandidates, AreCandidates};
 
 use std::alloc::{AllocError, Global};
 use tta_arch::Machine;
-use tta_connect::Net;
+use tta_connect::{Choice, Net};
 use tta_moves::BlockList;
 use tta_optim::Passes;
+use tta_order::{Orders, Rule};
+use tta_reload::reload;
 
-/// One list more, which is another after the passes. The only error is out of memory.
-fn push_optimised(
-    alloc: Global,
-    passes: &mut Passes,
-    lists: &mut Vec<BlockList>,
-    list: &BlockList,
-    m: &Machine,
-    net: &Net,
-) -> Result<(), AllocError>
-    requires net { IsNetOf net.now m.now }
-    requires list { is_list m.now list.now.items ≡ true }
-    ensures { OnOk result (lists.new.items ≡ lists.old.items ++ optimised m.now list.now ∷ []) }
-{
-    let other = passes.optimise(alloc, list, m, net)?;
-    lists.push(other)?;
-    Ok(())
+/// The passes that make the candidates of one block after another. Their tables take their memory
+/// once.
+#[derive(Drop)]
+pub struct Candidates {
+    passes: Passes,
+    orders: Orders,
 }
 
-/// The candidates of a block. The first is its list after the passes. The only error is out of
-/// memory.
-pub fn candidates_of(
-    alloc: Global,
-    passes: &mut Passes,
-    b: &BlockList,
-    m: &Machine,
-    net: &Net,
-) -> Result<Vec<BlockList>, AllocError>
-    requires net { IsNetOf net.now m.now }
-    requires list { is_list m.now b.now.items ≡ true }
-    ensures { IfOk result (λ lists. AreCandidates m.now b.now lists.items) }
+impl Candidates {
+    /// The passes for a machine with this hub. It fails only where there is no memory.
+    pub fn new(alloc: Global, hub: u8) -> Result<Self, AllocError> {
+        let passes = Passes::new(alloc)?;
+        let orders = Orders::new(alloc, hub)?;
+        Ok(Candidates { passes, orders })
+    }
+
+    /// A list with its items in order, after the passes; none where its items stand so already. It
+    /// fails only where there is no memory.
+    fn by_items(
+        &mut self,
+        alloc: Global,
+        list: &BlockList,
+        m: &Machine,
+        net: &Net,
+    ) -> Result<Option<BlockList>, AllocError>
+        requires net { IsNetOf net.now m.now }
+        requires list { is_list m.now list.now.items ≡ true }
+        ensures { IfOk result (λ o. IfSome o (λ r. IsCandidate m.now list.now r)) }
+    {
+        match self.orders.order(alloc, list, m, net, Rule::Items)? {
+            Some(ordered) => Ok(Some(self.passes.optimise(alloc, &ordered, m, net)?)),
+            None => Ok(None),
+        }
+    }
+
+    /// A list with its groups in order, cycle by cycle, and then its items, after the passes; none
+    /// where its groups stand so already. It fails only where there is no memory.
+    fn by_groups(
+        &mut self,
+        alloc: Global,
+        list: &BlockList,
+        m: &Machine,
+        net: &Net,
+    ) -> Result<Option<BlockList>, AllocError>
+        requires net { IsNetOf net.now m.now }
+        requires list { is_list m.now list.now.items ≡ true }
+        ensures { IfOk result (λ o. IfSome o (λ r. IsCandidate m.now list.now r)) }
+    {
+        match self.orders.order(alloc, list, m, net, Rule::Cycles)? {
+            Some(ordered) => {
+                let grouped = self.passes.optimise(alloc, &ordered, m, net)?;
+                match self.by_items(alloc, &grouped, m, net)? {
+                    Some(other) => Ok(Some(other)),
+                    None => Ok(Some(grouped)),
+                }
+            }
+            None => Ok(None),
+        }
+    }
+
+    /// Adds what a list becomes by the passes: as it is, by items, and by groups. It fails only
+    /// where there is no memory.
+    fn add(
+        &mut self,
+        alloc: Global,
+        lists: &mut Vec<BlockList>,
+        list: &BlockList,
+        m: &Machine,
+        net: &Net,
+    ) -> Result<(), AllocError>
+        requires net { IsNetOf net.now m.now }
+        requires list { is_list m.now list.now.items ≡ true }
+        ensures { OnOk result (AddsCandidates m.now list.now lists.old.items lists.new.items) }
+    {
+        let plain = self.passes.optimise(alloc, list, m, net)?;
+        let by_items = self.by_items(alloc, &plain, m, net)?;
+        let by_groups = self.by_groups(alloc, list, m, net)?;
+        lists.push(plain)?;
+        push_some(lists, by_items)?;
+        push_some(lists, by_groups)?;
+        Ok(())
+    }
+
+    /// The candidates of a block, for what is chosen on a machine: what its list becomes, and what
+    /// it becomes where its loads are served from what is at hand, if any is. The first is its list
+    /// after the passes. It fails only where there is no memory.
+    pub fn of_block(
+        &mut self,
+        alloc: Global,
+        m: &Machine,
+        net: &Net,
+        c: &Choice,
+        b: &BlockList,
+    ) -> Result<Vec<BlockList>, AllocError>
+        requires net { IsNetOf net.now m.now }
+        requires choice { IsChoice m.now c.now }
+        requires list { is_list m.now b.now.items ≡ true }
+        ensures { IfOk result (λ lists. AreCandidates m.now b.now lists.items) }
+    {
+        let mut lists = Vec::new(alloc);
+        self.add(alloc, &mut lists, b, m, net)?;
+        match reload(alloc, m, net, c, b)? {
+            Some(served) => {
+                self.add(alloc, &mut lists, &served, m, net)?;
+                Ok(lists)
+            }
+            None => Ok(lists),
+        }
+    }
+}
+
+/// One list more, if there is one.
+fn push_some(lists: &mut Vec<BlockList>, one: Option<BlockList>) -> Result<(), AllocError>
+    ensures { OnOk result (lists.new.items ≡ lists.old.items ++ option_to_list one) }
 {
-    let mut lists = Vec::new(alloc);
-    push_optimised(alloc, passes, &mut lists, b, m, net)?;
-    Ok(lists)
+    if let Some(list) = one {
+        lists.push(list)?;
+    }
+    Ok(())
 }

@@ -3,15 +3,15 @@
 ghost use Rattle.std.specs.Prelude.{◌≡◌, ◌<◌, if◌then◌else◌, nat_lt, true, length, IfOk};
 ghost use Rattle.std.specs.List.{list_all};
 ghost use Rattle.tta_connect.specs.Net.{IsNetOf};
+ghost use Rattle.tta_connect.specs.Coverage.{IsChoice};
 ghost use Rattle.tta_moves.specs.Slots.{is_list};
 ghost use Rattle.tta_build.specs.Candidates.{IsShortest, IsChosen, AreChosen};
 
-use crate::candidates::candidates_of;
+use crate::candidates::Candidates;
 use std::alloc::{AllocError, Global};
 use tta_arch::Machine;
-use tta_connect::Net;
+use tta_connect::{Choice, Net};
 use tta_moves::{BlockList, Placed};
-use tta_optim::Passes;
 use tta_sched::Placer;
 
 /// The shorter of two placements, the first on a tie.
@@ -47,64 +47,82 @@ fn shortest(
     Ok(best)
 }
 
-/// The shortest first fit of a block's candidates.
-fn place_block(
-    alloc: Global,
-    passes: &mut Passes,
-    placer: &mut Placer,
-    b: &BlockList,
-    m: &Machine,
-    net: &Net,
-) -> Result<Placed, AllocError>
-    requires net { IsNetOf net.now m.now }
-    requires list { is_list m.now b.now.items ≡ true }
-    ensures { IfOk result (λ p. IsChosen m.now b.now p) }
-{
-    let lists = candidates_of(alloc, passes, b, m, net)?;
-    let p = shortest(alloc, placer, lists.as_slice(), m, net);
-    // Dropped here as a whole, so that no part of it is left to drop at the end.
-    drop(lists);
-    p
+/// What places one block after another. Its tables take their memory once.
+#[derive(Drop)]
+struct Chooser {
+    candidates: Candidates,
+    placer: Placer,
 }
 
-/// The same for each block of a program, by passes and a placer that are lent.
+impl Chooser {
+    /// What places blocks on a machine with this hub. It fails only where there is no memory.
+    fn new(alloc: Global, m: &Machine, hub: u8) -> Result<Self, AllocError> {
+        let candidates = Candidates::new(alloc, hub)?;
+        let placer = Placer::new(alloc, m)?;
+        Ok(Chooser { candidates, placer })
+    }
+
+    /// The shortest first fit of a block's candidates. It fails only where there is no memory.
+    fn place(
+        &mut self,
+        alloc: Global,
+        m: &Machine,
+        net: &Net,
+        c: &Choice,
+        b: &BlockList,
+    ) -> Result<Placed, AllocError>
+        requires net { IsNetOf net.now m.now }
+        requires choice { IsChoice m.now c.now }
+        requires list { is_list m.now b.now.items ≡ true }
+        ensures { IfOk result (λ p. IsChosen m.now b.now p) }
+    {
+        let lists = self.candidates.of_block(alloc, m, net, c, b)?;
+        let p = shortest(alloc, &mut self.placer, lists.as_slice(), m, net);
+        // Dropped here as a whole, so that no part of it is left to drop at the end.
+        drop(lists);
+        p
+    }
+}
+
+/// The same for each block of a program, by what is lent.
 fn place_each(
     alloc: Global,
-    passes: &mut Passes,
-    placer: &mut Placer,
+    chooser: &mut Chooser,
     blocks: &[BlockList],
     m: &Machine,
     net: &Net,
+    c: &Choice,
 ) -> Result<Vec<Placed>, AllocError>
     requires net { IsNetOf net.now m.now }
+    requires choice { IsChoice m.now c.now }
     requires lists { list_all (λ b. is_list m.now b.items) blocks.now ≡ true }
     ensures { IfOk result (λ ps. AreChosen m.now blocks.now ps.items) }
 {
     let mut ps = Vec::new(alloc);
     for b in blocks {
-        let p = place_block(alloc, passes, placer, b, m, net)?;
+        let p = chooser.place(alloc, m, net, c, b)?;
         ps.push(p)?;
     }
     Ok(ps)
 }
 
-/// For each block of a program the shortest first fit of its candidates. The only error is out of
-/// memory.
+/// For each block of a program the shortest first fit of its candidates, for what is chosen on a
+/// machine. The only error is out of memory.
 pub fn place_chosen(
     alloc: Global,
     blocks: &[BlockList],
     m: &Machine,
     net: &Net,
+    c: &Choice,
 ) -> Result<Vec<Placed>, AllocError>
     requires net { IsNetOf net.now m.now }
+    requires choice { IsChoice m.now c.now }
     requires lists { list_all (λ b. is_list m.now b.items) blocks.now ≡ true }
     ensures { IfOk result (λ ps. AreChosen m.now blocks.now ps.items) }
 {
-    let mut passes = Passes::new(alloc)?;
-    let mut placer = Placer::new(alloc, m)?;
-    let ps = place_each(alloc, &mut passes, &mut placer, blocks, m, net);
-    // Dropped here as a whole, so that no part of them is left to drop at the end.
-    drop(placer);
-    drop(passes);
+    let mut chooser = Chooser::new(alloc, m, c.hub)?;
+    let ps = place_each(alloc, &mut chooser, blocks, m, net, c);
+    // Dropped here as a whole, so that no part of it is left to drop at the end.
+    drop(chooser);
     ps
 }

@@ -73,7 +73,7 @@ fn placements(
     ensures cause { IfErr result (λ e. IsCause p.now m.now.frame_words e) }
 {
     let lists = selected_lists(alloc, m, net, c, p, units)?;
-    let ps = place_chosen(alloc, lists.as_slice(), m, net)?;
+    let ps = place_chosen(alloc, lists.as_slice(), m, net, c)?;
     Ok(ps)
 }
 

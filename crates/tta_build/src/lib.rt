@@ -1,5 +1,5 @@
-//! The compiler: code for a machine that does what a program does. It calls the compiler's passes in
-//! their order, and holds the steps between them: which needs of a program no unit offers, direct
+//! The compiler: code for a machine that does what a program does. It calls the compiler's passes
+//! in their order, and holds the steps between them: which needs of a program no unit offers, direct
 //! pairs, the candidates of each block and which of their placements stays, code from placements,
 //! and a program's data in order. What the passes prove together stands in `tta_compose`.
 #![tactic(auto)]

@@ -3,7 +3,7 @@ use Rattle.std.specs.List.{list_all}
 use Rattle.tta_moves.specs.declared.items.BlockList.{BlockList}
 use Rattle.tta_moves.specs.Slots.{is_list}
 use Rattle.tta_build.proofs.Standing.{candidates_lists}
-use Rattle.tta_build.proofs.choosing.place_block.Goals as goal
+use Rattle.tta_build.proofs.choosing.Chooser.place.Goals as goal
 
 pub shortest-p-requires-clause-lists : goal.shortest-p-requires-clause-lists
 shortest-p-requires-clause-lists c =
