@@ -1,0 +1,3 @@
+mod Tallies
+mod Guards
+mod Onward

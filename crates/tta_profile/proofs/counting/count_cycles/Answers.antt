@@ -1,0 +1,108 @@
+use Rattle.std.proofs.Common.{◌≡◌, ℕ, suc, ◌+◌, ◌-◌, ◌*◌, ◌<◌, ◌^◌, List, length, sym, ap, ◌∙◌, subst, arith}
+use Rattle.std.specs.Prelude.{slice_get}
+use Rattle.std.proofs.lemmas.List.{length-replicate}
+use Rattle.tta_list.specs.Iterate.{iterate}
+use Rattle.tta_list.specs.Input.{left as unread}
+use Rattle.tta_ops.specs.Set.{stated}
+use Rattle.tta_code.specs.declared.code.Instruction.{Instruction}
+use Rattle.tta_code.specs.Cycle.{State, next}
+use Rattle.tta_sim.specs.Held.{Stands}
+use Rattle.tta_profile.specs.Counts.{Counts, AreCounts}
+use Rattle.tta_profile.proofs.Tallies.{counts_begin, are_small, counts_on, counts_over}
+use Rattle.tta_profile.proofs.counting.count_cycles.Given as given
+use Rattle.tta_profile.proofs.counting.count_cycles.Goals.{After-count_cycle}
+use Rattle.tta_profile.proofs.counting.count_cycles.Goals as goal
+
+module _ (g : given.Over) (c : After-count_cycle g) where
+  abbrev step : State → State
+  step = next (stated (λ v. (goal.OpUnit-dyn g v).unit_meaning v.1) c.args.basis.now.units.now) c.args.basis.now.m.now c.args.basis.now.code.now
+
+  abbrev words : List Instruction
+  words = c.args.basis.now.code.now.words
+
+  -- how many cycles were made before this one
+  abbrev made : ℕ
+  made = c.args.bound - c.cycles.left
+
+  -- what the cycle is fed
+  fed : (s : State) → Stands c.args.sim.now s → s.rest ≡ c.args.input.now → slice_get (iterate made step s).rest 0 ≡ c.first_of.result
+  fed s stands given = ap (λ (l : List ℕ). slice_get l 0) (c.cycles.invariant.rest s stands given) ∙ sym c.first_of.ensures
+
+  -- with it there is one more
+  one_more : made + 1 ≡ c.args.bound - (c.cycles.left - 1)
+  one_more = let w = c.cycles.invariant.within in let t = c.cycles-test.true in omega arith
+
+  -- with all that are left they are all
+  all_made : c.cycles.left + made ≡ c.args.bound
+  all_made = let w = c.cycles.invariant.within in omega arith
+
+  -- few cycles were made
+  few_made : made < 2 ^ 62
+  few_made = let b = c.cycles.invariant.bounded in omega arith
+
+pub cycles-init : goal.cycles-init
+cycles-init g c =
+    let words = c.args.basis.now.code.now.words in
+    let step = next (stated (λ v. (goal.OpUnit-dyn g v).unit_meaning v.1) c.args.basis.now.units.now) c.args.basis.now.m.now c.args.basis.now.code.now in
+    let none : 0 ≡ c.args.bound - c.args.bound = omega arith in
+    let few = c.requires.few in
+    record {
+      loaded = c.requires.loaded;
+      few = few;
+      bounded = omega arith;
+      within = omega arith;
+      size = ap length c.requires.none ∙ length-replicate (length words) 0;
+      room = ap length c.requires.none_passed ∙ length-replicate (16 * length words) 0;
+      stands = λ s stands given. subst (λ (n : ℕ). Stands c.args.sim.now (iterate n step s)) none stands;
+      rest = λ s stands given. subst (λ (n : ℕ). (iterate n step s).rest ≡ c.args.input.now) none given;
+      counts = λ s stands given. subst (λ (n : ℕ). AreCounts step words s n c.args.counts.now) none (counts_begin step words s c.args.counts.now c.requires.none c.requires.none_passed);
+    }
+
+pub cycles-preserved : goal.cycles-preserved
+cycles-preserved g c =
+    let at = (goal.at.cycles-preserved g c).After-count_cycle in
+    let counted = c.count_cycle.ensures.counted in
+    let few = c.cycles.invariant.few in
+    let within = c.cycles.invariant.within in
+    let test = c.cycles-test.true in
+    let goes = λ (s : State) (stands : Stands c.args.sim.now s) (given : s.rest ≡ c.args.input.now).
+    c.in-On.ensures.goes (iterate (made g at) (step g at) s) (c.cycles.invariant.stands s stands given) (fed g at s stands given)
+    (are_small (step g at) (words g at) s (made g at) c.cycles.counts (few_made g at) (c.cycles.invariant.counts s stands given)) in
+    record {
+      loaded = c.count_cycle.ensures.loaded;
+      few = omega arith;
+      bounded = c.cycles.invariant.bounded;
+      within = omega arith;
+      size = c.count_cycle.ensures.size ∙ c.cycles.invariant.size;
+      room = c.count_cycle.ensures.room ∙ c.cycles.invariant.room;
+      stands = λ s stands given. subst (λ (n : ℕ). Stands c.count_cycle.new.sim (iterate n (step g at) s)) (one_more g at)
+          (subst (λ (n : ℕ). Stands c.count_cycle.new.sim (iterate n (step g at) s)) (let e : suc (made g at) ≡ made g at + 1 = omega arith in e) (goes s stands given).0.stands);
+      rest = λ s stands given. subst (λ (n : ℕ). (iterate n (step g at) s).rest ≡ c.left_of-rest.result.now) (one_more g at)
+          (subst (λ (n : ℕ). (iterate n (step g at) s).rest ≡ c.left_of-rest.result.now) (let e : suc (made g at) ≡ made g at + 1 = omega arith in e)
+          ((goes s stands given).0.rest ∙ ap (unread c.in-On.took) (c.cycles.invariant.rest s stands given) ∙ sym c.left_of-rest.ensures));
+      counts = λ s stands given. subst (λ (n : ℕ). AreCounts (step g at) (words g at) s n c.count_cycle.new.counts) (one_more g at)
+          (counts_on (step g at) (words g at) s (made g at) c.cycles.counts c.count_cycle.new.counts (c.cycles.invariant.counts s stands given) (goes s stands given).1
+          c.count_cycle.ensures.size c.count_cycle.ensures.room);
+    }
+
+pub returns-in-Over : goal.returns-in-Over
+returns-in-Over g c = record {
+  counts = λ s stands given.
+      let at = (goal.at.returns-in-Over g c).After-count_cycle in
+      let are = c.cycles.invariant.counts s stands given in
+      let goes = c.in-Over.ensures.goes (iterate (made g at) (step g at) s) (c.cycles.invariant.stands s stands given) (fed g at s stands given)
+      (are_small (step g at) (words g at) s (made g at) c.cycles.counts (few_made g at) are) in
+      subst (λ (x : Counts). AreCounts (step g at) (words g at) s c.args.bound x) (sym goes.1)
+      (subst (λ (n : ℕ). AreCounts (step g at) (words g at) s n c.cycles.counts) (all_made g at)
+      (counts_over (step g at) (words g at) s (made g at) c.cycles.left c.cycles.counts are goes.0));
+}
+
+pub returns : goal.returns
+returns g c = record {
+  counts = λ s stands given.
+      let words = c.args.basis.now.code.now.words in
+      let step = next (stated (λ v. (goal.OpUnit-dyn g v).unit_meaning v.1) c.args.basis.now.units.now) c.args.basis.now.m.now c.args.basis.now.code.now in
+      let test = c.cycles-test.false in
+      let all : c.args.bound - c.cycles.left ≡ c.args.bound = omega arith in
+      subst (λ (n : ℕ). AreCounts step words s n c.cycles.counts) all (c.cycles.invariant.counts s stands given);
+}

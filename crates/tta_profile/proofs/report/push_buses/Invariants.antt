@@ -1,0 +1,8 @@
+use Rattle.std.proofs.Common.{◌≡◌, ◌++◌, drop}
+use Rattle.std.specs.List.{flat_map, enumerate_from}
+use Rattle.tta_profile.specs.Report.{bus_text}
+use Rattle.tta_profile.proofs.report.push_buses.Given as goal
+
+abbrev pub invariant-loop-bus : goal.invariant-loop-bus
+invariant-loop-bus l =
+    l.out.items ++ flat_map (λ b. bus_text l.told.counts.now l.told.words.now l.told.whole b.0 b.1) (enumerate_from l.bus (drop l.bus l.buses)) ≡ l.initial.out.items ++ flat_map (λ b. bus_text l.told.counts.now l.told.words.now l.told.whole b.0 b.1) (enumerate_from 0 l.buses)

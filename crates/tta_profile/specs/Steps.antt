@@ -1,0 +1,35 @@
+-- What a cycle adds to the counts.
+use Rattle.std.specs.Prelude.{◌≡◌, ℕ, ◌+◌, ◌*◌, ◌<◌, ◌^◌, Bool, true, false, if◌then◌else◌, List, slice_index}
+use Rattle.tta_list.specs.Input.{left}
+use Rattle.tta_code.specs.declared.code.Instruction.{Instruction}
+use Rattle.tta_code.specs.Cycle.{State}
+use Rattle.tta_profile.specs.declared.counting.Went.{Went}
+use Rattle.tta_profile.specs.declared.counting.Went.TheVariants.{On, Over}
+use Rattle.tta_profile.specs.Counts.{Counts, is_made, carries, stops}
+
+-- no count is near its greatest
+pub record AreSmall (c : Counts) : Type 0 where
+  pub executed : (address : ℕ) → slice_index c.executed address < 2 ^ 63
+  pub passed : (address bus : ℕ) → bus < 16 → slice_index c.passed (16 * address + bus) < 2 ^ 63
+
+-- the counts are those before, and one more of what the cycle of a state carries out and stops
+pub record Adds (step : State → State) (words : List Instruction) (s : State) (old new : Counts) : Type 0 where
+  pub executed : (address : ℕ) → slice_index new.executed address ≡ slice_index old.executed address + (if carries step address s then 1 else 0)
+  pub passed : (address bus : ℕ) → bus < 16
+      → slice_index new.passed (16 * address + bus) ≡ slice_index old.passed (16 * address + bus) + (if stops step words address bus s then 1 else 0)
+
+-- a cycle was carried out, and the run stands for the state after it
+pub record IsOn (step : State → State) (Stands : State → Type 0) (s : State) (took : Bool) : Type 0 where
+  pub stands : Stands (step s)
+  pub rest : (step s).rest ≡ left took s.rest
+  pub made : is_made step s ≡ true
+
+-- no cycle was carried out, nor will one be
+pub record IsOver (step : State → State) (s : State) : Type 0 where
+  pub made : is_made step s ≡ false
+  pub stays : step (step s) ≡ step s
+
+-- what became of a cycle
+abbrev pub Goes : (step : State → State) → List Instruction → (Stands : State → Type 0) → State → (old new : Counts) → Went → Type 0
+Goes step words Stands s old new (On took) = IsOn step Stands s took × Adds step words s old new
+Goes step words Stands s old new Over = IsOver step s × (new ≡ old)

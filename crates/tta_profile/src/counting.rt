@@ -1,0 +1,131 @@
+//! Counting over the cycles of a run.
+
+ghost use Rattle.std.specs.Prelude.{◌≡◌, ◌+◌, ◌*◌, ◌<◌, ◌≤◌, ◌^◌, ℕ, false, length, slice_get};
+ghost use Rattle.std.specs.Prelude.{replicate};
+ghost use Rattle.std.specs.Option.{option_copied, option_map_or};
+ghost use Rattle.tta_ops.specs.Set.{stated};
+ghost use Rattle.tta_arch.specs.Joins.{has_bit};
+ghost use Rattle.tta_list.specs.Input.{IsFed, left};
+ghost use Rattle.tta_code.specs.Cycle.{State, next as next_state};
+ghost use Rattle.tta_sim.specs.Held.{Stands, IsRunOf};
+ghost use Rattle.tta_profile.specs.Counts.{AreCounts, is_stopped, slot_at};
+ghost use Rattle.tta_profile.specs.Steps.{AreSmall, Goes};
+
+use crate::counts::Counts;
+use crate::stopped::stopped_of;
+use tta_arch::Machine;
+use tta_code::{Code, Instruction};
+use tta_ops::UnitSet;
+use tta_sim::{CycleStep, Sim};
+
+/// What a run stands on.
+#[derive(Clone, Copy)]
+pub struct Basis<'a> {
+    pub m: &'a Machine,
+    pub code: &'a Code,
+    pub units: &'a UnitSet,
+}
+
+/// The next word of an input.
+fn first_of(rest: &[u32]) -> Option<u32>
+    ensures { result ≡ slice_get rest.now 0 }
+{
+    rest.first().copied()
+}
+
+/// What is left of an input, where its next word was taken or was not.
+fn left_of(rest: &[u32], took: bool) -> &[u32]
+    ensures { result.now ≡ left took rest.now }
+{
+    if took && !rest.is_empty() {
+        &rest[1..]
+    } else {
+        rest
+    }
+}
+
+/// The instruction of an address, if there is one.
+fn instruction_at(code: &Code, address: u32) -> Option<&Instruction>
+    ensures { option_copied result ≡ slice_get code.now.words address }
+{
+    code.words.as_slice().get(address as usize)
+}
+
+/// The buses whose moves their guards stop in the next instruction.
+fn stopped_next(sim: &Sim, basis: &Basis<'_>) -> u16
+    requires { IsRunOf basis.now.m.now basis.now.code.now sim.now }
+    ensures { (s : State) → Stands sim.now s → (bus : ℕ) → has_bit result bus
+        ≡ option_map_or (is_stopped s) (slot_at basis.now.code.now.words s.pc bus) false }
+{
+    let m = basis.m;
+    match instruction_at(basis.code, sim.pc()) {
+        None => 0,
+        Some(i) => stopped_of(sim, m.units.len(), i.moves.as_slice()),
+    }
+}
+
+/// What became of a cycle.
+#[derive(Clone, Copy)]
+pub enum Went {
+    /// It was carried out, and took a word of the input or did not.
+    On(bool),
+    /// It was not, and none will be: the run has halted, faults or waits.
+    Over,
+}
+
+/// Carries out a cycle and counts it.
+fn count_cycle(sim: &mut Sim, counts: &mut Counts, basis: &Basis<'_>, next: Option<u32>) -> Went
+    requires loaded { IsRunOf basis.now.m.now basis.now.code.now sim.old }
+    requires few { sim.old.cycle < 2 ^ 62 }
+    requires size { length counts.old.executed ≡ length basis.now.code.now.words }
+    requires room { length counts.old.passed ≡ 16 * length basis.now.code.now.words }
+    ensures loaded { IsRunOf basis.now.m.now basis.now.code.now sim.new }
+    ensures counted { sim.new.cycle ≤ sim.old.cycle + 1 }
+    ensures size { length counts.new.executed ≡ length counts.old.executed }
+    ensures room { length counts.new.passed ≡ length counts.old.passed }
+    ensures goes { let on = basis.now in
+        let step = next_state (stated unit_meaning on.units.now) on.m.now on.code.now in
+        (s : State) → Stands sim.old s → IsFed s.rest next → AreSmall counts.old
+        → Goes step on.code.now.words (Stands sim.new) s counts.old counts.new result }
+{
+    let address = sim.pc() as usize;
+    let stopped = stopped_next(&*sim, basis);
+    match sim.cycle(basis.m, basis.code, basis.units, next) {
+        CycleStep::Ran { took, .. } => {
+            counts.add(address, stopped);
+            Went::On(took)
+        }
+        CycleStep::Halted => Went::Over,
+        CycleStep::Fault(_) => Went::Over,
+        CycleStep::Waiting => Went::Over,
+    }
+}
+
+/// Carries out at most so many cycles of a run, and counts them.
+pub fn count_cycles(
+    sim: &mut Sim,
+    counts: &mut Counts,
+    basis: &Basis<'_>,
+    input: &[u32],
+    bound: u64,
+)
+    requires loaded { IsRunOf basis.now.m.now basis.now.code.now sim.old }
+    requires few { sim.old.cycle + bound < 2 ^ 62 }
+    requires none { counts.old.executed ≡ replicate (length basis.now.code.now.words) 0 }
+    requires none_passed { counts.old.passed
+        ≡ replicate (16 * length basis.now.code.now.words) 0 }
+    ensures counts { let on = basis.now in
+        let step = next_state (stated unit_meaning on.units.now) on.m.now on.code.now in
+        (s : State) → Stands sim.old s → s.rest ≡ input.now
+        → AreCounts step on.code.now.words s bound counts.new }
+{
+    let mut left = bound;
+    let mut rest = input;
+    'cycles: while left > 0 {
+        match count_cycle(sim, counts, basis, first_of(rest)) {
+            Went::Over => return,
+            Went::On(took) => rest = left_of(rest, took),
+        }
+        left -= 1;
+    }
+}

@@ -1,0 +1,386 @@
+//! What is told of the counts of a run, as text.
+
+ghost use Rattle.std.specs.Prelude.{◌≡◌, ◌≤◌, ◌<◌, ◌++◌, ◌^◌, decimal, length, slice_get, All, IfOk, IfSome, OnOk};
+ghost use Rattle.std.specs.Option.{option_copied};
+ghost use Rattle.tta_ops.specs.Set.{stated};
+ghost use Rattle.tta_code.specs.Legal.{IsLegalCode};
+ghost use Rattle.tta_profile.specs.Report.{share_text, used_text, buses_text, units_text};
+ghost use Rattle.tta_profile.specs.Report.{passed_text, all_passed_text, hot_text, hot_at_text};
+ghost use Rattle.tta_profile.specs.Report.{hottest_text, uses_text, told_text, percent, IsReport};
+ghost use Rattle.tta_profile.specs.Report.{bus_text, unit_text, bus_name, is_guarded, count_text};
+ghost use Rattle.tta_profile.specs.Report.{times_text, code_sum};
+
+use crate::counts::Counts;
+use crate::hot::{Hot, hottest};
+use crate::sums::{Test, code_sum, cycles_sum};
+use itoa::Buffer;
+use std::alloc::{AllocError, Global};
+use tta_arch::{Bus, Machine, Unit};
+use tta_asm::push_instruction;
+use tta_code::{Code, Instruction, Move};
+use tta_ops::UnitSet;
+
+/// Puts a number, in decimal.
+fn push_number(out: &mut Vec<u8>, n: u128) -> Result<(), AllocError>
+    ensures { OnOk result (out.new.items ≡ out.old.items ++ decimal n) }
+{
+    let mut buffer = Buffer::new();
+    out.extend_from_slice(buffer.format(n).as_bytes())
+}
+
+/// A share of a whole, in percent, 0 of nothing.
+fn percent(part: u128, whole: u128) -> u128
+    requires { part ≤ 2 ^ 84 }
+    ensures { result ≡ percent part whole }
+{
+    if whole == 0 { 0 } else { 100 * part / whole }
+}
+
+/// Puts a number and its share.
+#[tactic(auto, unfolding(crate::specs::Report::share_text))]
+fn push_share(out: &mut Vec<u8>, part: u128, whole: u128) -> Result<(), AllocError>
+    requires { part ≤ 2 ^ 84 }
+    ensures { OnOk result (out.new.items ≡ out.old.items ++ share_text part whole) }
+{
+    push_number(out, part)?;
+    out.extend_from_slice(b" share ")?;
+    push_number(out, percent(part, whole))
+}
+
+/// Puts what a bus or unit is, its name, and how often it was used.
+#[tactic(auto, unfolding(crate::specs::Report::used_text))]
+fn push_used(
+    out: &mut Vec<u8>,
+    what: &[u8],
+    name: &[u8],
+    told: &[u8],
+    part: u128,
+    whole: u128,
+) -> Result<(), AllocError>
+    requires { part ≤ 2 ^ 84 }
+    ensures { OnOk result (out.new.items
+        ≡ out.old.items ++ used_text what.now name.now told.now part whole) }
+{
+    out.extend_from_slice(what)?;
+    out.extend_from_slice(name)?;
+    out.extend_from_slice(told)?;
+    push_share(out, part, whole)?;
+    out.extend_from_slice(b"\n")
+}
+
+/// What is told of: code for a machine, its counts, and how many cycles were made.
+#[derive(Clone, Copy)]
+struct Told<'a> {
+    m: &'a Machine,
+    words: &'a [Instruction],
+    counts: &'a Counts,
+    whole: u128,
+}
+
+/// How often moves that are asked for were active.
+fn sum_of(told: &Told<'_>, test: Test) -> u128
+    requires few { length told.now.words.now ≤ 65536 }
+    requires low { All (λ i. length i.moves ≤ 16) told.now.words.now }
+    ensures value { result ≡ code_sum told.now.counts.now test told.now.words.now }
+    ensures small { result ≤ 2 ^ 84 }
+{
+    code_sum(told.counts, test, told.words)
+}
+
+/// Puts a bus, and how many moves it carried.
+fn push_bus(out: &mut Vec<u8>, told: &Told<'_>, bus: u8, b: &Bus) -> Result<(), AllocError>
+    requires few { length told.now.words.now ≤ 65536 }
+    requires low { All (λ i. length i.moves ≤ 16) told.now.words.now }
+    ensures { OnOk result (out.new.items ≡ out.old.items
+        ++ bus_text told.now.counts.now told.now.words.now told.now.whole bus b.now) }
+{
+    let moves = sum_of(told, Test::Bus(bus));
+    push_used(
+        out,
+        b"bus ",
+        b.name.as_bytes(),
+        b" moves ",
+        moves,
+        told.whole,
+    )
+}
+
+/// Puts buses.
+fn push_buses(out: &mut Vec<u8>, told: &Told<'_>, buses: &[Bus]) -> Result<(), AllocError>
+    requires few { length told.now.words.now ≤ 65536 }
+    requires low { All (λ i. length i.moves ≤ 16) told.now.words.now }
+    requires buses { length buses.now ≤ 16 }
+    ensures { OnOk result (out.new.items ≡ out.old.items
+        ++ buses_text told.now.counts.now told.now.words.now told.now.whole buses.now) }
+{
+    for (bus, b) in buses.iter().enumerate() {
+        push_bus(out, told, bus as u8, b)?;
+    }
+    Ok(())
+}
+
+/// Puts a unit, and how many of its operations were started.
+fn push_unit(out: &mut Vec<u8>, told: &Told<'_>, unit: u8, q: &Unit) -> Result<(), AllocError>
+    requires few { length told.now.words.now ≤ 65536 }
+    requires low { All (λ i. length i.moves ≤ 16) told.now.words.now }
+    ensures { OnOk result (out.new.items ≡ out.old.items
+        ++ unit_text told.now.counts.now told.now.words.now told.now.whole unit q.now) }
+{
+    let starts = sum_of(told, Test::Unit(unit));
+    push_used(
+        out,
+        b"unit ",
+        q.name.as_bytes(),
+        b" starts ",
+        starts,
+        told.whole,
+    )
+}
+
+/// Puts units.
+fn push_units(out: &mut Vec<u8>, told: &Told<'_>, units: &[Unit]) -> Result<(), AllocError>
+    requires few { length told.now.words.now ≤ 65536 }
+    requires low { All (λ i. length i.moves ≤ 16) told.now.words.now }
+    requires units { length units.now ≤ 32 }
+    ensures { OnOk result (out.new.items ≡ out.old.items
+        ++ units_text told.now.counts.now told.now.words.now told.now.whole units.now) }
+{
+    for (unit, q) in units.iter().enumerate() {
+        push_unit(out, told, unit as u8, q)?;
+    }
+    Ok(())
+}
+
+/// The name of a bus, and no bytes where the machine has no such bus.
+fn bus_name(m: &Machine, bus: usize) -> &[u8]
+    ensures { result.now ≡ bus_name m.now bus }
+{
+    match m.buses.as_slice().get(bus) {
+        None => b"",
+        Some(b) => b.name.as_bytes(),
+    }
+}
+
+/// Whether a slot has a move with a guard.
+fn is_guarded(slot: Option<Move>) -> bool
+    ensures { result ≡ is_guarded slot }
+{
+    match slot {
+        None => false,
+        Some(v) => v.guard.is_some(),
+    }
+}
+
+/// Puts how often the move of a bus was passed over.
+#[tactic(auto, unfolding(crate::specs::Report::count_text))]
+fn push_count(out: &mut Vec<u8>, name: &[u8], n: u64) -> Result<(), AllocError>
+    ensures { OnOk result (out.new.items ≡ out.old.items ++ count_text name.now n) }
+{
+    out.extend_from_slice(b" passed ")?;
+    out.extend_from_slice(name)?;
+    out.extend_from_slice(b" ")?;
+    push_number(out, u128::from(n))
+}
+
+/// The same, if it has a guard.
+fn push_passed(
+    out: &mut Vec<u8>,
+    told: &Told<'_>,
+    address: u32,
+    bus: usize,
+    slot: Option<Move>,
+) -> Result<(), AllocError>
+    requires low { bus < 16 }
+    requires few { address < 65536 }
+    ensures { OnOk result (out.new.items ≡ out.old.items
+        ++ passed_text told.now.m.now told.now.counts.now address bus slot) }
+{
+    if is_guarded(slot) {
+        let passed = told.counts.passed(address as usize, bus);
+        push_count(out, bus_name(told.m, bus), passed)
+    } else {
+        Ok(())
+    }
+}
+
+/// Puts how often each move of an instruction was passed over that has a guard.
+fn push_all_passed(
+    out: &mut Vec<u8>,
+    told: &Told<'_>,
+    address: u32,
+    slots: &[Option<Move>],
+) -> Result<(), AllocError>
+    requires low { length slots.now ≤ 16 }
+    requires few { address < 65536 }
+    ensures { OnOk result (out.new.items ≡ out.old.items
+        ++ all_passed_text told.now.m.now told.now.counts.now address slots.now) }
+{
+    for (bus, slot) in slots.iter().enumerate() {
+        push_passed(out, told, address, bus, *slot)?;
+    }
+    Ok(())
+}
+
+/// Puts how often an instruction was carried out.
+#[tactic(auto, unfolding(crate::specs::Report::times_text))]
+fn push_times(out: &mut Vec<u8>, told: &Told<'_>, address: u32) -> Result<(), AllocError>
+    ensures { OnOk result (out.new.items ≡ out.old.items
+        ++ times_text told.now.counts.now told.now.whole address) }
+{
+    out.extend_from_slice(b"at ")?;
+    push_number(out, u128::from(address))?;
+    out.extend_from_slice(b" times ")?;
+    push_share(out, u128::from(told.counts.times(address)), told.whole)
+}
+
+/// Puts an instruction: its address, how often it was carried out, what was passed over, and its
+/// assembly.
+#[tactic(auto, unfolding(crate::specs::Report::hot_text))]
+fn push_hot(
+    out: &mut Vec<u8>,
+    units: &UnitSet,
+    told: &Told<'_>,
+    address: u32,
+    i: &Instruction,
+) -> Result<(), AllocError>
+    requires low { length i.now.moves ≤ 16 }
+    requires few { address < 65536 }
+    ensures { let U = stated unit_meaning units.now in
+        OnOk result (out.new.items ≡ out.old.items
+        ++ hot_text U told.now.m.now told.now.counts.now told.now.whole address i.now) }
+{
+    push_times(out, told, address)?;
+    push_all_passed(out, told, address, i.moves.as_slice())?;
+    out.extend_from_slice(b" : ")?;
+    push_instruction(out, units, told.m, i)
+}
+
+/// The instruction of an address, if there is one.
+fn instruction_at(words: &[Instruction], address: u32) -> Option<&Instruction>
+    requires low { All (λ i. length i.moves ≤ 16) words.now }
+    ensures is { option_copied result ≡ slice_get words.now address }
+    ensures low { IfSome result (λ i. length i.now.moves ≤ 16) }
+    ensures within { IfSome result (λ i. address < length words.now) }
+{
+    words.get(address as usize)
+}
+
+/// Puts the instruction of an address.
+fn push_hot_at(
+    out: &mut Vec<u8>,
+    units: &UnitSet,
+    told: &Told<'_>,
+    h: Hot,
+) -> Result<(), AllocError>
+    requires few { length told.now.words.now ≤ 65536 }
+    requires low { All (λ i. length i.moves ≤ 16) told.now.words.now }
+    ensures { let U = stated unit_meaning units.now in
+        OnOk result (out.new.items ≡ out.old.items
+        ++ hot_at_text U told.now.m.now told.now.counts.now told.now.words.now told.now.whole h) }
+{
+    match instruction_at(told.words, h.address) {
+        Some(i) => push_hot(out, units, told, h.address, i),
+        None => Ok(()),
+    }
+}
+
+/// Puts instructions in this order.
+fn push_hottest(
+    out: &mut Vec<u8>,
+    units: &UnitSet,
+    told: &Told<'_>,
+    order: &[Hot],
+) -> Result<(), AllocError>
+    requires few { length told.now.words.now ≤ 65536 }
+    requires low { All (λ i. length i.moves ≤ 16) told.now.words.now }
+    ensures { let U = stated unit_meaning units.now in
+        OnOk result (out.new.items ≡ out.old.items ++ hottest_text U
+        told.now.m.now told.now.counts.now told.now.words.now told.now.whole order.now) }
+{
+    for h in order {
+        push_hot_at(out, units, told, *h)?;
+    }
+    Ok(())
+}
+
+/// Puts how many cycles were made, and what was used.
+#[tactic(auto, unfolding(crate::specs::Report::uses_text))]
+fn push_uses(out: &mut Vec<u8>, told: &Told<'_>) -> Result<(), AllocError>
+    requires few { length told.now.words.now ≤ 65536 }
+    requires low { All (λ i. length i.moves ≤ 16) told.now.words.now }
+    ensures { OnOk result (out.new.items ≡ out.old.items ++ uses_text
+        told.now.m.now told.now.words.now told.now.counts.now told.now.whole) }
+{
+    out.extend_from_slice(b"cycles ")?;
+    push_number(out, told.whole)?;
+    out.extend_from_slice(b"\n")?;
+    let m = told.m;
+    push_buses(out, told, m.buses.as_slice())?;
+    push_units(out, told, m.units.as_slice())
+}
+
+/// Puts all that is told, with the instructions in this order.
+#[tactic(auto, unfolding(crate::specs::Report::told_text))]
+fn push_told(
+    out: &mut Vec<u8>,
+    units: &UnitSet,
+    told: &Told<'_>,
+    order: &[Hot],
+) -> Result<(), AllocError>
+    requires few { length told.now.words.now ≤ 65536 }
+    requires low { All (λ i. length i.moves ≤ 16) told.now.words.now }
+    ensures { let U = stated unit_meaning units.now in
+        OnOk result (out.new.items ≡ out.old.items ++ told_text U
+        told.now.m.now told.now.words.now told.now.counts.now told.now.whole order.now) }
+{
+    push_uses(out, told)?;
+    push_hottest(out, units, told, order)
+}
+
+/// The instructions of legal code.
+fn words_of<'a>(m: &Machine, code: &'a Code) -> &'a [Instruction]
+    requires { IsLegalCode m.now code.now }
+    ensures words { result.now ≡ code.now.words }
+    ensures few { length result.now ≤ 65536 }
+    ensures low { All (λ i. length i.moves ≤ 16) result.now }
+{
+    // A machine has at most 65,536 addresses, and legal code no more instructions.
+    let fits = code.words.len() <= m.addresses() as usize;
+    prove!(fits);
+    code.words.as_slice()
+}
+
+/// What is told of the counts of a run of code, as text: how many cycles it made, how many moves each
+/// bus carried, how many operations each unit started, and the instructions that were carried out,
+/// the hottest first. It fails only where there is no memory.
+pub fn tell_counts(
+    alloc: Global,
+    m: &Machine,
+    units: &UnitSet,
+    code: &Code,
+    counts: &Counts,
+) -> Result<Vec<u8>, AllocError>
+    requires legal { IsLegalCode m.now code.now }
+    requires size { length counts.now.executed ≡ length code.now.words }
+    ensures { let U = stated unit_meaning units.now in
+        IfOk result (λ v. IsReport U m.now code.now.words counts.now v.items) }
+{
+    let words = words_of(m, code);
+    let order = hottest(alloc, counts)?;
+    let told = Told {
+        m,
+        words,
+        counts,
+        whole: cycles_sum(counts.executed()),
+    };
+    let mut out = Vec::new(alloc);
+    let put = push_told(&mut out, units, &told, order.as_slice());
+    drop(order);
+    match put {
+        Ok(()) => Ok(out),
+        Err(e) => {
+            drop(out);
+            Err(e)
+        }
+    }
+}
