@@ -1,7 +1,7 @@
 //! Numbers of items in an order that is likely to be short.
 
 use crate::clock::{Clock, end_of};
-use crate::edges::{flows, overwrites, rewrites};
+use crate::edges::{flows, number_of, overwrites, rewrites};
 use crate::graph::{Graph, at, path_at};
 use crate::groups::{between, groups_of, starts_of};
 use crate::marks::Marks;
@@ -29,7 +29,7 @@ pub enum Rule {
 fn own_paths(alloc: Global, all: &[Uses]) -> Result<Vec<i32>, AllocError> {
     let mut own = Vec::with_capacity(alloc, all.len())?;
     for u in all {
-        own.push(u.takes)?;
+        own.push(i32::from(u.takes))?;
     }
     Ok(own)
 }
@@ -74,15 +74,16 @@ fn bypass_copies(all: &mut Vec<Uses>) {
 /// The longest path of an item of each group. The only error is out of memory.
 fn longest(
     alloc: Global,
-    groups: &[usize],
+    groups: &[u32],
     count: usize,
     paths: &[i32],
 ) -> Result<Vec<i32>, AllocError> {
     let mut most = vec![in alloc; 0; count]?;
     for (n, group) in groups.iter().enumerate() {
         let path = path_at(paths, n);
-        if *group < most.len() {
-            most[*group] = most[*group].max(path);
+        let g = *group as usize;
+        if g < most.len() {
+            most[g] = most[g].max(path);
         }
     }
     Ok(most)
@@ -92,12 +93,12 @@ fn longest(
 fn members(
     alloc: Global,
     order: &[usize],
-    starts: &[usize],
+    starts: &[u32],
     items: usize,
 ) -> Result<Vec<usize>, AllocError> {
     let mut numbers = Vec::with_capacity(alloc, items)?;
     for group in order {
-        for n in at(starts, *group)..end_of(starts, *group, items) {
+        for n in at(starts, *group) as usize..end_of(starts, *group, items) {
             numbers.push(n)?;
         }
     }
@@ -112,7 +113,7 @@ fn by_groups(
     hub: u8,
     all: &mut Vec<Uses>,
     is_ended: bool,
-    buses: Option<usize>,
+    buses: Option<u32>,
 ) -> Result<Vec<usize>, AllocError> {
     let starts = starts_of(alloc, marks, hub, all.as_slice())?;
     let groups = groups_of(alloc, all.len(), starts.as_slice())?;
@@ -140,9 +141,9 @@ fn by_groups(
 fn clock_with<'c>(
     alloc: Global,
     all: &'c [Uses],
-    starts: &'c [usize],
+    starts: &'c [u32],
     marks: &'c mut Marks,
-    buses: Option<usize>,
+    buses: Option<u32>,
 ) -> Option<Clock<'c>> {
     match buses {
         None => None,
@@ -162,7 +163,7 @@ pub fn chosen(
     let mut all = all_uses(alloc, m, items)?;
     let last = control_of(items);
     let is_ended = last.is_some();
-    let buses = Some(m.buses.len());
+    let buses = Some(number_of(m.buses.len()));
     match rule {
         Rule::Items => by_items(alloc, marks, all.as_slice(), last),
         Rule::Groups => by_groups(alloc, marks, hub, &mut all, is_ended, None),

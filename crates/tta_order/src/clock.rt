@@ -6,16 +6,16 @@ use crate::uses::Uses;
 use std::alloc::{AllocError, Global};
 
 /// How many cycles are looked at for one that has a bus.
-const FAR: usize = 64;
+const FAR: u32 = 64;
 
 /// How many items of a group are looked at for the first that starts an operation.
 const DEEP: usize = 16;
 
 /// The number of the item after the last one of a group.
-pub fn end_of(starts: &[usize], group: usize, items: usize) -> usize {
+pub fn end_of(starts: &[u32], group: usize, items: usize) -> usize {
     match starts.get(group.saturating_add(1)) {
         None => items,
-        Some(n) => *n,
+        Some(n) => *n as usize,
     }
 }
 
@@ -24,14 +24,14 @@ pub fn end_of(starts: &[usize], group: usize, items: usize) -> usize {
 #[derive(Drop)]
 pub struct Clock<'c> {
     all: &'c [Uses],
-    starts: &'c [usize],
+    starts: &'c [u32],
     /// From which cycle on each channel shows, and each unit is free.
     shown: &'c mut Marks,
     /// How many moves each cycle has.
-    moves: Vec<usize>,
-    buses: usize,
+    moves: Vec<u32>,
+    buses: u32,
     /// Each cycle before this one has a move on each bus.
-    full: usize,
+    full: u32,
 }
 
 impl<'c> Clock<'c> {
@@ -39,9 +39,9 @@ impl<'c> Clock<'c> {
     pub fn new(
         alloc: Global,
         all: &'c [Uses],
-        starts: &'c [usize],
+        starts: &'c [u32],
         shown: &'c mut Marks,
-        buses: usize,
+        buses: u32,
     ) -> Self {
         shown.begin();
         Clock {
@@ -54,7 +54,7 @@ impl<'c> Clock<'c> {
         }
     }
 
-    fn since(&self, channel: Option<usize>) -> usize {
+    fn since(&self, channel: Option<u16>) -> u32 {
         let Some(c) = channel else {
             return 0;
         };
@@ -65,7 +65,7 @@ impl<'c> Clock<'c> {
     }
 
     /// The first cycle in which what an item asks for shows and its unit is free.
-    fn least(&self, u: Uses) -> usize {
+    fn least(&self, u: Uses) -> u32 {
         let read = self.since(u.source).max(self.since(u.guard));
         // An operation takes its operand as the cycle's own moves leave it.
         let operand = self.since(u.operand).saturating_sub(1);
@@ -78,11 +78,11 @@ impl<'c> Clock<'c> {
     }
 
     /// The first cycle from one on that has a bus.
-    fn with_bus(&self, cycle: usize) -> usize {
+    fn with_bus(&self, cycle: u32) -> u32 {
         let first = cycle.max(self.full);
         let end = first.saturating_add(FAR);
         for c in first..end {
-            if at(self.moves.as_slice(), c) < self.buses {
+            if at(self.moves.as_slice(), c as usize) < self.buses {
                 return c;
             }
         }
@@ -90,10 +90,10 @@ impl<'c> Clock<'c> {
     }
 
     /// The cycle in which a group's first operation could start.
-    pub fn start_of(&self, group: usize) -> usize {
-        let first = at(self.starts, group);
+    pub fn start_of(&self, group: usize) -> u32 {
+        let first = at(self.starts, group) as usize;
         let end = end_of(self.starts, group, self.all.len());
-        let mut cycle = 0;
+        let mut cycle = 0u32;
         for n in first..end.min(first.saturating_add(DEEP)) {
             let Some(u) = self.all.get(n) else {
                 break;
@@ -107,15 +107,16 @@ impl<'c> Clock<'c> {
     }
 
     /// One more move in a cycle.
-    fn book(&mut self, cycle: usize) -> Result<(), AllocError> {
-        if self.moves.len() <= cycle {
-            self.moves.resize(cycle.saturating_add(1), 0)?;
+    fn book(&mut self, cycle: u32) -> Result<(), AllocError> {
+        let n = cycle as usize;
+        if self.moves.len() <= n {
+            self.moves.resize(n.saturating_add(1), 0)?;
         }
-        if cycle < self.moves.len() {
-            self.moves[cycle] = self.moves[cycle].saturating_add(1);
+        if n < self.moves.len() {
+            self.moves[n] = self.moves[n].saturating_add(1);
         }
         for _ in 0..FAR {
-            if at(self.moves.as_slice(), self.full) < self.buses {
+            if at(self.moves.as_slice(), self.full as usize) < self.buses {
                 break;
             }
             self.full = self.full.saturating_add(1);
@@ -123,7 +124,7 @@ impl<'c> Clock<'c> {
         Ok(())
     }
 
-    fn show(&mut self, channel: Option<usize>, cycle: usize) {
+    fn show(&mut self, channel: Option<u16>, cycle: u32) {
         if let Some(c) = channel {
             self.shown.set(c, cycle);
         }
@@ -138,7 +139,7 @@ impl<'c> Clock<'c> {
             self.with_bus(least)
         };
         self.book(cycle)?;
-        self.show(u.written, cycle.saturating_add(usize::from(u.shows)));
+        self.show(u.written, cycle.saturating_add(u32::from(u.shows)));
         self.show(u.trigger, cycle.saturating_add(1));
         Ok(())
     }
@@ -146,7 +147,7 @@ impl<'c> Clock<'c> {
     /// Places a group's items. It fails only where there is no memory.
     pub fn begin(&mut self, group: usize) -> Result<(), AllocError> {
         let end = end_of(self.starts, group, self.all.len());
-        for n in at(self.starts, group)..end {
+        for n in at(self.starts, group) as usize..end {
             if let Some(u) = self.all.get(n) {
                 self.place(*u)?;
             }

@@ -9,23 +9,31 @@ use std::alloc::{AllocError, Global};
 /// may come before, as a trigger may whose result shows late.
 #[derive(Clone, Copy)]
 pub struct Edge {
-    pub from: usize,
-    pub to: usize,
-    pub channel: usize,
-    pub gap: i32,
+    pub from: u32,
+    pub to: u32,
+    pub channel: u16,
+    pub gap: i16,
+}
+
+/// A number in short. A list has at most 2^24 items.
+pub fn number_of(n: usize) -> u32 {
+    match u32::try_from(n) {
+        Ok(k) => k,
+        Err(_) => u32::MAX,
+    }
 }
 
 /// How many cycles after its own what an item writes shows.
-fn shows_of(all: &[Uses], item: usize) -> u8 {
-    match all.get(item) {
+fn shows_of(all: &[Uses], item: u32) -> u8 {
+    match all.get(item as usize) {
         None => 0,
         Some(u) => u.shows,
     }
 }
 
 /// How many cycles lie between two moments of which each is so many cycles after its item's own.
-fn gap_of(first: u8, second: u8) -> i32 {
-    i32::from(first) - i32::from(second)
+fn gap_of(first: u8, second: u8) -> i16 {
+    i16::from(first) - i16::from(second)
 }
 
 /// An item reads a channel so many cycles after its own: it comes after the last that changed it.
@@ -33,8 +41,8 @@ fn read(
     edges: &mut Vec<Edge>,
     marks: &Marks,
     all: &[Uses],
-    to: usize,
-    channel: Option<usize>,
+    to: u32,
+    channel: Option<u16>,
     after: u8,
 ) -> Result<(), AllocError> {
     let Some(channel) = channel else {
@@ -53,7 +61,7 @@ fn read(
     Ok(())
 }
 
-fn note(marks: &mut Marks, channel: Option<usize>, item: usize) {
+fn note(marks: &mut Marks, channel: Option<u16>, item: u32) {
     if let Some(c) = channel {
         marks.set(c, item);
     }
@@ -62,8 +70,9 @@ fn note(marks: &mut Marks, channel: Option<usize>, item: usize) {
 /// Each item that asks for a channel comes after the last before it that changed it.
 pub fn flows(alloc: Global, marks: &mut Marks, all: &[Uses]) -> Result<Vec<Edge>, AllocError> {
     marks.begin();
-    let mut edges = Vec::with_capacity(alloc, all.len())?;
-    for (to, u) in all.iter().enumerate() {
+    let mut edges = Vec::with_capacity(alloc, all.len().saturating_mul(4))?;
+    for (n, u) in all.iter().enumerate() {
+        let to = number_of(n);
         read(&mut edges, marks, all, to, u.source, 0)?;
         read(&mut edges, marks, all, to, u.guard, 0)?;
         read(&mut edges, marks, all, to, u.operand, 1)?;
@@ -79,8 +88,8 @@ fn rewrite(
     edges: &mut Vec<Edge>,
     marks: &Marks,
     all: &[Uses],
-    to: usize,
-    channel: Option<usize>,
+    to: u32,
+    channel: Option<u16>,
 ) -> Result<(), AllocError> {
     let Some(channel) = channel else {
         return Ok(());
@@ -101,7 +110,8 @@ fn rewrite(
 /// Each item that changes a channel comes after the last before it that changed it.
 pub fn rewrites(marks: &mut Marks, all: &[Uses], edges: &mut Vec<Edge>) -> Result<(), AllocError> {
     marks.begin();
-    for (to, u) in all.iter().enumerate() {
+    for (n, u) in all.iter().enumerate() {
+        let to = number_of(n);
         rewrite(edges, marks, all, to, u.written)?;
         rewrite(edges, marks, all, to, u.stored)?;
         note(marks, u.written, to);
@@ -115,8 +125,8 @@ fn overwrite(
     edges: &mut Vec<Edge>,
     marks: &Marks,
     all: &[Uses],
-    from: usize,
-    channel: Option<usize>,
+    from: u32,
+    channel: Option<u16>,
     after: u8,
 ) -> Result<(), AllocError> {
     let Some(channel) = channel else {
@@ -142,8 +152,9 @@ pub fn overwrites(
     edges: &mut Vec<Edge>,
 ) -> Result<(), AllocError> {
     marks.begin();
-    for from in (0..all.len()).rev() {
-        let u = all[from];
+    for n in (0..all.len()).rev() {
+        let u = all[n];
+        let from = number_of(n);
         overwrite(edges, marks, all, from, u.source, 0)?;
         overwrite(edges, marks, all, from, u.guard, 0)?;
         overwrite(edges, marks, all, from, u.operand, 1)?;

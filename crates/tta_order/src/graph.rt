@@ -5,14 +5,14 @@ use crate::ready::Ready;
 use std::alloc::{AllocError, Global};
 
 /// The entry of a list, 0 beyond its end.
-pub fn at(list: &[usize], n: usize) -> usize {
+pub fn at(list: &[u32], n: usize) -> u32 {
     match list.get(n) {
         None => 0,
         Some(k) => *k,
     }
 }
 
-fn put(list: &mut Vec<usize>, n: usize, k: usize) {
+fn put(list: &mut Vec<u32>, n: usize, k: u32) {
     if n < list.len() {
         list[n] = k;
     }
@@ -26,27 +26,29 @@ pub fn path_at(list: &[i32], n: usize) -> i32 {
     }
 }
 
-const NONE: Edge = Edge {
-    from: 0,
-    to: 0,
-    channel: 0,
-    gap: 0,
-};
+/// Where an edge leads, and how many cycles later that comes at least.
+#[derive(Clone, Copy)]
+struct Link {
+    to: u32,
+    gap: i16,
+}
+
+const NONE: Link = Link { to: 0, gap: 0 };
 
 /// Edges by where they begin: those of node n are at the places from first[n] to first[n + 1].
 #[derive(Drop)]
 pub struct Graph {
-    first: Vec<usize>,
-    edges: Vec<Edge>,
+    first: Vec<u32>,
+    links: Vec<Link>,
 }
 
-fn count_firsts(first: &mut Vec<usize>, edges: &[Edge]) {
+fn count_firsts(first: &mut Vec<u32>, edges: &[Edge]) {
     for e in edges {
-        let n = e.from.saturating_add(1);
+        let n = (e.from as usize).saturating_add(1);
         let count = at(first.as_slice(), n);
         put(first, n, count.saturating_add(1));
     }
-    let mut sum = 0usize;
+    let mut sum = 0u32;
     for n in 0..first.len() {
         sum = sum.saturating_add(first[n]);
         first[n] = sum;
@@ -59,40 +61,42 @@ impl Graph {
         let mut first = vec![in alloc; 0; nodes.saturating_add(1)]?;
         count_firsts(&mut first, edges);
         let mut next = Vec::from_slice(alloc, first.as_slice())?;
-        let mut sorted = vec![in alloc; NONE; edges.len()]?;
+        let mut links = vec![in alloc; NONE; edges.len()]?;
         for e in edges {
-            let k = at(next.as_slice(), e.from);
-            if k < sorted.len() {
-                sorted[k] = *e;
+            let from = e.from as usize;
+            let k = at(next.as_slice(), from);
+            if (k as usize) < links.len() {
+                links[k as usize] = Link {
+                    to: e.to,
+                    gap: e.gap,
+                };
             }
-            put(&mut next, e.from, k.saturating_add(1));
+            put(&mut next, from, k.saturating_add(1));
         }
-        Ok(Graph {
-            first,
-            edges: sorted,
-        })
+        Ok(Graph { first, links })
     }
 
-    fn edge(&self, k: usize) -> Edge {
-        match self.edges.get(k) {
+    fn link(&self, k: u32) -> Link {
+        match self.links.get(k as usize) {
             None => NONE,
             Some(e) => *e,
         }
     }
 
-    fn from(&self, node: usize) -> usize {
+    fn from(&self, node: usize) -> u32 {
         at(self.first.as_slice(), node)
     }
 
-    fn to(&self, node: usize) -> usize {
+    fn to(&self, node: usize) -> u32 {
         at(self.first.as_slice(), node.saturating_add(1))
     }
 
     fn path(&self, paths: &[i32], node: usize, own: i32) -> i32 {
         let mut path = own;
         for k in self.from(node)..self.to(node) {
-            let e = self.edge(k);
-            path = path.max(path_at(paths, e.to).saturating_add(e.gap));
+            let e = self.link(k);
+            let later = path_at(paths, e.to as usize);
+            path = path.max(later.saturating_add(i32::from(e.gap)));
         }
         path
     }
@@ -109,11 +113,12 @@ impl Graph {
     }
 
     /// How many edges end in each of so many nodes.
-    fn waits(&self, alloc: Global, nodes: usize) -> Result<Vec<usize>, AllocError> {
+    fn waits(&self, alloc: Global, nodes: usize) -> Result<Vec<u32>, AllocError> {
         let mut waits = vec![in alloc; 0; nodes]?;
-        for e in self.edges.as_slice() {
-            let count = at(waits.as_slice(), e.to);
-            put(&mut waits, e.to, count.saturating_add(1));
+        for e in self.links.as_slice() {
+            let to = e.to as usize;
+            let count = at(waits.as_slice(), to);
+            put(&mut waits, to, count.saturating_add(1));
         }
         Ok(waits)
     }
@@ -151,15 +156,15 @@ impl Graph {
         &self,
         paths: &[i32],
         node: usize,
-        waits: &mut Vec<usize>,
+        waits: &mut Vec<u32>,
         ready: &mut Ready<'_>,
     ) -> Result<(), AllocError> {
         for k in self.from(node)..self.to(node) {
-            let e = self.edge(k);
-            let count = at(waits.as_slice(), e.to).saturating_sub(1);
-            put(waits, e.to, count);
+            let to = self.link(k).to as usize;
+            let count = at(waits.as_slice(), to).saturating_sub(1);
+            put(waits, to, count);
             if count == 0 {
-                ready.add(paths, e.to)?;
+                ready.add(paths, to)?;
             }
         }
         Ok(())

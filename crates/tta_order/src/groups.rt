@@ -1,6 +1,6 @@
 //! Groups of items: the list is cut where nothing but home registers and spaces goes on.
 
-use crate::edges::Edge;
+use crate::edges::{Edge, number_of};
 use crate::graph::at;
 use crate::marks::Marks;
 use crate::uses::Uses;
@@ -11,7 +11,8 @@ use tta_moves::numbers::{immediate, register, return_address};
 const SCRATCH: u8 = 3;
 
 /// Whether a channel is a scratch register of the hub, an immediate register or a port.
-pub fn is_passing(hub: u8, channel: usize) -> bool {
+pub fn is_passing(hub: u8, channel: u16) -> bool {
+    let channel = usize::from(channel);
     (register(hub, 0) <= channel && channel < register(hub, SCRATCH))
         || (immediate(0, 0) <= channel && channel < return_address())
 }
@@ -25,7 +26,7 @@ struct Awaited<'m> {
 }
 
 impl Awaited<'_> {
-    fn done(&mut self, channel: Option<usize>) {
+    fn done(&mut self, channel: Option<u16>) {
         let Some(c) = channel else {
             return;
         };
@@ -35,7 +36,7 @@ impl Awaited<'_> {
         }
     }
 
-    fn asked(&mut self, channel: Option<usize>) {
+    fn asked(&mut self, channel: Option<u16>) {
         let Some(c) = channel else {
             return;
         };
@@ -62,7 +63,7 @@ pub fn starts_of(
     marks: &mut Marks,
     hub: u8,
     all: &[Uses],
-) -> Result<Vec<usize>, AllocError> {
+) -> Result<Vec<u32>, AllocError> {
     marks.begin();
     let mut awaited = Awaited {
         hub,
@@ -73,7 +74,7 @@ pub fn starts_of(
     for n in (0..all.len()).rev() {
         awaited.before(all[n]);
         if awaited.count == 0 || n == 0 {
-            starts.push(n)?;
+            starts.push(number_of(n))?;
         }
     }
     starts.reverse();
@@ -81,11 +82,11 @@ pub fn starts_of(
 }
 
 /// The group of each item.
-pub fn groups_of(alloc: Global, items: usize, starts: &[usize]) -> Result<Vec<usize>, AllocError> {
+pub fn groups_of(alloc: Global, items: usize, starts: &[u32]) -> Result<Vec<u32>, AllocError> {
     let mut groups = Vec::with_capacity(alloc, items)?;
-    let mut group = 0usize;
+    let mut group = 0u32;
     for n in 0..items {
-        if at(starts, group.saturating_add(1)) == n && n > 0 {
+        if at(starts, (group as usize).saturating_add(1)) as usize == n && n > 0 {
             group = group.saturating_add(1);
         }
         groups.push(group)?;
@@ -97,13 +98,13 @@ pub fn groups_of(alloc: Global, items: usize, starts: &[usize]) -> Result<Vec<us
 pub fn between(
     alloc: Global,
     hub: u8,
-    groups: &[usize],
+    groups: &[u32],
     edges: &[Edge],
 ) -> Result<Vec<Edge>, AllocError> {
     let mut kept = Vec::new(alloc);
     for e in edges {
-        let from = at(groups, e.from);
-        let to = at(groups, e.to);
+        let from = at(groups, e.from as usize);
+        let to = at(groups, e.to as usize);
         if from != to && !is_passing(hub, e.channel) {
             kept.push(Edge { from, to, ..*e })?;
         }

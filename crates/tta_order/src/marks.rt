@@ -6,8 +6,8 @@ use std::alloc::{AllocError, Global};
 /// A number, and the walk in which it was noted.
 #[derive(Clone, Copy)]
 struct Mark {
-    walk: u64,
-    number: usize,
+    walk: u32,
+    number: u32,
 }
 
 const UNUSED: Mark = Mark { walk: 0, number: 0 };
@@ -16,7 +16,7 @@ const UNUSED: Mark = Mark { walk: 0, number: 0 };
 /// between them: what was noted in earlier walks counts no more.
 #[derive(Drop)]
 pub struct Marks {
-    walk: u64,
+    walk: u32,
     marks: Vec<Mark>,
 }
 
@@ -31,7 +31,7 @@ impl Marks {
 
     /// Begins a walk: no channel has a number.
     pub fn begin(&mut self) {
-        if self.walk == u64::MAX {
+        if self.walk == u32::MAX {
             self.marks.fill(UNUSED);
             self.walk = 1;
         } else {
@@ -40,8 +40,8 @@ impl Marks {
     }
 
     /// The number of a channel, if it has one.
-    pub fn get(&self, channel: usize) -> Option<usize> {
-        match self.marks.get(channel) {
+    pub fn get(&self, channel: u16) -> Option<u32> {
+        match self.marks.get(usize::from(channel)) {
             None => None,
             Some(mark) => {
                 if mark.walk == self.walk {
@@ -53,20 +53,21 @@ impl Marks {
         }
     }
 
-    fn put(&mut self, channel: usize, mark: Mark) {
-        if channel < self.marks.len() {
-            self.marks[channel] = mark;
+    fn put(&mut self, channel: u16, mark: Mark) {
+        let n = usize::from(channel);
+        if n < self.marks.len() {
+            self.marks[n] = mark;
         }
     }
 
     /// Gives a channel a number.
-    pub fn set(&mut self, channel: usize, number: usize) {
+    pub fn set(&mut self, channel: u16, number: u32) {
         let walk = self.walk;
         self.put(channel, Mark { walk, number });
     }
 
     /// Takes the number of a channel away.
-    pub fn unset(&mut self, channel: usize) {
+    pub fn unset(&mut self, channel: u16) {
         self.put(channel, UNUSED);
     }
 }

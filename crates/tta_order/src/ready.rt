@@ -1,6 +1,7 @@
 //! The nodes that may be next.
 
 use crate::clock::Clock;
+use crate::edges::number_of;
 use crate::graph::path_at;
 use std::alloc::{AllocError, Global};
 use std::collections::BinaryHeap;
@@ -12,10 +13,10 @@ const WINDOW: usize = 8;
 #[derive(Clone, Copy, PartialEq, Eq, PartialOrd, Ord)]
 struct Next {
     /// How early it could begin: the greatest number less its cycle.
-    early: usize,
+    early: u32,
     path: i32,
     /// How many nodes come after it in the list.
-    behind: usize,
+    behind: u32,
 }
 
 /// The nodes that may be next: with a clock, that which can begin first; of such, or without a
@@ -47,15 +48,15 @@ impl<'c> Ready<'c> {
         self.last
     }
 
-    fn early(&self, node: usize) -> usize {
+    fn early(&self, node: usize) -> u32 {
         match &self.clock {
             None => 0,
-            Some(clock) => usize::MAX.saturating_sub(clock.start_of(node)),
+            Some(clock) => u32::MAX.saturating_sub(clock.start_of(node)),
         }
     }
 
     fn node(&self, next: Next) -> usize {
-        self.nodes.saturating_sub(next.behind)
+        self.nodes.saturating_sub(next.behind as usize)
     }
 
     /// A node may be next from now on. It fails only where there is no memory.
@@ -67,7 +68,7 @@ impl<'c> Ready<'c> {
         self.heap.push(Next {
             early,
             path: path_at(paths, node),
-            behind: self.nodes.saturating_sub(node),
+            behind: number_of(self.nodes.saturating_sub(node)),
         })?;
         Ok(())
     }

@@ -10,26 +10,27 @@ use tta_depend::{is_control, lasts};
 use tta_list::entry_at;
 use tta_moves::{Item, ItemSource};
 
-/// The channels that an item asks for and those that it may change, each by its number.
+/// The channels that an item asks for and those that it may change, each by its number. There is one
+/// of these for each item of a list, so they are kept short.
 #[derive(Clone, Copy)]
 pub struct Uses {
-    pub source: Option<usize>,
-    pub guard: Option<usize>,
-    pub operand: Option<usize>,
+    pub source: Option<u16>,
+    pub guard: Option<u16>,
+    pub operand: Option<u16>,
     /// The space that its operation loads from or stores into, or the traffic that it is part of.
-    pub used: Option<usize>,
-    pub written: Option<usize>,
+    pub used: Option<u16>,
+    pub written: Option<u16>,
     /// The space that its operation stores into, or the traffic that it is part of.
-    pub stored: Option<usize>,
+    pub stored: Option<u16>,
     /// The unit that it starts, by the number after those of channels.
-    pub trigger: Option<usize>,
+    pub trigger: Option<u16>,
     pub is_guarded: bool,
     /// Whether it moves a result into a register of 32 bits, in any case.
     pub is_copy: bool,
     /// How many cycles after its own what it writes shows.
     pub shows: u8,
     /// How many cycles it takes.
-    pub takes: i32,
+    pub takes: u8,
 }
 
 /// The space that an item's operation loads from or stores into, or the traffic that it is part of.
@@ -100,23 +101,34 @@ fn shows(m: &Machine, x: Item) -> u8 {
 }
 
 /// How many cycles an item takes: a control item those until its effect shows.
-fn takes(m: &Machine, x: Item) -> i32 {
+fn takes(m: &Machine, x: Item) -> u8 {
     if is_control(x) {
-        return 1 + i32::from(m.control.delay);
+        return m.control.delay.saturating_add(1);
     }
-    lasts(m, x) as i32
+    lasts(m, x) as u8
+}
+
+/// The number of a channel, in short. All are below 2^16.
+fn short(channel: Option<usize>) -> Option<u16> {
+    let Some(c) = channel else {
+        return None;
+    };
+    match u16::try_from(c) {
+        Ok(k) => Some(k),
+        Err(_) => None,
+    }
 }
 
 /// What an item uses.
 pub fn uses_of(m: &Machine, x: Item) -> Uses {
     Uses {
-        source: source_number(x),
-        guard: guard_number(x),
-        operand: operand_number(m, x),
-        used: used(m, x),
-        written: written_number(m, x),
-        stored: stored(m, x),
-        trigger: trigger(x),
+        source: short(source_number(x)),
+        guard: short(guard_number(x)),
+        operand: short(operand_number(m, x)),
+        used: short(used(m, x)),
+        written: short(written_number(m, x)),
+        stored: short(stored(m, x)),
+        trigger: short(trigger(x)),
         is_guarded: !is_unguarded(x),
         is_copy: is_copy(m, x),
         shows: shows(m, x),
