@@ -1,4 +1,4 @@
--- What is proved of orders.
+-- What is proved of orders: of each other order of a list's items, in which each finds what the same items brought.
 use Rattle.std.specs.Prelude.{ℕ, List}
 use Rattle.tta_arch.specs.Machine.{Machine}
 use Rattle.tta_moves.specs.declared.items.Item.{Item}

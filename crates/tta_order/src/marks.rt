@@ -12,8 +12,8 @@ struct Mark {
 
 const UNUSED: Mark = Mark { walk: 0, number: 0 };
 
-/// A number for each channel and for each unit, or none. The table serves one walk after another and is not cleared
-/// between them: what was noted in earlier walks counts no more.
+/// A number for each channel and for each unit, or none. The table serves one walk after another and
+/// is not cleared between them: what was noted in earlier walks counts no more.
 #[derive(Drop)]
 pub struct Marks {
     walk: u32,
