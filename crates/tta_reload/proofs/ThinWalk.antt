@@ -16,11 +16,13 @@ use Rattle.tta_reload.specs.Known.{is_load, stored}
 use Rattle.tta_reload.specs.Facts.{IsOperand}
 use Rattle.tta_reload.specs.Thinned.{is_in, lets_stay, is_over, AreThinned, ends, stays, goes}
 use Rattle.tta_reload.proofs.Opened.{load_keeps, store_dry}
-use Rattle.tta_reload.proofs.Later.{stores_is}
+use Rattle.tta_reload.proofs.Seen.{stores_is}
+use Rattle.tta_reload.proofs.Nearness.{if_first, if_second}
 use Rattle.tta_reload.proofs.Walks.{split_at}
 
 -- ---- slots that are stored over, one item more
 
+-- a slot is the one that is given, if one is
 abbrev is_here : Option ℕ → ℕ → Bool
 is_here o v = option_map_or (λ w. w == v) o false
 
@@ -36,14 +38,6 @@ if_yes false x y e h = absurd cc
 if_no : (b x y : Bool) → b ≡ false → y ≡ true → (if b then x else y) ≡ true
 if_no true x y e h = absurd cc
 if_no false x y e h = h
-
-if_first : (b x y : Bool) → b ≡ true → (if b then x else y) ≡ true → x ≡ true
-if_first true x y e h = h
-if_first false x y e h = absurd cc
-
-if_second : (b x y : Bool) → b ≡ false → (if b then x else y) ≡ true → y ≡ true
-if_second true x y e h = absurd cc
-if_second false x y e h = h
 
 both : (a b : Bool) → a ≡ true → b ≡ true → (a && b) ≡ true
 both true b e h = h

@@ -14,9 +14,11 @@ use Rattle.tta_reload.specs.declared.known.Known.{Known}
 use Rattle.tta_reload.specs.declared.facts.Fact.{Fact}
 use Rattle.tta_reload.specs.Known.{known}
 
+-- two facts are of one slot and one source
 abbrev pub same_fact : Fact → Fact → Bool
 same_fact f g = f.slot == g.slot && same_end f.from g.from
 
+-- a fact is one of some
 abbrev pub is_among : (all : List Fact) → Fact → Bool
 is_among all f = list_any (same_fact f) all
 

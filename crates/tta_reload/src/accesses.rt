@@ -139,6 +139,7 @@ pub fn stored(m: &Machine, last: Option<Operand>, x: Item) -> Option<u32>
     }
 }
 
+/// What an item does with the frame, after the operand that was moved last.
 fn access_of(m: &Machine, last: Option<Operand>, x: Item) -> Access {
     if let Some(slot) = loaded(m, x) {
         return Access::Loads(slot);

@@ -8,6 +8,7 @@ use tta_order::parts::{
     guard_number, is_control, is_unguarded, operand_number, source_number, started, written_number,
 };
 
+/// Marks a place, if one is given.
 fn mark(wanted: &mut [bool], place: Option<usize>, is: bool) {
     if let Some(n) = place {
         if n < wanted.len() {
@@ -16,6 +17,7 @@ fn mark(wanted: &mut [bool], place: Option<usize>, is: bool) {
     }
 }
 
+/// Whether a place is marked, if one is given.
 fn is_marked(wanted: &[bool], place: Option<usize>) -> bool {
     match place {
         None => false,

@@ -93,6 +93,7 @@ fn last_wanted(kept: &[Kept], next: usize) -> Option<usize> {
     best
 }
 
+/// What an item does with the frame, by its number.
 fn access_at(accesses: &[Access], i: usize) -> Access {
     match accesses.get(i) {
         None => Access::Nothing,
@@ -100,6 +101,7 @@ fn access_at(accesses: &[Access], i: usize) -> Access {
     }
 }
 
+/// The next load of an item's slot, by the item's number.
 fn next_at(next: &[usize], i: usize) -> usize {
     match next.get(i) {
         None => NEVER,

@@ -29,7 +29,7 @@ fn uses_slot(access: Access) -> bool {
     matches!(access, Access::Loads(_) | Access::Stores(_))
 }
 
-/// Whether there can be something to gain: some item loads a slot, or more than one stores.
+/// Whether there can be something to gain.
 fn is_worth(accesses: &[Access]) -> bool {
     accesses.iter().any(|a| uses_slot(*a))
 }

@@ -23,6 +23,7 @@ pub struct Trail {
     pub is_long: bool,
 }
 
+/// A trail without a source.
 const EMPTY: Trail = Trail {
     one: None,
     two: None,
@@ -43,6 +44,7 @@ fn is_passing(hub: u8, src: ItemSource) -> bool
     }
 }
 
+/// Whether a source is a result port.
 fn is_port_source(src: ItemSource) -> bool
     ensures { result ≡ is_port_source src }
 {
@@ -52,6 +54,7 @@ fn is_port_source(src: ItemSource) -> bool
     }
 }
 
+/// A trail with a source before it.
 fn longer(src: ItemSource, t: Trail) -> Trail
     ensures { result ≡ longer src t }
 {
@@ -62,6 +65,7 @@ fn longer(src: ItemSource, t: Trail) -> Trail
     }
 }
 
+/// The trail of the place of a source.
 fn trail_in(trails: &[Trail], src: ItemSource) -> Trail
     ensures { result ≡ trail_in trails.now src }
 {

@@ -83,6 +83,7 @@ fn stored_over(alloc: Global, accesses: &[Access]) -> Result<Vec<bool>, AllocErr
     Ok(marks)
 }
 
+/// Whether an item is marked, by its number.
 fn mark_at(marks: &[bool], i: usize) -> bool {
     match marks.get(i) {
         None => false,
