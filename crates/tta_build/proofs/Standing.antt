@@ -76,6 +76,16 @@ adds m list plain one other old first next new items live by_items by_groups a b
       ∙ ap (λ (xs : List BlockList). xs ++ option_to_list other) (append_assoc old (optimised m list ∷ []) (option_to_list one))
       ∙ append_assoc old (optimised m list ∷ option_to_list one) (option_to_list other)
 
+-- and from what it is after the passes alone
+pub adds_plain : (m : Machine) (list plain : BlockList) (old new : List BlockList) → plain.items ≡ optimise_items m list.live_out list.items
+    → plain.live_out ≡ list.live_out → new ≡ old ++ plain ∷ [] → AddsCandidates m list old new
+adds_plain m list plain old new items live is =
+    adds m list plain None None old new new new items live tt tt is (sym (append_none new)) (sym (append_none new))
+  where
+    append_none : (xs : List BlockList) → xs ++ [] ≡ xs
+    append_none [] = refl
+    append_none (x ∷ xs) = ap (λ (ys : List BlockList). x ∷ ys) (append_none xs)
+
 -- so a block's own list has the block's candidates
 pub own_candidates : (m : Machine) (b : BlockList) (old new : List BlockList) → old ≡ [] → AddsCandidates m b old new → AreCandidates m b new
 own_candidates m b old new none adds =

@@ -97,9 +97,28 @@ impl Candidates {
         Ok(())
     }
 
-    /// The candidates of a block, for what is chosen on a machine: what its list becomes, and what
-    /// it becomes where its loads are served from what is at hand, if any is. The first is its list
-    /// after the passes. It fails only where there is no memory.
+    /// Adds what a list becomes by the passes as it is. It fails only where there is no memory.
+    fn add_plain(
+        &mut self,
+        alloc: Global,
+        lists: &mut Vec<BlockList>,
+        list: &BlockList,
+        m: &Machine,
+        net: &Net,
+    ) -> Result<(), AllocError>
+        requires net { IsNetOf net.now m.now }
+        requires list { is_list m.now list.now.items ≡ true }
+        ensures { OnOk result (AddsCandidates m.now list.now lists.old.items lists.new.items) }
+    {
+        let plain = self.passes.optimise(alloc, list, m, net)?;
+        lists.push(plain)?;
+        Ok(())
+    }
+
+    /// The candidates of a block, for what is chosen on a machine. The first is its list after the
+    /// passes. Where loads can be served from what is at hand, the others come of the list in which
+    /// they are, for that is seldom longer; else they come of its own. It fails only where there is
+    /// no memory.
     pub fn of_block(
         &mut self,
         alloc: Global,
@@ -114,13 +133,16 @@ impl Candidates {
         ensures { IfOk result (λ lists. AreCandidates m.now b.now lists.items) }
     {
         let mut lists = Vec::new(alloc);
-        self.add(alloc, &mut lists, b, m, net)?;
         match reload(alloc, m, net, c, b)? {
             Some(served) => {
+                self.add_plain(alloc, &mut lists, b, m, net)?;
                 self.add(alloc, &mut lists, &served, m, net)?;
                 Ok(lists)
             }
-            None => Ok(lists),
+            None => {
+                self.add(alloc, &mut lists, b, m, net)?;
+                Ok(lists)
+            }
         }
     }
 }
