@@ -1,1 +1,2 @@
 mod ImageSizes
+mod Laying

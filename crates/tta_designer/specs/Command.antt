@@ -16,7 +16,8 @@ use Rattle.tta_given.specs.Ends.{IsUsage, TextEnds, Puts}
 use Rattle.tta_given.specs.Endings as endings
 use Rattle.tta_designer.specs.declared.view.View.{View}
 use Rattle.tta_designer.specs.Views.{machine_view, code_view}
-use Rattle.tta_designer.specs.Request.{Request, OfMachine, OfCode}
+use Rattle.tta_designer.specs.Request.{Request, OfMachine, OfCode, Profile}
+use Rattle.tta_designer.specs.Profile.{Profiles}
 
 -- the machine is refused, and nothing is output; or its view is
 abbrev pub ShowsMachine : Units → View → (M : List ℕ) → (before after : World) → (old new : Output) → Status → Type 0
@@ -29,13 +30,14 @@ ShowsMachine u view M before after old new s =
 abbrev pub IsShown : Units → View → MachineFile → Whole → (text : List ℕ) → Type 0
 IsShown u view file whole text = text ≡ code_view u view file whole
 
--- How a request ends. Either its view is output, or nothing is and there is a cause. Each ending but out of memory comes only where its
+-- How a request ends. Either its text is output, or nothing is and there is a cause. Each ending but out of memory comes only where its
 -- cause holds.
 abbrev pub Ends : Units → Option Request → (before after : World) → (old new : Output) → Status → Type 0
 Ends u None before after old new s = IsUsage before after old new s
 Ends u (Some (OfMachine view M)) before after old new s = ShowsMachine u view M before after old new s
 Ends u (Some (OfCode view M IMG)) before after old new s =
     Puts u IsImageFor RefusesImage (IsShown u view) (λ file whole. no_memory) M IMG before after old new s
+Ends u (Some (Profile M IMG IN STREAM bound)) before after old new s = Profiles u M IMG IN STREAM bound before after old new s
 
 -- ---- how it ends by its status
 

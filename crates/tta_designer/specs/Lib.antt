@@ -1,4 +1,5 @@
 pub mod Request
 pub mod Views
+pub mod Profile
 pub mod Command
 pub mod Laws

@@ -12,6 +12,7 @@ ghost use Rattle.tta_designer.specs.Views.{machine_view, code_view};
 ghost use Rattle.tta_designer.specs.Command.{Ends};
 
 use crate::names::{CodeRequest, MachineRequest};
+use crate::profiling::profile_image;
 use crate::request::Request;
 use crate::view::View;
 use std::alloc::Global;
@@ -122,6 +123,7 @@ fn carry_out<F: Files, S: Sink>(
     match request {
         Request::Machine(names) => put_machine(alloc, units, files, sink, names),
         Request::Code(names) => put_code(alloc, units, files, sink, names),
+        Request::Profile(run) => profile_image(alloc, units, files, sink, run),
     }
 }
 
@@ -133,6 +135,11 @@ fn carry_out<F: Files, S: Sink>(
 /// fields of its instructions, the words that fit into them, what its buses join, its registers, and
 /// what `build` chooses on it or the rule that it breaks; and `info M IMG` what is told of that image:
 /// how many instructions, bytes and data it has, and its digest.
+///
+/// `profile M IMG IN N` runs the code of that image for at most N cycles, from the words of the file IN
+/// in the machine's data space, and outputs where the cycles go: how many moves each bus carried, how
+/// many operations each unit started, and the instructions that were carried out, the hottest first.
+/// It may have one more word, the file of the input.
 ///
 /// The output takes a text in one piece, and nothing where there
 /// is none. No file changes.

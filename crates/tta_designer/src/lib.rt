@@ -1,10 +1,11 @@
-//! The commands that show a designer what a machine and its code are. They stand on tta_given and
+//! The commands that show a designer what a machine and its code are, and what a run does. They stand on tta_given and
 //! languages, and on no pass.
 #![tactic(auto)]
 
 mod command;
 mod laws;
 mod names;
+mod profiling;
 mod request;
 mod view;
 

@@ -1,5 +1,7 @@
 //! The names of a request. A name is that of a file.
 
+ghost use Rattle.std.specs.Prelude.{◌<◌, ◌^◌};
+
 use crate::view::View;
 
 /// A view of a machine that is asked for, and the name of the machine's file.
@@ -15,4 +17,16 @@ pub struct CodeRequest<'w> {
     pub view: View,
     pub machine: &'w str,
     pub image: &'w str,
+}
+
+/// A profile that is asked for: the names of the files of its run, that of the input where it has one,
+/// and how many cycles it makes at most.
+#[derive(Clone, Copy)]
+pub struct ProfileRequest<'w> {
+    pub machine: &'w str,
+    pub image: &'w str,
+    pub input: &'w str,
+    pub stream: Option<&'w str>,
+    pub bound: u64,
+    ghost few: { bound < 2 ^ 48 },
 }

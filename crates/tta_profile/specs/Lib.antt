@@ -1,3 +1,4 @@
 pub mod Counts
 pub mod Steps
 pub mod Report
+pub mod Statement

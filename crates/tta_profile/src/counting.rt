@@ -114,6 +114,7 @@ pub fn count_cycles(
     requires none { counts.old.executed ≡ replicate (length basis.now.code.now.words) 0 }
     requires none_passed { counts.old.passed
         ≡ replicate (16 * length basis.now.code.now.words) 0 }
+    ensures size { length counts.new.executed ≡ length basis.now.code.now.words }
     ensures counts { let on = basis.now in
         let step = next_state (stated unit_meaning on.units.now) on.m.now on.code.now in
         (s : State) → Stands sim.old s → s.rest ≡ input.now

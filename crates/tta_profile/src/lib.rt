@@ -5,12 +5,13 @@
 mod counting;
 mod counts;
 mod hot;
+mod profiling;
 mod report;
 mod stopped;
 mod sums;
 
-pub use counting::{Basis, Went, count_cycles};
+pub use counting::{Basis, Went};
 pub use counts::Counts;
 pub use hot::Hot;
-pub use report::tell_counts;
+pub use profiling::profile;
 pub use sums::Test;

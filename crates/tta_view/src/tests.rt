@@ -30,6 +30,18 @@ const ROWS: &str = "<rect class=\"row\" x=\"4\" y=\"80\" width=\"476\" height=\"
 </svg>
 ";
 
+/// How what is told of the machine ends.
+const RULE: &str =
+    "rule 1 fails: no file of 32 bits with three registers or more is joined to itself\n";
+
+/// What is told of the image.
+const DIGEST: &str = "words 2\nbytes 51\ndata 0\n\
+    digest dd2d1536dbefeb9ae51201141b35f97203c0f9b3a409c34d84ce750df1f10c77\n";
+
+/// The profile of its run.
+const HOTTEST: &str = "cycles 2\nbus B moves 2 share 100\nunit OUT starts 1 share 50\n\
+    at 0 times 1 share 50 : 7 -> OUT.t.out ;\nat 1 times 1 share 50 : 0 -> gcu.t.halt ;\n";
+
 /// The words of a command line, how it ends, and how what it outputs ends. Without the latter it
 /// outputs nothing.
 type Case = (&'static [&'static str], Status, &'static str);
@@ -42,9 +54,13 @@ const NO_IMAGE: Status = Status::BadImage {
 
 const NO_MACHINE: Status = Status::BadMachine { line: 1, code: 10 };
 
-const CASES: [Case; 9] = [
+const CASES: [Case; 13] = [
     (&["picture", "M"], Status::Ok, "</svg>\n"),
     (&["picture", "M", "IMG"], Status::Ok, ROWS),
+    (&["info", "M"], Status::Ok, RULE),
+    (&["info", "M", "IMG"], Status::Ok, DIGEST),
+    (&["profile", "M", "IMG", "IN", "5"], Status::Ok, HOTTEST),
+    (&["profile", "M", "IMG", "IN", "x"], Status::Usage, ""),
     (&[], Status::Usage, ""),
     (&["picture"], Status::Usage, ""),
     (&["M", "IMG"], Status::Usage, ""),
@@ -82,10 +98,11 @@ fn carry_out(
     status
 }
 
-/// Gives the files the machine and the image.
+/// Gives the files the machine, the image and no data words.
 fn add_files(files: &mut MemFiles) -> Result<(), AllocError> {
     files.add("M", MACHINE.as_bytes())?;
-    files.add("IMG", &IMAGE)
+    files.add("IMG", &IMAGE)?;
+    files.add("IN", b"")
 }
 
 /// Whether words end so over these files, and what they output ends so.

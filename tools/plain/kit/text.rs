@@ -15,7 +15,7 @@ impl FromStr for String {
     }
 }
 
-const DIGITS: usize = 20;
+const DIGITS: usize = 39;
 
 /// Room for the digits of a number.
 pub struct Buffer {
@@ -27,8 +27,14 @@ impl Buffer {
         Buffer { digits: [0; DIGITS] }
     }
 
-    pub fn format(&mut self, number: impl Into<u64>) -> &str {
-        let (mut rest, mut at) = (number.into(), DIGITS);
+    pub fn format(&mut self, number: impl Into<u128>) -> &str {
+        let (mut wide, mut at) = (number.into(), DIGITS);
+        while wide > u128::from(u64::MAX) {
+            at -= 1;
+            self.digits[at] = b'0' + (wide % 10) as u8;
+            wide /= 10;
+        }
+        let mut rest = wide as u64;
         loop {
             at -= 1;
             self.digits[at] = b'0' + (rest % 10) as u8;

@@ -87,6 +87,7 @@ cycles-preserved g c =
 
 pub returns-in-Over : goal.returns-in-Over
 returns-in-Over g c = record {
+  size = c.count_cycle.ensures.size ∙ c.cycles.invariant.size;
   counts = λ s stands given.
       let at = (goal.at.returns-in-Over g c).After-count_cycle in
       let are = c.cycles.invariant.counts s stands given in
@@ -99,6 +100,7 @@ returns-in-Over g c = record {
 
 pub returns : goal.returns
 returns g c = record {
+  size = c.cycles.invariant.size;
   counts = λ s stands given.
       let words = c.args.basis.now.code.now.words in
       let step = next (stated (λ v. (goal.OpUnit-dyn g v).unit_meaning v.1) c.args.basis.now.units.now) c.args.basis.now.m.now c.args.basis.now.code.now in

@@ -1,0 +1,147 @@
+//! The command `profile`: the code of an image is run cycle by cycle, and it is told where the cycles
+//! go.
+
+ghost use Rattle.std.specs.Prelude.{◌≡◌, ◌+◌, ◌<◌, ◌^◌, ℕ, List, length, option_map, IfOk};
+ghost use Rattle.tta_list.specs.Laid.{over};
+ghost use Rattle.tta_ops.specs.Set.{stated};
+ghost use Rattle.tta_code.specs.Cycle.{State, start};
+ghost use Rattle.tta_code.specs.Legal.{IsLegalCode};
+ghost use Rattle.tta_code.specs.Whole.{data_in};
+ghost use Rattle.tta_sim.specs.Held.{Stands, IsRunOf};
+ghost use Rattle.tta_profile.specs.Statement.{IsProfile};
+ghost use Rattle.tta_given.specs.Held.{MadeEnds, no_memory};
+ghost use Rattle.tta_given.specs.Runs.{GivenRuns};
+ghost use Rattle.tta_designer.specs.Profile.{IsProfileOf, Profiles, Tells};
+
+use crate::names::ProfileRequest;
+use std::alloc::{AllocError, Global};
+use tta_arch::Machine;
+use tta_code::{Whole, lay};
+use tta_given::{CodePair, Given, Status, data_words, given_files, image_pair, put_made};
+use tta_ops::UnitSet;
+use tta_ports::{Files, Sink};
+use tta_profile::{Basis, profile};
+use tta_sim::Sim;
+
+/// Loads code for a run from data words, with its data laid over them.
+fn load_code(
+    alloc: Global,
+    machine: &Machine,
+    whole: &Whole,
+    memory: Vec<u32>,
+) -> Result<Sim, AllocError>
+    requires size { length memory.items ≡ machine.now.data_words }
+    requires legal { IsLegalCode machine.now whole.now.code }
+    ensures start { IfOk result (λ r. (input : List ℕ)
+        → Stands r (start machine.now (over (data_in whole.now) memory.items) input)) }
+    ensures loaded { IfOk result (λ r. IsRunOf machine.now whole.now.code r) }
+{
+    let mut laid = memory;
+    lay(whole.init.as_slice(), &mut laid);
+    Sim::load(alloc, machine, &whole.code, laid)
+}
+
+/// The profile of a run that was loaded.
+fn text_of_sim(
+    alloc: Global,
+    units: &UnitSet,
+    pair: &CodePair,
+    sim: &mut Sim,
+    words: &[u32],
+    bound: u64,
+) -> Result<Vec<u8>, Status>
+    requires loaded { IsRunOf pair.now.file.machine pair.now.whole.code sim.old }
+    requires few { sim.old.cycle + bound < 2 ^ 62 }
+    ensures { let U = stated unit_meaning units.now in
+        (s : State) → Stands sim.old s → s.rest ≡ words.now
+        → MadeEnds (IsProfile U pair.now.file.machine pair.now.whole.code s bound) no_memory
+        (λ v. v.items) result }
+{
+    let basis = Basis {
+        m: &pair.file.machine,
+        code: &pair.whole.code,
+        units,
+    };
+    match profile(alloc, &basis, sim, words, bound) {
+        Ok(text) => Ok(text),
+        Err(_) => Err(Status::NoMemory),
+    }
+}
+
+/// The profile of a run of code from what it is given.
+fn text_of_run(
+    alloc: Global,
+    units: &UnitSet,
+    pair: &CodePair,
+    given: Given,
+    bound: u64,
+) -> Result<Vec<u8>, Status>
+    requires bound { bound < 2 ^ 48 }
+    requires size { length given.memory.items ≡ pair.now.file.machine.data_words }
+    requires legal { IsLegalCode pair.now.file.machine pair.now.whole.code }
+    ensures { let U = stated unit_meaning units.now in
+        MadeEnds (IsProfileOf U bound pair.now.file pair.now.whole given.memory.items
+        given.words.items) no_memory (λ v. v.items) result }
+{
+    let Given { memory, words } = given;
+    match load_code(alloc, &pair.file.machine, &pair.whole, memory) {
+        Ok(mut sim) => {
+            let made = text_of_sim(alloc, units, pair, &mut sim, words.as_slice(), bound);
+            // Dropped here as a whole, so that no part of it is left to drop at the end.
+            drop(sim);
+            made
+        }
+        Err(_) => Err(Status::NoMemory),
+    }
+}
+
+/// Puts the profile that is asked for of code that was read for a machine.
+fn profile_pair<F: Files, S: Sink>(
+    alloc: Global,
+    units: &UnitSet,
+    files: &mut F,
+    sink: &mut S,
+    request: &ProfileRequest<'_>,
+    pair: &CodePair,
+) -> Status
+    requires legal { IsLegalCode pair.now.file.machine pair.now.whole.code }
+    ensures { let U = stated unit_meaning units.now in
+        GivenRuns pair.now.file.machine.data_words
+        (Tells U request.now.bound pair.now.file pair.now.whole)
+        request.now.input.now (option_map (λ s. s.now) request.now.stream)
+        (F.world files.old) (F.world files.new) (S.output sink.old) (S.output sink.new) result }
+{
+    let space = data_words(&pair.file.machine);
+    match given_files(alloc, files, request.input, request.stream, space) {
+        Ok(given) => {
+            let made = text_of_run(alloc, units, pair, given, request.bound);
+            put_made(sink, made)
+        }
+        Err(status) => status,
+    }
+}
+
+/// Puts the profile of the run that is asked for of an image on the machine of the file `machine`: for
+/// at most so many cycles, from the data words of the file `input`, and with the words of the file
+/// `stream`, where it is named, as the input.
+pub fn profile_image<F: Files, S: Sink>(
+    alloc: Global,
+    units: &UnitSet,
+    files: &mut F,
+    sink: &mut S,
+    request: &ProfileRequest<'_>,
+) -> Status
+    ensures { Profiles (stated unit_meaning units.now)
+        request.now.machine.now request.now.image.now request.now.input.now
+        (option_map (λ s. s.now) request.now.stream) request.now.bound
+        (F.world files.old) (F.world files.new) (S.output sink.old) (S.output sink.new) result }
+{
+    match image_pair(alloc, units, files, request.machine, request.image) {
+        Ok(pair) => {
+            let status = profile_pair(alloc, units, files, sink, request, &pair);
+            drop(pair);
+            status
+        }
+        Err(status) => status,
+    }
+}
