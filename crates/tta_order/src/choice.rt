@@ -1,8 +1,9 @@
 //! Numbers of items in an order that is likely to be short.
 
+use crate::awaited::flow_paths;
 use crate::clock::{Clock, end_of};
 use crate::edges::{flows, number_of, overwrites, rewrites};
-use crate::graph::{Graph, at, path_at};
+use crate::graph::{Graph, at};
 use crate::groups::{between, groups_of, starts_of};
 use crate::marks::Marks;
 use crate::ready::Ready;
@@ -71,16 +72,24 @@ fn bypass_copies(all: &mut Vec<Uses>) {
     }
 }
 
+/// A path as a number with a sign.
+fn signed(path: u32) -> i32 {
+    match i32::try_from(path) {
+        Ok(k) => k,
+        Err(_) => i32::MAX,
+    }
+}
+
 /// The longest path of an item of each group. The only error is out of memory.
 fn longest(
     alloc: Global,
     groups: &[u32],
     count: usize,
-    paths: &[i32],
+    paths: &[u32],
 ) -> Result<Vec<i32>, AllocError> {
     let mut most = vec![in alloc; 0; count]?;
     for (n, group) in groups.iter().enumerate() {
-        let path = path_at(paths, n);
+        let path = signed(at(paths, n));
         let g = *group as usize;
         if g < most.len() {
             most[g] = most[g].max(path);
@@ -119,10 +128,9 @@ fn by_groups(
     let groups = groups_of(alloc, all.len(), starts.as_slice())?;
     let count = starts.len();
     bypass_copies(all);
-    let mut edges = flows(alloc, marks, all.as_slice())?;
-    let own = own_paths(alloc, all.as_slice())?;
-    let paths = Graph::of(alloc, all.len(), edges.as_slice())?.paths(own);
+    let paths = flow_paths(alloc, marks, all.as_slice())?;
     let most = longest(alloc, groups.as_slice(), count, paths.as_slice())?;
+    let mut edges = flows(alloc, marks, all.as_slice())?;
     rewrites(marks, all.as_slice(), &mut edges)?;
     overwrites(marks, all.as_slice(), &mut edges)?;
     let kept = between(alloc, hub, groups.as_slice(), edges.as_slice())?;
