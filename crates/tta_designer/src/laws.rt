@@ -1,6 +1,7 @@
 //! Laws of the commands. A law is a function that does nothing, and whose contract is the law.
 
 ghost use Rattle.tta_designer.specs.Laws.{ImageSize};
+ghost use Rattle.tta_designer.specs.Profile.{ProfileByStatus};
 ghost use Rattle.tta_designer.specs.Command.{MachineByStatus, CodeByStatus};
 
 /// What holds where a view of a machine ends with a status, for each status.
@@ -16,4 +17,9 @@ pub fn code_by_status()
 /// The number of bytes that `info` tells of an image is that of the image's bytes.
 pub fn image_size()
     ensures { ImageSize }
+{}
+
+/// What holds where `profile` ends with a status, for each status.
+pub fn profile_by_status()
+    ensures { ProfileByStatus }
 {}

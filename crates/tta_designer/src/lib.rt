@@ -10,6 +10,6 @@ mod request;
 mod view;
 
 pub use command::show;
-pub use laws::{code_by_status, image_size, machine_by_status};
+pub use laws::{code_by_status, image_size, machine_by_status, profile_by_status};
 pub use request::is_named;
 pub use view::View;
