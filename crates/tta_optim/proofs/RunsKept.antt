@@ -95,13 +95,16 @@ block_alike u m addr k b c h t stands framed somewhere =
           let exit : D.exit ≡ B.exit = ap (λ (s : Held). s.exit) d_is ∙ alike.exit in
           let same : LeaveAlike (Framed m) EndAlike (restart b.live_out B, leave_of addr B.exit) (restart c.live_out D, leave_of addr D.exit) = record {
             leave = ap (leave_of addr) exit;
-            fits = λ goes_on. record { long = frame_all u m back (map (effect_of addr) b.items) h ∙ framed.long; same = record {
-              writes = filter (λ w. lives c.live_out w.0) D.written;
-              equal = equal_but (restart b.live_out B) (restart c.live_out D) memory frame rest output refl;
-              fits = subst (λ (l : List (ℕ × ℕ)). Same (filter (λ w. lives l w.0) D.written) (filter (λ w. lives b.live_out w.0) B.written)) (sym stands.live)
-                  (same_filter b.live_out D.written B.written (λ p l.
-                  ap (λ (s : Held). kept s.written p) d_is ∙ from.1.fits.all p ∙ alike.registers (waits_not addr B.exit goes_on) p l));
-            } };
+            fits = λ goes_on. record {
+              long = frame_all u m back (map (effect_of addr) b.items) h ∙ framed.long;
+              same = record {
+                writes = filter (λ w. lives c.live_out w.0) D.written;
+                equal = equal_but (restart b.live_out B) (restart c.live_out D) memory frame rest output refl;
+                fits = subst (λ (l : List (ℕ × ℕ)). Same (filter (λ w. lives l w.0) D.written) (filter (λ w. lives b.live_out w.0) B.written)) (sym stands.live)
+                    (same_filter b.live_out D.written B.written (λ p l.
+                    ap (λ (s : Held). kept s.written p) d_is ∙ from.1.fits.all p ∙ alike.registers (waits_not addr B.exit goes_on) p l));
+              };
+            };
             ends = record { memory = memory; rest = rest; output = output };
           } in
           rw (ok, ok_t) same
