@@ -1,6 +1,6 @@
 //! The pass: copies, served reads, and only what something asks for.
 
-ghost use Rattle.std.specs.Prelude.{◌≡◌, ℕ, List, [], true, IfOk, IfSome};
+ghost use Rattle.std.specs.Prelude.{◌≡◌, ◌≤◌, ℕ, List, [], length, true, IfOk, IfSome};
 ghost use Rattle.tta_connect.specs.Net.{IsNetOf};
 ghost use Rattle.tta_connect.specs.Coverage.{IsChoice};
 ghost use Rattle.tta_optim.specs.Kept.{IsStandIn};
@@ -23,6 +23,7 @@ use tta_connect::{Choice, Net};
 use tta_list::Items;
 use tta_moves::{BlockList, Item, is_list};
 use tta_order::in_order;
+use tta_order::parts::uses_frame;
 
 /// Whether an item loads or stores a slot.
 fn uses_slot(access: Access) -> bool {
@@ -104,6 +105,25 @@ fn reworked(
     }
 }
 
+/// How many items load a slot or store into one.
+fn frame_uses(m: &Machine, items: &[Item]) -> usize {
+    let mut count = 0;
+    for x in items {
+        if uses_frame(m, *x) {
+            count += 1;
+        }
+    }
+    count
+}
+
+/// Whether a list has no more items than another, and loads and stores less often.
+fn gains(m: &Machine, b: &BlockList, r: &BlockList) -> bool
+    ensures { result ≡ true → length r.now.items ≤ length b.now.items }
+{
+    r.items.len() <= b.items.len()
+        && frame_uses(m, r.items.as_slice()) < frame_uses(m, b.items.as_slice())
+}
+
 /// A list that may stand for the list of a block, with fewer loads and stores of frame slots; none
 /// where nothing is gained, or where it is not known that the list may stand for it. The only error
 /// is out of memory.
@@ -125,7 +145,7 @@ pub fn reload(
     let Some(r) = in_order(alloc, &more, m, net, numbers.as_slice())? else {
         return Ok(None);
     };
-    if r.items.len() > b.items.len() {
+    if !gains(m, b, &r) {
         return Ok(None);
     }
     if is_straight(alloc, m, net, c.hub, r.items.as_slice())? {

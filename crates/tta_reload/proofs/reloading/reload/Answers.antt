@@ -1,4 +1,4 @@
-use Rattle.std.proofs.Common.{◌≡◌, ◌≤◌, true, List, length, Some, sym, ap, arith, ◌∙◌}
+use Rattle.std.proofs.Common.{◌≡◌, ◌≤◌, true, List, length, Some, sym, ap, ◌∙◌}
 use Rattle.tta_moves.specs.declared.items.Item.{Item}
 use Rattle.tta_moves.specs.Forms.{is_straight}
 use Rattle.tta_optim.specs.Kept.{KeepsMeaning, AsksNoMore}
@@ -12,7 +12,7 @@ returns-then-branch c =
     let meaning : KeepsMeaning c.args.m.now c.in-Some.more.live_out c.in-Some.more.items c.in-Some-2.r.items = rw c.in-Some-2.is at c.in_ok-r.ensures.meaning in
     let no_more : AsksNoMore c.args.m.now c.in-Some.more.items c.in-Some-2.r.items = rw c.in-Some-2.is at c.in_ok-r.ensures.no_more in
     let live : c.in-Some-2.r.live_out ≡ c.in-Some.more.live_out = rw c.in-Some-2.is at c.in_ok-r.ensures.live in
-    let few : length c.in-Some-2.r.items ≤ length c.args.b.now.items = (let a = c.len.ensures in let b = c.len-2.ensures in let d = c.if-len.false in omega (arith, a, b, d)) in
+    let few : length c.in-Some-2.r.items ≤ length c.args.b.now.items = c.gains.ensures c.if-not-gains.false in
     let straight : is_straight c.args.m.now (Some c.args.c.now.hub) c.in-Some-2.r.items ≡ true =
     ap (λ (l : List Item). is_straight c.args.m.now (Some c.args.c.now.hub) l) (sym c.as_slice-4.ensures) ∙ c.in_ok-is_straight.ensures c.if-branch.true in
     reworked_stands c.args.m.now c.args.c.now.hub c.args.b.now c.in-Some.more c.in-Some-2.r c.requires.choice.hub made meaning no_more live few straight
