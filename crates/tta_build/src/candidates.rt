@@ -14,6 +14,10 @@ use tta_optim::Passes;
 use tta_order::{Orders, Rule};
 use tta_reload::reload;
 
+/// Up to so many items an order by items alone is tried too: it seldom gives the shortest list, and a
+/// long block takes its time.
+const FEW_ITEMS: usize = 512;
+
 /// The passes that make the candidates of one block after another. Their tables take their memory
 /// once.
 #[derive(Drop)]
@@ -49,6 +53,24 @@ impl Candidates {
         }
     }
 
+    /// The same of a short list; none of a long one. It fails only where there is no memory.
+    fn by_few_items(
+        &mut self,
+        alloc: Global,
+        list: &BlockList,
+        m: &Machine,
+        net: &Net,
+    ) -> Result<Option<BlockList>, AllocError>
+        requires net { IsNetOf net.now m.now }
+        requires list { is_list m.now list.now.items ≡ true }
+        ensures { IfOk result (λ o. IfSome o (λ r. IsCandidate m.now list.now r)) }
+    {
+        if list.items.len() > FEW_ITEMS {
+            return Ok(None);
+        }
+        self.by_items(alloc, list, m, net)
+    }
+
     /// A list with its groups in order, cycle by cycle, and then its items, after the passes; none
     /// where its groups stand so already. It fails only where there is no memory.
     fn by_groups(
@@ -74,8 +96,8 @@ impl Candidates {
         }
     }
 
-    /// Adds what a list becomes by the passes: as it is, by items, and by groups. It fails only
-    /// where there is no memory.
+    /// Adds what a list becomes by the passes: as it is, by items where it is short, and by groups.
+    /// It fails only where there is no memory.
     fn add(
         &mut self,
         alloc: Global,
@@ -89,7 +111,7 @@ impl Candidates {
         ensures { OnOk result (AddsCandidates m.now list.now lists.old.items lists.new.items) }
     {
         let plain = self.passes.optimise(alloc, list, m, net)?;
-        let by_items = self.by_items(alloc, &plain, m, net)?;
+        let by_items = self.by_few_items(alloc, &plain, m, net)?;
         let by_groups = self.by_groups(alloc, list, m, net)?;
         lists.push(plain)?;
         push_some(lists, by_items)?;
