@@ -1,5 +1,5 @@
 -- How many bytes an image has.
-use Rattle.std.proofs.Common.{◌≡◌, ℕ, ◌+◌, ◌*◌, ◌/◌, ◌<◌, nat_lt, Bool, true, false, List, [], ◌∷◌, ◌++◌, length, replicate, refl, sym, ap, ◌∙◌, arith}
+use Rattle.std.proofs.Common.{◌≡◌, ℕ, ◌+◌, ◌*◌, ◌/◌, nat_lt, Bool, true, false, List, [], ◌∷◌, ◌++◌, length, replicate, refl, sym, ap, ◌∙◌, arith}
 use Rattle.std.specs.List.{flat_map}
 use Rattle.std.proofs.lemmas.Bool.{lt-ltb}
 use Rattle.std.proofs.lemmas.List.{length-append, length-replicate}
@@ -8,7 +8,7 @@ use Rattle.tta_arch.specs.Fields.{word_width}
 use Rattle.tta_code.specs.declared.whole.Datum.{Datum}
 use Rattle.tta_code.specs.Whole.{Whole}
 use Rattle.tta_image.specs.Bits.{instruction_bits}
-use Rattle.tta_image.specs.Image.{Image, header, version_of, data_section, datum_bytes}
+use Rattle.tta_image.specs.Image.{Image, data_section, datum_bytes}
 use Rattle.tta_image.proofs.Unique.{length-bytes}
 use Rattle.tta_image.proofs.ImageDecoded.{length-words_bits}
 use Rattle.tta_info.specs.ImageInfo.{data_bytes, image_bytes}

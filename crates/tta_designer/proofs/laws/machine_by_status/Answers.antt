@@ -1,4 +1,4 @@
-use Rattle.std.proofs.Common.{◌≡◌, ◌⊎◌, ◌↔◌, ℕ, List, Some, refl, subst, inl, inr}
+use Rattle.std.proofs.Common.{◌≡◌, ◌↔◌, ℕ, List, Some, refl, subst, inl, inr}
 use Rattle.tta_ports.specs.World.{World, IsUntouched}
 use Rattle.tta_ports.specs.Output.{Output, IsQuiet, IsPut, IsCut}
 use Rattle.tta_ops.specs.Units.{Units}
