@@ -9,6 +9,7 @@ mod profiling;
 mod report;
 mod stopped;
 mod sums;
+mod uses;
 
 pub use counting::{Basis, Went};
 pub use counts::Counts;

@@ -1,155 +1,23 @@
 //! What is told of the counts of a run, as text.
 
-ghost use Rattle.std.specs.Prelude.{◌≡◌, ◌≤◌, ◌<◌, ◌++◌, ◌^◌, decimal, length, slice_get, All, IfOk, IfSome, OnOk};
+ghost use Rattle.std.specs.Prelude.{◌≡◌, ◌≤◌, ◌<◌, ◌++◌, length, slice_get, All, IfOk, IfSome};
+ghost use Rattle.std.specs.Prelude.{OnOk};
 ghost use Rattle.std.specs.Option.{option_copied};
 ghost use Rattle.tta_ops.specs.Set.{stated};
 ghost use Rattle.tta_code.specs.Legal.{IsLegalCode};
-ghost use Rattle.tta_profile.specs.Report.{share_text, used_text, buses_text, units_text};
 ghost use Rattle.tta_profile.specs.Report.{passed_text, all_passed_text, hot_text, hot_at_text};
-ghost use Rattle.tta_profile.specs.Report.{hottest_text, uses_text, told_text, percent, IsReport};
-ghost use Rattle.tta_profile.specs.Report.{bus_text, unit_text, bus_name, is_guarded, count_text};
-ghost use Rattle.tta_profile.specs.Report.{times_text, code_sum};
+ghost use Rattle.tta_profile.specs.Report.{hottest_text, told_text, IsReport, bus_name};
+ghost use Rattle.tta_profile.specs.Report.{is_guarded, count_text, times_text};
 
 use crate::counts::Counts;
 use crate::hot::{Hot, hottest};
-use crate::sums::{Test, code_sum, cycles_sum};
-use itoa::Buffer;
+use crate::sums::cycles_sum;
+use crate::uses::{Told, push_number, push_share, push_uses};
 use std::alloc::{AllocError, Global};
-use tta_arch::{Bus, Machine, Unit};
+use tta_arch::Machine;
 use tta_asm::push_instruction;
 use tta_code::{Code, Instruction, Move};
 use tta_ops::UnitSet;
-
-/// Puts a number, in decimal.
-fn push_number(out: &mut Vec<u8>, n: u128) -> Result<(), AllocError>
-    ensures { OnOk result (out.new.items ≡ out.old.items ++ decimal n) }
-{
-    let mut buffer = Buffer::new();
-    out.extend_from_slice(buffer.format(n).as_bytes())
-}
-
-/// A share of a whole, in percent, 0 of nothing.
-fn percent(part: u128, whole: u128) -> u128
-    requires { part ≤ 2 ^ 84 }
-    ensures { result ≡ percent part whole }
-{
-    if whole == 0 { 0 } else { 100 * part / whole }
-}
-
-/// Puts a number and its share.
-#[tactic(auto, unfolding(crate::specs::Report::share_text))]
-fn push_share(out: &mut Vec<u8>, part: u128, whole: u128) -> Result<(), AllocError>
-    requires { part ≤ 2 ^ 84 }
-    ensures { OnOk result (out.new.items ≡ out.old.items ++ share_text part whole) }
-{
-    push_number(out, part)?;
-    out.extend_from_slice(b" share ")?;
-    push_number(out, percent(part, whole))
-}
-
-/// Puts what a bus or unit is, its name, and how often it was used.
-#[tactic(auto, unfolding(crate::specs::Report::used_text))]
-fn push_used(
-    out: &mut Vec<u8>,
-    what: &[u8],
-    name: &[u8],
-    told: &[u8],
-    part: u128,
-    whole: u128,
-) -> Result<(), AllocError>
-    requires { part ≤ 2 ^ 84 }
-    ensures { OnOk result (out.new.items
-        ≡ out.old.items ++ used_text what.now name.now told.now part whole) }
-{
-    out.extend_from_slice(what)?;
-    out.extend_from_slice(name)?;
-    out.extend_from_slice(told)?;
-    push_share(out, part, whole)?;
-    out.extend_from_slice(b"\n")
-}
-
-/// What is told of: code for a machine, its counts, and how many cycles were made.
-#[derive(Clone, Copy)]
-struct Told<'a> {
-    m: &'a Machine,
-    words: &'a [Instruction],
-    counts: &'a Counts,
-    whole: u128,
-}
-
-/// How often moves that are asked for were active.
-fn sum_of(told: &Told<'_>, test: Test) -> u128
-    requires few { length told.now.words.now ≤ 65536 }
-    requires low { All (λ i. length i.moves ≤ 16) told.now.words.now }
-    ensures value { result ≡ code_sum told.now.counts.now test told.now.words.now }
-    ensures small { result ≤ 2 ^ 84 }
-{
-    code_sum(told.counts, test, told.words)
-}
-
-/// Puts a bus, and how many moves it carried.
-fn push_bus(out: &mut Vec<u8>, told: &Told<'_>, bus: u8, b: &Bus) -> Result<(), AllocError>
-    requires few { length told.now.words.now ≤ 65536 }
-    requires low { All (λ i. length i.moves ≤ 16) told.now.words.now }
-    ensures { OnOk result (out.new.items ≡ out.old.items
-        ++ bus_text told.now.counts.now told.now.words.now told.now.whole bus b.now) }
-{
-    let moves = sum_of(told, Test::Bus(bus));
-    push_used(
-        out,
-        b"bus ",
-        b.name.as_bytes(),
-        b" moves ",
-        moves,
-        told.whole,
-    )
-}
-
-/// Puts buses.
-fn push_buses(out: &mut Vec<u8>, told: &Told<'_>, buses: &[Bus]) -> Result<(), AllocError>
-    requires few { length told.now.words.now ≤ 65536 }
-    requires low { All (λ i. length i.moves ≤ 16) told.now.words.now }
-    requires buses { length buses.now ≤ 16 }
-    ensures { OnOk result (out.new.items ≡ out.old.items
-        ++ buses_text told.now.counts.now told.now.words.now told.now.whole buses.now) }
-{
-    for (bus, b) in buses.iter().enumerate() {
-        push_bus(out, told, bus as u8, b)?;
-    }
-    Ok(())
-}
-
-/// Puts a unit, and how many of its operations were started.
-fn push_unit(out: &mut Vec<u8>, told: &Told<'_>, unit: u8, q: &Unit) -> Result<(), AllocError>
-    requires few { length told.now.words.now ≤ 65536 }
-    requires low { All (λ i. length i.moves ≤ 16) told.now.words.now }
-    ensures { OnOk result (out.new.items ≡ out.old.items
-        ++ unit_text told.now.counts.now told.now.words.now told.now.whole unit q.now) }
-{
-    let starts = sum_of(told, Test::Unit(unit));
-    push_used(
-        out,
-        b"unit ",
-        q.name.as_bytes(),
-        b" starts ",
-        starts,
-        told.whole,
-    )
-}
-
-/// Puts units.
-fn push_units(out: &mut Vec<u8>, told: &Told<'_>, units: &[Unit]) -> Result<(), AllocError>
-    requires few { length told.now.words.now ≤ 65536 }
-    requires low { All (λ i. length i.moves ≤ 16) told.now.words.now }
-    requires units { length units.now ≤ 32 }
-    ensures { OnOk result (out.new.items ≡ out.old.items
-        ++ units_text told.now.counts.now told.now.words.now told.now.whole units.now) }
-{
-    for (unit, q) in units.iter().enumerate() {
-        push_unit(out, told, unit as u8, q)?;
-    }
-    Ok(())
-}
 
 /// The name of a bus, and no bytes where the machine has no such bus.
 fn bus_name(m: &Machine, bus: usize) -> &[u8]
@@ -301,22 +169,6 @@ fn push_hottest(
         push_hot_at(out, units, told, *h)?;
     }
     Ok(())
-}
-
-/// Puts how many cycles were made, and what was used.
-#[tactic(auto, unfolding(crate::specs::Report::uses_text))]
-fn push_uses(out: &mut Vec<u8>, told: &Told<'_>) -> Result<(), AllocError>
-    requires few { length told.now.words.now ≤ 65536 }
-    requires low { All (λ i. length i.moves ≤ 16) told.now.words.now }
-    ensures { OnOk result (out.new.items ≡ out.old.items ++ uses_text
-        told.now.m.now told.now.words.now told.now.counts.now told.now.whole) }
-{
-    out.extend_from_slice(b"cycles ")?;
-    push_number(out, told.whole)?;
-    out.extend_from_slice(b"\n")?;
-    let m = told.m;
-    push_buses(out, told, m.buses.as_slice())?;
-    push_units(out, told, m.units.as_slice())
 }
 
 /// Puts all that is told, with the instructions in this order.

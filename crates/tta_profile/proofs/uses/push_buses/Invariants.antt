@@ -1,7 +1,7 @@
 use Rattle.std.proofs.Common.{◌≡◌, ◌++◌, drop}
 use Rattle.std.specs.List.{flat_map, enumerate_from}
 use Rattle.tta_profile.specs.Report.{bus_text}
-use Rattle.tta_profile.proofs.report.push_buses.Given as goal
+use Rattle.tta_profile.proofs.uses.push_buses.Given as goal
 
 abbrev pub invariant-loop-bus : goal.invariant-loop-bus
 invariant-loop-bus l =

@@ -1,6 +1,6 @@
 use Rattle.tta_arch.proofs.CodeLists.{pieces_more}
 use Rattle.tta_profile.specs.Report.{bus_text}
-use Rattle.tta_profile.proofs.report.push_buses.Goals as goal
+use Rattle.tta_profile.proofs.uses.push_buses.Goals as goal
 
 pub loop-bus-preserved : goal.loop-bus-preserved
 loop-bus-preserved c =

@@ -1,7 +1,7 @@
 use Rattle.std.proofs.Common.{◌≡◌, ◌++◌, drop}
 use Rattle.std.specs.List.{flat_map, enumerate_from}
 use Rattle.tta_profile.specs.Report.{unit_text}
-use Rattle.tta_profile.proofs.report.push_units.Given as goal
+use Rattle.tta_profile.proofs.uses.push_units.Given as goal
 
 abbrev pub invariant-loop-unit : goal.invariant-loop-unit
 invariant-loop-unit l =

@@ -1,6 +1,6 @@
 use Rattle.tta_arch.proofs.CodeLists.{pieces_more}
 use Rattle.tta_profile.specs.Report.{unit_text}
-use Rattle.tta_profile.proofs.report.push_units.Goals as goal
+use Rattle.tta_profile.proofs.uses.push_units.Goals as goal
 
 pub loop-unit-preserved : goal.loop-unit-preserved
 loop-unit-preserved c =
