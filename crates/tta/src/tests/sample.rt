@@ -10,7 +10,7 @@ use tta_tool::Status;
 /// The machines: that of three buses, one that is not covered, and a text that is none.
 const TEXTS: [(&str, &str); 3] = [("M", THREE_BUSES), ("ONE", ONE_BUS), ("BAD", "bus B\n")];
 
-const SUMMARY: &str = "lines 24\nwords 20\nsteps 98\ncycles 140\noutputs 24\nequal yes\n";
+const SUMMARY: &str = "lines 24\nwords 19\nsteps 98\ncycles 124\noutputs 24\nequal yes\n";
 
 /// Samples that are compared, and samples of which nothing is output.
 const CASES: [Case; 12] = [
@@ -41,7 +41,7 @@ const CASES: [Case; 12] = [
 ];
 
 /// What a sample outputs where a put fails: the lines before it, and half of the next.
-const TAKEN: [&str; 3] = ["line", "lines 24\nword", "lines 24\nwords 20\nstep"];
+const TAKEN: [&str; 3] = ["line", "lines 24\nword", "lines 24\nwords 19\nstep"];
 
 // The first put of a summary whose failure is reported otherwise.
 fn first_other_put(alloc: Global) -> Result<Option<usize>, AllocError> {
