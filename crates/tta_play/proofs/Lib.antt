@@ -1,0 +1,3 @@
+mod Sizes
+mod Rows
+mod Told

@@ -1,0 +1,62 @@
+use Rattle.std.proofs.Common.{◌≡◌, ℕ, suc, ◌-◌, ◌++◌, List, sym, ap, ◌∙◌, subst, arith}
+use Rattle.std.specs.Prelude.{slice_get}
+use Rattle.tta_list.specs.Input.{left as unread}
+use Rattle.tta_ops.specs.Set.{stated}
+use Rattle.tta_code.specs.Cycle.{State, next}
+use Rattle.tta_sim.specs.Held.{Stands}
+use Rattle.tta_play.specs.States.{state_text}
+use Rattle.tta_play.specs.Steps.{GoesBy, step_text}
+use Rattle.tta_play.proofs.Rows.{state_more, state_over}
+use Rattle.tta_play.proofs.cycling.push_states.Given as given
+use Rattle.tta_play.proofs.cycling.push_states.Goals.{After-went_on}
+use Rattle.tta_play.proofs.cycling.push_states.Goals as goal
+
+module _ (g : given.Over) (c : After-went_on g) where
+  abbrev step : State → State
+  step = next (stated (λ v. (goal.OpUnit-dyn g v).unit_meaning v.1) c.args.basis.now.units.now) c.args.basis.now.m.now c.args.basis.now.code.now
+
+  abbrev told : State → List ℕ
+  told = state_text (stated (λ v. (goal.OpUnit-dyn g v).unit_meaning v.1) c.args.basis.now.units.now) c.args.basis.now.m.now c.args.basis.now.code.now.words
+
+  -- with this cycle there is one less
+  one_less : c.cycles.left ≡ suc (c.cycles.left - 1)
+  one_less = let t = c.cycles-test.true in omega arith
+
+  -- what became of the cycle of the state that the run stood for
+  went : (t : State) → Stands c.cycles.sim t → t.rest ≡ c.cycles.rest.now → GoesBy step (Stands c.cycle_once-step.new.sim) t (step_text c.cycle_once-step.result) c.went_on.result
+  went t stands rest =
+      let fed : slice_get t.rest 0 ≡ c.first_of.result = ap (λ l. slice_get l 0) rest ∙ sym c.first_of.ensures in
+      subst (λ o. GoesBy step (Stands c.cycle_once-step.new.sim) t (step_text c.cycle_once-step.result) o) (sym c.went_on.ensures)
+      (c.cycle_once-step.ensures.goes t stands fed)
+
+pub returns-in_default : goal.returns-in_default
+returns-in_default g c = λ s stands given.
+    let at = (goal.at.returns-in_default g c).After-went_on in
+    let now = c.cycles.invariant.put s stands given in
+    let t = now.0 in
+    let over = subst (λ o. GoesBy (step g at) (Stands c.cycle_once-step.new.sim) t (step_text c.cycle_once-step.result) o) (c.in_default.is)
+    (went g at t now.1 now.2) in
+    state_over (step g at) (told g at) t _ _ _ _ _ _ (one_less g at) over.made (c.in_ok-push_state.ensures t now.1)
+    (c.in_ok-push_step.ensures ∙ ap (λ l. c.push_state.new.out.items ++ l) over.tells) now.3
+
+pub cycles-preserved : goal.cycles-preserved
+cycles-preserved g c =
+    let at = (goal.at.cycles-preserved g c).After-went_on in
+    let counted = c.cycle_once-step.ensures.counted in
+    let few = c.cycles.invariant.few in
+    let test = c.cycles-test.true in
+    record {
+      loaded = c.cycle_once-step.ensures.loaded;
+      few = omega arith;
+      put = λ s stands given.
+          let now = c.cycles.invariant.put s stands given in
+          let t = now.0 in
+          let on = subst (λ o. GoesBy (step g at) (Stands c.cycle_once-step.new.sim) t (step_text c.cycle_once-step.result) o) (c.in-Some.is)
+          (went g at t now.1 now.2) in (
+            step g at t,
+            on.stands,
+            on.rest ∙ ap (unread c.in-Some.took) now.2 ∙ sym c.left_of-rest.ensures,
+            state_more (step g at) (told g at) t _ _ _ _ _ _ (one_less g at) on.made (c.in_ok-push_state.ensures t now.1)
+                (c.in_ok-push_step.ensures ∙ ap (λ l. c.push_state.new.out.items ++ l) on.tells) now.3,
+          );
+    }

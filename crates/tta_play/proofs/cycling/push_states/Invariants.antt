@@ -1,0 +1,21 @@
+use Rattle.std.proofs.Common.{◌≡◌, ◌+◌, ◌<◌, ◌^◌, ◌++◌}
+use Rattle.tta_ops.specs.Set.{stated}
+use Rattle.tta_code.specs.Cycle.{State, next}
+use Rattle.tta_sim.specs.Held.{Stands, IsRunOf}
+use Rattle.tta_play.specs.States.{state_text, states_text}
+use Rattle.tta_play.proofs.cycling.push_states.Given as goal
+
+abbrev pub decreases-cycles : goal.decreases-cycles
+decreases-cycles g l = l.left
+
+abbrev pub invariant-cycles : goal.invariant-cycles
+invariant-cycles g l =
+    let U = stated (λ v. (goal.OpUnit-dyn g v).unit_meaning v.1) l.basis.units.now in
+    let step = next U l.basis.m.now l.basis.code.now in
+    let told = state_text U l.basis.m.now l.basis.code.now.words in
+    record {
+      loaded : IsRunOf l.basis.m.now l.basis.code.now l.sim;
+      few : l.sim.cycle + l.left < 2 ^ 62;
+      put : (s : State) → Stands l.initial.sim s → s.rest ≡ l.input → (t : State) × Stands l.sim t × (t.rest ≡ l.rest)
+          × (l.out.items ++ states_text step told l.left t ≡ l.initial.out.items ++ states_text step told l.bound s);
+    }

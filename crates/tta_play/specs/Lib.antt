@@ -1,0 +1,4 @@
+pub mod Page
+pub mod States
+pub mod Steps
+pub mod Statement

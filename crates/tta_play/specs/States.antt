@@ -1,0 +1,100 @@
+-- What a page tells of each state of a run.
+use Rattle.std.specs.Prelude.{ℕ, zero, suc, ◌+◌, if◌then◌else◌, List, [], ◌++◌, Option, None, Some, option_map, length, drop, slice_get, codes, decimal}
+use Rattle.std.specs.Option.{option_map_or}
+use Rattle.std.specs.List.{flat_map, enumerate_from}
+use Rattle.tta_ops.specs.Units.{Units}
+use Rattle.tta_arch.specs.declared.parts.File.{File}
+use Rattle.tta_arch.specs.declared.parts.Unit.{Unit as OpUnit}
+use Rattle.tta_arch.specs.Effects.{KeptReg, kept}
+use Rattle.tta_arch.specs.Machine.{Machine}
+use Rattle.tta_code.specs.declared.code.Instruction.{Instruction}
+use Rattle.tta_code.specs.Cycle.{State, Outcome, Running, Halted, Waiting, Fault, port}
+use Rattle.tta_asm.specs.Canonical.{instruction_text}
+use Rattle.tta_sim.specs.Results.{due_at}
+use Rattle.tta_profile.specs.Counts.{is_made}
+
+-- ---- words
+
+-- a word, or "-" where there is none, with a blank before it
+abbrev pub word_text : Option ℕ → List ℕ
+word_text None = codes " -"
+word_text (Some word) = codes " " ++ decimal word
+
+-- so many words, from one on
+abbrev pub words_text : (word : ℕ → Option ℕ) → (first count : ℕ) → List ℕ
+words_text word first zero = []
+words_text word first (suc count) = word_text (word first) ++ words_text word (first + 1) count
+
+-- the word of a register of a file
+abbrev pub register_word : State → (file index : ℕ) → Option ℕ
+register_word s file index = kept s.written (KeptReg file index)
+
+-- the result of a unit that is due so many cycles from now
+abbrev pub due_word : State → (unit delay : ℕ) → Option ℕ
+due_word s unit delay = option_map (λ r. r.value) (due_at unit (s.cycle + delay) s.started)
+
+-- ---- a state
+
+-- the registers of a file
+unfoldable pub file_text : State → (file : ℕ) → File → List ℕ
+file_text s file f = codes "registers" ++ (words_text (register_word s file) 0 f.size ++ codes "\n")
+
+-- the registers of files
+abbrev pub files_text : State → List File → List ℕ
+files_text s files = flat_map (λ f. file_text s f.0 f.1) (enumerate_from 0 files)
+
+-- the results of a unit that are due 1 to 16 cycles from now
+unfoldable pub dues_text : State → (unit : ℕ) → List ℕ
+dues_text s unit = words_text (due_word s unit) 1 16
+
+-- what the result port of a unit shows, and the results that are due later
+unfoldable pub results_text : State → (unit : ℕ) → List ℕ
+results_text s unit = codes "results" ++ (word_text (port s unit) ++ (dues_text s unit ++ codes "\n"))
+
+-- the same of units
+abbrev pub units_text : State → List OpUnit → List ℕ
+units_text s units = flat_map (λ q. results_text s q.0) (enumerate_from 0 units)
+
+-- the cycles that were made, and the address of the next instruction
+unfoldable pub where_text : State → List ℕ
+where_text s = codes "state " ++ (decimal s.cycle ++ (codes " " ++ (decimal s.pc ++ codes "\n")))
+
+-- an instruction as assembly
+unfoldable pub code_text : Units → Machine → Instruction → List ℕ
+code_text u m i = codes "code " ++ instruction_text u m i
+
+-- the instruction of an address, if there is one
+abbrev pub code_at_text : Units → Machine → List Instruction → (address : ℕ) → List ℕ
+code_at_text u m words address = option_map_or (code_text u m) (slice_get words address) []
+
+-- a state: where it is, its registers, its results, and the instruction that comes next
+unfoldable pub state_text : Units → Machine → List Instruction → State → List ℕ
+state_text u m words s =
+    where_text s ++ (files_text s m.files ++ (units_text s m.units ++ code_at_text u m words s.pc))
+
+-- ---- states
+
+-- a word that is output
+unfoldable pub out_text : ℕ → List ℕ
+out_text word = codes "out " ++ (decimal word ++ codes "\n")
+
+-- the words that a cycle outputs: what the output gains
+abbrev pub outs_text : (s t : State) → List ℕ
+outs_text s t = flat_map out_text (drop (length s.output) t.output)
+
+-- why a run is over
+abbrev pub end_text : Outcome → List ℕ
+end_text Running = []
+end_text Halted = codes "halted\n"
+end_text Waiting = codes "waiting\n"
+end_text (Fault number cycle) = codes "fault " ++ (decimal number ++ codes "\n")
+
+-- A state, and those after each of at most so many cycles, with what each cycle outputs; and where a cycle is not carried
+-- out, why the run is over.
+abbrev pub states_text : (step : State → State) → (told : State → List ℕ) → (left : ℕ) → State → List ℕ
+states_text step told zero s = told s
+states_text step told (suc left) s =
+    told s
+    ++ (if is_made step s
+    then outs_text s (step s) ++ states_text step told left (step s)
+    else end_text (step s).outcome)

@@ -1,0 +1,44 @@
+-- What a cycle adds to a page.
+use Rattle.std.specs.Prelude.{◌≡◌, ℕ, Bool, true, false, List, [], ◌++◌, Option, None, Some, codes, decimal}
+use Rattle.tta_list.specs.Input.{left}
+use Rattle.tta_code.specs.Cycle.{State}
+use Rattle.tta_sim.specs.declared.answer.CycleStep.{CycleStep}
+use Rattle.tta_sim.specs.declared.answer.CycleStep.TheVariants.{Ran, Halted, Waiting, Fault}
+use Rattle.tta_profile.specs.Counts.{is_made}
+use Rattle.tta_play.specs.States.{out_text, outs_text, end_text}
+
+-- what is told of an answer: the word that the cycle output, or why the run is over
+abbrev pub step_text : CycleStep → List ℕ
+step_text (Ran None took) = []
+step_text (Ran (Some word) took) = out_text word
+step_text Halted = codes "halted\n"
+step_text Waiting = codes "waiting\n"
+step_text (Fault number) = codes "fault " ++ (decimal number ++ codes "\n")
+
+-- whether the cycle was carried out, and if so whether it took a word of the input
+abbrev pub went_on : CycleStep → Option Bool
+went_on (Ran word took) = Some took
+went_on Halted = None
+went_on Waiting = None
+went_on (Fault number) = None
+
+-- a cycle was carried out: the run stands for the state after it, and what is told is what the cycle output
+pub record IsOn (step : State → State) (Stands : State → Type 0) (s : State) (told : List ℕ) (took : Bool) : Type 0 where
+  pub stands : Stands (step s)
+  pub rest : (step s).rest ≡ left took s.rest
+  pub made : is_made step s ≡ true
+  pub tells : told ≡ outs_text s (step s)
+
+-- no cycle was carried out, and what is told is why
+pub record IsOver (step : State → State) (s : State) (told : List ℕ) : Type 0 where
+  pub made : is_made step s ≡ false
+  pub tells : told ≡ end_text (step s).outcome
+
+-- what became of a cycle
+abbrev pub GoesBy : (step : State → State) → (Stands : State → Type 0) → State → (told : List ℕ) → Option Bool → Type 0
+GoesBy step Stands s told (Some took) = IsOn step Stands s told took
+GoesBy step Stands s told None = IsOver step s told
+
+-- the same by the answer
+abbrev pub Goes : (step : State → State) → (Stands : State → Type 0) → State → CycleStep → Type 0
+Goes step Stands s answer = GoesBy step Stands s (step_text answer) (went_on answer)

@@ -1,0 +1,11 @@
+//! A page that plays a run: one file that shows each state of its first cycles, a step at a time.
+#![tactic(auto)]
+
+mod cycling;
+mod names;
+mod page;
+mod playing;
+mod state;
+mod words;
+
+pub use playing::play;

@@ -1,0 +1,141 @@
+//! A state of a run, put at the end of a text.
+
+ghost use Rattle.std.specs.Prelude.{◌≡◌, ◌≤◌, ◌<◌, ◌^◌, ◌++◌, length, slice_get, OnOk, All};
+ghost use Rattle.std.specs.Option.{option_copied};
+ghost use Rattle.tta_ops.specs.Set.{stated};
+ghost use Rattle.tta_code.specs.Cycle.{State};
+ghost use Rattle.tta_sim.specs.Held.{Stands, IsRunOf};
+ghost use Rattle.tta_play.specs.States.{code_at_text, code_text, file_text, files_text};
+ghost use Rattle.tta_play.specs.States.{results_text, state_text, units_text, where_text};
+
+use crate::words::{push_dues, push_number, push_registers, push_word};
+use std::alloc::AllocError;
+use tta_arch::{File, Machine, Unit};
+use tta_asm::push_instruction;
+use tta_code::{Code, Instruction};
+use tta_ops::UnitSet;
+use tta_profile::Basis;
+use tta_sim::Sim;
+
+/// Puts how many cycles were made, and the address of the next instruction.
+#[tactic(auto, unfolding(crate::specs::States::where_text))]
+fn push_where(out: &mut Vec<u8>, sim: &Sim) -> Result<(), AllocError>
+    ensures { (s : State) → Stands sim.now s
+        → OnOk result (out.new.items ≡ out.old.items ++ where_text s) }
+{
+    out.extend_from_slice(b"state ")?;
+    push_number(out, sim.cycles())?;
+    out.extend_from_slice(b" ")?;
+    push_number(out, u64::from(sim.pc()))?;
+    out.extend_from_slice(b"\n")
+}
+
+/// Puts the registers of a file.
+#[tactic(auto, unfolding(crate::specs::States::file_text))]
+fn push_file(out: &mut Vec<u8>, sim: &Sim, file: u8, f: &File) -> Result<(), AllocError>
+    requires file { file < 8 }
+    requires size { f.now.size ≤ 64 }
+    ensures { (s : State) → Stands sim.now s
+        → OnOk result (out.new.items ≡ out.old.items ++ file_text s file f.now) }
+{
+    out.extend_from_slice(b"registers")?;
+    push_registers(out, sim, file, f.size)?;
+    out.extend_from_slice(b"\n")
+}
+
+/// Puts the registers of files.
+fn push_files(out: &mut Vec<u8>, sim: &Sim, files: &[File]) -> Result<(), AllocError>
+    requires few { length files.now ≤ 8 }
+    requires sizes { All (λ f. f.size ≤ 64) files.now }
+    ensures { (s : State) → Stands sim.now s
+        → OnOk result (out.new.items ≡ out.old.items ++ files_text s files.now) }
+{
+    for (file, f) in files.iter().enumerate() {
+        push_file(out, sim, file as u8, f)?;
+    }
+    Ok(())
+}
+
+/// Puts the results of a unit: the one that its port shows, and those that are due later.
+#[tactic(auto, unfolding(crate::specs::States::results_text))]
+fn push_results(out: &mut Vec<u8>, sim: &Sim, unit: u8) -> Result<(), AllocError>
+    requires unit { unit < length sim.now.shown }
+    requires few { sim.now.cycle < 2 ^ 63 }
+    ensures { (s : State) → Stands sim.now s
+        → OnOk result (out.new.items ≡ out.old.items ++ results_text s unit) }
+{
+    out.extend_from_slice(b"results")?;
+    push_word(out, sim.port(unit))?;
+    push_dues(out, sim, unit)?;
+    out.extend_from_slice(b"\n")
+}
+
+/// Puts the results of units.
+fn push_units(out: &mut Vec<u8>, sim: &Sim, units: &[Unit]) -> Result<(), AllocError>
+    requires units { length sim.now.shown ≡ length units.now }
+    requires few_units { length units.now ≤ 32 }
+    requires few { sim.now.cycle < 2 ^ 63 }
+    ensures { (s : State) → Stands sim.now s
+        → OnOk result (out.new.items ≡ out.old.items ++ units_text s units.now) }
+{
+    for (unit, _) in units.iter().enumerate() {
+        push_results(out, sim, unit as u8)?;
+    }
+    Ok(())
+}
+
+/// Puts an instruction as assembly.
+#[tactic(auto, unfolding(crate::specs::States::code_text))]
+fn push_code(
+    out: &mut Vec<u8>,
+    units: &UnitSet,
+    m: &Machine,
+    i: &Instruction,
+) -> Result<(), AllocError>
+    ensures { let U = stated unit_meaning units.now in
+        OnOk result (out.new.items ≡ out.old.items ++ code_text U m.now i.now) }
+{
+    out.extend_from_slice(b"code ")?;
+    push_instruction(out, units, m, i)
+}
+
+/// The instruction of an address, if there is one.
+fn instruction_at(code: &Code, address: u32) -> Option<&Instruction>
+    ensures { option_copied result ≡ slice_get code.now.words address }
+{
+    code.words.as_slice().get(address as usize)
+}
+
+/// Puts the instruction of an address, if there is one.
+fn push_code_at(
+    out: &mut Vec<u8>,
+    units: &UnitSet,
+    m: &Machine,
+    code: &Code,
+    address: u32,
+) -> Result<(), AllocError>
+    ensures { let U = stated unit_meaning units.now in
+        OnOk result (out.new.items ≡ out.old.items
+        ++ code_at_text U m.now code.now.words address) }
+{
+    match instruction_at(code, address) {
+        Some(i) => push_code(out, units, m, i),
+        None => Ok(()),
+    }
+}
+
+/// Puts a state: where it is, its registers, its results, and the instruction that comes next.
+#[tactic(auto, unfolding(crate::specs::States::state_text), using(crate::proofs::Sizes::sizes))]
+pub fn push_state(out: &mut Vec<u8>, basis: &Basis<'_>, sim: &Sim) -> Result<(), AllocError>
+    requires loaded { IsRunOf basis.now.m.now basis.now.code.now sim.now }
+    requires few { sim.now.cycle < 2 ^ 63 }
+    ensures { let U = stated unit_meaning basis.now.units.now in
+        (s : State) → Stands sim.now s → OnOk result (out.new.items ≡ out.old.items
+        ++ state_text U basis.now.m.now basis.now.code.now.words s) }
+{
+    let m = basis.m;
+    push_where(out, sim)?;
+    push_files(out, sim, m.files.as_slice())?;
+    push_units(out, sim, m.units.as_slice())?;
+    push_code_at(out, basis.units, m, basis.code, sim.pc())
+}
