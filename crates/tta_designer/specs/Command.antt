@@ -16,8 +16,8 @@ use Rattle.tta_given.specs.Ends.{IsUsage, TextEnds, Puts}
 use Rattle.tta_given.specs.Endings as endings
 use Rattle.tta_designer.specs.declared.view.View.{View}
 use Rattle.tta_designer.specs.Views.{machine_view, code_view}
-use Rattle.tta_designer.specs.Request.{Request, OfMachine, OfCode, Profile}
-use Rattle.tta_designer.specs.Profile.{Profiles}
+use Rattle.tta_designer.specs.Request.{Request, OfMachine, OfCode, OfRun}
+use Rattle.tta_designer.specs.Runs.{ShowsRun}
 
 -- the machine is refused, and nothing is output; or its view is
 abbrev pub ShowsMachine : Units → View → (M : List ℕ) → (before after : World) → (old new : Output) → Status → Type 0
@@ -37,7 +37,7 @@ Ends u None before after old new s = IsUsage before after old new s
 Ends u (Some (OfMachine view M)) before after old new s = ShowsMachine u view M before after old new s
 Ends u (Some (OfCode view M IMG)) before after old new s =
     Puts u IsImageFor RefusesImage (IsShown u view) (λ file whole. no_memory) M IMG before after old new s
-Ends u (Some (Profile M IMG IN STREAM bound)) before after old new s = Profiles u M IMG IN STREAM bound before after old new s
+Ends u (Some (OfRun view M IMG IN STREAM bound)) before after old new s = ShowsRun u view M IMG IN STREAM bound before after old new s
 
 -- ---- how it ends by its status
 

@@ -1,5 +1,5 @@
 pub mod Request
 pub mod Views
-pub mod Profile
+pub mod Runs
 pub mod Command
 pub mod Laws

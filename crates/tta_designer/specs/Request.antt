@@ -1,26 +1,32 @@
 -- What the words of the command line ask for.
-use Rattle.std.specs.Prelude.{ℕ, List, [], ◌∷◌, Bool, false, ◌||◌, Option, Some, None, codes, if◌then◌else◌, is_some, option_map}
+use Rattle.std.specs.Prelude.{ℕ, List, [], ◌∷◌, Bool, false, ◌||◌, Option, Some, None, codes, if◌then◌else◌, is_some, option_map, option_and_then}
 use Rattle.std.specs.Str.{bytes_eq}
 use Rattle.tta_given.specs.Runs.{bound_of}
 use Rattle.tta_designer.specs.declared.view.View.{View}
 use Rattle.tta_designer.specs.declared.view.View.TheVariants.{Picture, Info}
+use Rattle.tta_designer.specs.declared.view.RunView.{RunView}
+use Rattle.tta_designer.specs.declared.view.RunView.TheVariants.{Profile, Play}
 use Rattle.tta_designer.specs.declared.request.Request.{Request as Asked}
 use Rattle.tta_designer.specs.declared.request.Request.TheVariants as for
 
--- what can be asked for: a view of a machine, one of the code of an image for a machine, or the profile of a run of such code
+-- what can be asked for: a view of a machine, one of the code of an image for a machine, or one of a run of such code
 pub data Request : Type 0 where
   OfMachine : (view : View) (machine : List ℕ) → Request
   OfCode : (view : View) (machine image : List ℕ) → Request
-  Profile : (machine image input : List ℕ) (stream : Option (List ℕ)) (bound : ℕ) → Request
+  OfRun : (view : RunView) (machine image input : List ℕ) (stream : Option (List ℕ)) (bound : ℕ) → Request
 
 -- the view that a word names
 abbrev pub view_of : (word : List ℕ) → Option View
 view_of word = if bytes_eq word (codes "picture") then Some Picture else if bytes_eq word (codes "info") then Some Info else None
 
+-- the view of a run that a word names
+abbrev pub run_view_of : (word : List ℕ) → Option RunView
+run_view_of word = if bytes_eq word (codes "profile") then Some Profile else if bytes_eq word (codes "play") then Some Play else None
+
 -- the request of the name of a command with a bound, after which the file of an input may be named
 abbrev pub run_request : (word machine image input last : List ℕ) → (stream : Option (List ℕ)) → Option Request
 run_request word machine image input last stream =
-    if bytes_eq word (codes "profile") then option_map (λ bound. Profile machine image input stream bound) (bound_of last) else None
+    option_and_then (λ view. option_map (λ bound. OfRun view machine image input stream bound) (bound_of last)) (run_view_of word)
 
 -- the request of some words; none where they are no command
 abbrev pub request_of : List (List ℕ) → Option Request
@@ -33,10 +39,10 @@ request_of words = None
 -- whether a command line begins with the name of a command that is carried out here
 abbrev pub is_named : List (List ℕ) → Bool
 is_named [] = false
-is_named (word ∷ words) = is_some (view_of word) || bytes_eq word (codes "profile")
+is_named (word ∷ words) = is_some (view_of word) || is_some (run_view_of word)
 
 -- what the code's request asks for
 abbrev pub asked : Asked → Request
 asked (for.Machine names) = OfMachine names.view names.machine.now
 asked (for.Code names) = OfCode names.view names.machine.now names.image.now
-asked (for.Profile run) = Profile run.machine.now run.image.now run.input.now (option_map (λ s. s.now) run.stream) run.bound
+asked (for.Run run) = OfRun run.view run.machine.now run.image.now run.input.now (option_map (λ s. s.now) run.stream) run.bound

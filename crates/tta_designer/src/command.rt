@@ -12,8 +12,8 @@ ghost use Rattle.tta_designer.specs.Views.{machine_view, code_view};
 ghost use Rattle.tta_designer.specs.Command.{Ends};
 
 use crate::names::{CodeRequest, MachineRequest};
-use crate::profiling::profile_image;
 use crate::request::Request;
+use crate::running::run_image;
 use crate::view::View;
 use std::alloc::Global;
 use tta_draw::{draw_code, draw_machine};
@@ -123,7 +123,7 @@ fn carry_out<F: Files, S: Sink>(
     match request {
         Request::Machine(names) => put_machine(alloc, units, files, sink, names),
         Request::Code(names) => put_code(alloc, units, files, sink, names),
-        Request::Profile(run) => profile_image(alloc, units, files, sink, run),
+        Request::Run(run) => run_image(alloc, units, files, sink, run),
     }
 }
 
@@ -139,7 +139,8 @@ fn carry_out<F: Files, S: Sink>(
 /// `profile M IMG IN N` runs the code of that image for at most N cycles, from the words of the file IN
 /// in the machine's data space, and outputs where the cycles go: how many moves each bus carried, how
 /// many operations each unit started, and the instructions that were carried out, the hottest first.
-/// It may have one more word, the file of the input.
+/// `play M IMG IN N` outputs a page of HTML that plays the first N cycles, or 400 where N is more. Both may
+/// have one more word, the file of the input.
 ///
 /// The output takes a text in one piece, and nothing where there
 /// is none. No file changes.

@@ -1,7 +1,7 @@
 //! Laws of the commands. A law is a function that does nothing, and whose contract is the law.
 
 ghost use Rattle.tta_designer.specs.Laws.{ImageSize};
-ghost use Rattle.tta_designer.specs.Profile.{ProfileByStatus};
+ghost use Rattle.tta_designer.specs.Runs.{RunByStatus};
 ghost use Rattle.tta_designer.specs.Command.{MachineByStatus, CodeByStatus};
 
 /// What holds where a view of a machine ends with a status, for each status.
@@ -19,7 +19,7 @@ pub fn image_size()
     ensures { ImageSize }
 {}
 
-/// What holds where `profile` ends with a status, for each status.
-pub fn profile_by_status()
-    ensures { ProfileByStatus }
+/// What holds where a view of a run ends with a status, for each status.
+pub fn run_by_status()
+    ensures { RunByStatus }
 {}

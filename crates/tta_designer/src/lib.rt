@@ -5,11 +5,11 @@
 mod command;
 mod laws;
 mod names;
-mod profiling;
 mod request;
+mod running;
 mod view;
 
 pub use command::show;
-pub use laws::{code_by_status, image_size, machine_by_status, profile_by_status};
+pub use laws::{code_by_status, image_size, machine_by_status, run_by_status};
 pub use request::is_named;
-pub use view::View;
+pub use view::{RunView, View};

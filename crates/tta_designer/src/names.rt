@@ -2,7 +2,7 @@
 
 ghost use Rattle.std.specs.Prelude.{◌<◌, ◌^◌};
 
-use crate::view::View;
+use crate::view::{RunView, View};
 
 /// A view of a machine that is asked for, and the name of the machine's file.
 #[derive(Clone, Copy)]
@@ -19,10 +19,11 @@ pub struct CodeRequest<'w> {
     pub image: &'w str,
 }
 
-/// A profile that is asked for: the names of the files of its run, that of the input where it has one,
+/// A view of a run that is asked for: the names of the run's files, that of the input where it has one,
 /// and how many cycles it makes at most.
 #[derive(Clone, Copy)]
-pub struct ProfileRequest<'w> {
+pub struct RunRequest<'w> {
+    pub view: RunView,
     pub machine: &'w str,
     pub image: &'w str,
     pub input: &'w str,

@@ -2,19 +2,20 @@
 
 ghost use Rattle.std.specs.Prelude.{◌≡◌, map, option_map};
 ghost use Rattle.std.specs.String.{string_bytes};
-ghost use Rattle.tta_designer.specs.Request.{asked, is_named, request_of, run_request, view_of};
+ghost use Rattle.tta_designer.specs.Request.{asked, is_named, request_of, run_request};
+ghost use Rattle.tta_designer.specs.Request.{run_view_of, view_of};
 
-use crate::names::{CodeRequest, MachineRequest, ProfileRequest};
-use crate::view::View;
+use crate::names::{CodeRequest, MachineRequest, RunRequest};
+use crate::view::{RunView, View};
 use tta_given::bound_of;
 
-/// What is asked for: a view of a machine, one of the code of an image for a machine, or the profile of
-/// a run of such code.
+/// What is asked for: a view of a machine, one of the code of an image for a machine, or one of a run of
+/// such code.
 #[derive(Clone, Copy)]
 pub enum Request<'w> {
     Machine(MachineRequest<'w>),
     Code(CodeRequest<'w>),
-    Profile(ProfileRequest<'w>),
+    Run(RunRequest<'w>),
 }
 
 /// The view that a word names.
@@ -30,12 +31,25 @@ fn view_of(word: &str) -> Option<View>
     None
 }
 
+/// The view of a run that a word names.
+fn run_view_of(word: &str) -> Option<RunView>
+    ensures { result ≡ run_view_of word.now }
+{
+    if word == "profile" {
+        return Some(RunView::Profile);
+    }
+    if word == "play" {
+        return Some(RunView::Play);
+    }
+    None
+}
+
 /// Whether the words begin with the name of a command that `show` carries out.
 pub fn is_named(words: &Vec<String>) -> bool
     ensures { result ≡ is_named (map (λ w. string_bytes w) words.now.items) }
 {
     match words.as_slice() {
-        [word, ..] => view_of(word.as_str()).is_some() || word.as_str() == "profile",
+        [word, ..] => view_of(word.as_str()).is_some() || run_view_of(word.as_str()).is_some(),
         _ => false,
     }
 }
@@ -52,11 +66,10 @@ fn of_run<'w>(
     ensures { option_map asked result ≡ run_request word.now
         machine.now image.now input.now last.now (option_map (λ s. s.now) stream.entry) }
 {
-    if word != "profile" {
-        return None;
-    }
+    let view = run_view_of(word)?;
     let bound = bound_of(last.as_bytes())?;
-    Some(Request::Profile(ProfileRequest {
+    Some(Request::Run(RunRequest {
+        view,
         machine,
         image,
         input,

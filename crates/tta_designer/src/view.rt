@@ -1,4 +1,4 @@
-//! What is shown of a machine, or of code for it.
+//! What is shown of a machine, of code for it, or of a run of such code.
 
 /// A kind of text of a machine, or of code with data for it.
 #[derive(Clone, Copy, Debug, PartialEq, Eq)]
@@ -7,4 +7,13 @@ pub enum View {
     Picture,
     /// What is told of it, a line each.
     Info,
+}
+
+/// A kind of text of a run.
+#[derive(Clone, Copy, Debug, PartialEq, Eq)]
+pub enum RunView {
+    /// Where its cycles go, a line each.
+    Profile,
+    /// A page that plays it, as HTML.
+    Play,
 }

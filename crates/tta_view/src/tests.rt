@@ -54,13 +54,15 @@ const NO_IMAGE: Status = Status::BadImage {
 
 const NO_MACHINE: Status = Status::BadMachine { line: 1, code: 10 };
 
-const CASES: [Case; 13] = [
+const CASES: [Case; 15] = [
     (&["picture", "M"], Status::Ok, "</svg>\n"),
     (&["picture", "M", "IMG"], Status::Ok, ROWS),
     (&["info", "M"], Status::Ok, RULE),
     (&["info", "M", "IMG"], Status::Ok, DIGEST),
     (&["profile", "M", "IMG", "IN", "5"], Status::Ok, HOTTEST),
     (&["profile", "M", "IMG", "IN", "x"], Status::Usage, ""),
+    (&["play", "M", "IMG", "IN", "5"], Status::Ok, "</html>\n"),
+    (&["play", "M", "IMG", "IN"], Status::Usage, ""),
     (&[], Status::Usage, ""),
     (&["picture"], Status::Usage, ""),
     (&["M", "IMG"], Status::Usage, ""),

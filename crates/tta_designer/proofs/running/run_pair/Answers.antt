@@ -4,8 +4,8 @@ use Rattle.tta_given.specs.Held.{no_memory}
 use Rattle.tta_given.specs.Inputs.{ReadsGiven}
 use Rattle.tta_given.proofs.Endings.{text_ends}
 use Rattle.tta_given.proofs.RunEndings.{given_runs}
-use Rattle.tta_designer.specs.Profile.{IsProfileOf, Tells}
-use Rattle.tta_designer.proofs.profiling.profile_pair.Goals as goal
+use Rattle.tta_designer.specs.Runs.{IsViewOf, Tells}
+use Rattle.tta_designer.proofs.running.run_pair.Goals as goal
 
 pub returns-in-Ok : goal.returns-in-Ok
 returns-in-Ok g c =
@@ -20,8 +20,8 @@ returns-in-Ok g c =
     let words = c.in-Ok.given.words.items in
     let stream = option_map (λ s. s.now) run.stream in
     let Reads : ℕ → Type 0 = λ n. ReadsGiven n run.input.now stream memory words before after in
-    given_runs pair.file.machine.data_words (Tells U run.bound pair.file pair.whole) run.input.now stream memory words before after
+    given_runs pair.file.machine.data_words (Tells U run.view run.bound pair.file pair.whole) run.input.now stream memory words before after
     (sink.output c.args.sink.now) (sink.output c.put_made.new.sink) c.put_made.result
     (subst Reads c.data_words-space.ensures c.in-Ok.ensures.ends)
-    (text_ends (IsProfileOf U run.bound pair.file pair.whole memory words) no_memory (sink.output c.args.sink.now) (sink.output c.put_made.new.sink) (λ v. v.items)
+    (text_ends (IsViewOf U run.view run.bound pair.file pair.whole memory words) no_memory (sink.output c.args.sink.now) (sink.output c.put_made.new.sink) (λ v. v.items)
     c.text_of_run-made.result c.put_made.result c.text_of_run-made.ensures c.put_made.ensures)

@@ -1,5 +1,5 @@
-//! The command `profile`: the code of an image is run cycle by cycle, and it is told where the cycles
-//! go.
+//! The commands `profile` and `play`: the code of an image is run cycle by cycle, and it is told where
+//! the cycles go, or a page is made that plays them.
 
 ghost use Rattle.std.specs.Prelude.{◌≡◌, ◌+◌, ◌<◌, ◌^◌, ℕ, List, length, option_map, IfOk};
 ghost use Rattle.tta_list.specs.Laid.{over};
@@ -8,17 +8,18 @@ ghost use Rattle.tta_code.specs.Cycle.{State, start};
 ghost use Rattle.tta_code.specs.Legal.{IsLegalCode};
 ghost use Rattle.tta_code.specs.Whole.{data_in};
 ghost use Rattle.tta_sim.specs.Held.{Stands, IsRunOf};
-ghost use Rattle.tta_profile.specs.Statement.{IsProfile};
 ghost use Rattle.tta_given.specs.Held.{MadeEnds, no_memory};
 ghost use Rattle.tta_given.specs.Runs.{GivenRuns};
-ghost use Rattle.tta_designer.specs.Profile.{IsProfileOf, Profiles, Tells};
+ghost use Rattle.tta_designer.specs.Runs.{IsRunShown, IsViewOf, ShowsRun, Tells};
 
-use crate::names::ProfileRequest;
+use crate::names::RunRequest;
+use crate::view::RunView;
 use std::alloc::{AllocError, Global};
 use tta_arch::Machine;
 use tta_code::{Whole, lay};
 use tta_given::{CodePair, Given, Status, data_words, given_files, image_pair, put_made};
 use tta_ops::UnitSet;
+use tta_play::play;
 use tta_ports::{Files, Sink};
 use tta_profile::{Basis, profile};
 use tta_sim::Sim;
@@ -41,52 +42,75 @@ fn load_code(
     Sim::load(alloc, machine, &whole.code, laid)
 }
 
-/// The profile of a run that was loaded.
+/// The view of a run of this code.
+fn text_of_basis(
+    alloc: Global,
+    basis: &Basis<'_>,
+    view: RunView,
+    sim: &mut Sim,
+    words: &[u32],
+    bound: u64,
+) -> Result<Vec<u8>, Status>
+    requires loaded { IsRunOf basis.now.m.now basis.now.code.now sim.old }
+    requires few { sim.old.cycle + bound < 2 ^ 62 }
+    ensures { let on = basis.now in let U = stated unit_meaning on.units.now in
+        (s : State) → Stands sim.old s → s.rest ≡ words.now
+        → MadeEnds (IsRunShown U view on.m.now on.code.now s bound) no_memory
+        (λ v. v.items) result }
+{
+    let text = match view {
+        RunView::Profile => profile(alloc, basis, sim, words, bound),
+        RunView::Play => play(alloc, basis, sim, words, bound),
+    };
+    match text {
+        Ok(text) => Ok(text),
+        Err(_) => Err(Status::NoMemory),
+    }
+}
+
+/// The view of a run that was loaded.
 fn text_of_sim(
     alloc: Global,
     units: &UnitSet,
     pair: &CodePair,
     sim: &mut Sim,
     words: &[u32],
-    bound: u64,
+    request: &RunRequest<'_>,
 ) -> Result<Vec<u8>, Status>
     requires loaded { IsRunOf pair.now.file.machine pair.now.whole.code sim.old }
-    requires few { sim.old.cycle + bound < 2 ^ 62 }
+    requires few { sim.old.cycle + request.now.bound < 2 ^ 62 }
     ensures { let U = stated unit_meaning units.now in
         (s : State) → Stands sim.old s → s.rest ≡ words.now
-        → MadeEnds (IsProfile U pair.now.file.machine pair.now.whole.code s bound) no_memory
-        (λ v. v.items) result }
+        → MadeEnds (IsRunShown U request.now.view pair.now.file.machine pair.now.whole.code s
+        request.now.bound) no_memory (λ v. v.items) result }
 {
     let basis = Basis {
         m: &pair.file.machine,
         code: &pair.whole.code,
         units,
     };
-    match profile(alloc, &basis, sim, words, bound) {
-        Ok(text) => Ok(text),
-        Err(_) => Err(Status::NoMemory),
-    }
+    text_of_basis(alloc, &basis, request.view, sim, words, request.bound)
 }
 
-/// The profile of a run of code from what it is given.
+/// The view of a run of code from what it is given.
 fn text_of_run(
     alloc: Global,
     units: &UnitSet,
     pair: &CodePair,
     given: Given,
-    bound: u64,
+    request: &RunRequest<'_>,
 ) -> Result<Vec<u8>, Status>
-    requires bound { bound < 2 ^ 48 }
+    requires bound { request.now.bound < 2 ^ 48 }
     requires size { length given.memory.items ≡ pair.now.file.machine.data_words }
     requires legal { IsLegalCode pair.now.file.machine pair.now.whole.code }
     ensures { let U = stated unit_meaning units.now in
-        MadeEnds (IsProfileOf U bound pair.now.file pair.now.whole given.memory.items
-        given.words.items) no_memory (λ v. v.items) result }
+        MadeEnds (IsViewOf U request.now.view request.now.bound pair.now.file pair.now.whole
+        given.memory.items given.words.items) no_memory (λ v. v.items) result }
 {
     let Given { memory, words } = given;
     match load_code(alloc, &pair.file.machine, &pair.whole, memory) {
         Ok(mut sim) => {
-            let made = text_of_sim(alloc, units, pair, &mut sim, words.as_slice(), bound);
+            let made = text_of_sim(alloc, units, pair, &mut sim, words.as_slice(), request);
             // Dropped here as a whole, so that no part of it is left to drop at the end.
             drop(sim);
             made
@@ -95,50 +119,50 @@ fn text_of_run(
     }
 }
 
-/// Puts the profile that is asked for of code that was read for a machine.
-fn profile_pair<F: Files, S: Sink>(
+/// Puts the view that is asked for of a run of code that was read for a machine.
+fn run_pair<F: Files, S: Sink>(
     alloc: Global,
     units: &UnitSet,
     files: &mut F,
     sink: &mut S,
-    request: &ProfileRequest<'_>,
+    request: &RunRequest<'_>,
     pair: &CodePair,
 ) -> Status
     requires legal { IsLegalCode pair.now.file.machine pair.now.whole.code }
     ensures { let U = stated unit_meaning units.now in
         GivenRuns pair.now.file.machine.data_words
-        (Tells U request.now.bound pair.now.file pair.now.whole)
+        (Tells U request.now.view request.now.bound pair.now.file pair.now.whole)
         request.now.input.now (option_map (λ s. s.now) request.now.stream)
         (F.world files.old) (F.world files.new) (S.output sink.old) (S.output sink.new) result }
 {
     let space = data_words(&pair.file.machine);
     match given_files(alloc, files, request.input, request.stream, space) {
         Ok(given) => {
-            let made = text_of_run(alloc, units, pair, given, request.bound);
+            let made = text_of_run(alloc, units, pair, given, request);
             put_made(sink, made)
         }
         Err(status) => status,
     }
 }
 
-/// Puts the profile of the run that is asked for of an image on the machine of the file `machine`: for
+/// Puts the view of the run that is asked for of an image on the machine of the file `machine`: for
 /// at most so many cycles, from the data words of the file `input`, and with the words of the file
 /// `stream`, where it is named, as the input.
-pub fn profile_image<F: Files, S: Sink>(
+pub fn run_image<F: Files, S: Sink>(
     alloc: Global,
     units: &UnitSet,
     files: &mut F,
     sink: &mut S,
-    request: &ProfileRequest<'_>,
+    request: &RunRequest<'_>,
 ) -> Status
-    ensures { Profiles (stated unit_meaning units.now)
+    ensures { ShowsRun (stated unit_meaning units.now) request.now.view
         request.now.machine.now request.now.image.now request.now.input.now
         (option_map (λ s. s.now) request.now.stream) request.now.bound
         (F.world files.old) (F.world files.new) (S.output sink.old) (S.output sink.new) result }
 {
     match image_pair(alloc, units, files, request.machine, request.image) {
         Ok(pair) => {
-            let status = profile_pair(alloc, units, files, sink, request, &pair);
+            let status = run_pair(alloc, units, files, sink, request, &pair);
             drop(pair);
             status
         }

@@ -7,15 +7,16 @@ use Rattle.tta_given.specs.declared.status.Status.TheVariants as status
 use Rattle.tta_given.specs.Held.{ReadFailed, IsTooLong}
 use Rattle.tta_given.specs.Images.{IsImageFor, RefusesImage}
 use Rattle.tta_given.proofs.Stages.{none}
-use Rattle.tta_designer.specs.Profile.{Tells, Profiles, ProfileEndings}
+use Rattle.tta_designer.specs.Runs.{Tells, ShowsRun, RunEndings}
+use Rattle.tta_designer.specs.declared.view.RunView.{RunView}
 use Rattle.tta_given.proofs.RunStages.{unnamed, unheld, apart, alone, stream_refused, run_at, RunStages, run_stages}
-use Rattle.tta_designer.proofs.laws.profile_by_status.Goals as goal
+use Rattle.tta_designer.proofs.laws.run_by_status.Goals as goal
 
-module _ (u : Units) (M IMG IN : List ℕ) (STREAM : Option (List ℕ)) (bound : ℕ) (before after : World) (old new : Output) where
-  of : (s : Status) (G : Type 0) → RunStages u IsImageFor RefusesImage (Tells u bound) M IMG IN STREAM before after old new s G
-  of s G = run_stages u IsImageFor RefusesImage (Tells u bound) M IMG IN STREAM before after old new s G
+module _ (u : Units) (view : RunView) (M IMG IN : List ℕ) (STREAM : Option (List ℕ)) (bound : ℕ) (before after : World) (old new : Output) where
+  of : (s : Status) (G : Type 0) → RunStages u IsImageFor RefusesImage (Tells u view bound) M IMG IN STREAM before after old new s G
+  of s G = run_stages u IsImageFor RefusesImage (Tells u view bound) M IMG IN STREAM before after old new s G
 
-  by_status : (s : Status) → Profiles u M IMG IN STREAM bound before after old new s ↔ ProfileEndings u M IMG IN STREAM bound before after old new s
+  by_status : (s : Status) → ShowsRun u view M IMG IN STREAM bound before after old new s ↔ RunEndings u view M IMG IN STREAM bound before after old new s
   by_status status.Ok = (
     of status.Ok _ absurd none (λ m. absurd) (λ m. none) (λ p. absurd) (λ p. none) (λ t. unnamed STREAM)
         (λ t same. unheld before.contents STREAM) (λ p given same e. elim e [
@@ -72,7 +73,7 @@ module _ (u : Units) (M IMG IN : List ℕ) (STREAM : Option (List ℕ)) (bound :
           | inl put ↦ absurd put.2
           | inr lacks ↦ let is = lacks.0 in absurd cc
         ]),
-    λ e. run_at u IsImageFor RefusesImage (Tells u bound) M IMG IN STREAM before after old new (status.ReadFault word) (λ name. ReadFailed name before after) word (λ k n a. a) e.0 e.1,
+    λ e. run_at u IsImageFor RefusesImage (Tells u view bound) M IMG IN STREAM before after old new (status.ReadFault word) (λ name. ReadFailed name before after) word (λ k n a. a) e.0 e.1,
   )
   by_status (status.TooLong word) = (
     of (status.TooLong word) _ (λ e quiet. (quiet, inl (inl e))) none (λ m e quiet. (quiet, inl (inr (e.0, m, e.1)))) (λ m. none)
@@ -82,7 +83,7 @@ module _ (u : Units) (M IMG IN : List ℕ) (STREAM : Option (List ℕ)) (bound :
           | inl put ↦ absurd put.2
           | inr lacks ↦ let is = lacks.0 in absurd cc
         ]),
-    λ e. run_at u IsImageFor RefusesImage (Tells u bound) M IMG IN STREAM before after old new (status.TooLong word) (λ name. IsTooLong name before after) word (λ k n a. a) e.0 e.1,
+    λ e. run_at u IsImageFor RefusesImage (Tells u view bound) M IMG IN STREAM before after old new (status.TooLong word) (λ name. IsTooLong name before after) word (λ k n a. a) e.0 e.1,
   )
   by_status status.NoMemory = (
     of status.NoMemory _ (λ e quiet. (e, quiet)) (λ e quiet. (e.0, quiet)) (λ m e quiet. (e, quiet)) (λ m e quiet. (e.0, quiet))

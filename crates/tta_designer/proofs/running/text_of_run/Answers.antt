@@ -3,14 +3,14 @@ use Rattle.tta_list.specs.Laid.{over}
 use Rattle.tta_code.specs.Whole.{data_in}
 use Rattle.tta_code.specs.Cycle.{start}
 use Rattle.tta_ops.specs.Set.{stated}
-use Rattle.tta_profile.specs.Statement.{IsProfile}
 use Rattle.tta_given.specs.Held.{MadeEnds, no_memory}
+use Rattle.tta_designer.specs.Runs.{IsRunShown}
 use Rattle.tta_designer.proofs.Laying.{few_cycles}
-use Rattle.tta_designer.proofs.profiling.text_of_run.Goals as goal
+use Rattle.tta_designer.proofs.running.text_of_run.Goals as goal
 
 pub text_of_sim-made-requires-clause-few : goal.text_of_sim-made-requires-clause-few
 text_of_sim-made-requires-clause-few g c =
-    few_cycles _ c.args.pair.now.file.machine (over (data_in c.args.pair.now.whole) c.args.given.memory.items) c.args.bound (c.in-Ok.ensures.start []) c.requires.bound
+    few_cycles _ c.args.pair.now.file.machine (over (data_in c.args.pair.now.whole) c.args.given.memory.items) c.args.request.now.bound (c.in-Ok.ensures.start []) c.requires.bound
 
 pub returns-in-Ok : goal.returns-in-Ok
 returns-in-Ok g c =
@@ -19,5 +19,5 @@ returns-in-Ok g c =
     let whole = c.args.pair.now.whole in
     let words = c.as_slice.result.now in
     let memory = over (data_in whole) c.args.given.memory.items in
-    subst (λ (given : List ℕ). MadeEnds (IsProfile U m whole.code (start m memory given) c.args.bound) no_memory (λ v. v.items) c.text_of_sim-made.result)
+    subst (λ (given : List ℕ). MadeEnds (IsRunShown U c.args.request.now.view m whole.code (start m memory given) c.args.request.now.bound) no_memory (λ v. v.items) c.text_of_sim-made.result)
     c.as_slice.ensures.value (c.text_of_sim-made.ensures (start m memory words) (c.in-Ok.ensures.start words) refl)
