@@ -47,7 +47,7 @@ stamps_next list stamps t = record { some = omega arith; size = t.size; past = p
 
 pub table_begin : (list : ℕ) (entries : List Entry) → AreStamps list (map (λ (e : Entry). e.list) entries) → map (last_in (list + 1)) entries ≡ none_changed
 table_begin list entries t =
-    let long : length entries ≡ 645 = sym (length-map entries (λ (e : Entry). e.list)) ∙ t.size in
+    let long : length entries ≡ 1668 = sym (length-map entries (λ (e : Entry). e.list)) ∙ t.size in
     none_last list entries t.past ∙ ap (λ n. replicate n 0) long
 
 pub table_put : (list : ℕ) (entries : List Entry) (k n : ℕ)
@@ -64,3 +64,30 @@ table_put_stamps list entries k n t =
       size = length-set (map (λ (e : Entry). e.list) entries) k list ∙ t.size;
       past = past_set list (map (λ (e : Entry). e.list) entries) k list (omega arith) t.past;
     })
+
+-- a table whose entries are cleared
+all_last : (entries : List Entry) → map (last_in 1) (replicate (length entries) (record { list = 0; last = 0 })) ≡ replicate (length entries) 0
+all_last [] = refl
+all_last (e ∷ es) = ap (λ l. 0 ∷ l) (all_last es)
+
+all_past : (entries : List Entry) → list_all (λ s. nat_le s 1) (map (λ (e : Entry). e.list) (replicate (length entries) (record { list = 0; last = 0 }))) ≡ true
+all_past [] = refl
+all_past (e ∷ es) = all_past es
+
+all_long : (entries : List Entry) → length (map (λ (e : Entry). e.list) (replicate (length entries) (record { list = 0; last = 0 }))) ≡ length entries
+all_long [] = refl
+all_long (e ∷ es) = ap (λ n. suc n) (all_long es)
+
+pub table_cleared : (list n : ℕ) (entries cleared : List Entry) → n ≡ length entries → cleared ≡ replicate n (record { list = 0; last = 0 }) → AreStamps list (map (λ (e : Entry). e.list) entries)
+    → map (last_in 1) cleared ≡ none_changed
+table_cleared list n entries cleared is e t =
+    let long : length entries ≡ 1668 = sym (length-map entries (λ (e : Entry). e.list)) ∙ t.size in
+    ap (map (last_in 1)) (e ∙ ap (λ k. replicate k (record { list = 0; last = 0 })) is) ∙ all_last entries ∙ ap (λ n. replicate n 0) long
+
+pub stamps_cleared : (list n : ℕ) (entries cleared : List Entry) → n ≡ length entries → cleared ≡ replicate n (record { list = 0; last = 0 }) → AreStamps list (map (λ (e : Entry). e.list) entries)
+    → AreStamps 1 (map (λ (e : Entry). e.list) cleared)
+stamps_cleared list n entries cleared is e t = subst (λ (l : List Entry). AreStamps 1 (map (λ (e : Entry). e.list) l)) (sym (e ∙ ap (λ k. replicate k (record { list = 0; last = 0 })) is)) (record {
+  some = omega arith;
+  size = all_long entries ∙ sym (length-map entries (λ (e : Entry). e.list)) ∙ t.size;
+  past = all_past entries;
+})

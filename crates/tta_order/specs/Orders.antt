@@ -5,7 +5,8 @@ use Rattle.std.specs.List.{list_all}
 use Rattle.tta_arch.specs.Machine.{Machine}
 use Rattle.tta_moves.specs.declared.items.Item.{Item}
 use Rattle.tta_moves.specs.Slots.{control_is_last}
-use Rattle.tta_order.specs.Channels.{Channel, alters, asks, survives, may_wait}
+use Rattle.tta_order.specs.Channels.{Channel, Division, alters, asks, survives, may_wait}
+use Rattle.tta_order.specs.Slots.{IsDivision}
 
 -- items, each with the number that it has in the list that they come from
 abbrev pub Numbered : Type 0
@@ -23,24 +24,25 @@ picked items (n ∷ ns) = option_map_or (λ x. (n, x) ∷ picked items ns) (slic
 -- ---- what an item finds
 
 -- the number of the last of some items, the newest first, that may change what is in a channel
-abbrev pub last : Machine → Channel → Numbered → Option ℕ
-last m c [] = None
-last m c (y ∷ front) = if alters m c y.1 then Some y.0 else last m c front
+abbrev pub last : Machine → Division → Channel → Numbered → Option ℕ
+last m d c [] = None
+last m d c (y ∷ front) = if alters m d c y then Some y.0 else last m d c front
 
 -- the same of the first n items of a list
-abbrev pub last_before : Machine → Channel → List Item → (n : ℕ) → Option ℕ
-last_before m c items zero = None
-last_before m c items (suc n) = if option_map_or (alters m c) (slice_get items n) false then Some n else last_before m c items n
+abbrev pub last_before : Machine → Division → Channel → List Item → (n : ℕ) → Option ℕ
+last_before m d c items zero = None
+last_before m d c items (suc n) =
+    if option_map_or (λ x. alters m d c (n, x)) (slice_get items n) false then Some n else last_before m d c items n
 
 -- an item has its number in a list, and after these items, the newest first, it finds what the same items brought
-pub record IsDrawn (m : Machine) (items : List Item) (front : Numbered) (y : ℕ × Item) : Type 0 where
+pub record IsDrawn (m : Machine) (d : Division) (items : List Item) (front : Numbered) (y : ℕ × Item) : Type 0 where
   pub there : slice_get items y.0 ≡ Some y.1
-  pub same : (c : Channel) → asks m c y.1 ≡ true → last m c front ≡ last_before m c items y.0
+  pub same : (c : Channel) → asks m d c y ≡ true → last m d c front ≡ last_before m d c items y.0
 
 -- each item finds what the same items brought, and so does the next list
-abbrev pub AreDrawn : Machine → (live : List (ℕ × ℕ)) → List Item → (front : Numbered) → Numbered → Type 0
-AreDrawn m live items front [] = (c : Channel) → survives live c ≡ true → last m c front ≡ last_before m c items (length items)
-AreDrawn m live items front (y ∷ ys) = IsDrawn m items front y × AreDrawn m live items (y ∷ front) ys
+abbrev pub AreDrawn : Machine → Division → (live : List (ℕ × ℕ)) → List Item → (front : Numbered) → Numbered → Type 0
+AreDrawn m d live items front [] = (c : Channel) → survives live c ≡ true → last m d c front ≡ last_before m d c items (length items)
+AreDrawn m d live items front (y ∷ ys) = IsDrawn m d items front y × AreDrawn m d live items (y ∷ front) ys
 
 -- each item has a number that is not marked yet, and marks it
 abbrev pub AreUnmarked : (marks : List Bool) → Numbered → Type 0
@@ -60,10 +62,13 @@ abbrev pub settled : Machine → List Item → ℕ
 settled m [] = 0
 settled m (x ∷ xs) = if goes_through m (x ∷ xs) then 0 else suc (settled m xs)
 
--- Items of a list, none of them twice and control last, in an order in which each finds what the same items brought. The last
--- that may wait and those before it stay where they are. Items may be missing for which nothing asks.
+-- Items of a list, none of them twice and control last, in an order in which each finds what the same items brought, by
+-- a division of the frame space that is the list's. The last that may wait and those before it stay where they are. Items may
+-- be missing for which nothing asks.
 pub record IsOrder (m : Machine) (live : List (ℕ × ℕ)) (items : List Item) (order : Numbered) : Type 0 where
+  pub division : Division
+  pub divided : IsDivision m items division
   pub front : AreInPlace (settled m items) (map (λ y. y.0) order)
-  pub drawn : AreDrawn m live items [] order
+  pub drawn : AreDrawn m division live items [] order
   pub once : AreUnmarked (replicate (length items) false) order
   pub control : control_is_last (bare order) ≡ true

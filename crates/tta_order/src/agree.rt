@@ -12,11 +12,13 @@ ghost use Rattle.tta_optim.specs.Kept.{KeepsMeaning, AsksNoMore};
 ghost use Rattle.tta_order.specs.Channels.{may_wait};
 ghost use Rattle.tta_order.specs.Orders.{bare, picked, settled, AreInPlace, IsOrder};
 ghost use Rattle.tta_order.specs.Rows.{none_changed, rows_from, table_after, same_ends, agrees, table_by};
+ghost use Rattle.tta_order.specs.Rows.{same_part, same_parts};
 ghost use Rattle.tta_order.specs.Rows.{found, same_found};
 
 use crate::channels::{DATA, ENDING, FRAME, TRAFFIC};
-use crate::parts::started;
+use crate::parts::{started, stores_frame};
 use crate::rows::{Found, Table, same_found};
+use crate::slots::{part_at, parts_of};
 use std::alloc::{AllocError, Global};
 use tta_arch::{Machine, Op};
 use tta_connect::Net;
@@ -80,15 +82,32 @@ fn same_live(live: &[(u8, u8)], a: &Table, b: &Table) -> bool
     live.iter().all(|r| same_entry(a, b, register(r.0, r.1)))
 }
 
-/// Whether they have the same entries for what the next list finds.
+/// Whether they have the same entries for what the next list finds, but for the frame space.
 fn same_ends(live: &[(u8, u8)], a: &Table, b: &Table) -> bool
     ensures { result ≡ same_ends live.now a.now b.now }
 {
     same_live(live, a, b)
         && (same_entry(a, b, return_address())
-            && (same_entry(a, b, DATA)
-                && (same_entry(a, b, FRAME)
-                    && (same_entry(a, b, TRAFFIC) && same_entry(a, b, ENDING)))))
+            && (same_entry(a, b, DATA) && (same_entry(a, b, TRAFFIC) && same_entry(a, b, ENDING))))
+}
+
+/// Whether they have the same entry for a part of the frame space, if an item stores into it.
+fn same_part(m: &Machine, part: u16, x: Item, a: &Table, b: &Table) -> bool
+    ensures { result ≡ same_part m.now part x a.now b.now }
+{
+    !stores_frame(m, x) || same_entry(a, b, FRAME + usize::from(part))
+}
+
+/// Whether they have the same entry for each part of the frame space that an item stores into.
+fn same_parts(m: &Machine, parts: &[u16], items: &[Item], a: &Table, b: &Table) -> bool
+    ensures { result ≡ true → same_parts m.now parts.now a.now b.now 0 items.now ≡ true }
+{
+    for (n, x) in items.iter().enumerate() {
+        if !same_part(m, part_at(parts, n), *x, a, b) {
+            return false;
+        }
+    }
+    true
 }
 
 /// The item of a number, if there is one.
@@ -121,13 +140,13 @@ fn mark(marks: &mut Vec<bool>, n: usize)
 }
 
 /// Whether an item finds what the same item of the list found.
-fn finds(m: &Machine, table: &Table, rows: &[Found], n: usize, x: Item) -> bool
-    ensures { result ≡ option_map_or (λ row. same_found (found m.now table.now x) row)
+fn finds(m: &Machine, table: &Table, rows: &[Found], part: u16, n: usize, x: Item) -> bool
+    ensures { result ≡ option_map_or (λ row. same_found (found m.now part table.now x) row)
         (slice_get rows.now n) false }
 {
     match rows.get(n) {
         None => false,
-        Some(row) => same_found(table.found(m, x), *row),
+        Some(row) => same_found(table.found(m, part, x), *row),
     }
 }
 
@@ -137,19 +156,31 @@ fn rows_of(
     alloc: Global,
     table: &mut Table,
     m: &Machine,
+    parts: &[u16],
     items: &[Item],
 ) -> Result<Vec<Found>, AllocError>
-    ensures found { IfOk result (λ v. v.items ≡ rows_from m.now none_changed 0 items.now) }
-    ensures end { OnOk result (table.new ≡ table_after m.now none_changed 0 items.now) }
+    ensures found { IfOk result (λ v.
+        v.items ≡ rows_from m.now parts.now none_changed 0 items.now) }
+    ensures end { OnOk result (
+        table.new ≡ table_after m.now parts.now none_changed 0 items.now) }
 {
     table.begin();
     let mut found = Vec::with_capacity(alloc, items.len())?;
     for (n, x) in items.iter().enumerate() {
-        let row = table.found(m, *x);
-        table.pass(m, n, *x);
+        let part = part_at(parts, n);
+        let row = table.found(m, part, *x);
+        table.pass(m, part, n, *x);
         found.push(row)?;
     }
     Ok(found)
+}
+
+/// A list's items, and the part of the frame space that each uses.
+#[derive(Clone, Copy)]
+struct Listed<'a> {
+    m: &'a Machine,
+    items: &'a [Item],
+    parts: &'a [u16],
 }
 
 /// Whether each number is that of an item, none is there twice, and each item finds what it found in
@@ -157,29 +188,31 @@ fn rows_of(
 fn agrees(
     alloc: Global,
     table: &mut Table,
-    m: &Machine,
-    items: &[Item],
+    list: &Listed<'_>,
     rows: &[Found],
     numbers: &[usize],
 ) -> Result<bool, AllocError>
-    ensures agree { IfOk result (λ b. b ≡ true → agrees m.now items.now rows.now none_changed
-        (replicate (length items.now) false) numbers.now ≡ true) }
-    ensures end { IfOk result (λ b. b ≡ true
-        → table.new ≡ table_by m.now items.now none_changed numbers.now) }
+    ensures agree { let on = list.now in IfOk result (λ b. b ≡ true
+        → agrees on.m.now on.parts.now on.items.now rows.now none_changed
+        (replicate (length on.items.now) false) numbers.now ≡ true) }
+    ensures end { let on = list.now in IfOk result (λ b. b ≡ true
+        → table.new ≡ table_by on.m.now on.parts.now on.items.now none_changed numbers.now) }
 {
     table.begin();
-    let mut marks = vec![in alloc; false; items.len()]?;
+    let m = list.m;
+    let mut marks = vec![in alloc; false; list.items.len()]?;
     for n in numbers {
-        let Some(x) = item_at(items, *n) else {
+        let Some(x) = item_at(list.items, *n) else {
             return Ok(false);
         };
-        if !finds(m, table, rows, *n, x) {
+        let part = part_at(list.parts, *n);
+        if !finds(m, table, rows, part, *n, x) {
             return Ok(false);
         }
         if !is_free(marks.as_slice(), *n) {
             return Ok(false);
         }
-        table.pass(m, *n, x);
+        table.pass(m, part, *n, x);
         mark(&mut marks, *n);
     }
     Ok(true)
@@ -247,13 +280,19 @@ impl Checker {
         if !in_limits(live) {
             return Ok(None);
         }
-        let rows = rows_of(alloc, &mut self.own, m, items)?;
+        let found = parts_of(alloc, m, items)?;
+        let parts = found.as_slice();
+        let rows = rows_of(alloc, &mut self.own, m, parts, items)?;
         let other = &mut self.other;
-        let fits = agrees(alloc, other, m, items, rows.as_slice(), numbers)?;
+        let list = Listed { m, items, parts };
+        let fits = agrees(alloc, other, &list, rows.as_slice(), numbers)?;
         if !fits {
             return Ok(None);
         }
         if !same_ends(live, other, &self.own) {
+            return Ok(None);
+        }
+        if !same_parts(m, parts, items, other, &self.own) {
             return Ok(None);
         }
         let others = pick(alloc, items, numbers)?;

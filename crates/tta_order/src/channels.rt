@@ -8,17 +8,20 @@ use tta_moves::numbers::{PLACES, UNITS};
 /// The number of the data space. The channels before it are the places, by their numbers.
 pub const DATA: usize = PLACES;
 
-/// The number of the frame space.
-pub const FRAME: usize = PLACES + 1;
-
 /// The number of the input and the output.
-pub const TRAFFIC: usize = PLACES + 2;
+pub const TRAFFIC: usize = PLACES + 1;
 
 /// The number of how a list goes on.
-pub const ENDING: usize = PLACES + 3;
+pub const ENDING: usize = PLACES + 2;
 
-/// How many channels there are.
-pub const CHANNELS: usize = PLACES + 4;
+/// The number of the first part of the frame space, after which the others come.
+pub const FRAME: usize = PLACES + 3;
+
+/// How many parts of the frame space have a number.
+pub const PARTS: usize = 1024;
+
+/// How many channels have a number.
+pub const CHANNELS: usize = FRAME + PARTS;
 
 /// How many numbers there are where each unit has one too, after the channels.
 pub const MARKED: usize = CHANNELS + UNITS;

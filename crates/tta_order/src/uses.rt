@@ -4,6 +4,7 @@ use crate::channels::{CHANNELS, DATA, FRAME, TRAFFIC};
 use crate::parts::{
     guard_number, is_unguarded, operand_number, source_number, started, written_number,
 };
+use crate::slots::{part_at, parts_of};
 use std::alloc::{AllocError, Global};
 use tta_arch::{Dest, Machine, Op, Source};
 use tta_depend::{is_control, lasts};
@@ -33,27 +34,29 @@ pub struct Uses {
     pub takes: u8,
 }
 
-/// The space that an item's operation loads from or stores into, or the traffic that it is part of.
-fn used(m: &Machine, x: Item) -> Option<usize> {
+/// The space or the part of the frame space that an item's operation loads from or stores into, or the
+/// traffic that it is part of.
+fn used(m: &Machine, part: u16, x: Item) -> Option<usize> {
     let Some(op) = started(m, x) else {
         return None;
     };
     match op {
         Op::Ldw | Op::Stw => Some(DATA),
-        Op::Ldf | Op::Stf => Some(FRAME),
+        Op::Ldf | Op::Stf => Some(FRAME + usize::from(part)),
         Op::Out | Op::Take => Some(TRAFFIC),
         Op::Set(_) => None,
     }
 }
 
-/// The space that an item's operation stores into, or the traffic that it is part of.
-fn stored(m: &Machine, x: Item) -> Option<usize> {
+/// The space or the part of the frame space that an item's operation stores into, or the traffic that
+/// it is part of.
+fn stored(m: &Machine, part: u16, x: Item) -> Option<usize> {
     let Some(op) = started(m, x) else {
         return None;
     };
     match op {
         Op::Stw => Some(DATA),
-        Op::Stf => Some(FRAME),
+        Op::Stf => Some(FRAME + usize::from(part)),
         Op::Out | Op::Take => Some(TRAFFIC),
         Op::Ldw | Op::Ldf | Op::Set(_) => None,
     }
@@ -119,15 +122,15 @@ fn short(channel: Option<usize>) -> Option<u16> {
     }
 }
 
-/// What an item uses.
-pub fn uses_of(m: &Machine, x: Item) -> Uses {
+/// What an item uses, which uses this part of the frame space, if it uses one.
+fn uses_of(m: &Machine, part: u16, x: Item) -> Uses {
     Uses {
         source: short(source_number(x)),
         guard: short(guard_number(x)),
         operand: short(operand_number(m, x)),
-        used: short(used(m, x)),
+        used: short(used(m, part, x)),
         written: short(written_number(m, x)),
-        stored: short(stored(m, x)),
+        stored: short(stored(m, part, x)),
         trigger: short(trigger(x)),
         is_guarded: !is_unguarded(x),
         is_copy: is_copy(m, x),
@@ -138,9 +141,10 @@ pub fn uses_of(m: &Machine, x: Item) -> Uses {
 
 /// What each item of a list uses. The only error is out of memory.
 pub fn all_uses(alloc: Global, m: &Machine, items: &[Item]) -> Result<Vec<Uses>, AllocError> {
+    let parts = parts_of(alloc, m, items)?;
     let mut all = Vec::with_capacity(alloc, items.len())?;
-    for x in items {
-        all.push(uses_of(m, *x))?;
+    for (n, x) in items.iter().enumerate() {
+        all.push(uses_of(m, part_at(parts.as_slice(), n), *x))?;
     }
     Ok(all)
 }
