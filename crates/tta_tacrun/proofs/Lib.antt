@@ -1,8 +1,11 @@
 pub mod Calling
+pub mod Coded
 pub mod Entered
 pub mod First
+pub mod Found
 pub mod InCall
 pub mod Kept
 pub mod Passed
 pub mod Placed
+pub mod Rules
 pub mod Stands

@@ -13,30 +13,30 @@ use Rattle.tta_tacrun.specs.declared.phase.Phase.TheVariants.{Running as Runs}
 use Rattle.tta_tacrun.specs.Calls.{Calls}
 use Rattle.tta_list.specs.Input.{left}
 use Rattle.tta_list.specs.Iterate.{iterate}
-use Rattle.tta_tacrun.specs.Run.{Run, Stands, IsAnswer, IsQuiet, put, run_of, state_of}
+use Rattle.tta_tacrun.specs.Run.{Run, QuietProc, Stands, IsAnswer, IsQuiet, put, run_of, state_of}
 use Rattle.tta_tacrun.proofs.Placed.{Carries}
 
 -- a state is what it stands for, its input and its output
-state_is : (phase : Phase) (c : Calls) (memory : List ℕ) (steps : ℕ) (s : State)
-    → Stands (run_of phase c memory steps) s → s ≡ state_of phase c memory s.rest s.output steps
-state_is phase c memory steps s same = rw (same.stack, same.memory, same.steps, same.outcome) refl
+state_is : (phase : Phase) (c : Calls) (code : List QuietProc) (memory : List ℕ) (steps : ℕ) (s : State)
+    → Stands (run_of phase c code memory steps) s → s ≡ state_of phase c memory s.rest s.output steps
+state_is phase c code memory steps s same = rw (same.stack, same.memory, same.steps, same.outcome) refl
 
 put_is : (output : List ℕ) (word : Option ℕ) → put output word ≡ output ++ option_to_list word
 put_is output None = sym (append-nil output)
 put_is output (Some word) = refl
 
-module _ (u : Units) (p : Program) (c : Calls) (memory : List ℕ) (steps : ℕ) (step : Step) (here : step_at p c.top.proc c.top.at ≡ Some step)
-    (s : State) (same : Stands (run_of Runs c memory steps) s) where
+module _ (u : Units) (p : Program) (c : Calls) (code : List QuietProc) (memory : List ℕ) (steps : ℕ) (step : Step) (here : step_at p c.top.proc c.top.at ≡ Some step)
+    (s : State) (same : Stands (run_of Runs c code memory steps) s) where
   -- the step of a run that goes on
   goes : next u p s ≡ goes_through u p (state_of Runs c memory s.rest s.output steps) c.top c.below step
   unfolding next
-  goes = ap (next u p) (state_is Runs c memory steps s same) ∙ rw here refl
+  goes = ap (next u p) (state_is Runs c code memory steps s same) ∙ rw here refl
 
   -- a step that has to wait
   pub waits_answer : waits s step ≡ true → IsAnswer u p s Waits
   waits_answer must =
       let kept : record (state_of Runs c memory s.rest s.output steps) { outcome = Waiting } ≡ record s { outcome = Waiting } =
-      ap {A = State} (λ t. record t { outcome = Waiting }) (sym (state_is Runs c memory steps s same)) in
+      ap {A = State} (λ t. record t { outcome = Waiting }) (sym (state_is Runs c code memory steps s same)) in
       (sym same.outcome, goes ∙ rw must kept)
 
   module _ (after : Calls) (new_memory : List ℕ) (phase : Phase) (word : Option ℕ) (next_word : ℕ)
@@ -45,7 +45,7 @@ module _ (u : Units) (p : Program) (c : Calls) (memory : List ℕ) (steps : ℕ)
     next_is : next u p s ≡ state_of phase after new_memory (left (takes step) s.rest) (put s.output word) (steps + 1)
     next_is = goes ∙ rw goes_on (sym (carried s.rest s.output (steps + 1) fed))
 
-    pub ran_stands : Stands (run_of phase after new_memory (steps + 1)) (next u p s)
+    pub ran_stands : Stands (run_of phase after code new_memory (steps + 1)) (next u p s)
     ran_stands = rw next_is (record { stack = refl; memory = refl; steps = refl; outcome = refl })
 
     pub ran_answer : IsAnswer u p s (Ran word (takes step))
@@ -69,16 +69,16 @@ module _ (u : Units) (p : Program) (r : Run) (over : r.outcome ≡ Halted) (s : 
       rw still same
 
 -- steps that stay in one call
-module _ (u : Units) (p : Program) (c after : Calls) (memory new_memory : List ℕ) (steps k : ℕ) where
-  pub quiet_stands : (s : State) → Stands (run_of Runs c memory steps) s
+module _ (u : Units) (p : Program) (c after : Calls) (code : List QuietProc) (memory new_memory : List ℕ) (steps k : ℕ) where
+  pub quiet_stands : (s : State) → Stands (run_of Runs c code memory steps) s
       → ((rest output : List ℕ) → iterate k (next u p) (state_of Runs c memory rest output steps)
       ≡ state_of Runs after new_memory rest output (steps + k))
-      → IsQuiet (run_of Runs after new_memory (steps + k)) s (iterate k (next u p) s)
+      → IsQuiet (run_of Runs after code new_memory (steps + k)) s (iterate k (next u p) s)
   quiet_stands s same made =
       let comes : iterate k (next u p) s ≡ state_of Runs after new_memory s.rest s.output (steps + k) =
-      ap (iterate k (next u p)) (state_is Runs c memory steps s same) ∙ made s.rest s.output in
-      let stands : Stands (run_of Runs after new_memory (steps + k)) (state_of Runs after new_memory s.rest s.output (steps + k)) =
+      ap (iterate k (next u p)) (state_is Runs c code memory steps s same) ∙ made s.rest s.output in
+      let stands : Stands (run_of Runs after code new_memory (steps + k)) (state_of Runs after new_memory s.rest s.output (steps + k)) =
       record { stack = refl; memory = refl; steps = refl; outcome = refl } in
-      let quiet : IsQuiet (run_of Runs after new_memory (steps + k)) s (state_of Runs after new_memory s.rest s.output (steps + k)) =
+      let quiet : IsQuiet (run_of Runs after code new_memory (steps + k)) s (state_of Runs after new_memory s.rest s.output (steps + k)) =
       record { stands = stands; output = refl; rest = refl } in
       rw comes quiet

@@ -1,2 +1,5 @@
+pub mod Behind
 pub mod Calls
+pub mod Code
+pub mod Flat
 pub mod Run

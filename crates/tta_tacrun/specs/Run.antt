@@ -1,5 +1,5 @@
 -- What a run holds, and which state it stands for.
-use Rattle.std.specs.Prelude.{◌≡◌, ℕ, Bool, true, false, ◌&&◌, List, [], ◌∷◌, ◌++◌, map, slice_get, Option, None, Some, is_some, option_to_list}
+use Rattle.std.specs.Prelude.{◌≡◌, ◌<◌, ℕ, Bool, true, false, ◌&&◌, if◌then◌else◌, List, [], ◌∷◌, ◌++◌, map, slice_index_or, Option, None, Some, is_some, option_to_list}
 use Rattle.std.specs.Option.{option_map_or}
 use Rattle.tta_list.specs.Input.{left}
 use Rattle.tta_ops.specs.Units.{Units}
@@ -7,16 +7,23 @@ use Rattle.tta_program.specs.declared.step.Step.{Step}
 use Rattle.tta_program.specs.declared.step.Step.TheVariants.{Copy, Apply, Load, Store, If, Goto, When, Invoke}
 use Rattle.tta_program.specs.Program.{Program}
 use Rattle.tta_program.specs.Rules.{calls_proc}
-use Rattle.tta_program.specs.Sequential.{Frame, Outcome, State, Running, Halted, Waiting, step_at, next}
+use Rattle.tta_program.specs.Sequential.{Frame, Outcome, State, Running, Halted, Waiting, carry_out, step_at, takes, next}
 use Rattle.tta_tacrun.specs.declared.answer.SeqStep.{SeqStep}
 use Rattle.tta_tacrun.specs.declared.answer.SeqStep.TheVariants.{Ran, Halted as DoesNotRun, Waiting as Waits}
 use Rattle.tta_tacrun.specs.declared.phase.Phase.{Phase}
 use Rattle.tta_tacrun.specs.declared.phase.Phase.TheVariants.{Running as Runs, Stopped, Returned}
 use Rattle.tta_tacrun.specs.Calls.{Calls}
 
--- all of a state but the input and the output, and how many variables each procedure of the program has
+-- how many variables a procedure has, and its steps at their places, without those that output or take a word, or begin or
+-- end a call
+pub record QuietProc : Type 0 where
+  pub size : ℕ
+  pub steps : List (Option Step)
+
+-- all of a state but the input and the output, how many variables each procedure of the program has, and its quiet steps
 pub record Run : Type 0 where
   pub sizes : List ℕ
+  pub code : List QuietProc
   pub stack : List Frame
   pub memory : List ℕ
   pub steps : ℕ
@@ -78,10 +85,30 @@ abbrev pub is_placed : Program → List Frame → Bool
 is_placed p [] = true
 is_placed p (f ∷ rest) = is_some (step_at p f.proc f.at)
 
--- A run that was loaded with a program, and made steps of it: it has the variables of each procedure, its calls were made
--- one by the other, and there is a step to go on with.
+-- whether a step neither outputs nor takes a word, and neither begins nor ends a call
+abbrev pub is_quiet : Step → Bool
+is_quiet (Copy d s) = true
+is_quiet (Apply d op a b) = true
+is_quiet (Load d a) = true
+is_quiet (Store a v) = true
+is_quiet (If rel a b to) = true
+is_quiet (Goto to) = true
+is_quiet (When rel a b d s) = true
+is_quiet step = false
+
+-- a step, if it is such a one
+abbrev pub quiet_part : Step → Option Step
+quiet_part step = if is_quiet step then Some step else None
+
+-- those steps of each procedure
+abbrev pub code_of : Program → List QuietProc
+code_of p = map (λ q. record { size = q.vars; steps = map quiet_part q.steps }) p.procs
+
+-- A run that was loaded with a program, and made steps of it: it has the variables and the quiet steps of each procedure, its
+-- calls were made one by the other, and there is a step to go on with.
 pub record IsRunOf (p : Program) (r : Run) : Type 0 where
   pub sizes : r.sizes ≡ map (λ q. q.vars) p.procs
+  pub code : r.code ≡ code_of p
   pub path : is_path p r.stack ≡ true
   pub placed : is_placed p r.stack ≡ true
 
@@ -105,9 +132,15 @@ state_of phase c memory rest output steps =
     record { stack = stack_of phase c; memory = memory; rest = rest; output = output; steps = steps; outcome = outcome_of phase }
 
 -- what is held where these are kept
-abbrev pub run_of : Phase → Calls → (memory : List ℕ) (steps : ℕ) → Run
-run_of phase c memory steps =
-    record { sizes = c.sizes; stack = stack_of phase c; memory = memory; steps = steps; outcome = outcome_of phase }
+abbrev pub run_of : Phase → Calls → (code : List QuietProc) (memory : List ℕ) (steps : ℕ) → Run
+run_of phase c code memory steps = record {
+  sizes = c.sizes;
+  code = code;
+  stack = stack_of phase c;
+  memory = memory;
+  steps = steps;
+  outcome = outcome_of phase;
+}
 
 -- the calls are those of a run of the program
 pub record AreCallsOf (p : Program) (c : Calls) : Type 0 where
@@ -118,17 +151,6 @@ pub record AreCallsOf (p : Program) (c : Calls) : Type 0 where
 abbrev pub put : List ℕ → Option ℕ → List ℕ
 put output None = output
 put output (Some word) = output ++ word ∷ []
-
--- whether a step neither outputs nor takes a word, and neither begins nor ends a call
-abbrev pub is_quiet : Step → Bool
-is_quiet (Copy d s) = true
-is_quiet (Apply d op a b) = true
-is_quiet (Load d a) = true
-is_quiet (Store a v) = true
-is_quiet (If rel a b to) = true
-is_quiet (Goto to) = true
-is_quiet (When rel a b d s) = true
-is_quiet step = false
 
 -- whether there is such a step
 abbrev pub is_quiet_there : Option Step → Bool
@@ -160,6 +182,22 @@ going proc at vars callers memory rest output steps =
       outcome = Running;
     }
 
--- the steps are those of a procedure
-abbrev pub AreStepsOf : Program → (proc : ℕ) → List Step → Type 0
-AreStepsOf p proc steps = (i : ℕ) → step_at p proc i ≡ slice_get steps i
+-- the quiet step at a place, if there is one
+abbrev pub quiet_at : Program → (proc at : ℕ) → Option Step
+quiet_at p proc at = option_map_or quiet_part (step_at p proc at) None
+
+-- the steps at their places are the quiet ones of a procedure
+abbrev pub AreQuietOf : Program → (proc : ℕ) → List (Option Step) → Type 0
+AreQuietOf p proc steps = (at : ℕ) → slice_index_or steps at None ≡ quiet_at p proc at
+
+-- a procedure has no step at a place that is not below this number
+abbrev pub HasSteps : Program → (proc count : ℕ) → Type 0
+HasSteps p proc count = (at : ℕ) → is_some (step_at p proc at) ≡ true → at < count
+
+-- A step without a word of the input leads the innermost call from one place to another, whatever program and state it is in,
+-- and changes its variables and the data words so.
+abbrev pub GoesTo : Units → (at to : ℕ) (vars new_vars memory new_memory : List ℕ) → Step → Type 0
+GoesTo u at to vars new_vars memory new_memory step =
+    (takes step ≡ false) × ((p : Program) (proc : ℕ) (callers : List Frame) (rest output : List ℕ) (steps : ℕ)
+    → carry_out u p (going proc at vars callers memory rest output steps) (frame proc at vars) callers step
+    ≡ going proc to new_vars callers new_memory rest output steps)

@@ -1,17 +1,23 @@
 //! The calls that are under way.
 
 ghost use Rattle.std.specs.Prelude.{◌≡◌, ◌+◌, ◌<◌, ◌≤◌, ◌^◌, ◌∷◌, [], length, map, replicate};
-ghost use Rattle.std.specs.Prelude.{if◌then◌else◌, slice_get, slice_index, slice_set, IfOk, IsFalse};
-ghost use Rattle.std.specs.Prelude.{ℕ, List, is_some, true, false};
+ghost use Rattle.std.specs.Prelude.{if◌then◌else◌, slice_index, slice_index_or, slice_set, IfOk, IsFalse};
+ghost use Rattle.std.specs.Prelude.{ℕ, List, None, is_some, true, false};
 ghost use Rattle.tta_list.specs.Iterate.{iterate};
 ghost use Rattle.tta_ops.specs.Set.{stated};
 ghost use Rattle.tta_program.specs.Program.{Program};
 ghost use Rattle.tta_program.specs.Rules.{IsProgram};
 ghost use Rattle.tta_program.specs.Sequential.{carry_out, enter, next, operand, step_at, takes};
 ghost use Rattle.tta_tacrun.specs.Calls.{IsFresh, begun};
-ghost use Rattle.tta_tacrun.specs.Run.{frame, is_path, is_quiet, is_quiet_there, state_of, AreStepsOf};
+ghost use Rattle.tta_tacrun.specs.Code.{said_proc};
+ghost use Rattle.tta_tacrun.specs.Flat.{has_variables};
+ghost use Rattle.tta_tacrun.specs.Run.{frame, is_quiet, state_of, AreQuietOf, HasSteps};
 
+use crate::basis::Basis;
+use crate::cells::Cells;
 use crate::entry::Entry;
+use crate::flat::flat_of;
+use crate::flat_proc::FlatProc;
 use crate::pass::{pass, value_of};
 use crate::phase::Phase;
 use crate::quiet::{Leg, go_on, go_quietly};
@@ -29,7 +35,7 @@ use tta_program::{Program, Src, Step};
 #[derive(Drop)]
 pub struct Calls {
     /// The variables of each procedure.
-    variables: Vec<Words>,
+    variables: Vec<Cells>,
     /// The innermost call.
     top: Entry,
     /// The other calls, the outermost first.
@@ -49,13 +55,13 @@ impl Model for Calls {
 }
 
 /// Variables for each procedure, every one 0.
-fn all_variables(alloc: Global, p: &Program) -> Result<Vec<Words>, AllocError>
+fn all_variables(alloc: Global, p: &Program) -> Result<Vec<Cells>, AllocError>
     ensures { IfOk result (λ v. v.items ≡ map (λ q. replicate q.vars 0) p.now.procs) }
 {
     let procs = p.procs.as_slice();
     let mut variables = Vec::with_capacity(alloc, procs.len())?;
     for q in procs {
-        variables.push(Words::zeros(alloc, q.vars as usize)?)?;
+        variables.push(Cells::zeros(alloc, q.vars)?)?;
     }
     Ok(variables)
 }
@@ -123,7 +129,9 @@ impl Calls {
         units: &UnitSet,
         step: &Step,
     ) -> bool
-        requires { self.old.top.at + 1 < 2 ^ 64 }
+        requires more { self.old.top.at + 1 < 2 ^ 64 }
+        requires there { let size = slice_index self.old.sizes self.old.top.proc in
+            has_variables size step.now ≡ true }
         ensures quiet { result ≡ is_quiet step.now }
         ensures takes { result ≡ true → takes step.now ≡ false }
         ensures space { length memory.new ≡ length memory.old }
@@ -138,7 +146,8 @@ impl Calls {
             ≡ state_of Phase.Running self.new memory.new rest output n }
     {
         let vars = &mut self.variables[self.top.proc];
-        let Some(to) = go_quietly(vars, memory, relations, units, step, self.top.at) else {
+        let flat = flat_of(vars.len(), step);
+        let Some(to) = go_quietly(vars, memory, relations, units, &flat, self.top.at) else {
             return false;
         };
         self.top.at = to;
@@ -152,32 +161,36 @@ impl Calls {
         &mut self,
         memory: &mut Words,
         relations: &mut Relations,
-        units: &UnitSet,
-        steps: &[Step],
+        basis: &Basis<'_>,
+        flat: &FlatProc,
         most: u64,
     ) -> u64
+        requires size { flat.now.size ≡ slice_index self.old.sizes self.old.top.proc }
+        requires rules { IsProgram basis.now.p.now }
+        requires quiet { AreQuietOf basis.now.p.now self.old.top.proc (said_proc flat.now).steps }
+        requires all { HasSteps basis.now.p.now self.old.top.proc (length flat.now.steps.items) }
+        requires placed { is_some (step_at basis.now.p.now self.old.top.proc self.old.top.at) ≡ true }
         ensures within { result ≤ most }
         ensures stops { result < most
-            → is_quiet_there (slice_get steps.now self.new.top.at) ≡ false }
+            → slice_index_or (said_proc flat.now).steps self.new.top.at None ≡ None }
         ensures space { length memory.new ≡ length memory.old }
         ensures top { let f = frame self.old.top.proc self.new.top.at self.new.top.vars in
             self.new ≡ record self.old { top = f } }
-        ensures made { (p : Program) (rest output : List ℕ) (n : ℕ)
-            → AreStepsOf p self.old.top.proc steps.now
-            → let U = stated unit_meaning units.now in
-            iterate result (next U p) (state_of Phase.Running self.old memory.old rest output n)
+        ensures made { (rest output : List ℕ) (n : ℕ)
+            → let U = stated unit_meaning basis.now.units.now in
+            let s = state_of Phase.Running self.old memory.old rest output n in
+            iterate result (next U basis.now.p.now) s
             ≡ state_of Phase.Running self.new memory.new rest output (n + result) }
-        ensures placed { (p : Program) → AreStepsOf p self.old.top.proc steps.now → IsProgram p
-            → is_path p (self.old.top ∷ self.old.below) ≡ true
-            → is_some (step_at p self.old.top.proc self.old.top.at) ≡ true
-            → is_some (step_at p self.old.top.proc self.new.top.at) ≡ true }
+        ensures placed { is_some (step_at basis.now.p.now self.old.top.proc self.new.top.at) ≡ true }
     {
         let mut leg = Leg {
+            proc: self.top.proc,
             at: self.top.at,
             left: most,
         };
         let vars = &mut self.variables[self.top.proc];
-        go_on(vars, memory, relations, units, steps, &mut leg);
+        let steps = flat.steps.as_slice();
+        go_on(vars, memory, relations, basis, steps, &mut leg);
         self.top.at = leg.at;
         most - leg.left
     }

@@ -1,7 +1,7 @@
 //! One step.
 
 ghost use Rattle.std.specs.Prelude.{◌≡◌, ℕ, List, ◌+◌, ◌<◌, ◌^◌, ◌∷◌, length};
-ghost use Rattle.std.specs.Prelude.{None, Some, MatchOption, OnSome, IsSome, option_copied, slice_index, false};
+ghost use Rattle.std.specs.Prelude.{Some, OnSome, IsSome, option_copied, slice_index, false};
 ghost use Rattle.std.specs.Option.{option_map_or};
 ghost use Rattle.tta_ops.specs.Set.{stated};
 ghost use Rattle.tta_ops.specs.Units.{Units};
@@ -10,8 +10,9 @@ ghost use Rattle.tta_program.specs.Sequential.{State, operand, step_at, takes, r
 ghost use Rattle.tta_program.specs.Sequential.{carry_out};
 ghost use Rattle.tta_program.specs.Sequential.{take_value as value_taken};
 ghost use Rattle.tta_list.specs.Input.{left};
-ghost use Rattle.tta_tacrun.specs.Run.{AreCallsOf, AreStepsOf, is_quiet, state_of, put, destination};
+ghost use Rattle.tta_tacrun.specs.Run.{AreCallsOf, is_quiet, state_of, put, destination};
 
+use crate::basis::Basis;
 use crate::calls::Calls;
 use crate::entry::Entry;
 use crate::phase::Phase;
@@ -28,18 +29,6 @@ pub fn step_of(p: &Program, call: Entry) -> Option<&Step>
 {
     match p.procs.as_slice().get(call.proc) {
         Some(q) => q.steps.as_slice().get(call.at),
-        None => None,
-    }
-}
-
-/// The steps of a procedure, if there is one.
-pub fn steps_in(p: &Program, proc: usize) -> Option<&[Step]>
-    ensures steps { MatchOption result ((at : ℕ) → step_at p.now proc at ≡ None)
-        (λ steps. AreStepsOf p.now proc steps.now) }
-    ensures rules { IsProgram p.now }
-{
-    match p.procs.as_slice().get(proc) {
-        Some(q) => Some(q.steps.as_slice()),
         None => None,
     }
 }
@@ -167,13 +156,6 @@ fn carry_loudly(calls: &mut Calls, p: &Program, step: &Step, next: u32) -> (Phas
         Step::Halt => (Phase::Stopped, None),
         _ => unreachable!(),
     }
-}
-
-/// What steps stand on: the program, and the units that say what its operations mean.
-#[derive(Clone, Copy)]
-pub struct Basis<'a> {
-    pub p: &'a Program,
-    pub units: &'a UnitSet,
 }
 
 /// Carries out a step, where `next` is the next word of the input. It answers whether the run goes

@@ -2,9 +2,14 @@
 #![tactic(auto)]
 
 mod answer;
+mod basis;
 mod calls;
 mod carry;
+mod cells;
+mod code;
 mod entry;
+mod flat;
+mod flat_proc;
 mod pass;
 mod phase;
 mod quiet;

@@ -4,11 +4,11 @@ ghost use Rattle.std.specs.Prelude.{◌≡◌, ◌≢◌, ◌<◌, ◌≤◌, []
 ghost use Rattle.tta_program.specs.Sequential.{operand};
 ghost use Rattle.tta_tacrun.specs.Calls.{begun};
 
-use crate::words::Words;
+use crate::cells::Cells;
 use tta_program::Src;
 
 /// The word that an operand stands for.
-pub fn value_of(variables: &Words, s: Src) -> u32
+pub fn value_of(variables: &Cells, s: Src) -> u32
     ensures { result ≡ operand variables.now s }
 {
     match s {
@@ -19,7 +19,7 @@ pub fn value_of(variables: &Words, s: Src) -> u32
 
 /// Makes the variables of a procedure those that it begins with, the arguments being read from
 /// the variables of its caller.
-pub fn pass(variables: &mut Vec<Words>, caller: usize, callee: usize, args: &[Src])
+pub fn pass(variables: &mut Vec<Cells>, caller: usize, callee: usize, args: &[Src])
     requires caller { caller < length variables.old.items }
     requires callee { callee < length variables.old.items }
     requires other { callee ≢ caller }

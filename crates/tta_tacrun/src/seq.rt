@@ -11,8 +11,11 @@ ghost use Rattle.tta_tacrun.specs.Run.{is_over, steps_of, goes_quietly};
 ghost use Rattle.tta_tacrun.specs.declared.answer.SeqStep.TheVariants.{Waiting};
 
 use crate::answer::SeqStep;
+use crate::basis::Basis;
 use crate::calls::Calls;
-use crate::carry::{Basis, carry, step_of, steps_in, takes};
+use crate::carry::{carry, step_of, takes};
+use crate::code::{flat_code, proc_in};
+use crate::flat_proc::FlatProc;
 use crate::phase::Phase;
 use crate::relations::Relations;
 use crate::words::Words;
@@ -26,6 +29,8 @@ use tta_program::Program;
 #[derive(Drop)]
 pub struct Seq {
     calls: Calls,
+    /// The steps of each procedure.
+    code: Vec<FlatProc>,
     memory: Words,
     relations: Relations,
     steps: u64,
@@ -33,11 +38,12 @@ pub struct Seq {
 }
 
 impl Model for Seq {
+    ghost use Rattle.tta_tacrun.specs.Code.{code_said};
     ghost use Rattle.tta_tacrun.specs.Run.{Run, run_of};
 
     ghost Value = { Run };
 
-    ghost view = { λ s. run_of s.phase s.calls s.memory s.steps };
+    ghost view = { λ s. run_of s.phase s.calls (code_said s.code.items) s.memory s.steps };
 }
 
 /// Whether a step has to wait: it takes a word of the input, and none is left.
@@ -50,8 +56,8 @@ fn is_stuck(took: bool, next: Option<u32>) -> bool
 impl Seq {
     /// The start of a run: `main` at its first step with every variable 0, and these data words.
     ///
-    /// It takes all memory that the run needs: room for the variables of each procedure and for a
-    /// call of each.
+    /// It takes all memory that the run needs: room for the variables and the steps of each procedure,
+    /// and for a call of each.
     pub fn load(alloc: Global, p: &Program, memory: Vec<u32>) -> Result<Self, AllocError>
         ensures start { IfOk result (λ r. (input : List ℕ)
             → Stands r (start p.now memory.items input)) }
@@ -59,6 +65,7 @@ impl Seq {
     {
         Ok(Seq {
             calls: Calls::of(alloc, p)?,
+            code: flat_code(alloc, p)?,
             memory: Words::of(memory),
             relations: Relations::new(),
             steps: 0,
@@ -126,11 +133,14 @@ impl Seq {
             Phase::Running => {}
             Phase::Stopped | Phase::Returned => return 0,
         }
-        let Some(steps) = steps_in(p, self.calls.top().proc) else {
+        // So that the rules of programs are known here.
+        let _main = p.main;
+        let Some(flat) = proc_in(self.code.as_slice(), self.calls.top().proc) else {
             return 0;
         };
+        let basis = Basis { p, units };
         let (memory, relations) = (&mut self.memory, &mut self.relations);
-        let made = self.calls.go_on(memory, relations, units, steps, most);
+        let made = self.calls.go_on(memory, relations, &basis, flat, most);
         self.steps += made;
         made
     }

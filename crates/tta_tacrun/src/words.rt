@@ -1,8 +1,7 @@
 //! A row of words.
 
-ghost use Rattle.std.specs.Prelude.{◌≡◌, length, replicate, slice_index, slice_set, IfOk};
+ghost use Rattle.std.specs.Prelude.{◌≡◌, slice_index, slice_set};
 
-use std::alloc::{AllocError, Global};
 use std::marker::Model;
 
 /// Words that are read as 0 past their end, where a write changes nothing.
@@ -26,14 +25,6 @@ impl Words {
         Words { words }
     }
 
-    /// So many words, each 0.
-    pub fn zeros(alloc: Global, count: usize) -> Result<Self, AllocError>
-        ensures { IfOk result (λ w. w ≡ replicate count 0) }
-    {
-        let words = vec![in alloc; 0; count]?;
-        Ok(Words { words })
-    }
-
     pub fn as_slice(&self) -> &[u32]
         ensures { result.now ≡ self.now }
     {
@@ -55,12 +46,5 @@ impl Words {
         if i < self.words.len() {
             self.words[i] = word;
         }
-    }
-
-    /// Makes each word 0.
-    pub fn clear(&mut self)
-        ensures { self.new ≡ replicate (length self.old) 0 }
-    {
-        self.words.fill(0);
     }
 }

@@ -1,10 +1,8 @@
-use Rattle.std.proofs.Common.{◌≡◌, ℕ, List, ◌+◌, ◌-◌, ◌≤◌, ◌∷◌, length, is_some, true}
+use Rattle.std.proofs.Common.{◌≡◌, ℕ, List, ◌+◌, ◌-◌, ◌≤◌, length, is_some, true}
 use Rattle.tta_ops.specs.Set.{stated}
 use Rattle.tta_list.specs.Iterate.{iterate}
-use Rattle.tta_program.specs.Program.{Program}
-use Rattle.tta_program.specs.Rules.{IsProgram}
 use Rattle.tta_program.specs.Sequential.{Frame, next, step_at}
-use Rattle.tta_tacrun.specs.Run.{frame, going, is_path, AreStepsOf}
+use Rattle.tta_tacrun.specs.Run.{going}
 use Rattle.tta_tacrun.proofs.quiet.go_on.Given as goal
 
 abbrev pub decreases-steps : goal.decreases-steps
@@ -12,17 +10,16 @@ decreases-steps g l = l.leg.left
 
 abbrev pub invariant-steps : goal.invariant-steps
 invariant-steps g l =
-    let U = stated (λ v. (goal.OpUnit-dyn g v).unit_meaning v.1) l.units in
+    let U = stated (λ v. (goal.OpUnit-dyn g v).unit_meaning v.1) l.basis.units.now in
+    let p = l.basis.p.now in
     let old = l.initial in
     let k = old.leg.left - l.leg.left in
     record {
       within : l.leg.left ≤ old.leg.left;
       size : length l.vars ≡ length old.vars;
       space : length l.memory ≡ length old.memory;
-      made : (p : Program) (proc : ℕ) (callers : List Frame) (rest output : List ℕ) (n : ℕ) → AreStepsOf p proc l.steps
-          → iterate k (next U p) (going proc old.leg.at old.vars callers old.memory rest output n)
-          ≡ going proc l.leg.at l.vars callers l.memory rest output (n + k);
-      placed : (p : Program) (proc : ℕ) (callers : List Frame) → AreStepsOf p proc l.steps → IsProgram p
-          → is_path p (frame proc old.leg.at old.vars ∷ callers) ≡ true → is_some (step_at p proc old.leg.at) ≡ true
-          → is_some (step_at p proc l.leg.at) ≡ true;
+      made : (callers : List Frame) (rest output : List ℕ) (n : ℕ)
+          → iterate k (next U p) (going old.leg.proc old.leg.at old.vars callers old.memory rest output n)
+          ≡ going old.leg.proc l.leg.at l.vars callers l.memory rest output (n + k);
+      placed : is_some (step_at p old.leg.proc l.leg.at) ≡ true;
     }

@@ -1,10 +1,13 @@
-use Rattle.std.proofs.Common.{◌≡◌, ℕ, List, [], length, map, reverse, get_or, ap, sym, ◌∙◌}
+use Rattle.std.proofs.Common.{◌≡◌, ℕ, List, [], length, map, reverse, get_or, Some, ap, sym, ◌∙◌, subst}
+use Rattle.std.specs.Prelude.{IfSome}
 use Rattle.std.proofs.lemmas.List.{get_or_read, get_or-set_same}
 use Rattle.tta_ops.specs.Set.{stated}
 use Rattle.tta_program.specs.Sequential.{carry_out}
 use Rattle.tta_tacrun.specs.Calls.{Calls, frame_of}
 use Rattle.tta_tacrun.specs.declared.phase.Phase.TheVariants.{Running}
-use Rattle.tta_tacrun.specs.Run.{frame, going, state_of}
+use Rattle.tta_tacrun.specs.Flat.{said}
+use Rattle.tta_tacrun.specs.Run.{GoesTo, frame, going, quiet_part, state_of}
+use Rattle.tta_tacrun.proofs.Coded.{quiet_of}
 use Rattle.tta_tacrun.proofs.Kept.{calls_set}
 use Rattle.tta_tacrun.proofs.calls.Calls.go_quietly.Goals as goal
 
@@ -38,8 +41,14 @@ returns-clause-made g c =
     let read : c.index_mut-vars.result.now ≡ get_or vs proc [] =
     get_or_read vs proc c.index_mut-vars.result.now c.self.invariant.within.0 c.index_mut-vars.ensures.value [] in
     let size : length new ≡ length (get_or vs proc []) = c.in-Some.ensures.size ∙ ap length read in
+    let flat = c.flat_of-flat.result in
+    let n = length c.index_mut-vars.result.now in
+    let part : said n flat ≡ quiet_part step = ap (λ n. said n flat) (sym c.len.ensures) ∙ c.flat_of-flat.ensures.said in
+    let one : said n flat ≡ Some step = quiet_of step (said n flat) part (sym c.in-Some.ensures.quiet) in
+    let goes : GoesTo U at to c.index_mut-vars.result.now new c.args.memory.now c.go_quietly.new.memory step =
+    subst (λ o. IfSome o (GoesTo U at to c.index_mut-vars.result.now new c.args.memory.now c.go_quietly.new.memory)) one c.in-Some.ensures.made in
     rw (← c.self.view_is) (λ is p rest output n.
     ap (λ vars. carry_out U p (going proc at vars callers c.args.memory.now rest output n) (frame proc at vars) callers step) (sym read)
-    ∙ c.in-Some.ensures.made p proc callers rest output n
+    ∙ goes.1 p proc callers rest output n
     ∙ ap (λ calls. state_of Running calls c.go_quietly.new.memory rest output n)
     (sym (calls_set vs c.self.inside.top c.self.inside.callers.items _ to new c.self.invariant size)))

@@ -34,8 +34,9 @@ returns-clause-loaded g c =
     let held = rw c.in-Running.is at c.self.view_is in
     let path = rw (← held) at c.requires.loaded.path in
     let here = sym (rw (c.top.ensures.proc, c.top.ensures.at) at c.step_of.ensures.value) ∙ ap option_copied c.unwrap-step.ensures in
+    let coded = rw (← held) at c.requires.loaded.code in
     run_carried c.args.p.now c.step_of.ensures.rules U c.self.inside.calls c.carry-phase.new.calls c.self.inside.memory c.carry-phase.new.memory
-    c.carry-phase.result.0 c.carry-phase.result.1 c.unwrap-step.result.now _ _ path here c.carry-phase.ensures.loaded c.carry-phase.ensures.carried
+    c.carry-phase.result.0 c.carry-phase.result.1 c.unwrap-step.result.now _ _ _ coded path here c.carry-phase.ensures.loaded c.carry-phase.ensures.carried
 
 pub returns-clause-next : goal.returns-clause-next
 returns-clause-next g c = λ s same fed.
@@ -43,7 +44,7 @@ returns-clause-next g c = λ s same fed.
     let held = rw c.in-Running.is at c.self.view_is in
     let here = sym (rw (c.top.ensures.proc, c.top.ensures.at) at c.step_of.ensures.value) ∙ ap option_copied c.unwrap-step.ensures in
     let goes_on = stuck_by s c.unwrap-step.result.now _ _ c.args.next c.takes-took.ensures c.is_stuck.ensures fed ∙ c.if-is_stuck.false in
-    ran_stands U c.args.p.now c.self.inside.calls c.self.inside.memory c.self.inside.steps c.unwrap-step.result.now here s (rw (← held) at same)
+    ran_stands U c.args.p.now c.self.inside.calls _ c.self.inside.memory c.self.inside.steps c.unwrap-step.result.now here s (rw (← held) at same)
     c.carry-phase.new.calls c.carry-phase.new.memory c.carry-phase.result.0 c.carry-phase.result.1 _ c.carry-phase.ensures.carried goes_on
     (next_word s.rest c.args.next fed ∙ sym c.unwrap_or.ensures)
 
@@ -54,7 +55,7 @@ returns-clause-answer g c = λ s same fed.
     let here = sym (rw (c.top.ensures.proc, c.top.ensures.at) at c.step_of.ensures.value) ∙ ap option_copied c.unwrap-step.ensures in
     let goes_on = stuck_by s c.unwrap-step.result.now _ _ c.args.next c.takes-took.ensures c.is_stuck.ensures fed ∙ c.if-is_stuck.false in
     subst (λ took. IsAnswer U c.args.p.now s (Ran c.carry-phase.result.1 took)) (sym c.takes-took.ensures)
-    (ran_answer U c.args.p.now c.self.inside.calls c.self.inside.memory c.self.inside.steps c.unwrap-step.result.now here s (rw (← held) at same)
+    (ran_answer U c.args.p.now c.self.inside.calls _ c.self.inside.memory c.self.inside.steps c.unwrap-step.result.now here s (rw (← held) at same)
     c.carry-phase.new.calls c.carry-phase.new.memory c.carry-phase.result.0 c.carry-phase.result.1 _ c.carry-phase.ensures.carried goes_on
     (next_word s.rest c.args.next fed ∙ sym c.unwrap_or.ensures))
 
@@ -64,4 +65,4 @@ returns-then-is_stuck-clause-answer g c = λ s same fed.
     let held = rw c.in-Running.is at c.self.view_is in
     let here = sym (rw (c.top.ensures.proc, c.top.ensures.at) at c.step_of.ensures.value) ∙ ap option_copied c.unwrap-step.ensures in
     let must = stuck_by s c.unwrap-step.result.now _ _ c.args.next c.takes-took.ensures c.is_stuck.ensures fed ∙ c.if-is_stuck.true in
-    waits_answer U c.args.p.now c.self.inside.calls c.self.inside.memory c.self.inside.steps c.unwrap-step.result.now here s (rw (← held) at same) must
+    waits_answer U c.args.p.now c.self.inside.calls _ c.self.inside.memory c.self.inside.steps c.unwrap-step.result.now here s (rw (← held) at same) must
