@@ -85,7 +85,8 @@ def reason(status, said, words):
     if code and formats.meanings("fault", code[1]):
         return codes("fault", code[1])
     if word and kind in ("read fault", "too long") and int(word[1]) < len(words):
-        return [f"word {word[1]} is {words[int(word[1])]!r}", *formats.meanings("status", status)[:1]]
+        named = repr(words[int(word[1])]) if int(word[1]) else "standard input"
+        return [f"word {word[1]} is {named}", *formats.meanings("status", status)[:1]]
     return formats.meanings("status", status)[:1]
 
 

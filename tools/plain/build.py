@@ -22,6 +22,8 @@ panic = "abort"
 # How a program is compiled: in half a minute, or as fast code, which takes longer.
 QUICKLY = ""
 FOR_SPEED = 'lto = "fat"\ncodegen-units = 1\n'
+# The crates that meet the host, each with the file that does so in a plain program.
+HOSTS = {"tta_ports": "host.rs", "tta_lines": "lines.rs"}
 
 
 class CannotBuild(Exception):
@@ -70,8 +72,8 @@ def write_crate(folder, name, others):
     write(os.path.join(folder, name, "Cargo.toml"), package(name, kind, ["kit", *others]))
     for path, text in plain_files(source):
         write(os.path.join(target, path), text)
-    if name == "tta_ports":
-        with open(os.path.join(HERE, "host.rs")) as f:
+    if name in HOSTS:
+        with open(os.path.join(HERE, HOSTS[name])) as f:
             write(os.path.join(target, "host.rs"), f.read())
 
 

@@ -1,11 +1,15 @@
 """Makes plain Rust of the sources of the crates: contracts and ghost items are left out, and the kit's names become those of
-its stand-in. What meets the host, in tta_ports, is replaced by host.rs, which stands beside this file."""
+its stand-in. What meets the host, in tta_ports and tta_lines, is replaced by host.rs and lines.rs, which stand beside this file."""
 import os
 import re
 
-# The parts of tta_ports that meet the host, and those that stand for it in tests.
-HOSTS = ["real_files", "real_sink", "transfer", "mem_files", "mem_sink"]
-IN_THEIR_PLACE = "mod host;\npub use host::{RealFiles, RealSink};\n"
+# The parts of tta_ports and tta_lines that meet the host, and those that stand for it in tests.
+HOSTS = ["real_files", "real_sink", "transfer", "mem_files", "mem_sink", "real_lines", "one_line", "mem_lines"]
+# What stands in the place of those of which a crate's root names one.
+IN_THEIR_PLACE = {
+    "pub use real_files": "mod host;\npub use host::{RealFiles, RealSink};\n",
+    "pub use real_lines": "mod host;\npub use host::RealLines;\n",
+}
 
 COMMENT = r"//[^\n]*"
 STRING = r'"(?:\\.|[^"\\])*"'
@@ -139,5 +143,5 @@ def plain_files(source):
             with open(os.path.join(folder, base + ending)) as f:
                 text = f.read()
             begin = IS_STARTED if base == "main" else ""
-            end = IN_THEIR_PLACE if "pub use real_files" in text else ""
+            end = "".join(items for name, items in IN_THEIR_PLACE.items() if name in text)
             yield os.path.join(os.path.relpath(folder, source), base + ".rs"), begin + plain(text) + end

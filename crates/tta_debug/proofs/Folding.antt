@@ -38,7 +38,7 @@ taken_first u m code input all d h out follows = record {
 }
 
 -- what comes of a line after which others are taken
-goes_true : (d : Debugged) (rest : Debugged → List ℕ × Debugged) (said : Result Done ℕ) → true ≡ line_goes said
+pub goes_true : (d : Debugged) (rest : Debugged → List ℕ × Debugged) (said : Result Done ℕ) → true ≡ line_goes said
     → goes_on d rest said ≡ saying_first (line_text said) (rest (line_leaves d said))
 goes_true d rest (Err code) is = refl
 goes_true d rest (Ok done) is = by done.bye refl where
@@ -47,7 +47,7 @@ goes_true d rest (Ok done) is = by done.bye refl where
   by false bye = ap (λ b. if b then (texts done.says, done.after) else saying_first (texts done.says) (rest done.after)) bye
 
 -- what comes of a line that ends the session
-goes_false : (d : Debugged) (rest : Debugged → List ℕ × Debugged) (said : Result Done ℕ) → false ≡ line_goes said
+pub goes_false : (d : Debugged) (rest : Debugged → List ℕ × Debugged) (said : Result Done ℕ) → false ≡ line_goes said
     → goes_on d rest said ≡ (line_text said, line_leaves d said)
 goes_false d rest (Err code) is = absurd (true≢false (sym is))
 goes_false d rest (Ok done) is = by done.bye refl where
@@ -64,7 +64,7 @@ goes_first d rest said = by (line_goes said) refl where
   by false goes = ([], ap (λ r. r.0) (goes_false d rest said (sym goes)) ∙ sym (append-nil (line_text said)))
 
 -- a text was put after a text
-put_after : (first more : List ℕ) (old mid new : Output) → IsPut first old mid → IsPut more mid new → IsPut (first ++ more) old new
+pub put_after : (first more : List ℕ) (old mid new : Output) → IsPut first old mid → IsPut more mid new → IsPut (first ++ more) old new
 put_after first more old mid new one two = record {
   taken = two.taken ∙ ap (λ t. append_known t more) one.taken ∙ append_known-twice old.taken first more;
   faults = two.faults ∙ one.faults;

@@ -16,7 +16,9 @@ mod stops;
 mod told;
 mod words;
 
+pub use basis::Basis;
 pub use law::cycles_are_of_the_run;
-pub use script::run_script;
+pub use script::{run_script, take_line};
 pub use session::Session;
 pub use told::{CommandError, Told};
+pub use words::next_word;

@@ -19,9 +19,12 @@ use tta_ops::UnitSet;
 use tta_ports::{Failed, Sink};
 use tta_print::Reply;
 
-// Carries out a line of a script, and puts its reply or its refusal. It answers whether the session
-// goes on.
-fn take_line<S: Sink>(
+/// Carries out a line, which is a command, and puts its reply or its refusal. It takes no memory, and
+/// answers whether the session goes on: it does but after `quit`.
+///
+/// It answers `Failed` at the first line of a reply at which the sink does, and only there: the
+/// sink's count of faults shows it. The session is then as this line found it.
+pub fn take_line<S: Sink>(
     session: &mut Session,
     line: &[u8],
     basis: &Basis<'_>,

@@ -1,2 +1,3 @@
 mod ImageSizes
 mod Laying
+mod Prompted

@@ -2,6 +2,7 @@
 use Rattle.std.specs.Prelude.{◌≡◌, ◌⊎◌, ◌↔◌, List, ℕ, Option, Some, None, Err}
 use Rattle.tta_ports.specs.World.{World, IsUntouched}
 use Rattle.tta_ports.specs.Output.{Output, IsQuiet, IsPut, IsCut}
+use Rattle.tta_lines.specs.Come.{Come}
 use Rattle.tta_ops.specs.Units.{Units}
 use Rattle.tta_code.specs.Whole.{Whole}
 use Rattle.tta_image.specs.declared.refusal.ImageError.TheVariants.{Refused}
@@ -16,8 +17,9 @@ use Rattle.tta_given.specs.Ends.{IsUsage, TextEnds, Puts}
 use Rattle.tta_given.specs.Endings as endings
 use Rattle.tta_designer.specs.declared.view.View.{View}
 use Rattle.tta_designer.specs.Views.{machine_view, code_view}
-use Rattle.tta_designer.specs.Request.{Request, OfMachine, OfCode, OfRun}
+use Rattle.tta_designer.specs.Request.{Request, OfMachine, OfCode, OfRun, OfPrompt}
 use Rattle.tta_designer.specs.Runs.{ShowsRun}
+use Rattle.tta_designer.specs.Prompts.{OpensPrompt}
 
 -- the machine is refused, and nothing is output; or its view is
 abbrev pub ShowsMachine : Units → View → (M : List ℕ) → (before after : World) → (old new : Output) → Status → Type 0
@@ -30,7 +32,7 @@ ShowsMachine u view M before after old new s =
 abbrev pub IsShown : Units → View → MachineFile → Whole → (text : List ℕ) → Type 0
 IsShown u view file whole text = text ≡ code_view u view file whole
 
--- How a request ends. Either its text is output, or nothing is and there is a cause. Each ending but out of memory comes only where its
+-- How a request for a text ends. Either its text is output, or nothing is and there is a cause. Each ending but out of memory comes only where its
 -- cause holds.
 abbrev pub Ends : Units → Option Request → (before after : World) → (old new : Output) → Status → Type 0
 Ends u None before after old new s = IsUsage before after old new s
@@ -38,6 +40,12 @@ Ends u (Some (OfMachine view M)) before after old new s = ShowsMachine u view M 
 Ends u (Some (OfCode view M IMG)) before after old new s =
     Puts u IsImageFor RefusesImage (IsShown u view) (λ file whole. no_memory) M IMG before after old new s
 Ends u (Some (OfRun view M IMG IN STREAM bound)) before after old new s = ShowsRun u view M IMG IN STREAM bound before after old new s
+Ends u (Some (OfPrompt M IMG IN STREAM)) before after old new s = ⊥
+
+-- How a request ends. Lines come of a session at a prompt alone.
+abbrev pub Shows : Units → Option Request → (before after : World) → (came comes : Come) → (old new : Output) → Status → Type 0
+Shows u (Some (OfPrompt M IMG IN STREAM)) before after came comes old new s = OpensPrompt u M IMG IN STREAM before after came comes old new s
+Shows u request before after came comes old new s = (comes ≡ came) × Ends u request before after old new s
 
 -- ---- how it ends by its status
 

@@ -1,5 +1,6 @@
 pub mod Request
 pub mod Views
 pub mod Runs
+pub mod Prompts
 pub mod Command
 pub mod Laws

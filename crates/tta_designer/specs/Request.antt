@@ -9,11 +9,13 @@ use Rattle.tta_designer.specs.declared.view.RunView.TheVariants.{Profile, Play}
 use Rattle.tta_designer.specs.declared.request.Request.{Request as Asked}
 use Rattle.tta_designer.specs.declared.request.Request.TheVariants as for
 
--- what can be asked for: a view of a machine, one of the code of an image for a machine, or one of a run of such code
+-- what can be asked for: a view of a machine, one of the code of an image for a machine, one of a run of such code, or a session
+-- at a prompt over such a run
 pub data Request : Type 0 where
   OfMachine : (view : View) (machine : List ℕ) → Request
   OfCode : (view : View) (machine image : List ℕ) → Request
   OfRun : (view : RunView) (machine image input : List ℕ) (stream : Option (List ℕ)) (bound : ℕ) → Request
+  OfPrompt : (machine image input : List ℕ) (stream : Option (List ℕ)) → Request
 
 -- the view that a word names
 abbrev pub view_of : (word : List ℕ) → Option View
@@ -28,21 +30,32 @@ abbrev pub run_request : (word machine image input last : List ℕ) → (stream 
 run_request word machine image input last stream =
     option_and_then (λ view. option_map (λ bound. OfRun view machine image input stream bound) (bound_of last)) (run_view_of word)
 
+-- whether a word is the name of the command that is a session at a prompt
+abbrev pub is_prompt : (word : List ℕ) → Bool
+is_prompt word = bytes_eq word (codes "prompt")
+
+-- the request of the name of a command with no bound, after which the file of an input may be named
+abbrev pub prompt_request : (word machine image input : List ℕ) → (stream : Option (List ℕ)) → Option Request
+prompt_request word machine image input stream = if is_prompt word then Some (OfPrompt machine image input stream) else None
+
 -- the request of some words; none where they are no command
 abbrev pub request_of : List (List ℕ) → Option Request
 request_of (word ∷ machine ∷ []) = option_map (λ view. OfMachine view machine) (view_of word)
 request_of (word ∷ machine ∷ image ∷ []) = option_map (λ view. OfCode view machine image) (view_of word)
-request_of (word ∷ machine ∷ image ∷ input ∷ last ∷ []) = run_request word machine image input last None
+request_of (word ∷ machine ∷ image ∷ input ∷ []) = prompt_request word machine image input None
+request_of (word ∷ machine ∷ image ∷ input ∷ last ∷ []) =
+    if is_prompt word then prompt_request word machine image input (Some last) else run_request word machine image input last None
 request_of (word ∷ machine ∷ image ∷ input ∷ last ∷ stream ∷ []) = run_request word machine image input last (Some stream)
 request_of words = None
 
 -- whether a command line begins with the name of a command that is carried out here
 abbrev pub is_named : List (List ℕ) → Bool
 is_named [] = false
-is_named (word ∷ words) = is_some (view_of word) || is_some (run_view_of word)
+is_named (word ∷ words) = is_some (view_of word) || is_some (run_view_of word) || is_prompt word
 
 -- what the code's request asks for
 abbrev pub asked : Asked → Request
 asked (for.Machine names) = OfMachine names.view names.machine.now
 asked (for.Code names) = OfCode names.view names.machine.now names.image.now
 asked (for.Run run) = OfRun run.view run.machine.now run.image.now run.input.now (option_map (λ s. s.now) run.stream) run.bound
+asked (for.Prompt names) = OfPrompt names.machine.now names.image.now names.input.now (option_map (λ s. s.now) names.stream)

@@ -9,9 +9,10 @@ ghost use Rattle.tta_code.specs.Whole.{fits};
 ghost use Rattle.tta_given.specs.Held.{MadeEnds, no_memory};
 ghost use Rattle.tta_designer.specs.Request.{OfMachine, OfCode, asked, request_of};
 ghost use Rattle.tta_designer.specs.Views.{machine_view, code_view};
-ghost use Rattle.tta_designer.specs.Command.{Ends};
+ghost use Rattle.tta_designer.specs.Command.{Ends, Shows};
 
 use crate::names::{CodeRequest, MachineRequest};
+use crate::prompting::prompt_image;
 use crate::request::Request;
 use crate::running::run_image;
 use crate::view::View;
@@ -19,6 +20,7 @@ use std::alloc::Global;
 use tta_draw::{draw_code, draw_machine};
 use tta_given::{CodePair, MachineFile, Status, image_pair, machine_file, put_made};
 use tta_info::{tell_image, tell_machine};
+use tta_lines::Lines;
 use tta_ops::UnitSet;
 use tta_ports::{Files, Sink};
 
@@ -110,25 +112,28 @@ fn put_code<F: Files, S: Sink>(
 }
 
 /// Carries out what is asked for.
-fn carry_out<F: Files, S: Sink>(
+fn carry_out<F: Files, L: Lines, S: Sink>(
     alloc: Global,
     request: &Request<'_>,
     units: &UnitSet,
     files: &mut F,
+    lines: &mut L,
     sink: &mut S,
 ) -> Status
-    ensures { Ends (stated unit_meaning units.now) (Some (asked request.now))
-        (F.world files.old) (F.world files.new) (S.output sink.old) (S.output sink.new) result }
+    ensures { Shows (stated unit_meaning units.now) (Some (asked request.now))
+        (F.world files.old) (F.world files.new) (L.come lines.old) (L.come lines.new)
+        (S.output sink.old) (S.output sink.new) result }
 {
     match request {
         Request::Machine(names) => put_machine(alloc, units, files, sink, names),
         Request::Code(names) => put_code(alloc, units, files, sink, names),
         Request::Run(run) => run_image(alloc, units, files, sink, run),
+        Request::Prompt(names) => prompt_image(alloc, units, files, lines, sink, names),
     }
 }
 
 /// Carries out the command that the words ask for, the first of them the command's name, over these
-/// operation units, files and output.
+/// operation units, files, lines and output.
 ///
 /// `picture M` outputs the picture of the machine of the file M, and `picture M IMG` that of the code
 /// of the image in the file IMG for it. `info M` outputs what is told of that machine: the bits of the
@@ -144,19 +149,25 @@ fn carry_out<F: Files, S: Sink>(
 ///
 /// The output takes a text in one piece, and nothing where there
 /// is none. No file changes.
-pub fn show<F: Files, S: Sink>(
+///
+/// `prompt M IMG IN` carries out a session of the debugger over such a run: each line that comes is a
+/// command, and the output takes what is replied to it before the next line is asked for. It may have one
+/// more word, the file of the input.
+pub fn show<F: Files, L: Lines, S: Sink>(
     alloc: Global,
     words: &Vec<String>,
     units: &UnitSet,
     files: &mut F,
+    lines: &mut L,
     sink: &mut S,
 ) -> Status
-    ensures ends { Ends (stated unit_meaning units.now)
+    ensures ends { Shows (stated unit_meaning units.now)
         (request_of (map (λ w. string_bytes w) words.now.items))
-        (F.world files.old) (F.world files.new) (S.output sink.old) (S.output sink.new) result }
+        (F.world files.old) (F.world files.new) (L.come lines.old) (L.come lines.new)
+        (S.output sink.old) (S.output sink.new) result }
 {
     match Request::of(words) {
-        Some(request) => carry_out(alloc, &request, units, files, sink),
+        Some(request) => carry_out(alloc, &request, units, files, lines, sink),
         None => Status::Usage,
     }
 }

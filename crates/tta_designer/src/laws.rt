@@ -1,6 +1,7 @@
 //! Laws of the commands. A law is a function that does nothing, and whose contract is the law.
 
 ghost use Rattle.tta_designer.specs.Laws.{ImageSize};
+ghost use Rattle.tta_designer.specs.Prompts.{PromptByStatus};
 ghost use Rattle.tta_designer.specs.Runs.{RunByStatus};
 ghost use Rattle.tta_designer.specs.Command.{MachineByStatus, CodeByStatus};
 
@@ -22,4 +23,9 @@ pub fn image_size()
 /// What holds where a view of a run ends with a status, for each status.
 pub fn run_by_status()
     ensures { RunByStatus }
+{}
+
+/// What holds where a session at a prompt ends with a status, for each status.
+pub fn prompt_by_status()
+    ensures { PromptByStatus }
 {}

@@ -5,11 +5,12 @@
 mod command;
 mod laws;
 mod names;
+mod prompting;
 mod request;
 mod running;
 mod view;
 
 pub use command::show;
-pub use laws::{code_by_status, image_size, machine_by_status, run_by_status};
+pub use laws::{code_by_status, image_size, machine_by_status, prompt_by_status, run_by_status};
 pub use request::is_named;
 pub use view::{RunView, View};

@@ -31,3 +31,13 @@ pub struct RunRequest<'w> {
     pub bound: u64,
     ghost few: { bound < 2 ^ 48 },
 }
+
+/// A session at a prompt that is asked for: the names of its run's files, and that of the input where it
+/// has one.
+#[derive(Clone, Copy)]
+pub struct PromptRequest<'w> {
+    pub machine: &'w str,
+    pub image: &'w str,
+    pub input: &'w str,
+    pub stream: Option<&'w str>,
+}

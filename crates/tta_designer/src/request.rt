@@ -1,21 +1,22 @@
 //! What the words of a command line ask for. A name is that of a file.
 
-ghost use Rattle.std.specs.Prelude.{◌≡◌, map, option_map};
+ghost use Rattle.std.specs.Prelude.{◌≡◌, ◌∷◌, [], map, option_map};
 ghost use Rattle.std.specs.String.{string_bytes};
 ghost use Rattle.tta_designer.specs.Request.{asked, is_named, request_of, run_request};
-ghost use Rattle.tta_designer.specs.Request.{run_view_of, view_of};
+ghost use Rattle.tta_designer.specs.Request.{is_prompt, prompt_request, run_view_of, view_of};
 
-use crate::names::{CodeRequest, MachineRequest, RunRequest};
+use crate::names::{CodeRequest, MachineRequest, PromptRequest, RunRequest};
 use crate::view::{RunView, View};
 use tta_given::bound_of;
 
-/// What is asked for: a view of a machine, one of the code of an image for a machine, or one of a run of
-/// such code.
+/// What is asked for: a view of a machine, one of the code of an image for a machine, one of a run of
+/// such code, or a session at a prompt over such a run.
 #[derive(Clone, Copy)]
 pub enum Request<'w> {
     Machine(MachineRequest<'w>),
     Code(CodeRequest<'w>),
     Run(RunRequest<'w>),
+    Prompt(PromptRequest<'w>),
 }
 
 /// The view that a word names.
@@ -44,12 +45,23 @@ fn run_view_of(word: &str) -> Option<RunView>
     None
 }
 
+/// Whether a word is the name of the command that is a session at a prompt.
+fn is_prompt(word: &str) -> bool
+    ensures { result ≡ is_prompt word.now }
+{
+    word == "prompt"
+}
+
 /// Whether the words begin with the name of a command that `show` carries out.
 pub fn is_named(words: &Vec<String>) -> bool
     ensures { result ≡ is_named (map (λ w. string_bytes w) words.now.items) }
 {
     match words.as_slice() {
-        [word, ..] => view_of(word.as_str()).is_some() || run_view_of(word.as_str()).is_some(),
+        [word, ..] => {
+            view_of(word.as_str()).is_some()
+                || run_view_of(word.as_str()).is_some()
+                || is_prompt(word.as_str())
+        }
         _ => false,
     }
 }
@@ -78,6 +90,45 @@ fn of_run<'w>(
     }))
 }
 
+/// The request of the name of a command with no bound.
+fn of_prompt<'w>(
+    word: &str,
+    machine: &'w str,
+    image: &'w str,
+    input: &'w str,
+    stream: Option<&'w str>,
+) -> Option<Request<'w>>
+    ensures { option_map asked result ≡ prompt_request word.now
+        machine.now image.now input.now (option_map (λ s. s.now) stream.entry) }
+{
+    if !is_prompt(word) {
+        return None;
+    }
+    Some(Request::Prompt(PromptRequest {
+        machine,
+        image,
+        input,
+        stream,
+    }))
+}
+
+/// The request of five words: a session at a prompt with an input, or a view of a run without one.
+fn of_five<'w>(
+    word: &str,
+    machine: &'w str,
+    image: &'w str,
+    input: &'w str,
+    last: &'w str,
+) -> Option<Request<'w>>
+    ensures { option_map asked result ≡ request_of
+        (word.now ∷ machine.now ∷ image.now ∷ input.now ∷ last.now ∷ []) }
+{
+    if is_prompt(word) {
+        return of_prompt(word, machine, image, input, Some(last));
+    }
+    of_run(word, machine, image, input, last, None)
+}
+
 impl<'w> Request<'w> {
     /// What the words ask for, the first of them the command's name. `None` where they are no
     /// command.
@@ -100,7 +151,8 @@ impl<'w> Request<'w> {
                     image,
                 }))
             }
-            [word, machine, image, input, last] => of_run(word, machine, image, input, last, None),
+            [word, machine, image, input] => of_prompt(word, machine, image, input, None),
+            [word, machine, image, input, last] => of_five(word, machine, image, input, last),
             [word, machine, image, input, last, stream] => {
                 of_run(word, machine, image, input, last, Some(stream.as_str()))
             }

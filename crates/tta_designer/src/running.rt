@@ -25,7 +25,7 @@ use tta_profile::{Basis, profile};
 use tta_sim::Sim;
 
 /// Loads code for a run from data words, with its data laid over them.
-fn load_code(
+pub fn load_code(
     alloc: Global,
     machine: &Machine,
     whole: &Whole,

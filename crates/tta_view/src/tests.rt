@@ -1,9 +1,10 @@
-//! What is shown of files in memory.
+//! What is shown of files in memory, and replied to lines in memory.
 
 use crate::run;
 use std::alloc::{AllocError, Global};
 use std::test::Fail;
 use tta_given::Status;
+use tta_lines::MemLines;
 use tta_ports::{MemFiles, MemSink};
 
 /// The smallest machine.
@@ -19,14 +20,15 @@ const IMAGE: [u8; 51] = [
 ];
 
 /// How the picture of its code ends.
-const ROWS: &str = "<rect class=\"row\" x=\"4\" y=\"80\" width=\"476\" height=\"1\"/>
-<svg x=\"4\" y=\"82\" width=\"44\" height=\"20\"><text class=\"note\" x=\"4\" y=\"15\">0</text></svg>
-<rect class=\"u0\" x=\"48\" y=\"82\" width=\"180\" height=\"20\"/>
-<svg x=\"48\" y=\"82\" width=\"180\" height=\"20\"><text class=\"line\" x=\"4\" y=\"15\">7 -> OUT.t.out</text></svg>
-<rect class=\"row\" x=\"4\" y=\"104\" width=\"476\" height=\"1\"/>
-<svg x=\"4\" y=\"106\" width=\"44\" height=\"20\"><text class=\"note\" x=\"4\" y=\"15\">1</text></svg>
-<rect class=\"control\" x=\"48\" y=\"106\" width=\"180\" height=\"20\"/>
-<svg x=\"48\" y=\"106\" width=\"180\" height=\"20\"><text class=\"line\" x=\"4\" y=\"15\">0 -> gcu.t.halt</text></svg>
+const ROWS: &str = "<rect class=\"row\" x=\"4\" y=\"98\" width=\"598\" height=\"1\"/>
+<svg x=\"126\" y=\"100\" width=\"44\" height=\"20\"><text class=\"note\" x=\"4\" y=\"15\">0</text></svg>
+<rect class=\"u0\" x=\"170\" y=\"100\" width=\"180\" height=\"20\"/>
+<svg x=\"170\" y=\"100\" width=\"180\" height=\"20\"><text class=\"line\" x=\"4\" y=\"15\">7 -> OUT.t.out</text></svg>
+<rect class=\"row\" x=\"4\" y=\"122\" width=\"598\" height=\"1\"/>
+<svg x=\"126\" y=\"124\" width=\"44\" height=\"20\"><text class=\"note\" x=\"4\" y=\"15\">1</text></svg>
+<rect class=\"control\" x=\"170\" y=\"124\" width=\"180\" height=\"20\"/>
+<svg x=\"170\" y=\"124\" width=\"180\" height=\"20\"><text class=\"line\" x=\"4\" y=\"15\">0 -> gcu.t.halt</text></svg>
+<svg x=\"78\" y=\"100\" width=\"48\" height=\"20\"><text class=\"title\" x=\"4\" y=\"15\">L0</text></svg>
 </svg>
 ";
 
@@ -42,6 +44,12 @@ const DIGEST: &str = "words 2\nbytes 51\ndata 0\n\
 const HOTTEST: &str = "cycles 2\nbus B moves 2 share 100\nunit OUT starts 1 share 50\n\
     at 0 times 1 share 50 : 7 -> OUT.t.out ;\nat 1 times 1 share 50 : 0 -> gcu.t.halt ;\n";
 
+/// The lines that come, of which the last is not taken.
+const LINES: [&str; 5] = ["code 0", "go 9", "", "quit", "where"];
+
+/// What is replied to them.
+const REPLIES: &str = "7 -> OUT.t.out ;\nout 7\nhalted cycle 2\nbye\n";
+
 /// The words of a command line, how it ends, and how what it outputs ends. Without the latter it
 /// outputs nothing.
 type Case = (&'static [&'static str], Status, &'static str);
@@ -54,7 +62,7 @@ const NO_IMAGE: Status = Status::BadImage {
 
 const NO_MACHINE: Status = Status::BadMachine { line: 1, code: 10 };
 
-const CASES: [Case; 15] = [
+const CASES: [Case; 18] = [
     (&["picture", "M"], Status::Ok, "</svg>\n"),
     (&["picture", "M", "IMG"], Status::Ok, ROWS),
     (&["info", "M"], Status::Ok, RULE),
@@ -63,6 +71,13 @@ const CASES: [Case; 15] = [
     (&["profile", "M", "IMG", "IN", "x"], Status::Usage, ""),
     (&["play", "M", "IMG", "IN", "5"], Status::Ok, "</html>\n"),
     (&["play", "M", "IMG", "IN"], Status::Usage, ""),
+    (&["prompt", "M", "IMG", "IN"], Status::Ok, REPLIES),
+    (&["prompt", "M", "IMG", "IN", "IN"], Status::Ok, REPLIES),
+    (
+        &["prompt", "M", "IMG", "IN", "X"],
+        Status::ReadFault { word: 4 },
+        "",
+    ),
     (&[], Status::Usage, ""),
     (&["picture"], Status::Usage, ""),
     (&["M", "IMG"], Status::Usage, ""),
@@ -88,6 +103,7 @@ fn carry_out(
     alloc: Global,
     words: &[&str],
     files: &mut MemFiles,
+    lines: &mut MemLines,
     sink: &mut MemSink,
 ) -> Result<Status, AllocError> {
     let mut strings = Vec::new(alloc);
@@ -95,7 +111,7 @@ fn carry_out(
         drop(strings);
         return Err(e);
     }
-    let status = run(alloc, &strings, files, sink);
+    let status = run(alloc, &strings, files, lines, sink);
     drop(strings);
     status
 }
@@ -105,6 +121,14 @@ fn add_files(files: &mut MemFiles) -> Result<(), AllocError> {
     files.add("M", MACHINE.as_bytes())?;
     files.add("IMG", &IMAGE)?;
     files.add("IN", b"")
+}
+
+/// Gives the lines that come.
+fn add_lines(lines: &mut MemLines) -> Result<(), AllocError> {
+    for line in &LINES {
+        lines.add(line.as_bytes())?;
+    }
+    Ok(())
 }
 
 /// Whether words end so over these files, and what they output ends so.
@@ -118,7 +142,12 @@ fn ends_over(
     let Ok(mut sink) = MemSink::new(alloc, 10_000, Vec::new(alloc)) else {
         return Err(AllocError);
     };
-    let ended = carry_out(alloc, words, files, &mut sink);
+    let mut lines = MemLines::new(alloc, Vec::new(alloc));
+    let ended = match add_lines(&mut lines) {
+        Ok(()) => carry_out(alloc, words, files, &mut lines, &mut sink),
+        Err(e) => Err(e),
+    };
+    drop(lines);
     let is_put = sink.bytes().ends_with(output.as_bytes())
         && sink.bytes().is_empty() == output.is_empty();
     drop(sink);

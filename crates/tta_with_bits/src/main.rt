@@ -11,6 +11,7 @@ use std::rt::Env;
 use tta_bits::Bits;
 use tta_designer::{is_named, show};
 use tta_given::Status;
+use tta_lines::{Lines, RealLines};
 use tta_ops::{Arith, Compare, Divide, Logic, OpUnit, Shift, UnitSet};
 use tta_ports::{Files, RealFiles, RealSink, Sink};
 use tta_tool::tool;
@@ -33,25 +34,27 @@ fn words_of(rt: &(impl Env + AllocGlobal)) -> Result<Vec<String>, Status> {
 
 /// Carries out the words over the units: those that `show` knows by their first, and all others as
 /// `tool` does.
-fn carry_out<F: Files, S: Sink>(
+fn carry_out<F: Files, L: Lines, S: Sink>(
     alloc: Global,
     words: &Vec<String>,
     units: &UnitSet,
     files: &mut F,
+    lines: &mut L,
     sink: &mut S,
 ) -> Status {
     if is_named(words) {
-        show(alloc, words, units, files, sink)
+        show(alloc, words, units, files, lines, sink)
     } else {
         tool(alloc, words, units, files, sink)
     }
 }
 
 /// Carries out the words over the five standard units and that of `tta_bits`.
-fn run<F: Files, S: Sink>(
+fn run<F: Files, L: Lines, S: Sink>(
     alloc: Global,
     words: &Vec<String>,
     files: &mut F,
+    lines: &mut L,
     sink: &mut S,
 ) -> Result<Status, AllocError> {
     let arith: Box<dyn OpUnit> = Box::new(alloc, Arith)?;
@@ -66,16 +69,19 @@ fn run<F: Files, S: Sink>(
         return Ok(Status::NoMemory);
     }
     match UnitSet::new(alloc, boxes) {
-        Ok(units) => Ok(carry_out(alloc, words, &units, files, sink)),
+        Ok(units) => Ok(carry_out(alloc, words, &units, files, lines, sink)),
         Err(_) => Ok(Status::NoMemory),
     }
 }
 
 fn main(rt: HostRuntime) -> ExitCode {
     let mut files = RealFiles::new(&rt);
+    let mut lines = RealLines::new(&rt);
     let mut sink = RealSink::new(&rt);
     let status = match words_of(&rt) {
-        Ok(words) => run(rt.alloc(), &words, &mut files, &mut sink).unwrap_or(Status::NoMemory),
+        Ok(words) => run(rt.alloc(), &words, &mut files, &mut lines, &mut sink).unwrap_or(
+            Status::NoMemory,
+        ),
         Err(status) => status,
     };
     if status != Status::Ok {

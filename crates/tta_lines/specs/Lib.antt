@@ -1,0 +1,3 @@
+pub mod Come
+pub mod Queue
+pub mod OneLine

@@ -1,0 +1,5 @@
+pub mod Sizes
+pub mod Lines
+pub mod Shown
+pub mod Sessions
+pub mod Alike

@@ -1,0 +1,5 @@
+pub mod Own
+pub mod Texts
+pub mod Prompted
+pub mod Endings
+pub mod Laws
