@@ -1,3 +1,5 @@
 mod Pieces
 mod Rows
 mod Plain
+pub mod Knowing
+pub mod FreeLanes

@@ -1,22 +1,19 @@
 -- Names are letters, digits and '_', so XML takes them as they are.
-use Rattle.std.proofs.Common.{◌≡◌, ℕ, ◌==◌, Bool, true, false, not, List, [], Option, Some, None, slice_get, refl, sym, ap, ◌∙◌, subst, true≢false}
+use Rattle.std.proofs.Common.{◌≡◌, ℕ, ◌==◌, Bool, true, false, not, List, [], Option, Some, None, slice_get, refl, sym, ap, ◌∙◌, true≢false}
 use Rattle.std.specs.Prelude.{◌&&◌, ◌||◌}
 use Rattle.std.specs.Char.{is_ascii_alphanumeric}
-use Rattle.std.specs.List.{list_all}
 use Rattle.std.proofs.lemmas.Bool.{and_parts, eqb-true}
 use Rattle.std.proofs.lemmas.Option.{get_or_from_slice_get}
 use Rattle.tta_list.proofs.Lists.{all_weaker, list_all_weaker}
 use Rattle.tta_text.specs.Words.{is_letter, first_is, is_run, is_name}
 use Rattle.tta_ops.specs.declared.OpId.{OpId}
 use Rattle.tta_ops.specs.Units.{Units}
-use Rattle.tta_arch.specs.declared.parts.UnitOp.{UnitOp}
 use Rattle.tta_arch.specs.declared.parts.Op.{Op}
 use Rattle.tta_arch.specs.declared.parts.Op.TheVariants.{Ldw, Stw, Ldf, Stf, Out, Take, Set}
-use Rattle.tta_arch.specs.Machine.{Machine}
-use Rattle.tta_arch.specs.Rules.{IsMachine, IsMachineName, names_of}
-use Rattle.tta_arch.specs.Over.{StandsOver, is_named}
+use Rattle.tta_arch.specs.Rules.{IsMachineName, names_of}
+use Rattle.tta_arch.specs.Over.{is_named}
 use Rattle.tta_asm.specs.Parts.{op_name}
-use Rattle.tta_draw.specs.Laws.{is_plain, HasPlainNames, NamesArePlain}
+use Rattle.tta_draw.specs.Laws.{is_plain, NamesArePlain}
 
 -- a byte of a name is none that XML would read otherwise
 abbrev in_name : ℕ → Bool

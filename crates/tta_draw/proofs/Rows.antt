@@ -1,15 +1,19 @@
 -- Texts that a loop makes piece by piece, and what legal code says of its instructions.
-use Rattle.std.proofs.Common.{◌≡◌, ◌≤◌, ℕ, zero, suc, ◌+◌, List, [], ◌∷◌, ◌++◌, length, sym, ap, ◌∙◌, arith}
+use Rattle.std.proofs.Common.{◌≡◌, ◌≤◌, ◌<◌, ℕ, Bool, false, refl, if◌then◌else◌, zero, suc, ◌+◌, List, [], ◌∷◌, ◌++◌, length, sym, ap, ◌∙◌, arith}
 use Rattle.std.specs.List.{flat_map, range_with_len}
-use Rattle.std.specs.Prelude.{IsTrue}
+use Rattle.std.specs.Prelude.{IsTrue, slice_index_or}
 use Rattle.std.specs.List.{All, AllByRecursion}
 use Rattle.std.proofs.lemmas.Bool.{eqb-true}
 use Rattle.std.proofs.lemmas.List.{append-nil, append_assoc}
 use Rattle.std.proofs.lemmas.List.Elements.{All-nil, All-cons}
 use Rattle.std.proofs.lemmas.Grind.{flat_map-append}
 use Rattle.tta_arch.specs.Machine.{Machine}
+use Rattle.tta_arch.specs.Fields.{numbers}
 use Rattle.tta_code.specs.declared.code.Instruction.{Instruction}
 use Rattle.tta_code.specs.Legal.{is_legal}
+use Rattle.tta_draw.specs.declared.targets.Jump.{Jump}
+use Rattle.tta_draw.specs.Arrows.{has_label}
+use Rattle.tta_draw.specs.CodePicture.{label_row_text, labels_text}
 use Rattle.tta_code.proofs.LegalParts.{legal_parts}
 
 -- one number more at the end of others
@@ -29,6 +33,22 @@ number_more text old new start n more was =
     ap (flat_map text) (range_more 0 n n (omega arith)) ∙ flat_map-append text (range_with_len 0 n) (n ∷ [])
     ∙ ap (λ (t : List ℕ). before ++ t) (append-nil (text n)) in
     more ∙ ap (λ (t : List ℕ). t ++ text n) was ∙ append_assoc start before (text n) ∙ ap (λ (t : List ℕ). start ++ t) (sym end)
+
+-- texts that are the same for each number
+range_same : (f g : ℕ → List ℕ) (a n : ℕ) → ((k : ℕ) → k < a + n → f k ≡ g k) → flat_map f (range_with_len a n) ≡ flat_map g (range_with_len a n)
+range_same f g a zero same = refl
+range_same f g a (suc n) same =
+    rw (same a (omega arith), range_same f g (a + 1) n (λ k h. same k (omega (arith, h)))) refl
+
+-- the labels of rows, by tests that are those of the rows
+pub labels-same : (labels : List Bool) (jumps : List Jump) (rows : ℕ) → length labels ≡ rows
+    → ((row : ℕ) → row < rows → slice_index_or labels row false ≡ has_label jumps row)
+    → flat_map (λ row. if slice_index_or labels row false then label_row_text row else []) (numbers (length labels)) ≡ labels_text jumps rows
+labels-same labels jumps rows size same =
+    let test : (Bool → ℕ → List ℕ) = λ b row. if b then label_row_text row else [] in
+    ap (λ (n : ℕ). flat_map (λ row. test (slice_index_or labels row false) row) (numbers n)) size
+    ∙ range_same (λ row. test (slice_index_or labels row false) row) (λ row. test (has_label jumps row) row) 0 rows
+    (λ k h. ap (λ b. test b k) (same k (omega (arith, h))))
 
 -- an instruction that a machine can carry out has a slot for each bus, so at most 16
 pub few_slots : (m : Machine) (words : List Instruction) → length m.buses ≤ 16 → AllByRecursion (λ i. IsTrue (is_legal m i)) words

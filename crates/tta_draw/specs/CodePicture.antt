@@ -1,11 +1,10 @@
 -- The picture of code: a row for each instruction, with a cell for each move, and a bar for each result under way.
-use Rattle.std.specs.Prelude.{ℕ, ◌+◌, ◌%◌, ◌==◌, if◌then◌else◌, List, [], ◌++◌, length, Option, Some, None, codes}
+use Rattle.std.specs.Prelude.{ℕ, ◌+◌, ◌%◌, ◌==◌, nat_le, if◌then◌else◌, List, [], ◌++◌, length, Option, Some, None, codes}
 use Rattle.std.specs.Option.{option_map_or}
 use Rattle.std.specs.List.{flat_map, enumerate_from}
 use Rattle.tta_ops.specs.Units.{Units}
 use Rattle.tta_arch.specs.declared.parts.Bus.{Bus}
 use Rattle.tta_arch.specs.declared.parts.Unit.{Unit as OpUnit}
-use Rattle.tta_arch.specs.declared.parts.UnitOp.{UnitOp}
 use Rattle.tta_arch.specs.declared.ends.Dest.{Dest}
 use Rattle.tta_arch.specs.declared.ends.Dest.TheVariants as dest
 use Rattle.tta_arch.specs.Machine.{Machine}
@@ -17,9 +16,13 @@ use Rattle.tta_code.specs.declared.code.Instruction.{Instruction}
 use Rattle.tta_code.specs.declared.code.Long.{Long}
 use Rattle.tta_code.specs.declared.code.Move.{Move}
 use Rattle.tta_code.specs.Legal.{taken}
+use Rattle.tta_draw.specs.declared.targets.Jump.{Jump}
+use Rattle.tta_draw.specs.declared.lanes.Arrow.{Arrow}
+use Rattle.tta_draw.specs.Targets.{jumps_of}
+use Rattle.tta_draw.specs.Arrows.{has_label, arrows_of}
 use Rattle.tta_draw.specs.Written.{written_move, written_long}
-use Rattle.tta_draw.specs.Svg.{box_text, dot_text, label_text, count_text, head_text, tail_text}
-use Rattle.tta_draw.specs.CodePlaces.{row_y, column_x, cell_frame, long_x, long_frame, unit_x, bar_x, bar_frame, note_frame, name_frame, colour_frame, code_width, code_height, rule_frame, address_frame}
+use Rattle.tta_draw.specs.Svg.{box_text, dot_text, label_text, count_text, tip_text, head_text, tail_text}
+use Rattle.tta_draw.specs.CodePlaces.{row_y, column_x, cell_frame, long_x, long_frame, unit_x, bar_x, bar_frame, note_frame, name_frame, colour_frame, code_width, code_height, rule_frame, address_frame, label_frame, level_frame, upright_frame, tail_y, tip_y}
 
 -- the cells of the buses that a long immediate takes
 abbrev pub taken_text : Machine → (word buses : ℕ) → List ℕ
@@ -105,6 +108,41 @@ row_text u m word i =
 abbrev pub rows_text : Units → Machine → List Instruction → List ℕ
 rows_text u m words = flat_map (λ i. row_text u m i.0 i.1) (enumerate_from 0 words)
 
+-- the label of a row, which is named by its address
+unfoldable pub label_row_text : (row : ℕ) → List ℕ
+label_row_text row = count_text (codes "title") (label_frame row) (codes "L") row
+
+-- the labels of so many rows
+abbrev pub labels_text : List Jump → (rows : ℕ) → List ℕ
+labels_text jumps rows = flat_map (λ row. if has_label jumps row then label_row_text row else []) (numbers rows)
+
+-- the upright line of an arrow: from where it begins to where it ends, or the other way round
+abbrev pub upright_text : (lane from to : ℕ) → List ℕ
+upright_text lane from to =
+    if nat_le to from
+    then box_text (codes "arrow") (upright_frame lane (tip_y to) (tail_y from))
+    else box_text (codes "arrow") (upright_frame lane (tail_y from) (tip_y to))
+
+-- an arrow: out of the row of its jump into its lane, along the lane, and into the row of the target
+unfoldable pub arrow_text : Arrow → List ℕ
+arrow_text a =
+    box_text (codes "arrow") (level_frame a.lane (tail_y a.jump.from))
+    ++ (upright_text a.lane a.jump.from a.jump.to
+    ++ (box_text (codes "arrow") (level_frame a.lane (tip_y a.jump.to))
+    ++ tip_text (codes "arrow") 76 (tip_y a.jump.to + 1)))
+
+-- arrows
+abbrev pub arrows_text : List Arrow → List ℕ
+arrows_text arrows = flat_map arrow_text arrows
+
+-- the labels and the arrows of jumps among so many rows
+abbrev pub guides_text : List Jump → (rows : ℕ) → List ℕ
+guides_text jumps rows = labels_text jumps rows ++ arrows_text (arrows_of jumps)
+
+-- the rows of instructions, and over them the labels and arrows of their jumps
+unfoldable pub body_text : Units → Machine → List Instruction → List ℕ
+body_text u m words = rows_text u m words ++ guides_text (jumps_of m words) (length words)
+
 -- a line of notes
 unfoldable pub note_text : (line : ℕ) → (text : List ℕ) → List ℕ
 note_text line text = label_text (codes "note") (note_frame line) text
@@ -113,7 +151,8 @@ note_text line text = label_text (codes "note") (note_frame line) text
 unfoldable pub notes_text : List ℕ
 notes_text =
     note_text 0 (codes "A row is an instruction, a column a bus or the results of a unit.")
-    ++ note_text 1 (codes "A bar ends where its result shows, if no jump comes between.")
+    ++ (note_text 1 (codes "A bar ends where its result shows, if no jump comes between.")
+    ++ note_text 2 (codes "Arrows lead to targets of jumps and calls: a word, or the long immediate above."))
 
 -- the name of a bus
 abbrev pub bus_column_text : (bus : ℕ) → Bus → List ℕ
@@ -140,8 +179,8 @@ long_column_text m = label_text (codes "title") (name_frame (long_x m) 140) (cod
 unfoldable pub columns_text : Machine → List ℕ
 columns_text m = bus_columns_text m.buses ++ (long_column_text m ++ unit_columns_text m m.units)
 
--- the picture of code for a machine: how to read it, the names of the columns, and a row for each instruction
+-- the picture of code for a machine: how to read it, the names of the columns, a row for each instruction, labels and arrows
 unfoldable pub picture_of_code : Units → Machine → Code → List ℕ
 picture_of_code u m code =
     head_text (code_width m) (code_height (length code.words))
-    ++ (notes_text ++ (columns_text m ++ (rows_text u m code.words ++ tail_text)))
+    ++ (notes_text ++ (columns_text m ++ (body_text u m code.words ++ tail_text)))

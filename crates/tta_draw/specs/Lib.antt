@@ -2,6 +2,9 @@ pub mod Svg
 pub mod Written
 pub mod MachinePlaces
 pub mod MachinePicture
+pub mod Targets
+pub mod Known
+pub mod Arrows
 pub mod CodePlaces
 pub mod CodePicture
 pub mod Laws

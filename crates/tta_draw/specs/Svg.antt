@@ -54,6 +54,10 @@ frame x y width height = record { x = x; y = y; width = width; height = height }
 unfoldable pub pair_text : (first second : ℕ) → List ℕ
 pair_text first second = decimal first ++ (codes " " ++ decimal second)
 
+-- the tip of an arrow of a class, which points to the right, by its point
+unfoldable pub tip_text : (class : List ℕ) → (x y : ℕ) → List ℕ
+tip_text class x y = codes "<path class=\"" ++ (class ++ (codes "\" d=\"M" ++ (pair_text x y ++ codes "l-8-4v8z\"/>\n")))
+
 -- that the measures of a picture of some size are its own
 unfoldable pub measures_text : (width height : ℕ) → List ℕ
 measures_text width height = codes " viewBox=\"0 0 " ++ (pair_text width height ++ codes "\"")
@@ -65,7 +69,7 @@ view_text width height = size_text width height ++ measures_text width height
 -- the look of each class
 unfoldable pub style_text : List ℕ
 style_text =
-    codes "<style>\n.ground{fill:#fff}text{font:11px monospace;fill:#1f2933}.title{font-weight:bold}.note{fill:#616e7c}\n.bus{fill:#3e4c59}.part{fill:#f5f7fa;stroke:#9aa5b1}.in{fill:#2b6cb0}.out{fill:#c05621}.takes{fill:#7b8794}\n.row{fill:#000;opacity:.1}.move{fill:#f5f7fa}.control{fill:#fde2e2}.taken{fill:#e4e7eb}.long{fill:#e4e7eb}\n.u0{fill:#dbeafe}.u1{fill:#fef3c7}.u2{fill:#d1fae5}.u3{fill:#fce7f3}.u4{fill:#e9d8fd}.u5{fill:#ffe4cc}\n.b0{fill:#3b82f6}.b1{fill:#d69e2e}.b2{fill:#38a169}.b3{fill:#d53f8c}.b4{fill:#805ad5}.b5{fill:#dd6b20}</style>\n"
+    codes "<style>\n.ground{fill:#fff}text{font:11px monospace;fill:#1f2933}.title{font-weight:bold}.note{fill:#616e7c}\n.bus{fill:#3e4c59}.part{fill:#f5f7fa;stroke:#9aa5b1}.in{fill:#2b6cb0}.out{fill:#c05621}.takes{fill:#7b8794}\n.row{fill:#000;opacity:.1}.move{fill:#f5f7fa}.control{fill:#fde2e2}.taken{fill:#e4e7eb}.long{fill:#e4e7eb}.arrow{fill:#7b8794}\n.u0{fill:#dbeafe}.u1{fill:#fef3c7}.u2{fill:#d1fae5}.u3{fill:#fce7f3}.u4{fill:#e9d8fd}.u5{fill:#ffe4cc}\n.b0{fill:#3b82f6}.b1{fill:#d69e2e}.b2{fill:#38a169}.b3{fill:#d53f8c}.b4{fill:#805ad5}.b5{fill:#dd6b20}</style>\n"
 
 -- how a picture of some size begins: its frame, the look of each class, and a white ground
 unfoldable pub head_text : (width height : ℕ) → List ℕ

@@ -3,7 +3,7 @@
 ghost use Rattle.std.specs.Prelude.{◌≡◌, ◌≤◌, ◌++◌, length, All, IfOk, OnOk};
 ghost use Rattle.tta_ops.specs.Set.{stated};
 ghost use Rattle.tta_code.specs.Legal.{IsLegalCode};
-ghost use Rattle.tta_draw.specs.CodePicture.{picture_of_code, notes_text, columns_text};
+ghost use Rattle.tta_draw.specs.CodePicture.{picture_of_code, body_text, notes_text, columns_text};
 ghost use Rattle.tta_draw.specs.CodePicture.{bus_column_text, bus_columns_text, unit_column_text};
 ghost use Rattle.tta_draw.specs.CodePicture.{unit_columns_text, note_text, long_column_text};
 
@@ -12,6 +12,7 @@ use crate::cells::push_rows;
 use crate::code_places::{
     code_height, code_width, colour_frame, column_x, long_x, name_frame, note_frame, unit_x,
 };
+use crate::guides::push_guides;
 use crate::svg::{push_box, push_head, push_label, push_tail};
 use std::alloc::{AllocError, Global};
 use tta_arch::{Bus, Machine, Unit};
@@ -34,7 +35,7 @@ fn words_of<'c>(m: &Machine, code: &'c Code) -> &'c [Instruction]
 // Puts a line of notes.
 #[tactic(auto, unfolding(crate::specs::CodePicture::note_text))]
 fn push_note(out: &mut Vec<u8>, line: u64, text: &[u8]) -> Result<(), AllocError>
-    requires { line ≤ 1 }
+    requires { line ≤ 2 }
     ensures { OnOk result (out.new.items ≡ out.old.items ++ note_text line text.now) }
 {
     push_label(out, b"note", note_frame(line), text)
@@ -48,7 +49,9 @@ fn push_notes(out: &mut Vec<u8>) -> Result<(), AllocError>
     let columns = b"A row is an instruction, a column a bus or the results of a unit.";
     push_note(out, 0, columns)?;
     let bars = b"A bar ends where its result shows, if no jump comes between.";
-    push_note(out, 1, bars)
+    push_note(out, 1, bars)?;
+    let arrows = b"Arrows lead to targets of jumps and calls: a word, or the long immediate above.";
+    push_note(out, 2, arrows)
 }
 
 // Puts the name of a bus.
@@ -110,9 +113,28 @@ fn push_columns(out: &mut Vec<u8>, m: &Machine) -> Result<(), AllocError>
     push_unit_columns(out, m, m.units.as_slice())
 }
 
+// Puts the rows of instructions, and the labels and arrows of their jumps.
+#[tactic(auto, unfolding(crate::specs::CodePicture::body_text))]
+fn push_body(
+    out: &mut Vec<u8>,
+    alloc: Global,
+    m: &Machine,
+    set: &UnitSet,
+    words: &[Instruction],
+) -> Result<(), AllocError>
+    requires few { length words.now ≤ 65536 }
+    requires slots { All (λ i. length i.moves ≤ 16) words.now }
+    ensures { OnOk result (out.new.items ≡ out.old.items
+        ++ body_text (stated unit_meaning set.now) m.now words.now) }
+{
+    push_rows(out, set, m, words)?;
+    push_guides(out, alloc, m, words)
+}
+
 /// The picture of code for a machine, as SVG text: a row for each instruction, with a cell for each
 /// move in the column of its bus, and a bar for each result that is under way, which assumes that
-/// the instructions are carried out in order. It fails only where there is no memory.
+/// the instructions are carried out in order. Arrows lead from jumps and calls to their targets, as
+/// far as those are constants. It fails only where there is no memory.
 #[tactic(auto, unfolding(crate::specs::CodePicture::picture_of_code))]
 pub fn draw_code(
     alloc: Global,
@@ -129,7 +151,7 @@ pub fn draw_code(
     push_head(&mut out, code_width(m), code_height(words.len()))?;
     push_notes(&mut out)?;
     push_columns(&mut out, m)?;
-    push_rows(&mut out, set, m, words)?;
+    push_body(&mut out, alloc, m, set, words)?;
     push_tail(&mut out)?;
     Ok(out)
 }

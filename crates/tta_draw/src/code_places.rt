@@ -4,7 +4,8 @@ ghost use Rattle.std.specs.Prelude.{◌≡◌, ◌≤◌};
 ghost use Rattle.tta_draw.specs.CodePlaces.{row_y, column_x, cell_frame, long_x, long_frame};
 ghost use Rattle.tta_draw.specs.CodePlaces.{unit_x, bar_x, bar_frame, note_frame, name_frame};
 ghost use Rattle.tta_draw.specs.CodePlaces.{colour_frame, code_width, code_height, rule_frame};
-ghost use Rattle.tta_draw.specs.CodePlaces.{address_frame};
+ghost use Rattle.tta_draw.specs.CodePlaces.{address_frame, label_frame, lane_x, tail_y, tip_y};
+ghost use Rattle.tta_draw.specs.CodePlaces.{level_frame, upright_frame};
 
 use crate::frame::Frame;
 use tta_arch::Machine;
@@ -14,7 +15,7 @@ pub fn row_y(word: usize) -> u64
     requires { word ≤ 100000 }
     ensures { result ≡ row_y word }
 {
-    80 + 24 * word as u64
+    98 + 24 * word as u64
 }
 
 /// How far to the right the column of a bus begins.
@@ -22,7 +23,7 @@ pub fn column_x(bus: usize) -> u64
     requires { bus ≤ 16 }
     ensures { result ≡ column_x bus }
 {
-    48 + 184 * bus as u64
+    170 + 184 * bus as u64
 }
 
 /// The cell of a bus in a row.
@@ -42,7 +43,7 @@ pub fn cell_frame(word: usize, bus: usize) -> Frame
 /// The column of long immediates.
 pub fn long_x(m: &Machine) -> u64
     ensures all { result ≡ long_x m.now }
-    ensures few { result ≤ 3000 }
+    ensures few { result ≤ 4000 }
 {
     column_x(m.buses.len())
 }
@@ -92,13 +93,13 @@ pub fn bar_x(m: &Machine, word: usize, unit: u8) -> u64
 
 /// A line of notes.
 pub fn note_frame(line: u64) -> Frame
-    requires { line ≤ 1 }
+    requires { line ≤ 2 }
     ensures { result ≡ note_frame line }
 {
     Frame {
         x: 4,
         y: 4 + 18 * line,
-        width: 472,
+        width: 544,
         height: 20,
     }
 }
@@ -109,7 +110,7 @@ pub fn name_frame(x: u64, width: u64) -> Frame
 {
     Frame {
         x,
-        y: 46,
+        y: 64,
         width,
         height: 20,
     }
@@ -122,7 +123,7 @@ pub fn colour_frame(m: &Machine, unit: usize) -> Frame
 {
     Frame {
         x: unit_x(m, unit) + 4,
-        y: 68,
+        y: 86,
         width: 76,
         height: 4,
     }
@@ -162,9 +163,72 @@ pub fn address_frame(word: usize) -> Frame
     ensures { result ≡ address_frame word }
 {
     Frame {
-        x: 4,
+        x: 126,
         y: row_y(word) + 2,
         width: 44,
         height: 20,
+    }
+}
+
+/// The label of a row.
+pub fn label_frame(word: usize) -> Frame
+    requires { word ≤ 100000 }
+    ensures { result ≡ label_frame word }
+{
+    Frame {
+        x: 78,
+        y: row_y(word) + 2,
+        width: 48,
+        height: 20,
+    }
+}
+
+/// How far to the right a lane of arrows stands.
+fn lane_x(lane: u8) -> u64
+    ensures is { result ≡ lane_x lane }
+    ensures few { result ≤ 58 }
+{
+    58_u64.saturating_sub(7 * u64::from(lane))
+}
+
+/// How low in its row an arrow begins.
+pub fn tail_y(from: u16) -> u64
+    ensures is { result ≡ tail_y from }
+    ensures few { result ≤ 2000000 }
+{
+    row_y(usize::from(from)) + 16
+}
+
+/// How low in its row an arrow ends.
+pub fn tip_y(to: u16) -> u64
+    ensures is { result ≡ tip_y to }
+    ensures few { result ≤ 2000000 }
+{
+    row_y(usize::from(to)) + 8
+}
+
+/// A level line of an arrow, between its lane and the labels.
+pub fn level_frame(lane: u8, y: u64) -> Frame
+    ensures { result ≡ level_frame lane y }
+{
+    Frame {
+        x: lane_x(lane),
+        y,
+        width: 68 - lane_x(lane),
+        height: 2,
+    }
+}
+
+/// The upright line of an arrow in its lane, from its upper end to its lower.
+pub fn upright_frame(lane: u8, upper: u64, lower: u64) -> Frame
+    requires lower { upper ≤ lower }
+    requires few { lower ≤ 2000000 }
+    ensures { result ≡ upright_frame lane upper lower }
+{
+    Frame {
+        x: lane_x(lane),
+        y: upper,
+        width: 2,
+        height: lower + 2 - upper,
     }
 }

@@ -6,12 +6,15 @@ mod cells;
 mod code_picture;
 mod code_places;
 mod frame;
+mod guides;
+mod lanes;
 mod laws;
 mod machine_picture;
 mod machine_places;
 mod parts;
 mod ports;
 mod svg;
+mod targets;
 mod written;
 
 pub use code_picture::draw_code;

@@ -2,7 +2,7 @@
 
 ghost use Rattle.std.specs.Prelude.{◌≡◌, ◌++◌, codes, decimal, OnOk};
 ghost use Rattle.tta_draw.specs.Svg.{attribute, size_text, frame_text, box_text, centre_text};
-ghost use Rattle.tta_draw.specs.Svg.{circle_text, dot_text, pair_text, measures_text};
+ghost use Rattle.tta_draw.specs.Svg.{circle_text, dot_text, pair_text, tip_text, measures_text};
 ghost use Rattle.tta_draw.specs.Svg.{label_start, label_end, label_text, count_text, view_text};
 ghost use Rattle.tta_draw.specs.Svg.{style_text, head_text, tail_text};
 
@@ -149,6 +149,18 @@ fn push_pair(out: &mut Vec<u8>, first: u64, second: u64) -> Result<(), AllocErro
     push_number(out, second)
 }
 
+/// Puts the tip of an arrow of a class, which points to the right, by its point.
+#[tactic(auto, unfolding(crate::specs::Svg::tip_text))]
+pub fn push_tip(out: &mut Vec<u8>, class: &[u8], x: u64, y: u64) -> Result<(), AllocError>
+    ensures { OnOk result (out.new.items ≡ out.old.items ++ tip_text class.now x y) }
+{
+    out.extend_from_slice(b"<path class=\"")?;
+    out.extend_from_slice(class)?;
+    out.extend_from_slice(b"\" d=\"M")?;
+    push_pair(out, x, y)?;
+    out.extend_from_slice(b"l-8-4v8z\"/>\n")
+}
+
 // Puts that the measures of a picture of some size are its own.
 #[tactic(auto, unfolding(crate::specs::Svg::measures_text))]
 fn push_measures(out: &mut Vec<u8>, width: u64, height: u64) -> Result<(), AllocError>
@@ -177,7 +189,7 @@ fn push_style(out: &mut Vec<u8>) -> Result<(), AllocError>
         b"<style>\n\
         .ground{fill:#fff}text{font:11px monospace;fill:#1f2933}.title{font-weight:bold}.note{fill:#616e7c}\n\
         .bus{fill:#3e4c59}.part{fill:#f5f7fa;stroke:#9aa5b1}.in{fill:#2b6cb0}.out{fill:#c05621}.takes{fill:#7b8794}\n\
-        .row{fill:#000;opacity:.1}.move{fill:#f5f7fa}.control{fill:#fde2e2}.taken{fill:#e4e7eb}.long{fill:#e4e7eb}\n\
+        .row{fill:#000;opacity:.1}.move{fill:#f5f7fa}.control{fill:#fde2e2}.taken{fill:#e4e7eb}.long{fill:#e4e7eb}.arrow{fill:#7b8794}\n\
         .u0{fill:#dbeafe}.u1{fill:#fef3c7}.u2{fill:#d1fae5}.u3{fill:#fce7f3}.u4{fill:#e9d8fd}.u5{fill:#ffe4cc}\n\
         .b0{fill:#3b82f6}.b1{fill:#d69e2e}.b2{fill:#38a169}.b3{fill:#d53f8c}.b4{fill:#805ad5}.b5{fill:#dd6b20}</style>\n\
         ",

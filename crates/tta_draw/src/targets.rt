@@ -1,0 +1,203 @@
+//! Where the jumps and calls of code lead, as far as its text shows it.
+
+ghost use Rattle.std.specs.Prelude.{◌≡◌, ◌≤◌, ◌<◌, ◌==◌, ◌&&◌, ◌++◌, ℕ, Some, if◌then◌else◌, [], length};
+ghost use Rattle.std.specs.Prelude.{slice_get, option_and_then, IfOk, OnOk};
+ghost use Rattle.std.specs.Option.{option_map_or};
+ghost use Rattle.tta_arch.specs.Effects.{first_some};
+ghost use Rattle.tta_draw.specs.Targets.{leads, leading, source_word, target_of, jump_to};
+ghost use Rattle.tta_draw.specs.Targets.{jumps_of};
+ghost use Rattle.tta_draw.specs.Known.{is_of, known_word, learned, wrote};
+
+use std::alloc::{AllocError, Global};
+use tta_arch::{Dest, Machine, Source};
+use tta_code::{Instruction, Long, Move};
+
+/// A jump or call by its row, and the row that it leads to.
+#[derive(Clone, Copy, Debug, PartialEq, Eq)]
+pub struct Jump {
+    pub from: u16,
+    pub to: u16,
+}
+
+/// The word that was written last into an immediate register.
+#[derive(Clone, Copy, Debug, PartialEq, Eq)]
+pub struct Known {
+    pub unit: u8,
+    pub index: u8,
+    pub word: u32,
+}
+
+/// Whether a move into this destination jumps or calls.
+fn leads(dst: Dest) -> bool
+    ensures { result ≡ leads dst }
+{
+    match dst {
+        Dest::Jump | Dest::Call => true,
+        Dest::Halt | Dest::Reg { .. } | Dest::Operand { .. } | Dest::Trigger { .. } => false,
+    }
+}
+
+/// The move of a slot, if it jumps or calls.
+fn leading(slot: Option<Move>) -> Option<Move>
+    ensures { result ≡ leading slot }
+{
+    match slot {
+        None => None,
+        Some(v) => { if leads(v.dst) { Some(v) } else { None } }
+    }
+}
+
+/// The first move that jumps or calls.
+fn jump_in(slots: &[Option<Move>]) -> Option<Move>
+    ensures { result ≡ first_some leading slots.now }
+{
+    for slot in slots {
+        if let Some(v) = leading(*slot) {
+            return Some(v);
+        }
+    }
+    None
+}
+
+/// Whether a word is that of an immediate register.
+fn is_of(k: Known, unit: u8, index: u8) -> bool
+    ensures { result ≡ is_of unit index k }
+{
+    k.unit == unit && k.index == index
+}
+
+/// The word of an immediate register, if it is known.
+fn word_of(known: &[Known], unit: u8, index: u8) -> Option<u32>
+    ensures { result ≡ known_word known.now unit index }
+{
+    for k in known {
+        if is_of(*k, unit, index) {
+            return Some(k.word);
+        }
+    }
+    None
+}
+
+/// The word of a source, where it is known.
+fn source_word(known: &[Known], src: Source) -> Option<u32>
+    ensures { result ≡ source_word (known_word known.now) src }
+{
+    match src {
+        Source::Value(word) => Some(word),
+        Source::Imm { unit, index } => word_of(known, unit, index),
+        Source::Reg { .. } | Source::Shown { .. } | Source::Ra => None,
+    }
+}
+
+/// Where an instruction leads that jumps or calls, where it is known.
+fn target_of(known: &[Known], i: &Instruction) -> Option<u32>
+    ensures { result ≡ target_of (known_word known.now) i.now }
+{
+    match jump_in(i.moves.as_slice()) {
+        None => None,
+        Some(v) => source_word(known, v.src),
+    }
+}
+
+/// Keeps a word that is written into an immediate register, in place of what it had before.
+fn learn(known: &mut Vec<Known>, news: Known) -> Result<(), AllocError>
+    ensures { OnOk result (known.new.items ≡ learned news known.old.items) }
+{
+    for place in 0..known.len() {
+        if is_of(known[place], news.unit, news.index) {
+            known[place] = news;
+            return Ok(());
+        }
+    }
+    known.push(news)?;
+    Ok(())
+}
+
+/// What a long immediate writes.
+fn wrote(m: &Machine, long: Option<Long>) -> Option<Known>
+    ensures { result ≡ wrote m.now long }
+{
+    let Some(l) = long else {
+        return None;
+    };
+    match m.templates.as_slice().get(usize::from(l.template)) {
+        None => None,
+        Some(t) => Some(Known {
+            unit: t.imm,
+            index: t.reg,
+            word: l.value,
+        }),
+    }
+}
+
+/// Keeps what a long immediate writes, if there is one.
+fn learn_from(known: &mut Vec<Known>, m: &Machine, long: Option<Long>) -> Result<(), AllocError>
+    ensures { OnOk result
+        (known.new.items ≡ option_map_or (λ k. learned k known.old.items) (wrote m.now long) known.old.items) }
+{
+    match wrote(m, long) {
+        None => Ok(()),
+        Some(news) => learn(known, news),
+    }
+}
+
+/// Puts the jump from a row to a target, if that is known and one of so many rows.
+fn push_jump(
+    jumps: &mut Vec<Jump>,
+    rows: usize,
+    from: usize,
+    target: Option<u32>,
+) -> Result<(), AllocError>
+    requires rows { rows ≤ 65536 }
+    requires from { from < rows }
+    ensures { OnOk result (jumps.new.items ≡ jumps.old.items ++ jump_to rows from target) }
+{
+    let Some(to) = target else {
+        return Ok(());
+    };
+    if (to as usize) < rows {
+        jumps.push(Jump {
+            from: from as u16,
+            to: to as u16,
+        })?;
+    }
+    Ok(())
+}
+
+/// Puts the jumps of rows.
+fn push_jumps(
+    jumps: &mut Vec<Jump>,
+    known: &mut Vec<Known>,
+    m: &Machine,
+    words: &[Instruction],
+) -> Result<(), AllocError>
+    requires few { length words.now ≤ 65536 }
+    requires known { known.old.items ≡ [] }
+    ensures { OnOk result (jumps.new.items ≡ jumps.old.items ++ jumps_of m.now words.now) }
+{
+    let rows = words.len();
+    for (from, i) in words.iter().enumerate() {
+        let target = target_of(known.as_slice(), i);
+        push_jump(jumps, rows, from, target)?;
+        learn_from(known, m, i.long)?;
+    }
+    Ok(())
+}
+
+/// The jumps and calls of code whose targets are known and stand in the code, row by row.
+pub fn jumps_of(alloc: Global, m: &Machine, words: &[Instruction]) -> Result<Vec<Jump>, AllocError>
+    requires { length words.now ≤ 65536 }
+    ensures { IfOk result (λ v. v.items ≡ jumps_of m.now words.now) }
+{
+    let mut jumps = Vec::new(alloc);
+    let mut known = Vec::new(alloc);
+    let done = push_jumps(&mut jumps, &mut known, m, words);
+    drop(known);
+    match done {
+        Ok(()) => Ok(jumps),
+        Err(e) => {
+            drop(jumps);
+            Err(e)
+        }
+    }
+}
