@@ -17,9 +17,9 @@ pub fn bound_of(word: &[u8]) -> Option<u64>
 }
 
 /// The value of one to `most` decimal digits, where each byte is one and the value is below the
-/// limit.
+/// limit. `None` for any other word.
 #[tactic(auto, unfolding(tta_text::specs::Numbers::digits_of))]
-fn digits_of(word: &[u8], most: usize, limit: u64) -> Option<u64>
+pub fn digits_of(word: &[u8], most: usize, limit: u64) -> Option<u64>
     requires some { 0 < limit }
     requires few { limit ≤ 2 ^ 48 }
     ensures value { result ≡ digits_of 10 most limit word.now }

@@ -15,7 +15,7 @@ mod source;
 mod status;
 mod write;
 
-pub use bound::bound_of;
+pub use bound::{bound_of, digits_of};
 pub use image::{image_of_whole, whole_file};
 pub use input::{Given, given_files, input_file, stream_file};
 pub use machine::{MachineFile, data_words, described, machine_file};

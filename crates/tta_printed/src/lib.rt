@@ -8,3 +8,4 @@ mod words;
 
 pub use laws::{printed_is_read, texts_are_readable};
 pub use print::print_program;
+pub use steps::push_step;
