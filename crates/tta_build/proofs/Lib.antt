@@ -5,6 +5,7 @@ pub mod Served
 pub mod Only
 pub mod Sorted
 pub mod Placements
+pub mod Along
 pub mod Shortest
 pub mod Standing
 pub mod CoveredCode

@@ -1,6 +1,8 @@
 -- Candidates of a block, and those that come of a list that may be placed for the block's.
 use Rattle.std.proofs.Common.{◌≡◌, ℕ, zero, suc, Bool, true, List, [], ◌∷◌, ◌++◌, Option, Some, None, refl, sym, ap, ◌∙◌, subst, slice_get}
-use Rattle.std.specs.Prelude.{IfSome, option_to_list}
+use Rattle.std.specs.Prelude.{◌⊎◌, false, IfSome, option_map, option_to_list}
+use Rattle.std.proofs.Common.{inl, inr}
+use Rattle.std.proofs.lemmas.Option.{slice_get-map}
 use Rattle.std.specs.List.{list_all}
 use Rattle.std.proofs.lemmas.Bool.{and_from}
 use Rattle.std.proofs.lemmas.List.{append_assoc}
@@ -8,108 +10,203 @@ use Rattle.tta_arch.specs.Machine.{Machine}
 use Rattle.tta_moves.specs.declared.items.BlockList.{BlockList}
 use Rattle.tta_moves.specs.declared.items.Item.{Item}
 use Rattle.tta_moves.specs.Slots.{is_list}
-use Rattle.tta_list.proofs.Lists.{slice_get-longer}
 use Rattle.tta_optim.specs.Kept.{IsStandIn}
 use Rattle.tta_optim.specs.Passes.{optimise_items}
 use Rattle.tta_optim.proofs.StandIns.{stands_itself, stand_in_next}
 use Rattle.tta_compose.specs.Compiler.{optimised}
 use Rattle.tta_compose.proofs.Composed.{optimised_stand}
-use Rattle.tta_build.specs.Candidates.{IsCandidate, AddsCandidates, AreCandidates}
+use Rattle.tta_build.specs.Candidates.{IsCandidate}
+use Rattle.tta_build.specs.declared.candidates.Order.{Order}
+use Rattle.tta_build.specs.declared.candidates.Order.TheVariants.{Plain, Items, Groups}
+use Rattle.tta_build.specs.declared.candidates.Candidate.{Candidate}
+use Rattle.tta_build.specs.Ways.{IsReordered, IsGrouped, Comes, Begins, CameBy, lists_of, candidates_by, IsMadeOf, AddsCandidates, AreOfBlock}
 
 -- what the passes make of a list that may be placed for the block's is a candidate
 pub candidate : (m : Machine) (b other : BlockList) → IsStandIn m b other → IsCandidate m b (optimised m other)
 candidate m b other stands = let made = optimised_stand m b other stands in record { stands = made.0; forms = made.1 }
 
--- the same of a list that is equal to that, part by part
-pub made : (m : Machine) (b other r : BlockList) → IsStandIn m b other → r.items ≡ optimise_items m other.live_out other.items → r.live_out ≡ other.live_out
-    → IsCandidate m b r
-made m b other r stands items live = subst (IsCandidate m b) (sym same) (candidate m b other stands) where
-  same : r ≡ optimised m other
-  same =
-      ap (λ (xs : List Item). record { items = xs; live_out = r.live_out }) items
-      ∙ ap (λ (l : List (ℕ × ℕ)). record { items = optimise_items m other.live_out other.items; live_out = l }) live
+-- a list is what the passes make of another where it is so part by part
+pub same_list : (m : Machine) (other r : BlockList) → r.items ≡ optimise_items m other.live_out other.items → r.live_out ≡ other.live_out → r ≡ optimised m other
+same_list m other r items live =
+    ap (λ (xs : List Item). record { items = xs; live_out = r.live_out }) items
+    ∙ ap (λ (l : List (ℕ × ℕ)). record { items = optimise_items m other.live_out other.items; live_out = l }) live
 
 -- a candidate of a list that may be placed for the block's is a candidate of the block
 pub candidate_next : (m : Machine) (b other r : BlockList) → IsStandIn m b other → IsCandidate m other r → IsCandidate m b r
 candidate_next m b other r stands is = record { stands = stand_in_next m b other r stands is.stands; forms = is.forms }
 
--- ---- what comes of a list
+-- ---- what comes of a list by a way
 
--- some lists that may be placed for it
-abbrev Each : (m : Machine) (b : BlockList) (lists : List BlockList) → Type 0
-Each m b lists = (k : ℕ) (l : BlockList) → slice_get lists k ≡ Some l → IsCandidate m b l
+-- a list in another order, after the passes, is a candidate of it
+pub reordered_candidate : (m : Machine) (list l : BlockList) → IsReordered m list l → IsCandidate m list l
+reordered_candidate m list l is = subst (IsCandidate m list) (sym is.passed) (candidate m list is.order is.stands)
 
-each_some : (m : Machine) (b : BlockList) (o : Option BlockList) → IfSome o (λ r. IsCandidate m b r) → Each m b (option_to_list o)
-each_some m b None is k l e = absurd cc
-each_some m b (Some r) is zero l e = let same : r ≡ l = cc in subst (IsCandidate m b) same is
-each_some m b (Some r) is (suc k) l e = absurd cc
+-- what the passes make of such an order, part by part
+pub reordered : (m : Machine) (list other r : BlockList) → IsStandIn m list other → r.items ≡ optimise_items m other.live_out other.items
+    → r.live_out ≡ other.live_out → IsReordered m list r
+reordered m list other r stands items live = record { order = other; stands = stands; passed = same_list m other r items live }
 
-each_more : (m : Machine) (b : BlockList) (xs ys : List BlockList) → Each m b xs → Each m b ys → Each m b (xs ++ ys)
-each_more m b [] ys one other k l e = other k l e
-each_more m b (x ∷ xs) ys one other zero l e = one zero l e
-each_more m b (x ∷ xs) ys one other (suc k) l e = each_more m b xs ys (λ i y f. one (suc i) y f) other k l e
+-- a list after the passes is a candidate of it
+plain_candidate : (m : Machine) (list l : BlockList) → l ≡ optimised m list → IsCandidate m list l
+plain_candidate m list l is = subst (IsCandidate m list) (sym is) (candidate m list list (stands_itself m list))
+
+-- so is what comes of it by any order
+pub comes_candidate : (m : Machine) (o : Order) (list l : BlockList) → Comes m o list l → IsCandidate m list l
+comes_candidate m Plain list l is = plain_candidate m list l is
+comes_candidate m Items list l is =
+    candidate_next m list (optimised m list) l (plain_candidate m list (optimised m list) refl).stands (reordered_candidate m (optimised m list) l is)
+comes_candidate m Groups list l is = by is.next where
+  first : IsCandidate m list is.groups
+  first = reordered_candidate m list is.groups is.first
+
+  by : (l ≡ is.groups) ⊎ IsReordered m is.groups l → IsCandidate m list l
+  by (inl same) = subst (IsCandidate m list) (sym same) first
+  by (inr next) = candidate_next m list is.groups l first.stands (reordered_candidate m is.groups l next)
+
+-- the list in which a block's loads are served, or its own, may be placed for the block's
+begins_stands : (m : Machine) (served : Bool) (b list : BlockList) → Begins m served b list → IsStandIn m b list
+begins_stands m true b list is = is
+begins_stands m false b list is = subst (IsStandIn m b) (sym is) (stands_itself m b)
+
+-- ---- candidates with their ways
+
+abbrev Each : (m : Machine) (served : Bool) (list : BlockList) (cs : List Candidate) → Type 0
+Each m served list cs = (k : ℕ) (c : Candidate) → slice_get cs k ≡ Some c → IsMadeOf m served list c
+
+each_more : (m : Machine) (served : Bool) (list : BlockList) (xs ys : List Candidate) → Each m served list xs → Each m served list ys → Each m served list (xs ++ ys)
+each_more m served list [] ys one other k c e = other k c e
+each_more m served list (x ∷ xs) ys one other zero c e = one zero c e
+each_more m served list (x ∷ xs) ys one other (suc k) c e = each_more m served list xs ys (λ i y f. one (suc i) y f) other k c e
+
+-- the candidates of a list by an order, if there is one
+abbrev some_by : (served : Bool) → Order → Option BlockList → List Candidate
+some_by served o one = candidates_by served o (option_to_list one)
+
+each_some : (m : Machine) (served : Bool) (o : Order) (list : BlockList) (one : Option BlockList) → IfSome one (λ r. Comes m o list r)
+    → Each m served list (some_by served o one)
+each_some m served o list None is k c e = absurd cc
+each_some m served o list (Some r) is zero c e =
+    let same : record { way = record { served = served; order = o }; list = r } ≡ c = cc in
+    subst (IsMadeOf m served list) same (record { served_so = refl; comes = is })
+each_some m served o list (Some r) is (suc k) c e = absurd cc
 
 -- from what a list becomes by items, as it is after the passes, and by groups
-pub adds : (m : Machine) (list plain : BlockList) (one other : Option BlockList) (old first next new : List BlockList)
+pub adds : (m : Machine) (served : Bool) (list plain : BlockList) (one other : Option BlockList) (old first next new : List Candidate)
     → plain.items ≡ optimise_items m list.live_out list.items → plain.live_out ≡ list.live_out
-    → IfSome one (λ r. IsCandidate m plain r) → IfSome other (λ r. IsCandidate m list r)
-    → first ≡ old ++ plain ∷ [] → next ≡ first ++ option_to_list one → new ≡ next ++ option_to_list other → AddsCandidates m list old new
-adds m list plain one other old first next new items live by_items by_groups a b c = record {
-  more = option_to_list one ++ option_to_list other;
+    → IfSome one (λ r. IsReordered m plain r) → IfSome other (λ r. IsGrouped m list r)
+    → first ≡ old ++ record { way = record { served = served; order = Plain }; list = plain } ∷ []
+    → next ≡ first ++ some_by served Items one → new ≡ next ++ some_by served Groups other → AddsCandidates m served list old new
+adds m served list plain one other old first next new items live by_items by_groups a b c = record {
+  first = own;
+  more = some_by served Items one ++ some_by served Groups other;
   are = all;
-  each = each_more m list (option_to_list one) (option_to_list other) (λ k l e. candidate_next m list plain l stands (each_some m plain one by_items k l e))
-      (each_some m list other by_groups);
+  plain = same;
+  made = record { served_so = refl; comes = same };
+  each = each_more m served list (some_by served Items one) (some_by served Groups other)
+      (each_some m served Items list one (subst (λ (x : BlockList). IfSome one (λ r. IsReordered m x r)) same by_items))
+      (each_some m served Groups list other by_groups);
 } where
+  own : Candidate
+  own = record { way = record { served = served; order = Plain }; list = plain }
+
   same : plain ≡ optimised m list
-  same =
-      ap (λ (xs : List Item). record { items = xs; live_out = plain.live_out }) items
-      ∙ ap (λ (l : List (ℕ × ℕ)). record { items = optimise_items m list.live_out list.items; live_out = l }) live
+  same = same_list m list plain items live
 
-  stands : IsStandIn m list plain
-  stands = (made m list list plain (stands_itself m list) items live).stands
-
-  all : new ≡ old ++ optimised m list ∷ (option_to_list one ++ option_to_list other)
+  all : new ≡ old ++ own ∷ (some_by served Items one ++ some_by served Groups other)
   all =
       c
-      ∙ ap (λ (xs : List BlockList). xs ++ option_to_list other)
-      (b ∙ ap (λ (xs : List BlockList). xs ++ option_to_list one) (a ∙ ap (λ (x : BlockList). old ++ x ∷ []) same))
-      ∙ ap (λ (xs : List BlockList). xs ++ option_to_list other) (append_assoc old (optimised m list ∷ []) (option_to_list one))
-      ∙ append_assoc old (optimised m list ∷ option_to_list one) (option_to_list other)
+      ∙ ap (λ (xs : List Candidate). xs ++ some_by served Groups other) (b ∙ ap (λ (xs : List Candidate). xs ++ some_by served Items one) a)
+      ∙ ap (λ (xs : List Candidate). xs ++ some_by served Groups other) (append_assoc old (own ∷ []) (some_by served Items one))
+      ∙ append_assoc old (own ∷ some_by served Items one) (some_by served Groups other)
 
 -- and from what it is after the passes alone
-pub adds_plain : (m : Machine) (list plain : BlockList) (old new : List BlockList) → plain.items ≡ optimise_items m list.live_out list.items
-    → plain.live_out ≡ list.live_out → new ≡ old ++ plain ∷ [] → AddsCandidates m list old new
-adds_plain m list plain old new items live is =
-    adds m list plain None None old new new new items live tt tt is (sym (append_none new)) (sym (append_none new))
+pub adds_plain : (m : Machine) (served : Bool) (list plain : BlockList) (old new : List Candidate) → plain.items ≡ optimise_items m list.live_out list.items
+    → plain.live_out ≡ list.live_out → new ≡ old ++ record { way = record { served = served; order = Plain }; list = plain } ∷ []
+    → AddsCandidates m served list old new
+adds_plain m served list plain old new items live is =
+    adds m served list plain None None old new new new items live tt tt is (sym (append_none new)) (sym (append_none new))
   where
-    append_none : (xs : List BlockList) → xs ++ [] ≡ xs
+    append_none : (xs : List Candidate) → xs ++ [] ≡ xs
     append_none [] = refl
-    append_none (x ∷ xs) = ap (λ (ys : List BlockList). x ∷ ys) (append_none xs)
+    append_none (x ∷ xs) = ap (λ (ys : List Candidate). x ∷ ys) (append_none xs)
+
+-- ---- the candidates of a block
+
+-- what is made of a block's list, served or not, is a candidate of the block and came by its way
+made_of_block : (m : Machine) (served : Bool) (b list : BlockList) (c : Candidate) → Begins m served b list → IsMadeOf m served list c
+    → IsCandidate m b c.list × CameBy m c.way b c.list
+made_of_block m served b list c begins made = (
+  candidate_next m b list c.list (begins_stands m served b list begins) (comes_candidate m c.way.order list c.list made.comes),
+  record {
+    list = list;
+    begins = subst (λ (s : Bool). Begins m s b list) (sym made.served_so) begins;
+    comes = made.comes;
+  },
+)
+
+-- some candidates of a block, each of which came by its way
+abbrev AllOfBlock : (m : Machine) (b : BlockList) (cs : List Candidate) → Type 0
+AllOfBlock m b cs = (k : ℕ) (c : Candidate) → slice_get cs k ≡ Some c → IsCandidate m b c.list × CameBy m c.way b c.list
+
+all_added : (m : Machine) (served : Bool) (b list : BlockList) (first : Candidate) (more : List Candidate) → Begins m served b list
+    → IsMadeOf m served list first → Each m served list more → AllOfBlock m b (first ∷ more)
+all_added m served b list first more begins made each zero c e =
+    let same : first ≡ c = cc in made_of_block m served b list c begins (subst (IsMadeOf m served list) same made)
+all_added m served b list first more begins made each (suc k) c e = made_of_block m served b list c begins (each k c e)
+
+all_more : (m : Machine) (b : BlockList) (xs ys : List Candidate) → AllOfBlock m b xs → AllOfBlock m b ys → AllOfBlock m b (xs ++ ys)
+all_more m b [] ys one other k c e = other k c e
+all_more m b (x ∷ xs) ys one other zero c e = one zero c e
+all_more m b (x ∷ xs) ys one other (suc k) c e = all_more m b xs ys (λ i y f. one (suc i) y f) other k c e
+
+-- an element of the lists is that of a candidate
+list_there : (cs : List Candidate) (k : ℕ) (l : BlockList) → slice_get (lists_of cs) k ≡ Some l → (c : Candidate) × (slice_get cs k ≡ Some c) × (c.list ≡ l)
+list_there [] k l e = absurd cc
+list_there (c ∷ cs) zero l e = (c, refl, cc)
+list_there (c ∷ cs) (suc k) l e = list_there cs k l e
+
+of_block : (m : Machine) (b : BlockList) (first : Candidate) (more : List Candidate) → first.list ≡ optimised m b → AllOfBlock m b (first ∷ more)
+    → AreOfBlock m b (first ∷ more)
+of_block m b first more plain all = record {
+  are = record { first = ap Some plain; each = each };
+  came = λ k c e. (all k c e).1;
+} where
+  each : (k : ℕ) (l : BlockList) → slice_get (lists_of (first ∷ more)) k ≡ Some l → IsCandidate m b l
+  each k l e =
+      let h = list_there (first ∷ more) k l e in
+      subst (IsCandidate m b) h.2 (all k h.0 h.1).0
 
 -- so a block's own list has the block's candidates
-pub own_candidates : (m : Machine) (b : BlockList) (old new : List BlockList) → old ≡ [] → AddsCandidates m b old new → AreCandidates m b new
+pub own_candidates : (m : Machine) (b : BlockList) (old new : List Candidate) → old ≡ [] → AddsCandidates m false b old new → AreOfBlock m b new
 own_candidates m b old new none adds =
-    subst (AreCandidates m b) (sym (adds.are ∙ ap (λ (xs : List BlockList). xs ++ optimised m b ∷ adds.more) none)) (record { first = refl; each = each }) where
-      each : (k : ℕ) (l : BlockList) → slice_get (optimised m b ∷ adds.more) k ≡ Some l → IsCandidate m b l
-      each zero l e = let same : optimised m b ≡ l = cc in subst (IsCandidate m b) same (candidate m b b (stands_itself m b))
-      each (suc k) l e = adds.each k l e
+    subst (AreOfBlock m b) (sym (adds.are ∙ ap (λ (xs : List Candidate). xs ++ adds.first ∷ adds.more) none))
+    (of_block m b adds.first adds.more adds.plain (all_added m false b b adds.first adds.more refl adds.made adds.each))
 
--- and those of a list that may be placed for it are more of them
-pub more_candidates : (m : Machine) (b other : BlockList) (old new : List BlockList) → IsStandIn m b other → AreCandidates m b old → AddsCandidates m other old new
-    → AreCandidates m b new
-more_candidates m b other old new stands are adds = subst (AreCandidates m b) (sym adds.are) (record {
-  first = slice_get-longer old (optimised m other ∷ adds.more) 0 (optimised m b) are.first;
-  each = each_more m b old (optimised m other ∷ adds.more) are.each rest;
-}) where
-  rest : Each m b (optimised m other ∷ adds.more)
-  rest zero l e = let same : optimised m other ≡ l = cc in subst (IsCandidate m b) same (candidate m b other stands)
-  rest (suc k) l e = candidate_next m b other l stands (adds.each k l e)
+-- and those of a list in which loads are served are more of them
+pub more_candidates : (m : Machine) (b other : BlockList) (old one new : List Candidate) → IsStandIn m b other → old ≡ [] → AddsCandidates m false b old one
+    → AddsCandidates m true other one new → AreOfBlock m b new
+more_candidates m b other old one new stands none own adds =
+    subst (AreOfBlock m b) (sym is)
+    (of_block m b own.first (own.more ++ adds.first ∷ adds.more) own.plain
+    (all_more m b (own.first ∷ own.more) (adds.first ∷ adds.more)
+    (all_added m false b b own.first own.more refl own.made own.each)
+    (all_added m true b other adds.first adds.more stands adds.made adds.each)))
+  where
+    is : new ≡ own.first ∷ (own.more ++ adds.first ∷ adds.more)
+    is =
+        adds.are
+        ∙ ap (λ (xs : List Candidate). xs ++ adds.first ∷ adds.more)
+        (own.are ∙ ap (λ (xs : List Candidate). xs ++ own.first ∷ own.more) none)
+
+list_here : (cs : List Candidate) (k : ℕ) (c : Candidate) → slice_get cs k ≡ Some c → slice_get (lists_of cs) k ≡ Some c.list
+list_here cs k c e = slice_get-map (λ (x : Candidate). x.list) cs k ∙ ap (option_map (λ (x : Candidate). x.list)) e
 
 all_of : {A : Type 0} (test : A → Bool) (xs : List A) → ((k : ℕ) (x : A) → slice_get xs k ≡ Some x → test x ≡ true) → list_all test xs ≡ true
 all_of test [] each = refl
 all_of test (x ∷ xs) each = and_from (test x) (list_all test xs) (each 0 x refl) (all_of test xs (λ k y e. each (suc k) y e))
 
 -- candidates are lists of the machine where the block's list is one
-pub candidates_lists : (m : Machine) (b : BlockList) (lists : List BlockList) → AreCandidates m b lists → is_list m b.items ≡ true
-    → list_all (λ (l : BlockList). is_list m l.items) lists ≡ true
-candidates_lists m b lists are list = all_of (λ (l : BlockList). is_list m l.items) lists (λ k l e. (are.each k l e).stands.spare.list list)
+pub candidates_lists : (m : Machine) (b : BlockList) (cs : List Candidate) → AreOfBlock m b cs → is_list m b.items ≡ true
+    → list_all (λ (c : Candidate). is_list m c.list.items) cs ≡ true
+candidates_lists m b cs are list =
+    all_of (λ (c : Candidate). is_list m c.list.items) cs (λ k c e. (are.are.each k c.list (list_here cs k c e)).stands.spare.list list)

@@ -1,5 +1,5 @@
 -- The candidates of a block, and which of their placements stays.
-use Rattle.std.specs.Prelude.{◌≡◌, ℕ, ◌<◌, ◌≤◌, List, ◌∷◌, ◌++◌, length, Some, slice_get}
+use Rattle.std.specs.Prelude.{◌≡◌, ℕ, ◌<◌, ◌≤◌, List, length, Some, slice_get}
 use Rattle.tta_arch.specs.Machine.{Machine}
 use Rattle.tta_moves.specs.declared.items.BlockList.{BlockList}
 use Rattle.tta_moves.specs.declared.items.Placed.{Placed}
@@ -13,13 +13,6 @@ use Rattle.tta_compose.specs.Room.{AreRoomy}
 pub record IsCandidate (m : Machine) (b l : BlockList) : Type 0 where
   pub stands : IsStandIn m b l
   pub forms : HasForms m l
-
--- To some lists those are added that come of one list: the list itself after the passes, and then others that may be placed
--- for it.
-pub record AddsCandidates (m : Machine) (list : BlockList) (old new : List BlockList) : Type 0 where
-  pub more : List BlockList
-  pub are : new ≡ old ++ optimised m list ∷ more
-  pub each : (k : ℕ) (l : BlockList) → slice_get more k ≡ Some l → IsCandidate m list l
 
 -- Lists are candidates of a block, and the first of them is the block's list after the passes.
 pub record AreCandidates (m : Machine) (b : BlockList) (lists : List BlockList) : Type 0 where

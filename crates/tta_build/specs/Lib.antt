@@ -5,3 +5,5 @@ pub mod Data
 pub mod Parts
 pub mod Completes
 pub mod Converted
+pub mod Ways
+pub mod Sharing

@@ -1,10 +1,11 @@
 //! The lists that may be placed for a block.
 
-ghost use Rattle.std.specs.Prelude.{◌≡◌, ◌++◌, true, IfOk, OnOk, IfSome, option_to_list};
+ghost use Rattle.std.specs.Prelude.{◌≡◌, ◌++◌, ◌∷◌, [], true, IfOk, OnOk, IfSome, option_to_list};
 ghost use Rattle.tta_connect.specs.Net.{IsNetOf};
 ghost use Rattle.tta_connect.specs.Coverage.{IsChoice};
 ghost use Rattle.tta_moves.specs.Slots.{is_list};
-ghost use Rattle.tta_build.specs.Candidates.{IsCandidate, AddsCandidates, AreCandidates};
+ghost use Rattle.tta_build.specs.Ways.{IsReordered, IsGrouped, candidates_by};
+ghost use Rattle.tta_build.specs.Ways.{AddsCandidates, AreOfBlock};
 
 use std::alloc::{AllocError, Global};
 use tta_arch::Machine;
@@ -17,6 +18,32 @@ use tta_reload::reload;
 /// Up to so many items an order by items alone is tried too: it seldom gives the shortest list, and a
 /// long block takes its time.
 const FEW_ITEMS: usize = 512;
+
+/// In which order a list stands.
+#[derive(Clone, Copy, Debug, PartialEq, Eq)]
+pub enum Order {
+    /// Its own.
+    Plain,
+    /// By items.
+    Items,
+    /// By groups, cycle by cycle, and then by items, unless they stand so already.
+    Groups,
+}
+
+/// The way by which a list comes of a block's: whether its loads are served from what is at hand, and
+/// in which order it stands. The passes come after each of these.
+#[derive(Clone, Copy, Debug, PartialEq, Eq)]
+pub struct Way {
+    pub served: bool,
+    pub order: Order,
+}
+
+/// A list that may be placed for a block, and the way by which it came.
+#[derive(Drop)]
+pub struct Candidate {
+    pub way: Way,
+    pub list: BlockList,
+}
 
 /// The passes that make the candidates of one block after another. Their tables take their memory
 /// once.
@@ -45,7 +72,7 @@ impl Candidates {
     ) -> Result<Option<BlockList>, AllocError>
         requires net { IsNetOf net.now m.now }
         requires list { is_list m.now list.now.items ≡ true }
-        ensures { IfOk result (λ o. IfSome o (λ r. IsCandidate m.now list.now r)) }
+        ensures { IfOk result (λ o. IfSome o (λ r. IsReordered m.now list.now r)) }
     {
         match self.orders.order(alloc, list, m, net, Rule::Items)? {
             Some(ordered) => Ok(Some(self.passes.optimise(alloc, &ordered, m, net)?)),
@@ -63,7 +90,7 @@ impl Candidates {
     ) -> Result<Option<BlockList>, AllocError>
         requires net { IsNetOf net.now m.now }
         requires list { is_list m.now list.now.items ≡ true }
-        ensures { IfOk result (λ o. IfSome o (λ r. IsCandidate m.now list.now r)) }
+        ensures { IfOk result (λ o. IfSome o (λ r. IsReordered m.now list.now r)) }
     {
         if list.items.len() > FEW_ITEMS {
             return Ok(None);
@@ -82,7 +109,7 @@ impl Candidates {
     ) -> Result<Option<BlockList>, AllocError>
         requires net { IsNetOf net.now m.now }
         requires list { is_list m.now list.now.items ≡ true }
-        ensures { IfOk result (λ o. IfSome o (λ r. IsCandidate m.now list.now r)) }
+        ensures { IfOk result (λ o. IfSome o (λ r. IsGrouped m.now list.now r)) }
     {
         match self.orders.order(alloc, list, m, net, Rule::Cycles)? {
             Some(ordered) => {
@@ -101,21 +128,23 @@ impl Candidates {
     fn add(
         &mut self,
         alloc: Global,
-        lists: &mut Vec<BlockList>,
+        lists: &mut Vec<Candidate>,
+        served: bool,
         list: &BlockList,
         m: &Machine,
         net: &Net,
     ) -> Result<(), AllocError>
         requires net { IsNetOf net.now m.now }
         requires list { is_list m.now list.now.items ≡ true }
-        ensures { OnOk result (AddsCandidates m.now list.now lists.old.items lists.new.items) }
+        ensures { let Adds = AddsCandidates m.now served list.now in
+            OnOk result (Adds lists.old.items lists.new.items) }
     {
         let plain = self.passes.optimise(alloc, list, m, net)?;
         let by_items = self.by_few_items(alloc, &plain, m, net)?;
         let by_groups = self.by_groups(alloc, list, m, net)?;
-        lists.push(plain)?;
-        push_some(lists, by_items)?;
-        push_some(lists, by_groups)?;
+        push_one(lists, served, Order::Plain, plain)?;
+        push_some(lists, served, Order::Items, by_items)?;
+        push_some(lists, served, Order::Groups, by_groups)?;
         Ok(())
     }
 
@@ -123,17 +152,19 @@ impl Candidates {
     fn add_plain(
         &mut self,
         alloc: Global,
-        lists: &mut Vec<BlockList>,
+        lists: &mut Vec<Candidate>,
+        served: bool,
         list: &BlockList,
         m: &Machine,
         net: &Net,
     ) -> Result<(), AllocError>
         requires net { IsNetOf net.now m.now }
         requires list { is_list m.now list.now.items ≡ true }
-        ensures { OnOk result (AddsCandidates m.now list.now lists.old.items lists.new.items) }
+        ensures { let Adds = AddsCandidates m.now served list.now in
+            OnOk result (Adds lists.old.items lists.new.items) }
     {
         let plain = self.passes.optimise(alloc, list, m, net)?;
-        lists.push(plain)?;
+        push_one(lists, served, Order::Plain, plain)?;
         Ok(())
     }
 
@@ -148,33 +179,56 @@ impl Candidates {
         net: &Net,
         c: &Choice,
         b: &BlockList,
-    ) -> Result<Vec<BlockList>, AllocError>
+    ) -> Result<Vec<Candidate>, AllocError>
         requires net { IsNetOf net.now m.now }
         requires choice { IsChoice m.now c.now }
         requires list { is_list m.now b.now.items ≡ true }
-        ensures { IfOk result (λ lists. AreCandidates m.now b.now lists.items) }
+        ensures { IfOk result (λ lists. AreOfBlock m.now b.now lists.items) }
     {
         let mut lists = Vec::new(alloc);
         match reload(alloc, m, net, c, b)? {
             Some(served) => {
-                self.add_plain(alloc, &mut lists, b, m, net)?;
-                self.add(alloc, &mut lists, &served, m, net)?;
+                self.add_plain(alloc, &mut lists, false, b, m, net)?;
+                self.add(alloc, &mut lists, true, &served, m, net)?;
                 Ok(lists)
             }
             None => {
-                self.add(alloc, &mut lists, b, m, net)?;
+                self.add(alloc, &mut lists, false, b, m, net)?;
                 Ok(lists)
             }
         }
     }
 }
 
-/// One list more, if there is one.
-fn push_some(lists: &mut Vec<BlockList>, one: Option<BlockList>) -> Result<(), AllocError>
-    ensures { OnOk result (lists.new.items ≡ lists.old.items ++ option_to_list one) }
+/// One candidate more.
+fn push_one(
+    lists: &mut Vec<Candidate>,
+    served: bool,
+    order: Order,
+    list: BlockList,
+) -> Result<(), AllocError>
+    ensures { OnOk result (lists.new.items ≡ lists.old.items
+        ++ record { way = record { served = served; order = order }; list = list } ∷ []) }
+{
+    lists.push(Candidate {
+        way: Way { served, order },
+        list,
+    })?;
+    Ok(())
+}
+
+/// One candidate more, if there is one.
+fn push_some(
+    lists: &mut Vec<Candidate>,
+    served: bool,
+    order: Order,
+    one: Option<BlockList>,
+) -> Result<(), AllocError>
+    ensures { OnOk result (lists.new.items
+        ≡ lists.old.items ++ candidates_by served order (option_to_list one)) }
 {
     if let Some(list) = one {
-        lists.push(list)?;
+        push_one(lists, served, order, list)?;
     }
     Ok(())
 }

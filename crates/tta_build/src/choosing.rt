@@ -5,43 +5,67 @@ ghost use Rattle.std.specs.List.{list_all};
 ghost use Rattle.tta_connect.specs.Net.{IsNetOf};
 ghost use Rattle.tta_connect.specs.Coverage.{IsChoice};
 ghost use Rattle.tta_moves.specs.Slots.{is_list};
-ghost use Rattle.tta_build.specs.Candidates.{IsShortest, IsChosen, AreChosen};
+ghost use Rattle.tta_build.specs.Candidates.{AreChosen};
+ghost use Rattle.tta_build.specs.Ways.{IsFitOf, IsKept, IsChosenBy, AreWays};
 
-use crate::candidates::Candidates;
+use crate::candidates::{Candidate, Candidates, Way};
 use std::alloc::{AllocError, Global};
 use tta_arch::Machine;
 use tta_connect::{Choice, Net};
 use tta_moves::{BlockList, Placed};
 use tta_sched::Placer;
 
-/// The shorter of two placements, the first on a tie.
-fn shorter(first: Placed, other: Placed) -> Placed
-    ensures { result ≡ (if nat_lt other.length first.length then other else first) }
+/// The placement of a block, and the way by which its list came.
+#[derive(Drop)]
+pub struct Chosen {
+    pub way: Way,
+    pub placed: Placed,
+}
+
+/// That with the shorter of two placements, the first on a tie.
+fn shorter(first: Chosen, other: Chosen) -> Chosen
+    ensures { result ≡ (if nat_lt other.placed.length first.placed.length then other else first) }
 {
-    if other.length < first.length {
+    if other.placed.length < first.placed.length {
         other
     } else {
         first
     }
 }
 
-/// The shortest first fit of some lists, the first of them on a tie. Only the shortest so far is
+/// A first fit of a candidate, with its way. It fails only where there is no memory.
+fn fit_of(
+    alloc: Global,
+    placer: &mut Placer,
+    c: &Candidate,
+    m: &Machine,
+    net: &Net,
+) -> Result<Chosen, AllocError>
+    requires net { IsNetOf net.now m.now }
+    requires list { is_list m.now c.now.list.items ≡ true }
+    ensures { IfOk result (λ r. IsFitOf m.now c.now r) }
+{
+    let placed = placer.place(alloc, &c.list, m, net)?;
+    Ok(Chosen { way: c.way, placed })
+}
+
+/// The shortest first fit of some candidates, the first of them on a tie. Only the shortest so far is
 /// kept beside the one that is made.
 fn shortest(
     alloc: Global,
     placer: &mut Placer,
-    lists: &[BlockList],
+    lists: &[Candidate],
     m: &Machine,
     net: &Net,
-) -> Result<Placed, AllocError>
+) -> Result<Chosen, AllocError>
     requires net { IsNetOf net.now m.now }
-    requires lists { list_all (λ b. is_list m.now b.items) lists.now ≡ true }
+    requires lists { list_all (λ c. is_list m.now c.list.items) lists.now ≡ true }
     requires some { 0 < length lists.now }
-    ensures { IfOk result (λ p. IsShortest m.now lists.now p) }
+    ensures { IfOk result (λ r. IsKept m.now lists.now r) }
 {
-    let mut best = placer.place(alloc, &lists[0], m, net)?;
+    let mut best = fit_of(alloc, placer, &lists[0], m, net)?;
     for k in 1..lists.len() {
-        let other = placer.place(alloc, &lists[k], m, net)?;
+        let other = fit_of(alloc, placer, &lists[k], m, net)?;
         best = shorter(best, other);
     }
     Ok(best)
@@ -70,17 +94,17 @@ impl Chooser {
         net: &Net,
         c: &Choice,
         b: &BlockList,
-    ) -> Result<Placed, AllocError>
+    ) -> Result<Chosen, AllocError>
         requires net { IsNetOf net.now m.now }
         requires choice { IsChoice m.now c.now }
         requires list { is_list m.now b.now.items ≡ true }
-        ensures { IfOk result (λ p. IsChosen m.now b.now p) }
+        ensures { IfOk result (λ r. IsChosenBy m.now b.now r.way r.placed) }
     {
         let lists = self.candidates.of_block(alloc, m, net, c, b)?;
-        let p = shortest(alloc, &mut self.placer, lists.as_slice(), m, net);
+        let r = shortest(alloc, &mut self.placer, lists.as_slice(), m, net);
         // Dropped here as a whole, so that no part of it is left to drop at the end.
         drop(lists);
-        p
+        r
     }
 }
 
@@ -100,8 +124,8 @@ fn place_each(
 {
     let mut ps = Vec::new(alloc);
     for b in blocks {
-        let p = chooser.place(alloc, m, net, c, b)?;
-        ps.push(p)?;
+        let Chosen { placed, .. } = chooser.place(alloc, m, net, c, b)?;
+        ps.push(placed)?;
     }
     Ok(ps)
 }
@@ -125,4 +149,48 @@ pub fn place_chosen(
     // Dropped here as a whole, so that no part of it is left to drop at the end.
     drop(chooser);
     ps
+}
+
+/// For each block of a program the way by which its list comes, by what is lent.
+fn way_of_each(
+    alloc: Global,
+    chooser: &mut Chooser,
+    blocks: &[BlockList],
+    m: &Machine,
+    net: &Net,
+    c: &Choice,
+) -> Result<Vec<Way>, AllocError>
+    requires net { IsNetOf net.now m.now }
+    requires choice { IsChoice m.now c.now }
+    requires lists { list_all (λ b. is_list m.now b.items) blocks.now ≡ true }
+    ensures { IfOk result (λ ws. AreWays m.now blocks.now ws.items) }
+{
+    let mut ways = Vec::new(alloc);
+    for b in blocks {
+        let Chosen { way, placed } = chooser.place(alloc, m, net, c, b)?;
+        drop(placed);
+        ways.push(way)?;
+    }
+    Ok(ways)
+}
+
+/// For each block of a program the way by which the list comes whose placement `place_chosen` keeps,
+/// for what is chosen on a machine. The only error is out of memory.
+pub fn chosen_ways(
+    alloc: Global,
+    blocks: &[BlockList],
+    m: &Machine,
+    net: &Net,
+    c: &Choice,
+) -> Result<Vec<Way>, AllocError>
+    requires net { IsNetOf net.now m.now }
+    requires choice { IsChoice m.now c.now }
+    requires lists { list_all (λ b. is_list m.now b.items) blocks.now ≡ true }
+    ensures { IfOk result (λ ws. AreWays m.now blocks.now ws.items) }
+{
+    let mut chooser = Chooser::new(alloc, m, c.hub)?;
+    let ways = way_of_each(alloc, &mut chooser, blocks, m, net, c);
+    // Dropped here as a whole, so that no part of it is left to drop at the end.
+    drop(chooser);
+    ways
 }

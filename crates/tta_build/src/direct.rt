@@ -12,7 +12,7 @@ ghost use Rattle.tta_build.specs.Statement.{HasCause};
 use crate::error::BuildError;
 use crate::linking::link_placed;
 use crate::placing::place_all;
-use crate::register::register_code;
+use crate::register::{Sharing, register_code};
 use std::alloc::{AllocError, Global};
 use tta_arch::Machine;
 use tta_code::Code;
@@ -32,7 +32,7 @@ fn lists_of(alloc: Global, m: &Machine, p: &Program) -> Result<Vec<BlockList>, A
     requires direct { is_direct m.now p.now ≡ true }
     ensures { IfOk result (λ lists. AreDirect m.now p.now lists.items) }
 {
-    match register_code(alloc, p, 0, MOST_VARIABLES) {
+    match register_code(alloc, p, 0, MOST_VARIABLES, Sharing::InTurn) {
         Ok(code) => {
             let lists = select_direct(alloc, &code, m);
             // Dropped here as a whole, so that no part of it is left to drop at the end.

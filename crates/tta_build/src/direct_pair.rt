@@ -1,7 +1,6 @@
 //! Direct pairs: programs of constants on machines that bring these constants to the output.
 
 ghost use Rattle.std.specs.Prelude.{◌≡◌, true};
-ghost use Rattle.std.specs.Option.{option_map_or};
 ghost use Rattle.std.specs.List.{list_all};
 ghost use Rattle.tta_connect.specs.Net.{IsNetOf};
 ghost use Rattle.tta_program.specs.Rules.{is_end};

@@ -1,7 +1,8 @@
 //! The compiler: code for a machine that does what a program does. It calls the compiler's passes
 //! in their order, and holds the steps between them: which needs of a program no unit offers, direct
-//! pairs, the candidates of each block and which of their placements stays, code from placements,
-//! and a program's data in order. What the passes prove together stands in `tta_compose`.
+//! pairs, the candidates of each block and which of their placements stays, which of two ways of
+//! giving home registers stays, code from placements, and a program's data in order. What the
+//! passes prove together stands in `tta_compose`.
 #![tactic(auto)]
 
 mod candidates;
@@ -12,6 +13,7 @@ mod data_order;
 mod direct;
 mod direct_pair;
 mod error;
+mod homing;
 mod laws;
 mod linking;
 mod needs;
@@ -19,13 +21,16 @@ mod placing;
 mod program;
 mod register;
 
-pub use choosing::place_chosen;
+pub use candidates::{Order, Way};
+pub use choosing::{chosen_ways, place_chosen};
 pub use converted::build_converted;
 pub use data_order::data_in_order;
 pub use direct_pair::is_direct;
 pub use error::BuildError;
+pub use homing::{FEW_STEPS, is_small, total_length};
 pub use laws::{build_completes, build_converted_completes, converted_agrees};
 pub use linking::link_placed;
 pub use needs::unoffered;
 pub use placing::place_all;
 pub use program::{Built, build};
+pub use register::{Sharing, homes_by};

@@ -1,15 +1,49 @@
 //! From programs to register code.
 
 ghost use Rattle.std.specs.Prelude.{IfOk, IfErr};
+ghost use Rattle.tta_flow.specs.Blocks.{IsFlow};
+ghost use Rattle.tta_flow.specs.Live.{IsLive};
+ghost use Rattle.tta_alloc.specs.Allotted.{AreAllotted};
 ghost use Rattle.tta_lower.specs.Statement.{IsCause};
 ghost use Rattle.tta_build.specs.Parts.{IsLowered};
+ghost use Rattle.tta_build.specs.Sharing.{AreGivenBy};
 
-use std::alloc::Global;
-use tta_alloc::in_turn;
+use std::alloc::{AllocError, Global};
+use tta_alloc::{Homes, assign, in_turn};
 use tta_flow::{Flow, Live};
 use tta_lower::{LowerError, lower};
 use tta_program::Program;
 use tta_rcode::Rir;
+
+/// Which of the free home registers a variable is given.
+#[derive(Clone, Copy, Debug, PartialEq, Eq)]
+pub enum Sharing {
+    /// The one that has been free longest, so that later work need not wait for old reads.
+    InTurn,
+    /// The least, as the linear scan gives it.
+    Least,
+}
+
+/// The homes of the variables of a program, for so many home registers. It fails only where there
+/// is no memory.
+pub fn homes_by(
+    alloc: Global,
+    p: &Program,
+    flow: &Flow,
+    live: &Live,
+    homes: u32,
+    sharing: Sharing,
+) -> Result<Homes, AllocError>
+    requires flow { IsFlow p.now flow.now.blocks }
+    requires live { IsLive p.now live.now }
+    ensures given { IfOk result (λ h. AreGivenBy sharing p.now homes h) }
+    ensures allotted { IfOk result (λ h. AreAllotted p.now homes h) }
+{
+    match sharing {
+        Sharing::InTurn => in_turn(alloc, p, flow, live, homes),
+        Sharing::Least => assign(alloc, p, flow, live, homes),
+    }
+}
 
 /// The register code of a program, for so many home registers and frame words.
 pub fn register_code(
@@ -17,13 +51,14 @@ pub fn register_code(
     p: &Program,
     homes: u32,
     frame_words: u32,
+    sharing: Sharing,
 ) -> Result<Rir, LowerError>
     ensures code { IfOk result (λ r. IsLowered p.now homes frame_words r) }
     ensures cause { IfErr result (λ e. IsCause p.now frame_words e) }
 {
     let flow = Flow::of(alloc, p)?;
     let live = Live::of(alloc, p, &flow)?;
-    let kept = in_turn(alloc, p, &flow, &live, homes)?;
+    let kept = homes_by(alloc, p, &flow, &live, homes, sharing)?;
     let code = lower(alloc, p, &flow, &live, &kept, frame_words)?;
     Ok(code)
 }

@@ -9,9 +9,9 @@ loop-b-preserved c =
     let here = ap (slice_get c.args.blocks.now) c.loop-b.invariant.count
     ∙ slice_get_read c.args.blocks.now (length c.args.blocks.now) c.loop-b.b-index c.b-item.result refl (omega arith) c.b-item.is in
     record {
-      count = more_count c.loop-b.ps.items c.push.new.self.items c.in_ok-p.p c.loop-b.b-index c.in_ok-push.ensures.items c.loop-b.invariant.count;
+      count = more_count c.loop-b.ps.items c.push.new.self.items c.in_ok-placed.field-0.placed c.loop-b.b-index c.in_ok-push.ensures.items c.loop-b.invariant.count;
       each = rw c.in_ok-push.ensures.items
-          (one_more (λ b p. IsChosen c.args.m.now b p) c.args.blocks.now c.loop-b.ps.items c.b-item.result c.in_ok-p.p c.loop-b.invariant.each here c.in_ok-p.ensures);
+          (one_more (λ b p. IsChosen c.args.m.now b p) c.args.blocks.now c.loop-b.ps.items c.b-item.result c.in_ok-placed.field-0.placed c.loop-b.invariant.each here c.in_ok-placed.ensures.chosen);
     }
 
 pub returns : goal.returns

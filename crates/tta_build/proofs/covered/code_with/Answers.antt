@@ -5,19 +5,19 @@ use Rattle.tta_build.proofs.covered.code_with.Goals as goal
 pub link_placed-code-requires : goal.link_placed-code-requires
 link_placed-code-requires g c =
     let U = stated (λ v. (goal.OpUnit-dyn g v).unit_meaning v.1) c.args.units.now in
-    are_blocks U c.args.m.now c.args.c.now c.args.p.now c.in_ok-ps.ps.items c.as_slice.result.now c.requires.machine c.requires.over c.requires.choice
+    are_blocks U c.args.on.now.machine.now c.args.on.now.choice.now c.args.p.now c.in_ok-ps.ps.items c.as_slice.result.now c.requires.machine c.requires.over c.args.on.now.choice_of
     c.requires.program c.requires.offered c.in_ok-ps.ensures.placed c.as_slice.ensures.value
 
 pub returns-clause-code : goal.returns-clause-code
 returns-clause-code g c =
     let U = stated (λ v. (goal.OpUnit-dyn g v).unit_meaning v.1) c.args.units.now in
-    ok_for U c.args.m.now c.args.c.now c.args.p.now c.in_ok-ps.ps.items c.as_slice.result.now c.requires.machine c.requires.over c.requires.choice
+    ok_for U c.args.on.now.machine.now c.args.on.now.choice.now c.args.p.now c.in_ok-ps.ps.items c.as_slice.result.now c.requires.machine c.requires.over c.args.on.now.choice_of
     c.requires.program c.requires.offered c.in_ok-ps.ensures.placed c.as_slice.ensures.value c.requires.other c.requires.kept c.requires.supplied
     c.link_placed-code.result c.link_placed-code.ensures.linked c.link_placed-code.ensures.legal
 
 pub returns-clause-cause : goal.returns-clause-cause
 returns-clause-cause g c =
     let U = stated (λ v. (goal.OpUnit-dyn g v).unit_meaning v.1) c.args.units.now in
-    err_for U c.args.m.now c.args.c.now c.args.p.now c.in_ok-ps.ps.items c.as_slice.result.now c.requires.machine c.requires.over c.requires.choice
+    err_for U c.args.on.now.machine.now c.args.on.now.choice.now c.args.p.now c.in_ok-ps.ps.items c.as_slice.result.now c.requires.machine c.requires.over c.args.on.now.choice_of
     c.requires.program c.requires.offered c.in_ok-ps.ensures.placed c.as_slice.ensures.value c.requires.other c.requires.kept c.requires.supplied
     c.link_placed-code.result c.link_placed-code.ensures.cause

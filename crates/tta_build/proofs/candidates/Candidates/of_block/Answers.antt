@@ -9,9 +9,9 @@ pub returns-in_ok-add-in-Some : goal.returns-in_ok-add-in-Some
 returns-in_ok-add-in-Some c =
     let m = c.args.m.now in
     let b = c.args.b.now in
-    let own = own_candidates m b c.new-lists.result.items c.add_plain.new.lists.items c.new-lists.ensures.items c.in_ok-add_plain-in-Some.ensures in
     let stands = subst (λ (o : Option BlockList). IfSome o (λ r. IsStandIn m b r)) c.in-Some.is c.in_ok-served.ensures in
-    more_candidates m b c.in-Some.served c.add_plain.new.lists.items c.add.new.lists.items stands own c.in_ok-add-in-Some.ensures
+    more_candidates m b c.in-Some.served c.new-lists.result.items c.add_plain.new.lists.items c.add.new.lists.items stands c.new-lists.ensures.items
+    c.in_ok-add_plain-in-Some.ensures c.in_ok-add-in-Some.ensures
 
 pub returns-in_ok-add-in-None : goal.returns-in_ok-add-in-None
 returns-in_ok-add-in-None c =

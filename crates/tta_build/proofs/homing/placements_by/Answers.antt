@@ -5,20 +5,20 @@ use Rattle.tta_moves.specs.declared.items.BlockList.{BlockList}
 use Rattle.tta_moves.specs.Slots.{is_list}
 use Rattle.tta_build.specs.Candidates.{AreChosen}
 use Rattle.tta_build.proofs.CoveredCode.{selected_lists, placed_for}
-use Rattle.tta_build.proofs.covered.placements.Goals as goal
+use Rattle.tta_build.proofs.homing.placements_by.Goals as goal
 
 pub place_chosen-requires-clause-lists : goal.place_chosen-requires-clause-lists
 place_chosen-requires-clause-lists g c =
     let U = stated (λ v. (goal.OpUnit-dyn g v).unit_meaning v.1) c.args.units.now in
-    let m = c.args.m.now in
+    let m = c.args.on.now.machine.now in
     subst (λ (l : List BlockList). list_all (λ (b : BlockList). is_list m b.items) l ≡ true) (sym c.as_slice.ensures.value)
-    (selected_lists U m c.args.c.now c.args.p.now c.requires.machine c.requires.over c.requires.choice c.requires.program c.requires.offered
+    (selected_lists U m c.args.on.now.choice.now c.args.p.now c.requires.machine c.requires.over c.args.on.now.choice_of c.requires.program c.requires.offered
     c.in_ok-lists.lists.items c.in_ok-lists.ensures.lists)
 
 pub returns-clause-placed : goal.returns-clause-placed
 returns-clause-placed g c =
     let U = stated (λ v. (goal.OpUnit-dyn g v).unit_meaning v.1) c.args.units.now in
-    let m = c.args.m.now in
-    placed_for U m c.args.c.now c.args.p.now c.requires.machine c.requires.over c.requires.choice c.requires.program c.requires.offered
+    let m = c.args.on.now.machine.now in
+    placed_for U m c.args.on.now.choice.now c.args.p.now c.requires.machine c.requires.over c.args.on.now.choice_of c.requires.program c.requires.offered
     c.in_ok-lists.lists.items c.in_ok-ps.ps.items c.in_ok-lists.ensures.lists
     (subst (λ (l : List BlockList). AreChosen m l c.in_ok-ps.ps.items) c.as_slice.ensures.value c.in_ok-ps.ensures)

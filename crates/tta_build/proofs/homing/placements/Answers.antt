@@ -1,0 +1,20 @@
+use Rattle.std.proofs.Common.{refl}
+use Rattle.tta_ops.specs.Set.{stated}
+use Rattle.tta_build.proofs.CoveredCode.{are_blocks}
+use Rattle.tta_build.proofs.homing.placements.Goals as goal
+
+pub shorter-requires-clause-first : goal.shorter-requires-clause-first
+shorter-requires-clause-first g c =
+    let U = stated (λ v. (goal.OpUnit-dyn g v).unit_meaning v.1) c.args.units.now in
+    let on = c.args.on.now in
+    let ps = c.in_ok-first.first.items in
+    (are_blocks U on.machine.now on.choice.now c.args.p.now ps ps c.requires.machine c.requires.over on.choice_of c.requires.program c.requires.offered
+    c.in_ok-first.ensures.placed refl).few
+
+pub shorter-requires-clause-other : goal.shorter-requires-clause-other
+shorter-requires-clause-other g c =
+    let U = stated (λ v. (goal.OpUnit-dyn g v).unit_meaning v.1) c.args.units.now in
+    let on = c.args.on.now in
+    let ps = c.in-Ok.other.items in
+    (are_blocks U on.machine.now on.choice.now c.args.p.now ps ps c.requires.machine c.requires.over on.choice_of c.requires.program c.requires.offered
+    c.in-Ok.ensures.placed refl).few

@@ -1,0 +1,13 @@
+-- How the variables of a program share the home registers.
+use Rattle.std.specs.Prelude.{ℕ}
+use Rattle.tta_program.specs.Program.{Program}
+use Rattle.tta_alloc.specs.declared.homes.Homes.{Homes}
+use Rattle.tta_alloc.specs.Homes.{IsScan}
+use Rattle.tta_alloc.specs.Turns.{AreInTurn}
+use Rattle.tta_build.specs.declared.register.Sharing.{Sharing}
+use Rattle.tta_build.specs.declared.register.Sharing.TheVariants.{InTurn, Least}
+
+-- homes of a program are given in turn, or as the linear scan gives them
+abbrev pub AreGivenBy : Sharing → Program → (homes : ℕ) → Homes → Type 0
+AreGivenBy InTurn p homes h = AreInTurn p homes h
+AreGivenBy Least p homes h = IsScan p homes h
