@@ -1,5 +1,5 @@
 -- How the endings of the parts of `debug` make its own.
-use Rattle.std.proofs.Common.{◌≡◌, ◌⊎◌, ℕ, false, List, Option, subst, inl, inr}
+use Rattle.std.proofs.Common.{◌≡◌, ◌⊎◌, ℕ, false, List, Option, subst, inr}
 use Rattle.tta_ports.specs.World.{World}
 use Rattle.tta_ports.specs.Output.{Output, IsPut}
 use Rattle.tta_ports.proofs.Worlds.{same_world}

@@ -1,7 +1,6 @@
--- Data that are laid over a memory keep its length, and what is loaded has made no step.
-use Rattle.std.proofs.Common.{◌≡◌, ◌<◌, ◌^◌, ℕ, ◌+◌, List, [], ◌∷◌, length, slice_set, refl, sym, ◌∙◌, subst, length-set, arith}
+-- What is loaded has made no step.
+use Rattle.std.proofs.Common.{◌≡◌, ◌<◌, ◌^◌, ℕ, ◌+◌, List, [], length, sym, subst, arith}
 use Rattle.tta_arch.specs.Machine.{Machine}
-use Rattle.tta_list.specs.Laid.{Laid, over}
 use Rattle.tta_program.specs.Program.{Program}
 use Rattle.tta_program.specs.Sequential.{start as program_start}
 use Rattle.tta_tacrun.specs.Run as program
@@ -9,13 +8,6 @@ use Rattle.tta_tacrun.specs.Run.{Run}
 use Rattle.tta_code.specs.Cycle.{start as code_start}
 use Rattle.tta_sim.specs.Held as code
 use Rattle.tta_sim.specs.Held.{Held}
-
--- a memory over which words are laid has as many words as before
-pub over-length : (laid : Laid) (memory : List ℕ) → length (over laid memory) ≡ length memory
-over-length [] memory = refl
-over-length (d ∷ ds) memory = over-length ds (slice_set memory d.0 d.1) ∙ length-set memory d.0 d.1
-
--- ---- what has been loaded
 
 -- a program that was loaded has made no step, so a bound leaves room
 pub few_steps : (r : Run) (p : Program) (memory : List ℕ) (bound : ℕ) → program.Stands r (program_start p memory []) → bound < 2 ^ 48

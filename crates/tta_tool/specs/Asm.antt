@@ -1,17 +1,14 @@
 -- What the command `asm` does, and why it does not.
-use Rattle.std.specs.Prelude.{◌↔◌, ℕ, List}
-use Rattle.tta_ports.specs.World.{World, IsUntouched}
+use Rattle.std.specs.Prelude.{ℕ, List}
+use Rattle.tta_ports.specs.World.{World}
 use Rattle.tta_ops.specs.Units.{Units}
 use Rattle.tta_code.specs.Whole.{Whole}
 use Rattle.tta_image.specs.Image.{Image}
 use Rattle.tta_given.specs.declared.machine.MachineFile.{MachineFile}
 use Rattle.tta_given.specs.declared.status.Status.{Status}
-use Rattle.tta_given.specs.declared.status.Status.TheVariants as status
-use Rattle.tta_given.specs.Held.{HasText, ReadFailed, IsTooLong, no_memory}
-use Rattle.tta_given.specs.Machines.{IsBadMachine}
-use Rattle.tta_given.specs.Assemblies.{IsAssemblyFor, RefusesAssembly, IsBadAssembly}
-use Rattle.tta_given.specs.Ends.{IsWritten, WriteFailed, Writes}
-use Rattle.tta_given.specs.Endings.{OfMachine, OfPair, PairFault}
+use Rattle.tta_given.specs.Held.{no_memory}
+use Rattle.tta_given.specs.Assemblies.{IsAssemblyFor, RefusesAssembly}
+use Rattle.tta_given.specs.Ends.{Writes}
 
 -- bytes are the image of code with data for a machine, with the digest of the machine's text
 abbrev pub IsAssembled : MachineFile → Whole → (bytes : List ℕ) → Type 0
@@ -21,26 +18,3 @@ IsAssembled file whole bytes = Image file.machine file.digest whole bytes
 abbrev pub Assembles : Units → (M A OUT : List ℕ) → (before after : World) → Status → Type 0
 Assembles u M A OUT before after s =
     Writes u (IsAssemblyFor u) (RefusesAssembly u) IsAssembled (λ file whole. no_memory) M A OUT before after s
-
--- ---- how it ends by its status
-
--- what holds where `asm M A OUT` ends with a status
-abbrev pub AsmEndings : Units → (M A OUT : List ℕ) → (before after : World) → Status → Type 0
-AsmEndings u M A OUT before after status.Ok =
-    OfPair u (IsAssemblyFor u) before.contents M A (λ file whole. IsWritten (IsAssembled file whole) OUT before after)
-AsmEndings u M A OUT before after (status.BadMachine line code) =
-    IsUntouched before after × HasText before.contents M (λ text. IsBadMachine u text line code)
-AsmEndings u M A OUT before after (status.BadAsm line code) =
-    IsUntouched before after
-    × OfMachine u before.contents M (λ file. HasText before.contents A (λ text. IsBadAssembly u file.machine text line code))
-AsmEndings u M A OUT before after (status.ReadFault word) = PairFault u before.contents M A (λ name. ReadFailed name before after) word
-AsmEndings u M A OUT before after status.WriteFault =
-    OfPair u (IsAssemblyFor u) before.contents M A (λ file whole. WriteFailed (IsAssembled file whole) OUT before after)
-AsmEndings u M A OUT before after (status.TooLong word) = PairFault u before.contents M A (λ name. IsTooLong name before after) word
-AsmEndings u M A OUT before after status.NoMemory = IsUntouched before after
-AsmEndings u M A OUT before after s = ⊥
-
--- the clause of `asm` says this of each status
-abbrev pub AsmByStatus : Type 0
-AsmByStatus =
-    (u : Units) (M A OUT : List ℕ) (before after : World) (s : Status) → Assembles u M A OUT before after s ↔ AsmEndings u M A OUT before after s

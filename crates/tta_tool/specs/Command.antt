@@ -16,7 +16,7 @@ use Rattle.tta_tool.specs.Exec.{Execs}
 use Rattle.tta_tool.specs.Run.{Runs}
 use Rattle.tta_tool.specs.Debug.{Debugs}
 use Rattle.tta_tool.specs.Sample.{Samples}
-use Rattle.tta_tool.specs.Net.{Nets}
+use Rattle.tta_network.specs.Net.{Nets}
 
 -- How a request ends. What writes a file outputs nothing.
 abbrev pub Ends : Units → Option Request → (before after : World) → (old new : Output) → Status → Type 0

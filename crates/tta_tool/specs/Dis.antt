@@ -1,19 +1,14 @@
 -- What the command `dis` does, and why it does not.
-use Rattle.std.specs.Prelude.{◌≡◌, ◌↔◌, ℕ, List, Err}
-use Rattle.tta_ports.specs.World.{World, IsUntouched}
+use Rattle.std.specs.Prelude.{◌≡◌, ℕ, List}
+use Rattle.tta_ports.specs.World.{World}
 use Rattle.tta_ops.specs.Units.{Units}
 use Rattle.tta_code.specs.Whole.{Whole}
 use Rattle.tta_asm.specs.Canonical.{canonical}
-use Rattle.tta_image.specs.declared.refusal.ImageError.TheVariants.{Refused}
-use Rattle.tta_image.specs.Reading.{decoded_image}
 use Rattle.tta_given.specs.declared.machine.MachineFile.{MachineFile}
 use Rattle.tta_given.specs.declared.status.Status.{Status}
-use Rattle.tta_given.specs.declared.status.Status.TheVariants as status
-use Rattle.tta_given.specs.Held.{HasText, ReadFailed, IsTooLong, no_memory}
-use Rattle.tta_given.specs.Machines.{IsBadMachine}
+use Rattle.tta_given.specs.Held.{no_memory}
 use Rattle.tta_given.specs.Images.{IsImageFor, RefusesImage}
-use Rattle.tta_given.specs.Ends.{IsWritten, WriteFailed, Writes}
-use Rattle.tta_given.specs.Endings.{OfMachine, OfPair, PairFault}
+use Rattle.tta_given.specs.Ends.{Writes}
 
 -- bytes are the canonical text of code with data for a machine
 abbrev pub IsShown : Units → MachineFile → Whole → (bytes : List ℕ) → Type 0
@@ -23,26 +18,3 @@ IsShown u file whole bytes = bytes ≡ canonical u file.machine whole
 abbrev pub Shows : Units → (M IMG OUT : List ℕ) → (before after : World) → Status → Type 0
 Shows u M IMG OUT before after s =
     Writes u IsImageFor RefusesImage (IsShown u) (λ file whole. no_memory) M IMG OUT before after s
-
--- ---- how it ends by its status
-
--- what holds where `dis M IMG OUT` ends with a status
-abbrev pub DisEndings : Units → (M IMG OUT : List ℕ) → (before after : World) → Status → Type 0
-DisEndings u M IMG OUT before after status.Ok =
-    OfPair u IsImageFor before.contents M IMG (λ file whole. IsWritten (IsShown u file whole) OUT before after)
-DisEndings u M IMG OUT before after (status.BadMachine line code) =
-    IsUntouched before after × HasText before.contents M (λ text. IsBadMachine u text line code)
-DisEndings u M IMG OUT before after (status.BadImage code word bus) =
-    IsUntouched before after
-    × OfMachine u before.contents M (λ file. HasText before.contents IMG (λ bytes. decoded_image file.machine file.digest bytes ≡ Err (Refused code word bus)))
-DisEndings u M IMG OUT before after (status.ReadFault word) = PairFault u before.contents M IMG (λ name. ReadFailed name before after) word
-DisEndings u M IMG OUT before after status.WriteFault =
-    OfPair u IsImageFor before.contents M IMG (λ file whole. WriteFailed (IsShown u file whole) OUT before after)
-DisEndings u M IMG OUT before after (status.TooLong word) = PairFault u before.contents M IMG (λ name. IsTooLong name before after) word
-DisEndings u M IMG OUT before after status.NoMemory = IsUntouched before after
-DisEndings u M IMG OUT before after s = ⊥
-
--- the clause of `dis` says this of each status
-abbrev pub DisByStatus : Type 0
-DisByStatus =
-    (u : Units) (M IMG OUT : List ℕ) (before after : World) (s : Status) → Shows u M IMG OUT before after s ↔ DisEndings u M IMG OUT before after s

@@ -4,7 +4,9 @@ use Rattle.std.specs.Str.{bytes_eq}
 use Rattle.std.specs.String.{string_bytes}
 use Rattle.tta_tool.specs.declared.request.Request.{Request as Asked}
 use Rattle.tta_tool.specs.declared.request.Request.TheVariants as for
-use Rattle.tta_tool.specs.Numbers.{bound_of, seed_of, lines_of, rounds_of, is_net}
+use Rattle.tta_given.specs.Runs.{bound_of}
+use Rattle.tta_network.specs.Request.{rounds_of, is_net}
+use Rattle.tta_tool.specs.Numbers.{seed_of, lines_of}
 
 -- what can be asked for
 pub data Request : Type 0 where

@@ -14,12 +14,12 @@ use crate::debugging::debug_image;
 use crate::dis::show_image;
 use crate::exec::exec_program;
 use crate::ifconv::convert_program;
-use crate::net::run_net;
 use crate::request::Request;
 use crate::running::run_image;
 use crate::sampling::sample_on;
 use std::alloc::Global;
 use tta_given::Status;
+use tta_network::run_net;
 use tta_ops::UnitSet;
 use tta_ports::{Files, Sink};
 

@@ -2,7 +2,7 @@
 
 ghost use Rattle.std.specs.Prelude.{◌<◌, ◌^◌, length, option_map};
 ghost use Rattle.tta_ops.specs.Set.{stated};
-ghost use Rattle.tta_tool.specs.Runs.{GivenRuns};
+ghost use Rattle.tta_given.specs.Runs.{GivenRuns};
 ghost use Rattle.tta_tool.specs.Exec.{Reports, Execs};
 
 use crate::names::RunRequest;

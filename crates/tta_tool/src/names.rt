@@ -1,7 +1,6 @@
 //! The names and numbers of a request. A name is that of a file.
 
-ghost use Rattle.std.specs.Prelude.{◌<◌, ◌≤◌, ◌^◌, length, IsTrue};
-ghost use Rattle.tta_tool.specs.Numbers.{is_net};
+ghost use Rattle.std.specs.Prelude.{◌<◌, ◌≤◌, ◌^◌};
 
 /// The names of the files of a command that makes one of two others: the machine's, that of what is
 /// for it, and that of the result.
@@ -65,16 +64,4 @@ pub struct SampleRequest<'w> {
     pub machine: &'w str,
     ghost some: { 1 ≤ lines },
     ghost few: { lines ≤ 20000 },
-}
-
-/// A net that is asked for: how many rounds it makes at most, the file of its links, and three files
-/// for each core.
-#[derive(Clone, Copy)]
-pub struct NetRequest<'w> {
-    pub rounds: u32,
-    pub links: &'w str,
-    /// Of each core the machine's name, that of the image, and that of the data words.
-    pub names: &'w [String],
-    ghost few: { rounds ≤ 2 ^ 20 },
-    ghost count: { IsTrue (is_net (length names.now)) },
 }

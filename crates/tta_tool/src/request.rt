@@ -9,10 +9,11 @@ ghost use Rattle.tta_tool.specs.Request.{lone_request, mode_request, long_reques
 ghost use Rattle.tta_tool.specs.Request.{net_request, fixed_request};
 
 use crate::names::{
-    CheckRequest, ConvertRequest, NetRequest, RunFiles, RunRequest, SampleRequest, SessionRequest,
-    WriteRequest,
+    CheckRequest, ConvertRequest, RunFiles, RunRequest, SampleRequest, SessionRequest, WriteRequest,
 };
-use crate::numbers::{bound_of, is_net, lines_of, rounds_of, seed_of};
+use crate::numbers::{lines_of, seed_of};
+use tta_given::bound_of;
+use tta_network::{NetRequest, is_net, rounds_of};
 
 /// What is asked for.
 #[derive(Clone, Copy)]

@@ -3,7 +3,7 @@
 ghost use Rattle.std.specs.Prelude.{◌≡◌, ◌<◌, ◌^◌, length, option_map};
 ghost use Rattle.tta_ops.specs.Set.{stated};
 ghost use Rattle.tta_code.specs.Legal.{IsLegalCode};
-ghost use Rattle.tta_tool.specs.Runs.{GivenRuns};
+ghost use Rattle.tta_given.specs.Runs.{GivenRuns};
 ghost use Rattle.tta_tool.specs.Run.{Reports, Runs};
 
 use crate::code_run::{CodeRun, load_code};

@@ -1,0 +1,45 @@
+-- How the command `check` ends, by its status.
+use Rattle.std.specs.Prelude.{◌≡◌, ◌↔◌, ℕ, List, Err, codes}
+use Rattle.tta_ports.specs.World.{World, IsUntouched}
+use Rattle.tta_ports.specs.Output.{Output, IsQuiet, IsPut, IsCut}
+use Rattle.tta_ops.specs.Units.{Units}
+use Rattle.tta_image.specs.declared.refusal.ImageError.TheVariants.{Refused}
+use Rattle.tta_image.specs.Reading.{decoded_image}
+use Rattle.tta_check.specs.Verdict.{IsUnsafe}
+use Rattle.tta_given.specs.declared.status.Status.{Status}
+use Rattle.tta_given.specs.declared.status.Status.TheVariants as status
+use Rattle.tta_given.specs.Held.{HasText, ReadFailed, IsTooLong}
+use Rattle.tta_given.specs.Machines.{IsBadMachine}
+use Rattle.tta_given.specs.Images.{IsImageFor}
+use Rattle.tta_given.specs.Endings.{OfMachine, OfPair, PairFault}
+use Rattle.tta_tool.specs.Check.{CannotFault, ChecksCode}
+
+-- what holds where `check M IMG` ends with a status. Code that cannot fault is not found unsafe, so each of the two comes only where
+-- the other cannot
+abbrev pub CheckEndings : Units → (M IMG : List ℕ) → (before after : World) → (old new : Output) → Status → Type 0
+CheckEndings u M IMG before after old new status.Ok =
+    IsUntouched before after
+    × OfPair u IsImageFor before.contents M IMG (λ file whole. CannotFault file whole × IsPut (codes "safe\n") old new)
+CheckEndings u M IMG before after old new (status.Unsafe number word) =
+    IsUntouched before after × IsQuiet old new
+    × OfPair u IsImageFor before.contents M IMG (λ file whole. IsUnsafe file.machine whole.code number word)
+CheckEndings u M IMG before after old new (status.BadMachine line code) =
+    IsUntouched before after × IsQuiet old new × HasText before.contents M (λ text. IsBadMachine u text line code)
+CheckEndings u M IMG before after old new (status.BadImage code word bus) =
+    IsUntouched before after × IsQuiet old new
+    × OfMachine u before.contents M (λ file. HasText before.contents IMG (λ bytes. decoded_image file.machine file.digest bytes ≡ Err (Refused code word bus)))
+CheckEndings u M IMG before after old new (status.ReadFault word) =
+    IsQuiet old new × PairFault u before.contents M IMG (λ name. ReadFailed name before after) word
+CheckEndings u M IMG before after old new status.WriteFault =
+    IsUntouched before after
+    × OfPair u IsImageFor before.contents M IMG (λ file whole. CannotFault file whole × IsCut (codes "safe\n") old new)
+CheckEndings u M IMG before after old new (status.TooLong word) =
+    IsQuiet old new × PairFault u before.contents M IMG (λ name. IsTooLong name before after) word
+CheckEndings u M IMG before after old new status.NoMemory = IsUntouched before after × IsQuiet old new
+CheckEndings u M IMG before after old new s = ⊥
+
+-- the clause of `check` says this of each status
+abbrev pub CheckByStatus : Type 0
+CheckByStatus =
+    (u : Units) (M IMG : List ℕ) (before after : World) (old new : Output) (s : Status)
+    → ChecksCode u M IMG before after old new s ↔ CheckEndings u M IMG before after old new s

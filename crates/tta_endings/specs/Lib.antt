@@ -1,0 +1,16 @@
+pub mod Asm
+pub mod Build
+pub mod BuildConverted
+pub mod Ifconv
+pub mod Dis
+pub mod Check
+pub mod Exec
+pub mod Run
+pub mod Debug
+pub mod Sample
+pub mod NetEndings
+pub mod Completes
+pub mod ConvertedCompletes
+pub mod WriteCompletes
+pub mod PutCompletes
+pub mod NetCompletes

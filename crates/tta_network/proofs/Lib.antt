@@ -1,0 +1,3 @@
+pub mod CoresTaken
+pub mod NetLines
+pub mod RoundsMade
