@@ -15,7 +15,7 @@ use tta_image::{ImageError, read_image, write_image};
 use tta_ports::Files;
 
 /// The code of an image with its data, for a machine.
-fn whole_of(alloc: Global, bytes: &[u8], file: &MachineFile) -> Result<Whole, Status>
+pub fn whole_of(alloc: Global, bytes: &[u8], file: &MachineFile) -> Result<Whole, Status>
     ensures { TakesBytes (IsImageFor file.now) (RefusesImage file.now) bytes.now (λ w. w) result }
 {
     match read_image(alloc, bytes, &file.machine, &file.digest) {

@@ -16,7 +16,7 @@ mod status;
 mod write;
 
 pub use bound::{bound_of, digits_of};
-pub use image::{image_of_whole, whole_file};
+pub use image::{image_of_whole, whole_file, whole_of};
 pub use input::{Given, given_files, input_file, stream_file};
 pub use machine::{MachineFile, data_words, described, machine_file};
 pub use pair::{CodePair, ProgramPair, assembly_pair, image_pair, program_pair};

@@ -2,8 +2,9 @@
 
 ghost use Rattle.std.specs.Prelude.{◌≡◌, ◌+◌, ◌<◌, ◌≤◌, ◌^◌, length, IfOk};
 ghost use Rattle.tta_ops.specs.Set.{stated};
-ghost use Rattle.tta_code.specs.Cycle.{State};
+ghost use Rattle.tta_code.specs.Cycle.{State, next as next_state};
 ghost use Rattle.tta_sim.specs.Held.{Stands, IsRunOf};
+ghost use Rattle.tta_profile.specs.Counts.{AreCounts};
 ghost use Rattle.tta_profile.specs.Statement.{IsProfile};
 
 use crate::counting::{Basis, count_cycles};
@@ -20,6 +21,28 @@ fn count_words(sim: &Sim, basis: &Basis<'_>) -> usize
 {
     let code = basis.code;
     code.words.len()
+}
+
+/// Carries out at most so many cycles of a run, and counts them. It fails only where there is no
+/// memory.
+pub fn count_run(
+    alloc: Global,
+    basis: &Basis<'_>,
+    sim: &mut Sim,
+    input: &[u32],
+    bound: u64,
+) -> Result<Counts, AllocError>
+    requires loaded { IsRunOf basis.now.m.now basis.now.code.now sim.old }
+    requires few { sim.old.cycle + bound < 2 ^ 62 }
+    ensures size { IfOk result (λ c. length c.executed ≡ length basis.now.code.now.words) }
+    ensures counts { let on = basis.now in
+        let step = next_state (stated unit_meaning on.units.now) on.m.now on.code.now in
+        (s : State) → Stands sim.old s → s.rest ≡ input.now
+        → IfOk result (λ c. AreCounts step on.code.now.words s bound c) }
+{
+    let mut counts = Counts::new(alloc, count_words(&*sim, basis))?;
+    count_cycles(sim, &mut counts, basis, input, bound);
+    Ok(counts)
 }
 
 /// Carries out at most so many cycles of a run, and tells where they go, as text: how many there were,
@@ -40,8 +63,7 @@ pub fn profile(
         → IfOk result (λ v. IsProfile (stated unit_meaning on.units.now) on.m.now on.code.now
         s bound v.items) }
 {
-    let mut counts = Counts::new(alloc, count_words(&*sim, basis))?;
-    count_cycles(sim, &mut counts, basis, input, bound);
+    let counts = count_run(alloc, basis, sim, input, bound)?;
     let text = tell_counts(alloc, basis.m, basis.units, basis.code, &counts);
     drop(counts);
     text

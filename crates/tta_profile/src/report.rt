@@ -190,7 +190,7 @@ fn push_told(
 }
 
 /// The instructions of legal code.
-fn words_of<'a>(m: &Machine, code: &'a Code) -> &'a [Instruction]
+pub fn words_of<'a>(m: &Machine, code: &'a Code) -> &'a [Instruction]
     requires { IsLegalCode m.now code.now }
     ensures words { result.now ≡ code.now.words }
     ensures few { length result.now ≤ 65536 }

@@ -1,0 +1,30 @@
+-- The code of a program has few cycles.
+use Rattle.std.proofs.Common.{◌≤◌, ◌<◌, ◌^◌, List, sym, subst, arith}
+use Rattle.std.proofs.Math.Pow.{pow_mono}
+use Rattle.tta_ops.specs.Units.{Units}
+use Rattle.tta_arch.specs.Machine.{Machine}
+use Rattle.tta_arch.specs.Rules.{IsMachine}
+use Rattle.tta_arch.proofs.Facts.{address_most}
+use Rattle.tta_program.specs.Program.{Program}
+use Rattle.tta_code.specs.declared.code.Code.{Code}
+use Rattle.tta_code.specs.Legal.{IsLegalCode}
+use Rattle.tta_moves.specs.declared.items.Placed.{Placed}
+use Rattle.tta_link.specs.Blocks.{total_length}
+use Rattle.tta_link.specs.Linked.{IsLinked}
+use Rattle.tta_link.proofs.Whole.{linked_length}
+use Rattle.tta_stages.specs.declared.stages.Stages.{Stages}
+use Rattle.tta_stages.specs.Stages.{AreStages, Direct, Covered}
+
+-- legal code that is linked from placements has as many words as they have cycles
+linked_few : (m : Machine) (code : Code) (ps : List Placed) → IsMachine m → IsLinked m code ps → IsLegalCode m code → total_length ps < 2 ^ 32
+linked_few m code ps rules linked legal =
+    let same = linked_length m code ps linked in
+    let most : 2 ^ m.control.address ≤ 2 ^ 16 = pow_mono (address_most m rules) in
+    let room = legal.room in
+    omega (arith, same, most, room)
+
+pub few_cycles : (u : Units) (m : Machine) (p : Program) (s : Stages) → IsMachine m → AreStages u m p s → total_length s.planned.placed.items < 2 ^ 32
+few_cycles u m p s rules (Direct is) = linked_few m s.code s.planned.placed.items rules is.linked is.code.legal
+few_cycles u m p s rules (Covered is) =
+    subst (λ (x : Stages). total_length x.planned.placed.items < 2 ^ 32) (sym is.is)
+    (linked_few m is.passages.code is.passages.listed.planned.placed.items rules is.made.linked is.made.code.legal)

@@ -1,0 +1,21 @@
+use Rattle.tta_ops.specs.Set.{stated}
+use Rattle.tta_stages.proofs.CoveredStages.{few_placed, one_of_both}
+use Rattle.tta_stages.proofs.listed.listed_for.Goals as goal
+
+pub shorter-requires-clause-first : goal.shorter-requires-clause-first
+shorter-requires-clause-first g c =
+    let U = stated (λ v. (goal.OpUnit-dyn g v).unit_meaning v.1) c.args.units.now in
+    few_placed U c.args.on.now.machine.now c.args.on.now.choice.now c.args.p.now c.requires.machine c.requires.over c.args.on.now.choice_of c.requires.program
+    c.requires.offered c.in_ok-first.first c.in_ok-first.ensures.lists
+
+pub shorter-requires-clause-other : goal.shorter-requires-clause-other
+shorter-requires-clause-other g c =
+    let U = stated (λ v. (goal.OpUnit-dyn g v).unit_meaning v.1) c.args.units.now in
+    few_placed U c.args.on.now.machine.now c.args.on.now.choice.now c.args.p.now c.requires.machine c.requires.over c.args.on.now.choice_of c.requires.program
+    c.requires.offered c.in-Ok.other c.in-Ok.ensures.lists
+
+pub returns-in-Ok-clause-lists : goal.returns-in-Ok-clause-lists
+returns-in-Ok-clause-lists g c =
+    let U = stated (λ v. (goal.OpUnit-dyn g v).unit_meaning v.1) c.args.units.now in
+    one_of_both U c.args.on.now.machine.now c.args.on.now.choice.now c.args.p.now c.in_ok-first.first c.in-Ok.other c.shorter.result
+    c.in_ok-first.ensures.lists c.in-Ok.ensures.lists c.shorter.ensures

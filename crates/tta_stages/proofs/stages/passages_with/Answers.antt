@@ -1,0 +1,38 @@
+use Rattle.std.proofs.Common.{subst, List}
+use Rattle.tta_ops.specs.Set.{stated}
+use Rattle.tta_moves.specs.declared.items.Placed.{Placed}
+use Rattle.tta_link.specs.Linked.{IsLinked}
+use Rattle.tta_build.proofs.CoveredCode.{are_blocks}
+use Rattle.tta_stages.proofs.CoveredStages.{placed_for, code_for, cause_for}
+use Rattle.tta_stages.proofs.stages.passages_with.Goals as goal
+
+pub link_placed-requires : goal.link_placed-requires
+link_placed-requires g c =
+    let U = stated (λ v. (goal.OpUnit-dyn g v).unit_meaning v.1) c.args.units.now in
+    let m = c.args.on.now.machine.now in
+    let p = c.args.p.now in
+    are_blocks U m c.args.on.now.choice.now p c.in_ok-listed.listed.planned.placed.items c.as_slice.result.now c.requires.machine c.requires.over
+    c.args.on.now.choice_of c.requires.program c.requires.offered
+    (placed_for U m c.args.on.now.choice.now p c.in_ok-listed.listed c.in_ok-listed.ensures.lists) c.as_slice.ensures.value
+
+pub returns-in-Ok-clause-passages : goal.returns-in-Ok-clause-passages
+returns-in-Ok-clause-passages g c =
+    let U = stated (λ v. (goal.OpUnit-dyn g v).unit_meaning v.1) c.args.units.now in
+    let m = c.args.on.now.machine.now in
+    let p = c.args.p.now in
+    let linked = c.in-Ok.ensures.linked in record {
+      listed = c.in_ok-listed.ensures.lists;
+      linked = subst (λ (ps : List Placed). IsLinked m c.in-Ok.code ps) c.as_slice.ensures.value linked;
+      code = code_for U m c.args.on.now.choice.now p c.in_ok-listed.listed c.in_ok-listed.ensures.lists c.requires.machine c.requires.over
+          c.args.on.now.choice_of c.requires.program c.requires.offered c.requires.other c.requires.kept c.requires.supplied c.as_slice.result.now c.as_slice.ensures.value
+          c.in-Ok.code linked c.in-Ok.ensures.legal;
+    }
+
+pub returns-in-Err-clause-cause : goal.returns-in-Err-clause-cause
+returns-in-Err-clause-cause g c =
+    let U = stated (λ v. (goal.OpUnit-dyn g v).unit_meaning v.1) c.args.units.now in
+    let m = c.args.on.now.machine.now in
+    let p = c.args.p.now in
+    cause_for U m c.args.on.now.choice.now p c.in_ok-listed.listed c.in_ok-listed.ensures.lists c.requires.machine c.requires.over c.args.on.now.choice_of
+    c.requires.program c.requires.offered c.requires.other c.requires.kept c.requires.supplied c.as_slice.result.now c.as_slice.ensures.value
+    c.in-Err.error c.in-Err.ensures.cause

@@ -1,0 +1,10 @@
+use Rattle.std.proofs.Common.{◌+◌}
+use Rattle.tta_ops.specs.Set.{stated}
+use Rattle.tta_stages.specs.ListText.{row_at}
+use Rattle.tta_stages.proofs.Rows.{number_more}
+use Rattle.tta_stages.proofs.text.placed.push_rows.Goals as goal
+
+pub loop-cycle-preserved : goal.loop-cycle-preserved
+loop-cycle-preserved g c =
+    let U = stated (λ v. (goal.OpUnit-dyn g v).unit_meaning v.1) c.args.units.now in
+    number_more (λ k. row_at U c.args.m.now c.args.words.now (c.args.start + k)) _ _ _ c.loop-cycle.cycle c.in_ok-push_row_at.ensures c.loop-cycle.invariant

@@ -1,0 +1,10 @@
+use Rattle.std.proofs.Common.{◌≡◌, ◌++◌}
+use Rattle.std.specs.List.{flat_map}
+use Rattle.tta_arch.specs.Fields.{numbers}
+use Rattle.tta_flow.specs.Live.{live_after}
+use Rattle.tta_stages.specs.Words.{var_if}
+use Rattle.tta_stages.proofs.text.program.push_all_after.Given as goal
+
+abbrev pub invariant-loop-x : goal.invariant-loop-x
+invariant-loop-x l =
+    l.out.items ≡ l.initial.out.items ++ flat_map (λ x. var_if (live_after l.live l.owner l.step x) x) (numbers l.x)

@@ -1,0 +1,16 @@
+use Rattle.std.proofs.Common.{ℕ, List, ◌++◌}
+use Rattle.std.specs.Prelude.{codes}
+use Rattle.std.specs.List.{flat_map}
+use Rattle.tta_arch.specs.Fields.{numbers}
+use Rattle.tta_flow.specs.Live.{live_before}
+use Rattle.tta_stages.specs.Words.{var_if}
+use Rattle.tta_stages.specs.ProgramText.{before_text}
+use Rattle.tta_stages.proofs.Pieces.{then_more, onward, where_put}
+use Rattle.tta_stages.proofs.text.program.push_before.Goals as goal
+
+pub returns : goal.returns
+unfolding before_text
+returns c =
+    let live : List ℕ = flat_map (λ (x : ℕ). var_if (live_before c.args.live.now c.args.owner c.args.step x) x) (numbers c.args.vars) in
+    onward c.extend_from_slice-2.result (λ last. then_more _ _ _ (codes " live before :") (live ++ codes "\n") c.in_ok-extend_from_slice.ensures.items
+    (then_more _ _ _ live (codes "\n") c.in_ok-push_all_before.ensures last)) (where_put c.extend_from_slice-2.result _ _ (codes "\n") c.extend_from_slice-2.ensures.items)

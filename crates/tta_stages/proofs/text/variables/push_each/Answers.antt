@@ -1,0 +1,7 @@
+use Rattle.tta_stages.specs.ProgramText.{variable_text}
+use Rattle.tta_stages.proofs.Rows.{number_more}
+use Rattle.tta_stages.proofs.text.variables.push_each.Goals as goal
+
+pub loop-x-preserved : goal.loop-x-preserved
+loop-x-preserved c =
+    number_more (variable_text c.args.on.now.m.now c.args.on.now.homes.now c.args.homes.now c.args.owner c.args.first) _ _ _ c.loop-x.x c.in_ok-push_variable.ensures c.loop-x.invariant

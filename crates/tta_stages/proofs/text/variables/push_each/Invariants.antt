@@ -1,0 +1,9 @@
+use Rattle.std.proofs.Common.{◌≡◌, ◌++◌}
+use Rattle.std.specs.List.{flat_map}
+use Rattle.tta_arch.specs.Fields.{numbers}
+use Rattle.tta_stages.specs.ProgramText.{variable_text}
+use Rattle.tta_stages.proofs.text.variables.push_each.Given as goal
+
+abbrev pub invariant-loop-x : goal.invariant-loop-x
+invariant-loop-x l =
+    l.out.items ≡ l.initial.out.items ++ flat_map (variable_text l.on.m.now l.on.homes.now l.homes l.owner l.first) (numbers l.x)

@@ -1,0 +1,10 @@
+pub mod Lowered
+pub mod Trail
+pub mod Planned
+pub mod Stages
+pub mod Words
+pub mod StepText
+pub mod ProgramText
+pub mod RegisterText
+pub mod ListText
+pub mod Text

@@ -1,0 +1,23 @@
+//! What a program becomes on the way to code for a machine, stage by stage: its blocks, the homes of
+//! its variables, its register code, the lists of each block from the selected one to the one that is
+//! placed, and the code. The stages are those of `build`, and what is built is built of them.
+#![tactic(auto)]
+
+mod covered;
+mod direct;
+mod listed;
+mod lowered;
+mod passed;
+mod planned;
+mod stages;
+mod starts;
+mod text;
+mod trail;
+
+pub use lowered::Lowered;
+pub use passed::Passed;
+pub use planned::Planned;
+pub use stages::{Stages, stages_of};
+pub use starts::block_starts;
+pub use text::{push_block, push_part, push_range_at, tell_stages};
+pub use trail::{Ordered, Round, Trail};

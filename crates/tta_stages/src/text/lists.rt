@@ -1,0 +1,213 @@
+//! The lists of each block, from the selected one to the one that is placed.
+
+ghost use Rattle.std.specs.Prelude.{◌≡◌, ◌++◌, [], OnOk};
+ghost use Rattle.std.specs.Option.{option_map_or};
+ghost use Rattle.tta_ops.specs.Set.{stated};
+ghost use Rattle.tta_stages.specs.ListText.{list_text, order_name, ordered_text, passed_text};
+ghost use Rattle.tta_stages.specs.ListText.{round_text, served_text, trail_text, live_text};
+ghost use Rattle.tta_stages.specs.ListText.{trail_at, block_lists_text, lists_text};
+
+use crate::passed::Passed;
+use crate::text::items::push_items;
+use crate::text::words::{push_block, push_count, push_pairs};
+use crate::trail::{Ordered, Round, Trail};
+use std::alloc::AllocError;
+use tta_arch::Machine;
+use tta_build::Order;
+use tta_moves::BlockList;
+use tta_ops::UnitSet;
+
+/// What the lists of a block are told of: a machine, and the number of the block.
+#[derive(Drop)]
+pub struct Of<'a> {
+    pub m: &'a Machine,
+    pub k: usize,
+}
+
+/// Puts a list of a block, after what it is.
+#[tactic(auto, unfolding(crate::specs::ListText::list_text))]
+fn push_list(
+    out: &mut Vec<u8>,
+    units: &UnitSet,
+    of: &Of<'_>,
+    what: &[u8],
+    list: &BlockList,
+) -> Result<(), AllocError>
+    ensures { OnOk result (out.new.items ≡ out.old.items
+        ++ list_text (stated unit_meaning units.now) of.now.m.now of.now.k what.now list.now) }
+{
+    out.extend_from_slice(b"list ")?;
+    push_block(out, of.k as u128)?;
+    out.extend_from_slice(what)?;
+    push_count(out, b" items ", list.items.len() as u128)?;
+    out.extend_from_slice(b"\n")?;
+    push_items(out, units, of.m, list.items.as_slice())
+}
+
+/// What a list in another order is.
+fn order_name(by: Order) -> &'static [u8]
+    ensures { result.now ≡ order_name by }
+{
+    match by {
+        Order::Plain => b" ordered",
+        Order::Items => b" ordered by items",
+        Order::Groups => b" ordered by groups",
+    }
+}
+
+/// Puts a list in another order, if there is one.
+fn push_ordered(
+    out: &mut Vec<u8>,
+    units: &UnitSet,
+    of: &Of<'_>,
+    ordered: &Option<Ordered>,
+) -> Result<(), AllocError>
+    ensures { OnOk result (out.new.items ≡ out.old.items
+        ++ ordered_text (stated unit_meaning units.now) of.now.m.now of.now.k ordered.now) }
+{
+    match ordered {
+        Some(o) => push_list(out, units, of, order_name(o.by), &o.list),
+        None => Ok(()),
+    }
+}
+
+/// Puts a list after each of the passes.
+#[tactic(auto, unfolding(crate::specs::ListText::passed_text))]
+fn push_passed(
+    out: &mut Vec<u8>,
+    units: &UnitSet,
+    of: &Of<'_>,
+    passed: &Passed,
+) -> Result<(), AllocError>
+    ensures { OnOk result (out.new.items ≡ out.old.items
+        ++ passed_text (stated unit_meaning units.now) of.now.m.now of.now.k passed.now) }
+{
+    push_list(out, units, of, b" after bypass", &passed.bypassed)?;
+    push_list(out, units, of, b" after share", &passed.shared)?;
+    push_list(out, units, of, b" after dead", &passed.lively)
+}
+
+/// Puts a round.
+#[tactic(auto, unfolding(crate::specs::ListText::round_text))]
+fn push_round(
+    out: &mut Vec<u8>,
+    units: &UnitSet,
+    of: &Of<'_>,
+    round: &Round,
+) -> Result<(), AllocError>
+    ensures { OnOk result (out.new.items ≡ out.old.items
+        ++ round_text (stated unit_meaning units.now) of.now.m.now of.now.k round.now) }
+{
+    push_ordered(out, units, of, &round.ordered)?;
+    push_passed(out, units, of, &round.passed)
+}
+
+/// Puts a list in which loads are served, if there is one.
+fn push_served(
+    out: &mut Vec<u8>,
+    units: &UnitSet,
+    of: &Of<'_>,
+    served: &Option<BlockList>,
+) -> Result<(), AllocError>
+    ensures { OnOk result (out.new.items ≡ out.old.items
+        ++ served_text (stated unit_meaning units.now) of.now.m.now of.now.k served.now) }
+{
+    match served {
+        Some(list) => push_list(out, units, of, b" served", list),
+        None => Ok(()),
+    }
+}
+
+/// Puts a second round, if there is one.
+fn push_second(
+    out: &mut Vec<u8>,
+    units: &UnitSet,
+    of: &Of<'_>,
+    second: &Option<Round>,
+) -> Result<(), AllocError>
+    ensures { OnOk result (out.new.items ≡ out.old.items
+        ++ option_map_or (round_text (stated unit_meaning units.now) of.now.m.now of.now.k)
+        second.now []) }
+{
+    match second {
+        Some(round) => push_round(out, units, of, round),
+        None => Ok(()),
+    }
+}
+
+/// Puts the lists along a trail.
+#[tactic(auto, unfolding(crate::specs::ListText::trail_text))]
+fn push_trail(
+    out: &mut Vec<u8>,
+    units: &UnitSet,
+    of: &Of<'_>,
+    trail: &Trail,
+) -> Result<(), AllocError>
+    ensures { OnOk result (out.new.items ≡ out.old.items
+        ++ trail_text (stated unit_meaning units.now) of.now.m.now of.now.k trail.now) }
+{
+    push_served(out, units, of, &trail.served)?;
+    push_round(out, units, of, &trail.first)?;
+    push_second(out, units, of, &trail.second)
+}
+
+/// Puts the registers that are read after a list.
+#[tactic(auto, unfolding(crate::specs::ListText::live_text))]
+fn push_live(out: &mut Vec<u8>, of: &Of<'_>, list: &BlockList) -> Result<(), AllocError>
+    ensures { OnOk result (out.new.items ≡ out.old.items ++ live_text of.now.m.now list.now) }
+{
+    out.extend_from_slice(b" live after :")?;
+    push_pairs(out, of.m, list.live_out.as_slice())?;
+    out.extend_from_slice(b"\n")
+}
+
+/// Puts the lists along the trail of the block, if it has one.
+fn push_trail_at(
+    out: &mut Vec<u8>,
+    units: &UnitSet,
+    of: &Of<'_>,
+    trails: &[Trail],
+) -> Result<(), AllocError>
+    ensures { OnOk result (out.new.items ≡ out.old.items
+        ++ trail_at (stated unit_meaning units.now) of.now.m.now of.now.k trails.now) }
+{
+    match trails.get(of.k) {
+        Some(trail) => push_trail(out, units, of, trail),
+        None => Ok(()),
+    }
+}
+
+/// Puts the lists of a block, from the selected one.
+#[tactic(auto, unfolding(crate::specs::ListText::block_lists_text))]
+fn push_block_lists(
+    out: &mut Vec<u8>,
+    units: &UnitSet,
+    of: &Of<'_>,
+    trails: &[Trail],
+    list: &BlockList,
+) -> Result<(), AllocError>
+    ensures { OnOk result (out.new.items ≡ out.old.items
+        ++ block_lists_text (stated unit_meaning units.now) of.now.m.now of.now.k trails.now
+        list.now) }
+{
+    push_list(out, units, of, b" selected", list)?;
+    push_live(out, of, list)?;
+    push_trail_at(out, units, of, trails)
+}
+
+/// Puts the lists of each block.
+pub fn push_lists(
+    out: &mut Vec<u8>,
+    units: &UnitSet,
+    m: &Machine,
+    trails: &[Trail],
+    lists: &[BlockList],
+) -> Result<(), AllocError>
+    ensures { OnOk result (out.new.items ≡ out.old.items
+        ++ lists_text (stated unit_meaning units.now) m.now trails.now lists.now) }
+{
+    for (k, list) in lists.iter().enumerate() {
+        push_block_lists(out, units, &Of { m, k }, trails, list)?;
+    }
+    Ok(())
+}
