@@ -17,9 +17,10 @@ use Rattle.tta_given.specs.Ends.{IsUsage, TextEnds, Puts}
 use Rattle.tta_given.specs.Endings as endings
 use Rattle.tta_designer.specs.declared.view.View.{View}
 use Rattle.tta_designer.specs.Views.{machine_view, code_view}
-use Rattle.tta_designer.specs.Request.{Request, OfMachine, OfCode, OfRun, OfPrompt}
+use Rattle.tta_designer.specs.Request.{Request, OfMachine, OfCode, OfRun, OfPrompt, OfStages}
 use Rattle.tta_designer.specs.Runs.{ShowsRun}
 use Rattle.tta_designer.specs.Prompts.{OpensPrompt}
+use Rattle.tta_designer.specs.Stages.{ShowsStages}
 
 -- the machine is refused, and nothing is output; or its view is
 abbrev pub ShowsMachine : Units → View → (M : List ℕ) → (before after : World) → (old new : Output) → Status → Type 0
@@ -39,8 +40,9 @@ Ends u None before after old new s = IsUsage before after old new s
 Ends u (Some (OfMachine view M)) before after old new s = ShowsMachine u view M before after old new s
 Ends u (Some (OfCode view M IMG)) before after old new s =
     Puts u IsImageFor RefusesImage (IsShown u view) (λ file whole. no_memory) M IMG before after old new s
-Ends u (Some (OfRun view M IMG IN STREAM bound)) before after old new s = ShowsRun u view M IMG IN STREAM bound before after old new s
+Ends u (Some (OfRun view M F IN STREAM bound)) before after old new s = ShowsRun u view M F IN STREAM bound before after old new s
 Ends u (Some (OfPrompt M IMG IN STREAM)) before after old new s = ⊥
+Ends u (Some (OfStages M P)) before after old new s = ShowsStages u M P before after old new s
 
 -- How a request ends. Lines come of a session at a prompt alone.
 abbrev pub Shows : Units → Option Request → (before after : World) → (came comes : Come) → (old new : Output) → Status → Type 0

@@ -9,13 +9,14 @@ use Rattle.tta_designer.specs.declared.view.RunView.TheVariants.{Profile, Play}
 use Rattle.tta_designer.specs.declared.request.Request.{Request as Asked}
 use Rattle.tta_designer.specs.declared.request.Request.TheVariants as for
 
--- what can be asked for: a view of a machine, one of the code of an image for a machine, one of a run of such code, or a session
--- at a prompt over such a run
+-- what can be asked for: a view of a machine, one of the code of an image for a machine, one of a run of such code or of a program,
+-- a session at a prompt over a run of code, or the stages of a program for a machine
 pub data Request : Type 0 where
   OfMachine : (view : View) (machine : List ℕ) → Request
   OfCode : (view : View) (machine image : List ℕ) → Request
-  OfRun : (view : RunView) (machine image input : List ℕ) (stream : Option (List ℕ)) (bound : ℕ) → Request
+  OfRun : (view : RunView) (machine subject input : List ℕ) (stream : Option (List ℕ)) (bound : ℕ) → Request
   OfPrompt : (machine image input : List ℕ) (stream : Option (List ℕ)) → Request
+  OfStages : (machine program : List ℕ) → Request
 
 -- the view that a word names
 abbrev pub view_of : (word : List ℕ) → Option View
@@ -26,9 +27,9 @@ abbrev pub run_view_of : (word : List ℕ) → Option RunView
 run_view_of word = if bytes_eq word (codes "profile") then Some Profile else if bytes_eq word (codes "play") then Some Play else None
 
 -- the request of the name of a command with a bound, after which the file of an input may be named
-abbrev pub run_request : (word machine image input last : List ℕ) → (stream : Option (List ℕ)) → Option Request
-run_request word machine image input last stream =
-    option_and_then (λ view. option_map (λ bound. OfRun view machine image input stream bound) (bound_of last)) (run_view_of word)
+abbrev pub run_request : (word machine subject input last : List ℕ) → (stream : Option (List ℕ)) → Option Request
+run_request word machine subject input last stream =
+    option_and_then (λ view. option_map (λ bound. OfRun view machine subject input stream bound) (bound_of last)) (run_view_of word)
 
 -- whether a word is the name of the command that is a session at a prompt
 abbrev pub is_prompt : (word : List ℕ) → Bool
@@ -38,24 +39,38 @@ is_prompt word = bytes_eq word (codes "prompt")
 abbrev pub prompt_request : (word machine image input : List ℕ) → (stream : Option (List ℕ)) → Option Request
 prompt_request word machine image input stream = if is_prompt word then Some (OfPrompt machine image input stream) else None
 
+-- whether a word names a view
+abbrev pub is_view : (word : List ℕ) → Bool
+is_view word = is_some (view_of word) || is_some (run_view_of word)
+
+-- whether a word is the name of the command that shows stages
+abbrev pub is_stages : (word : List ℕ) → Bool
+is_stages word = bytes_eq word (codes "stages")
+
+-- the request of the name of a command with two files
+abbrev pub pair_request : (word machine second : List ℕ) → Option Request
+pair_request word machine second =
+    if is_stages word then Some (OfStages machine second) else option_map (λ view. OfCode view machine second) (view_of word)
+
 -- the request of some words; none where they are no command
 abbrev pub request_of : List (List ℕ) → Option Request
 request_of (word ∷ machine ∷ []) = option_map (λ view. OfMachine view machine) (view_of word)
-request_of (word ∷ machine ∷ image ∷ []) = option_map (λ view. OfCode view machine image) (view_of word)
-request_of (word ∷ machine ∷ image ∷ input ∷ []) = prompt_request word machine image input None
-request_of (word ∷ machine ∷ image ∷ input ∷ last ∷ []) =
-    if is_prompt word then prompt_request word machine image input (Some last) else run_request word machine image input last None
-request_of (word ∷ machine ∷ image ∷ input ∷ last ∷ stream ∷ []) = run_request word machine image input last (Some stream)
+request_of (word ∷ machine ∷ second ∷ []) = pair_request word machine second
+request_of (word ∷ machine ∷ second ∷ input ∷ []) = prompt_request word machine second input None
+request_of (word ∷ machine ∷ second ∷ input ∷ last ∷ []) =
+    if is_prompt word then prompt_request word machine second input (Some last) else run_request word machine second input last None
+request_of (word ∷ machine ∷ second ∷ input ∷ last ∷ stream ∷ []) = run_request word machine second input last (Some stream)
 request_of words = None
 
 -- whether a command line begins with the name of a command that is carried out here
 abbrev pub is_named : List (List ℕ) → Bool
 is_named [] = false
-is_named (word ∷ words) = is_some (view_of word) || is_some (run_view_of word) || is_prompt word
+is_named (word ∷ words) = is_view word || is_prompt word || is_stages word
 
 -- what the code's request asks for
 abbrev pub asked : Asked → Request
 asked (for.Machine names) = OfMachine names.view names.machine.now
 asked (for.Code names) = OfCode names.view names.machine.now names.image.now
-asked (for.Run run) = OfRun run.view run.machine.now run.image.now run.input.now (option_map (λ s. s.now) run.stream) run.bound
+asked (for.Run run) = OfRun run.view run.machine.now run.subject.now run.input.now (option_map (λ s. s.now) run.stream) run.bound
 asked (for.Prompt names) = OfPrompt names.machine.now names.image.now names.input.now (option_map (λ s. s.now) names.stream)
+asked (for.Stages names) = OfStages names.machine.now names.program.now

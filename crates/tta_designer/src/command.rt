@@ -14,7 +14,8 @@ ghost use Rattle.tta_designer.specs.Command.{Ends, Shows};
 use crate::names::{CodeRequest, MachineRequest};
 use crate::prompting::prompt_image;
 use crate::request::Request;
-use crate::running::run_image;
+use crate::running::run_subject;
+use crate::staging::put_stages;
 use crate::view::View;
 use std::alloc::Global;
 use tta_draw::{draw_code, draw_machine};
@@ -127,8 +128,9 @@ fn carry_out<F: Files, L: Lines, S: Sink>(
     match request {
         Request::Machine(names) => put_machine(alloc, units, files, sink, names),
         Request::Code(names) => put_code(alloc, units, files, sink, names),
-        Request::Run(run) => run_image(alloc, units, files, sink, run),
+        Request::Run(run) => run_subject(alloc, units, files, sink, run),
         Request::Prompt(names) => prompt_image(alloc, units, files, lines, sink, names),
+        Request::Stages(names) => put_stages(alloc, units, files, sink, names),
     }
 }
 
@@ -145,10 +147,14 @@ fn carry_out<F: Files, L: Lines, S: Sink>(
 /// in the machine's data space, and outputs where the cycles go: how many moves each bus carried, how
 /// many operations each unit started, and the instructions that were carried out, the hottest first.
 /// `play M IMG IN N` outputs a page of HTML that plays the first N cycles, or 400 where N is more. Both may
-/// have one more word, the file of the input.
+/// have one more word, the file of the input. Both take a program P in the place of the image: its code is
+/// built as `build` does and run, and `profile` tells of its blocks in the place of instructions, the
+/// costliest first.
 ///
-/// The output takes a text in one piece, and nothing where there
-/// is none. No file changes.
+/// `stages M P` outputs what `build` does on the way from the program of the file P to code for the
+/// machine of the file M: blocks, homes, register code, the lists of each block, and the code.
+///
+/// The output takes a text in one piece, and nothing where there is none. No file changes.
 ///
 /// `prompt M IMG IN` carries out a session of the debugger over such a run: each line that comes is a
 /// command, and the output takes what is replied to it before the next line is asked for. It may have one

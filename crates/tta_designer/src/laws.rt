@@ -3,6 +3,7 @@
 ghost use Rattle.tta_designer.specs.Laws.{ImageSize};
 ghost use Rattle.tta_designer.specs.Prompts.{PromptByStatus};
 ghost use Rattle.tta_designer.specs.Runs.{RunByStatus};
+ghost use Rattle.tta_designer.specs.Stages.{StagesByStatus};
 ghost use Rattle.tta_designer.specs.Command.{MachineByStatus, CodeByStatus};
 
 /// What holds where a view of a machine ends with a status, for each status.
@@ -28,4 +29,9 @@ pub fn run_by_status()
 /// What holds where a session at a prompt ends with a status, for each status.
 pub fn prompt_by_status()
     ensures { PromptByStatus }
+{}
+
+/// What holds where `stages` ends with a status, for each status.
+pub fn stages_by_status()
+    ensures { StagesByStatus }
 {}

@@ -19,13 +19,21 @@ pub struct CodeRequest<'w> {
     pub image: &'w str,
 }
 
+/// The stages of a program for a machine that are asked for: the names of the machine's file and of
+/// the program's.
+#[derive(Clone, Copy)]
+pub struct StagesRequest<'w> {
+    pub machine: &'w str,
+    pub program: &'w str,
+}
+
 /// A view of a run that is asked for: the names of the run's files, that of the input where it has one,
 /// and how many cycles it makes at most.
 #[derive(Clone, Copy)]
 pub struct RunRequest<'w> {
     pub view: RunView,
     pub machine: &'w str,
-    pub image: &'w str,
+    pub subject: &'w str,
     pub input: &'w str,
     pub stream: Option<&'w str>,
     pub bound: u64,

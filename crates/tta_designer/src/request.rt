@@ -2,21 +2,24 @@
 
 ghost use Rattle.std.specs.Prelude.{◌≡◌, ◌∷◌, [], map, option_map};
 ghost use Rattle.std.specs.String.{string_bytes};
-ghost use Rattle.tta_designer.specs.Request.{asked, is_named, request_of, run_request};
-ghost use Rattle.tta_designer.specs.Request.{is_prompt, prompt_request, run_view_of, view_of};
+ghost use Rattle.tta_designer.specs.Request.{asked, is_named, is_stages, is_view, pair_request};
+ghost use Rattle.tta_designer.specs.Request.{is_prompt, prompt_request, request_of, run_request};
+ghost use Rattle.tta_designer.specs.Request.{run_view_of, view_of};
 
-use crate::names::{CodeRequest, MachineRequest, PromptRequest, RunRequest};
+use crate::names::{CodeRequest, MachineRequest, PromptRequest, RunRequest, StagesRequest};
 use crate::view::{RunView, View};
 use tta_given::bound_of;
 
 /// What is asked for: a view of a machine, one of the code of an image for a machine, one of a run of
-/// such code, or a session at a prompt over such a run.
+/// such code or of a program, a session at a prompt over a run of code, or the stages of a program for a
+/// machine.
 #[derive(Clone, Copy)]
 pub enum Request<'w> {
     Machine(MachineRequest<'w>),
     Code(CodeRequest<'w>),
     Run(RunRequest<'w>),
     Prompt(PromptRequest<'w>),
+    Stages(StagesRequest<'w>),
 }
 
 /// The view that a word names.
@@ -45,6 +48,20 @@ fn run_view_of(word: &str) -> Option<RunView>
     None
 }
 
+/// Whether a word names a view.
+fn is_view(word: &str) -> bool
+    ensures { result ≡ is_view word.now }
+{
+    view_of(word).is_some() || run_view_of(word).is_some()
+}
+
+/// Whether a word is the name of the command that shows stages.
+fn is_stages(word: &str) -> bool
+    ensures { result ≡ is_stages word.now }
+{
+    word == "stages"
+}
+
 /// Whether a word is the name of the command that is a session at a prompt.
 fn is_prompt(word: &str) -> bool
     ensures { result ≡ is_prompt word.now }
@@ -58,9 +75,7 @@ pub fn is_named(words: &Vec<String>) -> bool
 {
     match words.as_slice() {
         [word, ..] => {
-            view_of(word.as_str()).is_some()
-                || run_view_of(word.as_str()).is_some()
-                || is_prompt(word.as_str())
+            is_view(word.as_str()) || is_prompt(word.as_str()) || is_stages(word.as_str())
         }
         _ => false,
     }
@@ -70,20 +85,20 @@ pub fn is_named(words: &Vec<String>) -> bool
 fn of_run<'w>(
     word: &str,
     machine: &'w str,
-    image: &'w str,
+    subject: &'w str,
     input: &'w str,
     last: &str,
     stream: Option<&'w str>,
 ) -> Option<Request<'w>>
     ensures { option_map asked result ≡ run_request word.now
-        machine.now image.now input.now last.now (option_map (λ s. s.now) stream.entry) }
+        machine.now subject.now input.now last.now (option_map (λ s. s.now) stream.entry) }
 {
     let view = run_view_of(word)?;
     let bound = bound_of(last.as_bytes())?;
     Some(Request::Run(RunRequest {
         view,
         machine,
-        image,
+        subject,
         input,
         stream,
         bound,
@@ -116,17 +131,35 @@ fn of_prompt<'w>(
 fn of_five<'w>(
     word: &str,
     machine: &'w str,
-    image: &'w str,
+    second: &'w str,
     input: &'w str,
     last: &'w str,
 ) -> Option<Request<'w>>
     ensures { option_map asked result ≡ request_of
-        (word.now ∷ machine.now ∷ image.now ∷ input.now ∷ last.now ∷ []) }
+        (word.now ∷ machine.now ∷ second.now ∷ input.now ∷ last.now ∷ []) }
 {
     if is_prompt(word) {
-        return of_prompt(word, machine, image, input, Some(last));
+        return of_prompt(word, machine, second, input, Some(last));
     }
-    of_run(word, machine, image, input, last, None)
+    of_run(word, machine, second, input, last, None)
+}
+
+/// The request of the name of a command with two files.
+fn of_pair<'w>(word: &str, machine: &'w str, second: &'w str) -> Option<Request<'w>>
+    ensures { option_map asked result ≡ pair_request word.now machine.now second.now }
+{
+    if is_stages(word) {
+        return Some(Request::Stages(StagesRequest {
+            machine,
+            program: second,
+        }));
+    }
+    let view = view_of(word)?;
+    Some(Request::Code(CodeRequest {
+        view,
+        machine,
+        image: second,
+    }))
 }
 
 impl<'w> Request<'w> {
@@ -142,19 +175,11 @@ impl<'w> Request<'w> {
                 let machine = machine.as_str();
                 Some(Request::Machine(MachineRequest { view, machine }))
             }
-            [word, machine, image] => {
-                let view = view_of(word.as_str())?;
-                let (machine, image) = (machine.as_str(), image.as_str());
-                Some(Request::Code(CodeRequest {
-                    view,
-                    machine,
-                    image,
-                }))
-            }
-            [word, machine, image, input] => of_prompt(word, machine, image, input, None),
-            [word, machine, image, input, last] => of_five(word, machine, image, input, last),
-            [word, machine, image, input, last, stream] => {
-                of_run(word, machine, image, input, last, Some(stream.as_str()))
+            [word, machine, second] => of_pair(word, machine, second),
+            [word, machine, second, input] => of_prompt(word, machine, second, input, None),
+            [word, machine, second, input, last] => of_five(word, machine, second, input, last),
+            [word, machine, second, input, last, stream] => {
+                of_run(word, machine, second, input, last, Some(stream.as_str()))
             }
             _ => None,
         }

@@ -1,23 +1,27 @@
-//! The commands `profile` and `play`: the code of an image is run cycle by cycle, and it is told where
-//! the cycles go, or a page is made that plays them.
+//! The commands `profile` and `play`: the code of an image, or of a program, is run cycle by cycle, and it
+//! is told where the cycles go, or a page is made that plays them.
 
 ghost use Rattle.std.specs.Prelude.{◌≡◌, ◌+◌, ◌<◌, ◌^◌, ℕ, List, length, option_map, IfOk};
 ghost use Rattle.tta_list.specs.Laid.{over};
 ghost use Rattle.tta_ops.specs.Set.{stated};
+ghost use Rattle.tta_arch.specs.Over as machines;
 ghost use Rattle.tta_code.specs.Cycle.{State, start};
 ghost use Rattle.tta_code.specs.Legal.{IsLegalCode};
 ghost use Rattle.tta_code.specs.Whole.{data_in};
 ghost use Rattle.tta_sim.specs.Held.{Stands, IsRunOf};
 ghost use Rattle.tta_given.specs.Held.{MadeEnds, no_memory};
 ghost use Rattle.tta_given.specs.Runs.{GivenRuns};
-ghost use Rattle.tta_designer.specs.Runs.{IsRunShown, IsViewOf, ShowsRun, Tells};
+ghost use Rattle.tta_designer.specs.Subjects.{Suits};
+ghost use Rattle.tta_designer.specs.Runs.{IsRunShown, IsViewOf, IsShown, Lacks, ShowsRun, Tells};
 
+use crate::compiled::text_of_program;
 use crate::names::RunRequest;
+use crate::subject::{Subject, SubjectPair, subject_pair};
 use crate::view::RunView;
 use std::alloc::{AllocError, Global};
 use tta_arch::Machine;
 use tta_code::{Whole, lay};
-use tta_given::{CodePair, Given, Status, data_words, given_files, image_pair, put_made};
+use tta_given::{Given, MachineFile, Status, data_words, given_files, put_made};
 use tta_ops::UnitSet;
 use tta_play::play;
 use tta_ports::{Files, Sink};
@@ -68,49 +72,56 @@ fn text_of_basis(
     }
 }
 
+/// Code with its data, and the machine that it runs on.
+#[derive(Clone, Copy)]
+struct Loaded<'a> {
+    file: &'a MachineFile,
+    whole: &'a Whole,
+}
+
 /// The view of a run that was loaded.
-fn text_of_sim(
+fn text_of_sim<'x>(
     alloc: Global,
-    units: &UnitSet,
-    pair: &CodePair,
+    units: &'x UnitSet,
+    on: &'x Loaded<'x>,
     sim: &mut Sim,
     words: &[u32],
     request: &RunRequest<'_>,
 ) -> Result<Vec<u8>, Status>
-    requires loaded { IsRunOf pair.now.file.machine pair.now.whole.code sim.old }
+    requires loaded { IsRunOf on.now.file.now.machine on.now.whole.now.code sim.old }
     requires few { sim.old.cycle + request.now.bound < 2 ^ 62 }
     ensures { let U = stated unit_meaning units.now in
         (s : State) → Stands sim.old s → s.rest ≡ words.now
-        → MadeEnds (IsRunShown U request.now.view pair.now.file.machine pair.now.whole.code s
+        → MadeEnds (IsRunShown U request.now.view on.now.file.now.machine on.now.whole.now.code s
         request.now.bound) no_memory (λ v. v.items) result }
 {
     let basis = Basis {
-        m: &pair.file.machine,
-        code: &pair.whole.code,
+        m: &on.file.machine,
+        code: &on.whole.code,
         units,
     };
     text_of_basis(alloc, &basis, request.view, sim, words, request.bound)
 }
 
 /// The view of a run of code from what it is given.
-fn text_of_run(
+fn text_of_run<'x>(
     alloc: Global,
-    units: &UnitSet,
-    pair: &CodePair,
+    units: &'x UnitSet,
+    on: &'x Loaded<'x>,
     given: Given,
     request: &RunRequest<'_>,
 ) -> Result<Vec<u8>, Status>
     requires bound { request.now.bound < 2 ^ 48 }
-    requires size { length given.memory.items ≡ pair.now.file.machine.data_words }
-    requires legal { IsLegalCode pair.now.file.machine pair.now.whole.code }
+    requires size { length given.memory.items ≡ on.now.file.now.machine.data_words }
+    requires legal { IsLegalCode on.now.file.now.machine on.now.whole.now.code }
     ensures { let U = stated unit_meaning units.now in
-        MadeEnds (IsViewOf U request.now.view request.now.bound pair.now.file pair.now.whole
+        MadeEnds (IsViewOf U request.now.view request.now.bound on.now.file.now on.now.whole.now
         given.memory.items given.words.items) no_memory (λ v. v.items) result }
 {
     let Given { memory, words } = given;
-    match load_code(alloc, &pair.file.machine, &pair.whole, memory) {
+    match load_code(alloc, &on.file.machine, on.whole, memory) {
         Ok(mut sim) => {
-            let made = text_of_sim(alloc, units, pair, &mut sim, words.as_slice(), request);
+            let made = text_of_sim(alloc, units, on, &mut sim, words.as_slice(), request);
             // Dropped here as a whole, so that no part of it is left to drop at the end.
             drop(sim);
             made
@@ -119,36 +130,64 @@ fn text_of_run(
     }
 }
 
-/// Puts the view that is asked for of a run of code that was read for a machine.
+/// The view of a run of what was read, from what it is given.
+fn text_of_subject(
+    alloc: Global,
+    units: &UnitSet,
+    pair: &SubjectPair,
+    given: Given,
+    request: &RunRequest<'_>,
+) -> Result<Vec<u8>, Status>
+    requires bound { request.now.bound < 2 ^ 48 }
+    requires size { length given.memory.items ≡ pair.now.file.machine.data_words }
+    requires machine { machines.StandsOver (stated unit_meaning units.now) pair.now.file.machine }
+    requires suits { Suits (stated unit_meaning units.now) pair.now.file.machine pair.now.subject }
+    ensures { let U = stated unit_meaning units.now in
+        MadeEnds (IsShown U request.now.view request.now.bound pair.now.file pair.now.subject
+        given.memory.items given.words.items) (Lacks U pair.now.file pair.now.subject)
+        (λ v. v.items) result }
+{
+    let file = &pair.file;
+    match &pair.subject {
+        Subject::Code(whole) => {
+            let on = Loaded { file, whole };
+            text_of_run(alloc, units, &on, given, request)
+        }
+        Subject::Program(p) => text_of_program(alloc, units, file, p, given, request),
+    }
+}
+
+/// Puts the view that is asked for of a run of what was read for a machine.
 fn run_pair<F: Files, S: Sink>(
     alloc: Global,
     units: &UnitSet,
     files: &mut F,
     sink: &mut S,
     request: &RunRequest<'_>,
-    pair: &CodePair,
+    pair: &SubjectPair,
 ) -> Status
-    requires legal { IsLegalCode pair.now.file.machine pair.now.whole.code }
+    requires machine { machines.StandsOver (stated unit_meaning units.now) pair.now.file.machine }
+    requires suits { Suits (stated unit_meaning units.now) pair.now.file.machine pair.now.subject }
     ensures { let U = stated unit_meaning units.now in
         GivenRuns pair.now.file.machine.data_words
-        (Tells U request.now.view request.now.bound pair.now.file pair.now.whole)
+        (Tells U request.now.view request.now.bound pair.now.file pair.now.subject)
         request.now.input.now (option_map (λ s. s.now) request.now.stream)
         (F.world files.old) (F.world files.new) (S.output sink.old) (S.output sink.new) result }
 {
     let space = data_words(&pair.file.machine);
     match given_files(alloc, files, request.input, request.stream, space) {
         Ok(given) => {
-            let made = text_of_run(alloc, units, pair, given, request);
+            let made = text_of_subject(alloc, units, pair, given, request);
             put_made(sink, made)
         }
         Err(status) => status,
     }
 }
 
-/// Puts the view of the run that is asked for of an image on the machine of the file `machine`: for
-/// at most so many cycles, from the data words of the file `input`, and with the words of the file
-/// `stream`, where it is named, as the input.
-pub fn run_image<F: Files, S: Sink>(
+/// Puts the view of the run that is asked for of an image or a program on the machine of the file
+/// `machine`: for at most so many cycles, from the data words of the file `input`, and with the words of
+/// the file `stream`, where it is named, as the input.
+pub fn run_subject<F: Files, S: Sink>(
     alloc: Global,
     units: &UnitSet,
     files: &mut F,
@@ -156,11 +195,11 @@ pub fn run_image<F: Files, S: Sink>(
     request: &RunRequest<'_>,
 ) -> Status
     ensures { ShowsRun (stated unit_meaning units.now) request.now.view
-        request.now.machine.now request.now.image.now request.now.input.now
+        request.now.machine.now request.now.subject.now request.now.input.now
         (option_map (λ s. s.now) request.now.stream) request.now.bound
         (F.world files.old) (F.world files.new) (S.output sink.old) (S.output sink.new) result }
 {
-    match image_pair(alloc, units, files, request.machine, request.image) {
+    match subject_pair(alloc, units, files, request.machine, request.subject) {
         Ok(pair) => {
             let status = run_pair(alloc, units, files, sink, request, &pair);
             drop(pair);

@@ -44,6 +44,16 @@ const DIGEST: &str = "words 2\nbytes 51\ndata 0\n\
 const HOTTEST: &str = "cycles 2\nbus B moves 2 share 100\nunit OUT starts 1 share 50\n\
     at 0 times 1 share 50 : 7 -> OUT.t.out ;\nat 1 times 1 share 50 : 0 -> gcu.t.halt ;\n";
 
+/// A program of the same code.
+const PROGRAM: &str = "proc main\nout 7\nhalt\nend\n";
+
+/// How its stages end.
+const CODE: &str = "placed b0 address 0 cycles 2\n 0 : 7 -> OUT.t.out ;\n 1 : 0 -> gcu.t.halt ;\n";
+
+/// The profile of its run.
+const COSTLIEST: &str = "cycles 2\nbus B moves 2 share 100\nunit OUT starts 1 share 50\n\
+    block b0 steps of main lines 2 3 address 0 cycles 2 spent 2 share 100\n";
+
 /// The lines that come, of which the last is not taken.
 const LINES: [&str; 5] = ["code 0", "go 9", "", "quit", "where"];
 
@@ -62,13 +72,19 @@ const NO_IMAGE: Status = Status::BadImage {
 
 const NO_MACHINE: Status = Status::BadMachine { line: 1, code: 10 };
 
-const CASES: [Case; 18] = [
+const NO_PROGRAM: Status = Status::BadProgram { line: 1, code: 20 };
+
+const CASES: [Case; 22] = [
     (&["picture", "M"], Status::Ok, "</svg>\n"),
     (&["picture", "M", "IMG"], Status::Ok, ROWS),
     (&["info", "M"], Status::Ok, RULE),
     (&["info", "M", "IMG"], Status::Ok, DIGEST),
     (&["profile", "M", "IMG", "IN", "5"], Status::Ok, HOTTEST),
     (&["profile", "M", "IMG", "IN", "x"], Status::Usage, ""),
+    (&["profile", "M", "P", "IN", "5"], Status::Ok, COSTLIEST),
+    (&["profile", "M", "M", "IN", "5"], NO_PROGRAM, ""),
+    (&["play", "M", "P", "IN", "5"], Status::Ok, "</html>\n"),
+    (&["stages", "M", "P"], Status::Ok, CODE),
     (&["play", "M", "IMG", "IN", "5"], Status::Ok, "</html>\n"),
     (&["play", "M", "IMG", "IN"], Status::Usage, ""),
     (&["prompt", "M", "IMG", "IN"], Status::Ok, REPLIES),
@@ -120,6 +136,7 @@ fn carry_out(
 fn add_files(files: &mut MemFiles) -> Result<(), AllocError> {
     files.add("M", MACHINE.as_bytes())?;
     files.add("IMG", &IMAGE)?;
+    files.add("P", PROGRAM.as_bytes())?;
     files.add("IN", b"")
 }
 

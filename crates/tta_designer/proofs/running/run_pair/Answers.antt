@@ -1,10 +1,9 @@
 use Rattle.std.proofs.Common.{ℕ, option_map, subst}
 use Rattle.tta_ops.specs.Set.{stated}
-use Rattle.tta_given.specs.Held.{no_memory}
 use Rattle.tta_given.specs.Inputs.{ReadsGiven}
 use Rattle.tta_given.proofs.Endings.{text_ends}
 use Rattle.tta_given.proofs.RunEndings.{given_runs}
-use Rattle.tta_designer.specs.Runs.{IsViewOf, Tells}
+use Rattle.tta_designer.specs.Runs.{IsShown, Lacks, Tells}
 use Rattle.tta_designer.proofs.running.run_pair.Goals as goal
 
 pub returns-in-Ok : goal.returns-in-Ok
@@ -20,8 +19,8 @@ returns-in-Ok g c =
     let words = c.in-Ok.given.words.items in
     let stream = option_map (λ s. s.now) run.stream in
     let Reads : ℕ → Type 0 = λ n. ReadsGiven n run.input.now stream memory words before after in
-    given_runs pair.file.machine.data_words (Tells U run.view run.bound pair.file pair.whole) run.input.now stream memory words before after
+    given_runs pair.file.machine.data_words (Tells U run.view run.bound pair.file pair.subject) run.input.now stream memory words before after
     (sink.output c.args.sink.now) (sink.output c.put_made.new.sink) c.put_made.result
     (subst Reads c.data_words-space.ensures c.in-Ok.ensures.ends)
-    (text_ends (IsViewOf U run.view run.bound pair.file pair.whole memory words) no_memory (sink.output c.args.sink.now) (sink.output c.put_made.new.sink) (λ v. v.items)
-    c.text_of_run-made.result c.put_made.result c.text_of_run-made.ensures c.put_made.ensures)
+    (text_ends (IsShown U run.view run.bound pair.file pair.subject memory words) (Lacks U pair.file pair.subject) (sink.output c.args.sink.now) (sink.output c.put_made.new.sink) (λ v. v.items)
+    c.text_of_subject-made.result c.put_made.result c.text_of_subject-made.ensures c.put_made.ensures)

@@ -10,13 +10,13 @@ use Rattle.tta_designer.proofs.running.text_of_run.Goals as goal
 
 pub text_of_sim-made-requires-clause-few : goal.text_of_sim-made-requires-clause-few
 text_of_sim-made-requires-clause-few g c =
-    few_cycles _ c.args.pair.now.file.machine (over (data_in c.args.pair.now.whole) c.args.given.memory.items) c.args.request.now.bound (c.in-Ok.ensures.start []) c.requires.bound
+    few_cycles _ c.args.on.now.file.now.machine (over (data_in c.args.on.now.whole.now) c.args.given.memory.items) c.args.request.now.bound (c.in-Ok.ensures.start []) c.requires.bound
 
 pub returns-in-Ok : goal.returns-in-Ok
 returns-in-Ok g c =
     let U = stated (λ v. (goal.OpUnit-dyn g v).unit_meaning v.1) c.args.units.now in
-    let m = c.args.pair.now.file.machine in
-    let whole = c.args.pair.now.whole in
+    let m = c.args.on.now.file.now.machine in
+    let whole = c.args.on.now.whole.now in
     let words = c.as_slice.result.now in
     let memory = over (data_in whole) c.args.given.memory.items in
     subst (λ (given : List ℕ). MadeEnds (IsRunShown U c.args.request.now.view m whole.code (start m memory given) c.args.request.now.bound) no_memory (λ v. v.items) c.text_of_sim-made.result)
