@@ -1,5 +1,5 @@
 -- How many cycles a run spends in each block of its code.
-use Rattle.std.specs.Prelude.{◌≡◌, ℕ, ◌-◌, ◌^◌, nat_lt, if◌then◌else◌, List, Option, Some, None, slice_get, take, drop, IsPermutation}
+use Rattle.std.specs.Prelude.{ℕ, ◌-◌, ◌^◌, nat_lt, if◌then◌else◌, List, Option, Some, None, slice_get, take, drop, IsPermutation}
 use Rattle.std.specs.Option.{option_map_or}
 use Rattle.std.specs.List.{filter_map, sum_by, enumerate_from}
 use Rattle.std.specs.List.Sorted.{IsNonDecreasingBy}

@@ -1,3 +1,4 @@
 mod ImageSizes
 mod Laying
 mod Prompted
+mod Made

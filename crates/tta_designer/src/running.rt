@@ -95,9 +95,10 @@ fn text_of_sim<'x>(
         → MadeEnds (IsRunShown U request.now.view on.now.file.now.machine on.now.whole.now.code s
         request.now.bound) no_memory (λ v. v.items) result }
 {
+    let (file, whole) = (on.file, on.whole);
     let basis = Basis {
-        m: &on.file.machine,
-        code: &on.whole.code,
+        m: &file.machine,
+        code: &whole.code,
         units,
     };
     text_of_basis(alloc, &basis, request.view, sim, words, request.bound)
@@ -119,7 +120,8 @@ fn text_of_run<'x>(
         given.memory.items given.words.items) no_memory (λ v. v.items) result }
 {
     let Given { memory, words } = given;
-    match load_code(alloc, &on.file.machine, on.whole, memory) {
+    let (file, whole) = (on.file, on.whole);
+    match load_code(alloc, &file.machine, whole, memory) {
         Ok(mut sim) => {
             let made = text_of_sim(alloc, units, on, &mut sim, words.as_slice(), request);
             // Dropped here as a whole, so that no part of it is left to drop at the end.

@@ -1,5 +1,4 @@
 use Rattle.std.proofs.Common.{ℕ, List, IfOk, ap, ◌∙◌, length, subst}
-use Rattle.tta_list.specs.Laid.{over}
 use Rattle.tta_ops.specs.Set.{stated}
 use Rattle.tta_program.specs.Program.{data_of}
 use Rattle.tta_code.specs.Cycle.{start}
