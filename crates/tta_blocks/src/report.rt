@@ -51,8 +51,8 @@ fn push_lines(
 ) -> Result<(), AllocError>
     requires few { length told.now.counts.now.executed ≤ 65536 }
     ensures { OnOk result (out.new.items ≡ out.old.items
-        ++ blocks_text told.now.counts.now told.now.whole blocks.now.program.now blocks.now.parts.now
-        blocks.now.starts.now blocks.now.placed.now order.now) }
+        ++ blocks_text told.now.counts.now told.now.whole blocks.now.program.now
+        blocks.now.parts.now blocks.now.starts.now blocks.now.placed.now order.now) }
 {
     for s in order {
         push_line(out, told, blocks, s.block)?;

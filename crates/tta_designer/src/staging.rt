@@ -63,7 +63,8 @@ pub fn put_stages<F: Files, S: Sink>(
     sink: &mut S,
     names: &StagesRequest<'_>,
 ) -> Status
-    ensures { ShowsStages (stated unit_meaning units.now) names.now.machine.now names.now.program.now
+    ensures { ShowsStages (stated unit_meaning units.now)
+        names.now.machine.now names.now.program.now
         (F.world files.old) (F.world files.new) (S.output sink.old) (S.output sink.new) result }
 {
     match program_pair(alloc, units, files, names.machine, names.program) {

@@ -126,7 +126,8 @@ pub fn subject_pair<F: Files>(
         (F.world files.old) (F.world files.new) (λ p. p.file) (λ p. p.subject) result }
     ensures machine { let U = stated unit_meaning units.now in
         IfOk result (λ p. machines.StandsOver U p.file.machine) }
-    ensures suits { IfOk result (λ p. Suits (stated unit_meaning units.now) p.file.machine p.subject) }
+    ensures suits { let U = stated unit_meaning units.now in
+        IfOk result (λ p. Suits U p.file.machine p.subject) }
 {
     match machine_file(alloc, units, files, machine, 1) {
         Ok(file) => match subject_file(alloc, units, files, subject, &file) {
