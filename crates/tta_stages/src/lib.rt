@@ -1,6 +1,7 @@
 //! What a program becomes on the way to code for a machine, stage by stage: its blocks, the homes of
 //! its variables, its register code, the lists of each block from the selected one to the one that is
-//! placed, and the code. The stages are those of `build`, and what is built is built of them.
+//! placed, and the code. They are made once more by the passes of `build`, in its order; that the code
+//! is the one that `build` writes is only tested.
 #![tactic(auto)]
 
 mod covered;
