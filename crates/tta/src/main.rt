@@ -14,7 +14,7 @@ use tta_ops::{Arith, Compare, Divide, Logic, OpUnit, Shift, UnitSet};
 use tta_ports::{Files, RealFiles, RealSink, Sink};
 use tta_tool::{Status, tool};
 
-// The words after the program's name. A word that is not UTF-8 makes no command.
+/// The words after the program's name. A word that is not UTF-8 makes no command.
 fn words_of(rt: &(impl Env + AllocGlobal)) -> Result<Vec<String>, Status> {
     let all = match env::args(rt) {
         Ok(all) => all,
@@ -30,7 +30,7 @@ fn words_of(rt: &(impl Env + AllocGlobal)) -> Result<Vec<String>, Status> {
     Ok(words)
 }
 
-// Carries out the words over the five standard units.
+/// Carries out the words over the five standard units.
 fn run<F: Files, S: Sink>(
     alloc: Global,
     words: &Vec<String>,

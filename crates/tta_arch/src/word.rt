@@ -22,7 +22,7 @@ impl Bus {
     }
 }
 
-// the bits from the field's highest on
+/// The bits from the field's highest on.
 fn high_bits(word: u32, short: u8) -> u64
     requires low { 1 ≤ short }
     requires high { short ≤ 32 }
@@ -31,7 +31,7 @@ fn high_bits(word: u32, short: u8) -> u64
     u64::from(word >> (short - 1))
 }
 
-// as many ones as there are such bits
+/// As many ones as there are such bits.
 fn ones(short: u8) -> u64
     requires low { 1 ≤ short }
     requires high { short ≤ 32 }

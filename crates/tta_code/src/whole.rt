@@ -33,7 +33,7 @@ impl Model for Whole {
     ghost invariant = { λ w. rises w.init ≡ true };
 }
 
-// puts a word at an address, and does nothing where the memory has none
+/// Puts a word at an address, and does nothing where the memory has none.
 fn set(memory: &mut Vec<u32>, address: u32, word: u32)
     ensures { memory.new.items ≡ slice_set memory.old.items address word }
 {

@@ -22,8 +22,8 @@ use tta_ops::UnitSet;
 use tta_ports::{Failed, Sink};
 use tta_print::Reply;
 
+/// Sets a breakpoint.
 #[tactic(auto, using(crate::proofs::Saying::keeps_said))]
-// Sets a breakpoint.
 fn break_at<S: Sink>(
     session: &mut Session,
     code: &Code,
@@ -45,8 +45,8 @@ fn break_at<S: Sink>(
     }
 }
 
+/// Takes a breakpoint away.
 #[tactic(auto, using(crate::proofs::Saying::keeps_said))]
-// Takes a breakpoint away.
 fn delete_at<S: Sink>(
     session: &mut Session,
     sink: &mut S,
@@ -67,8 +67,8 @@ fn delete_at<S: Sink>(
     }
 }
 
+/// Shows what is asked for.
 #[tactic(auto, using(crate::proofs::Saying::keeps_said))]
-// Shows what is asked for.
 fn ask<S: Sink>(
     session: &Session,
     m: &Machine,
@@ -91,8 +91,8 @@ fn ask<S: Sink>(
     }
 }
 
+/// Shows the results in flight.
 #[tactic(auto, using(crate::proofs::Saying::keeps_said))]
-// Shows the results in flight.
 fn flight<S: Sink>(
     session: &Session,
     m: &Machine,
@@ -115,8 +115,8 @@ fn flight<S: Sink>(
     }
 }
 
+/// Carries out a command.
 #[tactic(auto, using(crate::proofs::Saying::keeps_said))]
-// Carries out a command.
 fn carry_out<S: Sink>(
     session: &mut Session,
     asked: &Asked,

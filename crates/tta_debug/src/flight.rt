@@ -12,7 +12,7 @@ use tta_ports::{Failed, Sink};
 use tta_print::put_due;
 use tta_sim::Sim;
 
-// Puts the line of a unit's result that is due so many cycles from now, if one is.
+/// Puts the line of a unit's result that is due so many cycles from now, if one is.
 fn put_one<S: Sink>(sink: &mut S, sim: &Sim, name: &[u8], unit: u8, delay: u8) -> Result<(), Failed>
     requires name { length name.now ≤ 64 }
     requires unit { unit < length sim.now.shown }
@@ -28,7 +28,7 @@ fn put_one<S: Sink>(sink: &mut S, sim: &Sim, name: &[u8], unit: u8, delay: u8) -
     }
 }
 
-// Puts the lines of a unit's results that are due later.
+/// Puts the lines of a unit's results that are due later.
 fn put_unit<S: Sink>(sink: &mut S, sim: &Sim, name: &[u8], unit: u8) -> Result<(), Failed>
     requires name { length name.now ≤ 64 }
     requires unit { unit < length sim.now.shown }
@@ -46,7 +46,7 @@ fn put_unit<S: Sink>(sink: &mut S, sim: &Sim, name: &[u8], unit: u8) -> Result<(
     Ok(())
 }
 
-// Puts the lines of the results of some units, the first of which has the number 0.
+/// Puts the lines of the results of some units, the first of which has the number 0.
 fn put_units<S: Sink>(sink: &mut S, sim: &Sim, units: &[Unit]) -> Result<(), Failed>
     requires units { length sim.now.shown ≡ length units.now }
     requires few_units { length units.now ≤ 32 }

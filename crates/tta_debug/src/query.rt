@@ -13,7 +13,7 @@ use tta_arch::{File, Machine, Unit};
 use tta_print::Reply;
 use tta_sim::Sim;
 
-// The word of a place.
+/// The word of a place.
 fn value(word: Option<u32>) -> Reply
     ensures { result ≡ spec.value word }
 {
@@ -40,21 +40,21 @@ pub fn standing(sim: &Sim) -> Reply
     }
 }
 
-// The place of the file of a name.
+/// The place of the file of a name.
 fn file_named(files: &[File], name: &[u8]) -> Option<usize>
     ensures { result ≡ position (λ f. bytes_eq f.name name.now) files.now }
 {
     files.iter().position(|f| f.name.as_bytes() == name)
 }
 
-// The place of the unit of a name.
+/// The place of the unit of a name.
 fn unit_named(units: &[Unit], name: &[u8]) -> Option<usize>
     ensures { result ≡ position (λ u. bytes_eq u.name name.now) units.now }
 {
     units.iter().position(|u| u.name.as_bytes() == name)
 }
 
-// A register of a file.
+/// A register of a file.
 fn register(sim: &Sim, m: &Machine, file: &[u8], index: u32) -> Option<Reply>
     ensures { (s : State) → Stands sim.now s → result ≡ spec.register m.now s file.now index }
 {
@@ -67,7 +67,7 @@ fn register(sim: &Sim, m: &Machine, file: &[u8], index: u32) -> Option<Reply>
     }
 }
 
-// What the result port of a unit shows.
+/// What the result port of a unit shows.
 fn shown(sim: &Sim, m: &Machine, unit: &[u8]) -> Option<Reply>
     requires { length sim.now.shown ≡ length m.now.units }
     ensures { (s : State) → Stands sim.now s → result ≡ spec.shown m.now s unit.now }

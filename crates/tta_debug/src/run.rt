@@ -32,8 +32,8 @@ pub enum After {
     Waits,
 }
 
+/// How many words of the input are taken, where the next was taken or was not.
 #[tactic(auto, using(crate::proofs::Inputs::drop_one_more, crate::proofs::Inputs::drop_none_more))]
-// How many words of the input are taken, where the next was taken or was not.
 fn count_taken(taken: usize, took: bool, input: &[u32]) -> usize
     ensures { drop result input.now ≡ left took (drop taken input.now) }
 {
@@ -47,14 +47,14 @@ fn count_taken(taken: usize, took: bool, input: &[u32]) -> usize
     }
 }
 
-// The next word of the input.
+/// The next word of the input.
 fn next_of(input: &[u32], taken: usize) -> Option<u32>
     ensures { result ≡ slice_get (drop taken input.now) 0 }
 {
     input.get(taken).copied()
 }
 
-// Puts the line of a word, if there is one.
+/// Puts the line of a word, if there is one.
 fn put_word<S: Sink>(sink: &mut S, word: Option<u32>) -> Result<(), Failed>
     ensures puts { PutsWord word (S.output sink.old)
         (S.output sink.new) result }
@@ -136,7 +136,7 @@ pub fn run_cycles<S: Sink>(
     Ok(false)
 }
 
-// What stands where cycles have stopped.
+/// What stands where cycles have stopped.
 fn stopped_at(session: &Session, waits: bool) -> Reply
     ensures { (s : State) → Stands session.now.held s → result ≡ stopped waits s }
 {

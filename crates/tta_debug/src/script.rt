@@ -68,7 +68,7 @@ struct Cut<'t> {
     rest: &'t [u8],
 }
 
-// How many bytes stand before the first newline.
+/// How many bytes stand before the first newline.
 fn line_len(bytes: &[u8]) -> usize
     ensures len { result ≡ len_of bytes.now }
     ensures within { result ≤ length bytes.now }
@@ -76,7 +76,7 @@ fn line_len(bytes: &[u8]) -> usize
     bytes.iter().take_while(|byte| **byte != b'\n').count()
 }
 
-// The first line of some bytes, without the newline that ends it.
+/// The first line of some bytes, without the newline that ends it.
 fn cut_line<'t>(bytes: &'t [u8]) -> Cut<'t>
     requires { 0 < length bytes.now }
     ensures cut { lines_of bytes.now ≡ result.line.now ∷ lines_of result.rest.now }
@@ -96,8 +96,8 @@ fn cut_line<'t>(bytes: &'t [u8]) -> Cut<'t>
     }
 }
 
-// Carries out the lines of a script up to a line that is `quit` or to the script's end, and puts
-// their replies and refusals.
+/// Carries out the lines of a script up to a line that is `quit` or to the script's end, and puts
+/// their replies and refusals.
 fn take_lines<S: Sink>(
     session: &mut Session,
     script: &[u8],

@@ -12,7 +12,7 @@ use std::alloc::AllocError;
 use tta_arch::{Dest, Machine, UnitOp};
 use tta_list::entry_at;
 
-// The class of one of the six colours.
+/// The class of one of the six colours.
 fn light_class(n: u8) -> &'static [u8]
     ensures { result.now ≡ light_class n }
 {
@@ -51,7 +51,7 @@ pub fn move_class(dst: Dest) -> &'static [u8]
     }
 }
 
-// Puts the bar of a result, with a dot where it is due; nothing for an operation with no result.
+/// Puts the bar of a result, with a dot where it is due; nothing for an operation with no result.
 #[tactic(auto, unfolding(crate::specs::CodePicture::bar_text))]
 fn push_bar(
     out: &mut Vec<u8>,
@@ -72,7 +72,7 @@ fn push_bar(
     push_dot(out, class, bar_x(m, word, unit) + 2, due + 12)
 }
 
-// An operation that a unit offers.
+/// An operation that a unit offers.
 fn op_at(m: &Machine, unit: u8, op: u8) -> Option<UnitOp>
     ensures { result ≡ op_at m.now unit op }
 {
@@ -82,7 +82,7 @@ fn op_at(m: &Machine, unit: u8, op: u8) -> Option<UnitOp>
     }
 }
 
-// Puts the bar of the result that an operation of a unit shows.
+/// Puts the bar of the result that an operation of a unit shows.
 fn push_started(
     out: &mut Vec<u8>,
     m: &Machine,

@@ -20,7 +20,7 @@ use tta_arch::{Machine, has_bus};
 use tta_code::{Instruction, Long, Move};
 use tta_ops::UnitSet;
 
-// Puts a move in the cell of its bus, and the bar of the result that it starts.
+/// Puts a move in the cell of its bus, and the bar of the result that it starts.
 #[tactic(auto, unfolding(crate::specs::CodePicture::move_text))]
 fn push_move(
     out: &mut Vec<u8>,
@@ -43,7 +43,7 @@ fn push_move(
     push_result(out, m, word, v.dst)
 }
 
-// Puts the cell of a bus, if it has a move.
+/// Puts the cell of a bus, if it has a move.
 fn push_cell(
     out: &mut Vec<u8>,
     units: &UnitSet,
@@ -63,7 +63,7 @@ fn push_cell(
     }
 }
 
-// Puts the cells of the buses of a row, if they have moves.
+/// Puts the cells of the buses of a row, if they have moves.
 fn push_cells(
     out: &mut Vec<u8>,
     units: &UnitSet,
@@ -82,7 +82,7 @@ fn push_cells(
     Ok(())
 }
 
-// The buses that a long immediate takes.
+/// The buses that a long immediate takes.
 fn taken_by(m: &Machine, long: Option<Long>) -> u16
     ensures { result ≡ option_map_or
         (λ l. option_map_or (λ t. t.buses) (slice_get m.now.templates l.template) 0) long 0 }
@@ -96,7 +96,7 @@ fn taken_by(m: &Machine, long: Option<Long>) -> u16
     }
 }
 
-// Puts the cell of a bus, if a set of buses has it.
+/// Puts the cell of a bus, if a set of buses has it.
 fn push_taken(out: &mut Vec<u8>, word: usize, buses: u16, bus: usize) -> Result<(), AllocError>
     requires word { word ≤ 65536 }
     requires bus { bus ≤ 16 }
@@ -109,7 +109,7 @@ fn push_taken(out: &mut Vec<u8>, word: usize, buses: u16, bus: usize) -> Result<
     Ok(())
 }
 
-// Puts the cells of the buses that a long immediate takes.
+/// Puts the cells of the buses that a long immediate takes.
 fn push_all_taken(out: &mut Vec<u8>, m: &Machine, word: usize, buses: u16) -> Result<(), AllocError>
     requires { word ≤ 65536 }
     ensures { OnOk result (out.new.items ≡ out.old.items ++ taken_text m.now word buses) }
@@ -120,7 +120,7 @@ fn push_all_taken(out: &mut Vec<u8>, m: &Machine, word: usize, buses: u16) -> Re
     Ok(())
 }
 
-// Puts a long immediate, if there is one.
+/// Puts a long immediate, if there is one.
 fn push_long_cell(
     out: &mut Vec<u8>,
     m: &Machine,
@@ -139,7 +139,7 @@ fn push_long_cell(
     end_label(out)
 }
 
-// Puts a row: its address, the buses that a long immediate takes, the long immediate, and the moves.
+/// Puts a row: its address, the buses that a long immediate takes, the long immediate, and the moves.
 #[tactic(auto, unfolding(crate::specs::CodePicture::row_text))]
 fn push_row(
     out: &mut Vec<u8>,

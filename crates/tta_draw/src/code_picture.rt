@@ -19,7 +19,7 @@ use tta_arch::{Bus, Machine, Unit};
 use tta_code::{Code, Instruction};
 use tta_ops::UnitSet;
 
-// The instructions of code that a machine can carry out.
+/// The instructions of code that a machine can carry out.
 fn words_of<'c>(m: &Machine, code: &'c Code) -> &'c [Instruction]
     requires { IsLegalCode m.now code.now }
     ensures all { result.now ≡ code.now.words }
@@ -32,7 +32,7 @@ fn words_of<'c>(m: &Machine, code: &'c Code) -> &'c [Instruction]
     code.words.as_slice()
 }
 
-// Puts a line of notes.
+/// Puts a line of notes.
 #[tactic(auto, unfolding(crate::specs::CodePicture::note_text))]
 fn push_note(out: &mut Vec<u8>, line: u64, text: &[u8]) -> Result<(), AllocError>
     requires { line ≤ 2 }
@@ -41,7 +41,7 @@ fn push_note(out: &mut Vec<u8>, line: u64, text: &[u8]) -> Result<(), AllocError
     push_label(out, b"note", note_frame(line), text)
 }
 
-// Puts how to read the picture.
+/// Puts how to read the picture.
 #[tactic(auto, unfolding(crate::specs::CodePicture::notes_text))]
 fn push_notes(out: &mut Vec<u8>) -> Result<(), AllocError>
     ensures { OnOk result (out.new.items ≡ out.old.items ++ notes_text) }
@@ -54,7 +54,7 @@ fn push_notes(out: &mut Vec<u8>) -> Result<(), AllocError>
     push_note(out, 2, arrows)
 }
 
-// Puts the name of a bus.
+/// Puts the name of a bus.
 fn push_bus_column(out: &mut Vec<u8>, bus: usize, b: &Bus) -> Result<(), AllocError>
     requires { bus ≤ 16 }
     ensures { OnOk result (out.new.items ≡ out.old.items ++ bus_column_text bus b.now) }
@@ -63,7 +63,7 @@ fn push_bus_column(out: &mut Vec<u8>, bus: usize, b: &Bus) -> Result<(), AllocEr
     push_label(out, b"title", place, b.name.as_bytes())
 }
 
-// Puts the names of buses.
+/// Puts the names of buses.
 fn push_bus_columns(out: &mut Vec<u8>, buses: &[Bus]) -> Result<(), AllocError>
     requires { length buses.now ≤ 16 }
     ensures { OnOk result (out.new.items ≡ out.old.items ++ bus_columns_text buses.now) }
@@ -74,7 +74,7 @@ fn push_bus_columns(out: &mut Vec<u8>, buses: &[Bus]) -> Result<(), AllocError>
     Ok(())
 }
 
-// Puts the name of a unit and its colour.
+/// Puts the name of a unit and its colour.
 fn push_unit_column(out: &mut Vec<u8>, m: &Machine, unit: usize, u: &Unit) -> Result<(), AllocError>
     requires { unit ≤ 32 }
     ensures { OnOk result (out.new.items ≡ out.old.items ++ unit_column_text m.now unit u.now) }
@@ -84,7 +84,7 @@ fn push_unit_column(out: &mut Vec<u8>, m: &Machine, unit: usize, u: &Unit) -> Re
     push_box(out, dark_class((unit % 6) as u8), colour_frame(m, unit))
 }
 
-// Puts the names of units and their colours.
+/// Puts the names of units and their colours.
 fn push_unit_columns(out: &mut Vec<u8>, m: &Machine, units: &[Unit]) -> Result<(), AllocError>
     requires { length units.now ≤ 32 }
     ensures { OnOk result (out.new.items ≡ out.old.items ++ unit_columns_text m.now units.now) }
@@ -95,7 +95,7 @@ fn push_unit_columns(out: &mut Vec<u8>, m: &Machine, units: &[Unit]) -> Result<(
     Ok(())
 }
 
-// Puts the name of the column of long immediates.
+/// Puts the name of the column of long immediates.
 #[tactic(auto, unfolding(crate::specs::CodePicture::long_column_text))]
 fn push_long_column(out: &mut Vec<u8>, m: &Machine) -> Result<(), AllocError>
     ensures { OnOk result (out.new.items ≡ out.old.items ++ long_column_text m.now) }
@@ -103,7 +103,7 @@ fn push_long_column(out: &mut Vec<u8>, m: &Machine) -> Result<(), AllocError>
     push_label(out, b"title", name_frame(long_x(m), 140), b"long immediate")
 }
 
-// Puts the names of the columns.
+/// Puts the names of the columns.
 #[tactic(auto, unfolding(crate::specs::CodePicture::columns_text))]
 fn push_columns(out: &mut Vec<u8>, m: &Machine) -> Result<(), AllocError>
     ensures { OnOk result (out.new.items ≡ out.old.items ++ columns_text m.now) }
@@ -113,7 +113,7 @@ fn push_columns(out: &mut Vec<u8>, m: &Machine) -> Result<(), AllocError>
     push_unit_columns(out, m, m.units.as_slice())
 }
 
-// Puts the rows of instructions, and the labels and arrows of their jumps.
+/// Puts the rows of instructions, and the labels and arrows of their jumps.
 #[tactic(auto, unfolding(crate::specs::CodePicture::body_text))]
 fn push_body(
     out: &mut Vec<u8>,

@@ -17,7 +17,7 @@ use std::alloc::{AllocError, Global};
 use tta_arch::Machine;
 use tta_code::Instruction;
 
-// Puts the label of a row.
+/// Puts the label of a row.
 #[tactic(auto, unfolding(crate::specs::CodePicture::label_row_text))]
 fn push_row_label(out: &mut Vec<u8>, row: usize) -> Result<(), AllocError>
     requires { row ≤ 65536 }
@@ -26,7 +26,7 @@ fn push_row_label(out: &mut Vec<u8>, row: usize) -> Result<(), AllocError>
     push_count(out, b"title", label_frame(row), b"L", row as u64)
 }
 
-// Puts the label of a row, if it has one.
+/// Puts the label of a row, if it has one.
 fn push_label_if(out: &mut Vec<u8>, row: usize, has_label: bool) -> Result<(), AllocError>
     requires { row ≤ 65536 }
     ensures { OnOk result (out.new.items ≡ out.old.items
@@ -38,7 +38,7 @@ fn push_label_if(out: &mut Vec<u8>, row: usize, has_label: bool) -> Result<(), A
     Ok(())
 }
 
-// Puts the labels of the rows that have them.
+/// Puts the labels of the rows that have them.
 fn push_all_labels(out: &mut Vec<u8>, labels: &[bool]) -> Result<(), AllocError>
     requires { length labels.now ≤ 65536 }
     ensures { OnOk result (out.new.items ≡ out.old.items ++ flat_map
@@ -51,7 +51,7 @@ fn push_all_labels(out: &mut Vec<u8>, labels: &[bool]) -> Result<(), AllocError>
     Ok(())
 }
 
-// Puts the labels of so many rows.
+/// Puts the labels of so many rows.
 fn push_labels(
     out: &mut Vec<u8>,
     alloc: Global,
@@ -65,7 +65,7 @@ fn push_labels(
     push_all_labels(out, labels.as_slice())
 }
 
-// Puts the upright line of an arrow.
+/// Puts the upright line of an arrow.
 fn push_upright(out: &mut Vec<u8>, a: Arrow) -> Result<(), AllocError>
     ensures { OnOk result (out.new.items ≡ out.old.items
         ++ upright_text a.lane a.jump.from a.jump.to) }
@@ -78,7 +78,7 @@ fn push_upright(out: &mut Vec<u8>, a: Arrow) -> Result<(), AllocError>
     push_box(out, b"arrow", upright_frame(a.lane, tail, tip))
 }
 
-// Puts an arrow.
+/// Puts an arrow.
 #[tactic(auto, unfolding(crate::specs::CodePicture::arrow_text))]
 fn push_arrow(out: &mut Vec<u8>, a: Arrow) -> Result<(), AllocError>
     ensures { OnOk result (out.new.items ≡ out.old.items ++ arrow_text a) }
@@ -91,7 +91,7 @@ fn push_arrow(out: &mut Vec<u8>, a: Arrow) -> Result<(), AllocError>
     push_tip(out, b"arrow", 76, tip + 1)
 }
 
-// Puts arrows.
+/// Puts arrows.
 fn push_all_arrows(out: &mut Vec<u8>, arrows: &[Arrow]) -> Result<(), AllocError>
     ensures { OnOk result (out.new.items ≡ out.old.items ++ arrows_text arrows.now) }
 {
@@ -101,7 +101,7 @@ fn push_all_arrows(out: &mut Vec<u8>, arrows: &[Arrow]) -> Result<(), AllocError
     Ok(())
 }
 
-// Puts the arrows of jumps.
+/// Puts the arrows of jumps.
 fn push_arrows(out: &mut Vec<u8>, alloc: Global, jumps: &[Jump]) -> Result<(), AllocError>
     ensures { OnOk result (out.new.items ≡ out.old.items ++ arrows_text (arrows_of jumps.now)) }
 {

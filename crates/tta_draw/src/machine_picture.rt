@@ -19,7 +19,7 @@ use std::alloc::{AllocError, Global};
 use tta_arch::{Bus, File, ImmUnit, Machine, Template, Unit};
 use tta_ops::UnitSet;
 
-// Puts how many words a space has.
+/// Puts how many words a space has.
 #[tactic(auto, unfolding(crate::specs::MachinePicture::space_text))]
 fn push_space(out: &mut Vec<u8>, space: u64, name: &[u8], words: u32) -> Result<(), AllocError>
     requires { space ≤ 1 }
@@ -28,7 +28,7 @@ fn push_space(out: &mut Vec<u8>, space: u64, name: &[u8], words: u32) -> Result<
     push_count(out, b"note", space_frame(space), name, u64::from(words))
 }
 
-// Puts what the colours of the lines mean.
+/// Puts what the colours of the lines mean.
 #[tactic(auto, unfolding(crate::specs::MachinePicture::colours_text))]
 fn push_colours(out: &mut Vec<u8>) -> Result<(), AllocError>
     ensures { OnOk result (out.new.items ≡ out.old.items ++ colours_text) }
@@ -37,7 +37,7 @@ fn push_colours(out: &mut Vec<u8>) -> Result<(), AllocError>
     push_label(out, b"note", colours_frame(), colours)
 }
 
-// Puts how many words the spaces have, and what the colours of the lines mean.
+/// Puts how many words the spaces have, and what the colours of the lines mean.
 #[tactic(auto, unfolding(crate::specs::MachinePicture::spaces_text))]
 fn push_spaces(out: &mut Vec<u8>, m: &Machine) -> Result<(), AllocError>
     ensures { OnOk result (out.new.items ≡ out.old.items ++ spaces_text m.now) }
@@ -47,7 +47,7 @@ fn push_spaces(out: &mut Vec<u8>, m: &Machine) -> Result<(), AllocError>
     push_colours(out)
 }
 
-// Puts how many bits a short word of a bus has, and whether it is signed.
+/// Puts how many bits a short word of a bus has, and whether it is signed.
 fn push_short(out: &mut Vec<u8>, bus: usize, b: &Bus) -> Result<(), AllocError>
     requires { bus ≤ 16 }
     ensures { OnOk result (out.new.items ≡ out.old.items ++ short_text bus b.now) }
@@ -59,7 +59,7 @@ fn push_short(out: &mut Vec<u8>, bus: usize, b: &Bus) -> Result<(), AllocError>
     end_label(out)
 }
 
-// Puts a bus: its name, its short words, and its line.
+/// Puts a bus: its name, its short words, and its line.
 #[tactic(auto, unfolding(crate::specs::MachinePicture::bus_text))]
 fn push_bus(out: &mut Vec<u8>, m: &Machine, bus: usize, b: &Bus) -> Result<(), AllocError>
     requires { bus ≤ 16 }
@@ -70,7 +70,7 @@ fn push_bus(out: &mut Vec<u8>, m: &Machine, bus: usize, b: &Bus) -> Result<(), A
     push_box(out, b"bus", bus_frame(m, bus))
 }
 
-// Puts buses, the first of them at the top.
+/// Puts buses, the first of them at the top.
 fn push_buses(out: &mut Vec<u8>, m: &Machine, buses: &[Bus]) -> Result<(), AllocError>
     requires { length buses.now ≤ 16 }
     ensures { OnOk result (out.new.items ≡ out.old.items ++ buses_text m.now buses.now) }
@@ -81,7 +81,7 @@ fn push_buses(out: &mut Vec<u8>, m: &Machine, buses: &[Bus]) -> Result<(), Alloc
     Ok(())
 }
 
-// Puts files, from this part on.
+/// Puts files, from this part on.
 fn push_files(out: &mut Vec<u8>, m: &Machine, part: usize, files: &[File]) -> Result<(), AllocError>
     requires { part + length files.now ≤ 64 }
     ensures { OnOk result (out.new.items ≡ out.old.items ++ files_text m.now part files.now) }
@@ -92,7 +92,7 @@ fn push_files(out: &mut Vec<u8>, m: &Machine, part: usize, files: &[File]) -> Re
     Ok(())
 }
 
-// Puts immediate units, from this part on.
+/// Puts immediate units, from this part on.
 fn push_imms(
     out: &mut Vec<u8>,
     m: &Machine,
@@ -108,7 +108,7 @@ fn push_imms(
     Ok(())
 }
 
-// Puts templates, from this part on.
+/// Puts templates, from this part on.
 fn push_templates(
     out: &mut Vec<u8>,
     m: &Machine,
@@ -125,7 +125,7 @@ fn push_templates(
     Ok(())
 }
 
-// Puts units, from this part on.
+/// Puts units, from this part on.
 fn push_units(
     out: &mut Vec<u8>,
     set: &UnitSet,
@@ -144,7 +144,7 @@ fn push_units(
     Ok(())
 }
 
-// Puts the parts from left to right.
+/// Puts the parts from left to right.
 #[tactic(auto, unfolding(crate::specs::MachinePicture::parts_text))]
 fn push_parts(out: &mut Vec<u8>, set: &UnitSet, m: &Machine) -> Result<(), AllocError>
     ensures { OnOk result (out.new.items ≡ out.old.items

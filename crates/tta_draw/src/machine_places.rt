@@ -44,7 +44,7 @@ pub fn port_x(part: usize, port: u64) -> u64
     part_x(part) + 20 + 40 * port
 }
 
-// How high a part is that has so many lines under its name.
+/// How high a part is that has so many lines under its name.
 fn part_height(lines: usize) -> u64
     requires { lines ≤ 300 }
     ensures { result ≡ part_height lines }
@@ -171,7 +171,7 @@ pub fn units_of(m: &Machine) -> &[Unit]
     m.units.as_slice()
 }
 
-// The most lines of a part: those of a file, or the operations of a unit.
+/// The most lines of a part: those of a file, or the operations of a unit.
 fn most_lines(units: &[Unit]) -> usize
     requires { All (λ u. length u.ops ≤ 256) units.now }
     ensures all { result ≡ most_lines units.now }

@@ -15,7 +15,7 @@ use tta_arch::{File, ImmUnit, Machine, Template, Unit, UnitOp};
 use tta_asm::{imm_name, op_name, push_place};
 use tta_ops::UnitSet;
 
-// Puts the box of a part, for so many lines, with its name.
+/// Puts the box of a part, for so many lines, with its name.
 #[tactic(auto, unfolding(crate::specs::MachinePicture::part_text))]
 fn push_part(
     out: &mut Vec<u8>,
@@ -32,7 +32,7 @@ fn push_part(
     push_label(out, b"title", line_frame(m, part, 0), name)
 }
 
-// Puts a line of a part that has a number.
+/// Puts a line of a part that has a number.
 fn push_told(
     out: &mut Vec<u8>,
     m: &Machine,
@@ -74,7 +74,7 @@ pub fn push_imm(out: &mut Vec<u8>, m: &Machine, part: usize, i: &ImmUnit) -> Res
     push_port(out, m, part, 2, b"out", i.out)
 }
 
-// Puts the register that a template writes, as a line of its part.
+/// Puts the register that a template writes, as a line of its part.
 fn push_written(out: &mut Vec<u8>, m: &Machine, part: usize, t: &Template) -> Result<(), AllocError>
     requires { part ≤ 64 }
     ensures { OnOk result (out.new.items ≡ out.old.items ++ written_text m.now part t.now) }
@@ -101,7 +101,7 @@ pub fn push_template(
     push_stem(out, m, b"takes", part, 1, t.buses)
 }
 
-// Puts an operation, with its latency if it has a result.
+/// Puts an operation, with its latency if it has a result.
 fn push_op(out: &mut Vec<u8>, units: &UnitSet, o: UnitOp) -> Result<(), AllocError>
     ensures { OnOk result (out.new.items
         ≡ out.old.items ++ op_text (stated unit_meaning units.now) o) }
@@ -114,7 +114,7 @@ fn push_op(out: &mut Vec<u8>, units: &UnitSet, o: UnitOp) -> Result<(), AllocErr
     push_number(out, u64::from(o.latency))
 }
 
-// Puts an operation as a line of its unit.
+/// Puts an operation as a line of its unit.
 fn push_op_line(
     out: &mut Vec<u8>,
     units: &UnitSet,
@@ -133,7 +133,7 @@ fn push_op_line(
     end_label(out)
 }
 
-// Puts the operations of a unit, a line each.
+/// Puts the operations of a unit, a line each.
 fn push_ops(
     out: &mut Vec<u8>,
     units: &UnitSet,

@@ -15,7 +15,7 @@ use std::alloc::AllocError;
 use tta_arch::{Machine, Socket, has_bus};
 use tta_list::entry_at;
 
-// Puts a dot on a bus, if a set of buses has it.
+/// Puts a dot on a bus, if a set of buses has it.
 fn push_joint(
     out: &mut Vec<u8>,
     class: &[u8],
@@ -33,7 +33,7 @@ fn push_joint(
     Ok(())
 }
 
-// Puts a dot on each bus of a set.
+/// Puts a dot on each bus of a set.
 fn push_dots(
     out: &mut Vec<u8>,
     m: &Machine,
@@ -68,7 +68,7 @@ pub fn push_stem(
     push_dots(out, m, class, port_x(part, port), buses)
 }
 
-// Puts a socket at a port: its line and dots, and its name.
+/// Puts a socket at a port: its line and dots, and its name.
 fn push_socket(
     out: &mut Vec<u8>,
     m: &Machine,

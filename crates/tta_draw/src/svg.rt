@@ -18,7 +18,7 @@ pub fn push_number(out: &mut Vec<u8>, n: u64) -> Result<(), AllocError>
     out.extend_from_slice(buffer.format(n).as_bytes())
 }
 
-// Puts an attribute, whose name has the marks around it.
+/// Puts an attribute, whose name has the marks around it.
 #[tactic(auto, unfolding(crate::specs::Svg::attribute))]
 fn push_attribute(out: &mut Vec<u8>, name: &[u8], n: u64) -> Result<(), AllocError>
     ensures { OnOk result (out.new.items ≡ out.old.items ++ attribute name.now n) }
@@ -28,7 +28,7 @@ fn push_attribute(out: &mut Vec<u8>, name: &[u8], n: u64) -> Result<(), AllocErr
     out.extend_from_slice(b"\"")
 }
 
-// Puts the attributes of a size.
+/// Puts the attributes of a size.
 #[tactic(auto, unfolding(crate::specs::Svg::size_text))]
 fn push_size(out: &mut Vec<u8>, width: u64, height: u64) -> Result<(), AllocError>
     ensures { OnOk result (out.new.items ≡ out.old.items ++ size_text width height) }
@@ -37,7 +37,7 @@ fn push_size(out: &mut Vec<u8>, width: u64, height: u64) -> Result<(), AllocErro
     push_attribute(out, b" height=\"", height)
 }
 
-// Puts the attributes of a frame.
+/// Puts the attributes of a frame.
 #[tactic(auto, unfolding(crate::specs::Svg::frame_text))]
 fn push_frame(out: &mut Vec<u8>, f: Frame) -> Result<(), AllocError>
     ensures { OnOk result (out.new.items ≡ out.old.items ++ frame_text f) }
@@ -59,7 +59,7 @@ pub fn push_box(out: &mut Vec<u8>, class: &[u8], f: Frame) -> Result<(), AllocEr
     out.extend_from_slice(b"/>\n")
 }
 
-// Puts the attributes of a centre.
+/// Puts the attributes of a centre.
 #[tactic(auto, unfolding(crate::specs::Svg::centre_text))]
 fn push_centre(out: &mut Vec<u8>, x: u64, y: u64) -> Result<(), AllocError>
     ensures { OnOk result (out.new.items ≡ out.old.items ++ centre_text x y) }
@@ -68,14 +68,14 @@ fn push_centre(out: &mut Vec<u8>, x: u64, y: u64) -> Result<(), AllocError>
     push_attribute(out, b" cy=\"", y)
 }
 
-// Puts a text.
+/// Puts a text.
 fn push_text(out: &mut Vec<u8>, text: &[u8]) -> Result<(), AllocError>
     ensures { OnOk result (out.new.items ≡ out.old.items ++ text.now) }
 {
     out.extend_from_slice(text)
 }
 
-// Puts how a dot of a class begins.
+/// Puts how a dot of a class begins.
 #[tactic(auto, unfolding(crate::specs::Svg::circle_text))]
 fn start_dot(out: &mut Vec<u8>, class: &[u8]) -> Result<(), AllocError>
     ensures { OnOk result (out.new.items ≡ out.old.items ++ circle_text class.now) }
@@ -139,7 +139,7 @@ pub fn push_count(
     end_label(out)
 }
 
-// Puts two numbers with a blank between.
+/// Puts two numbers with a blank between.
 #[tactic(auto, unfolding(crate::specs::Svg::pair_text))]
 fn push_pair(out: &mut Vec<u8>, first: u64, second: u64) -> Result<(), AllocError>
     ensures { OnOk result (out.new.items ≡ out.old.items ++ pair_text first second) }
@@ -161,7 +161,7 @@ pub fn push_tip(out: &mut Vec<u8>, class: &[u8], x: u64, y: u64) -> Result<(), A
     out.extend_from_slice(b"l-8-4v8z\"/>\n")
 }
 
-// Puts that the measures of a picture of some size are its own.
+/// Puts that the measures of a picture of some size are its own.
 #[tactic(auto, unfolding(crate::specs::Svg::measures_text))]
 fn push_measures(out: &mut Vec<u8>, width: u64, height: u64) -> Result<(), AllocError>
     ensures { OnOk result (out.new.items ≡ out.old.items ++ measures_text width height) }
@@ -171,7 +171,7 @@ fn push_measures(out: &mut Vec<u8>, width: u64, height: u64) -> Result<(), Alloc
     push_text(out, b"\"")
 }
 
-// Puts the attributes of a picture's size.
+/// Puts the attributes of a picture's size.
 #[tactic(auto, unfolding(crate::specs::Svg::view_text))]
 fn push_view(out: &mut Vec<u8>, width: u64, height: u64) -> Result<(), AllocError>
     ensures { OnOk result (out.new.items ≡ out.old.items ++ view_text width height) }
@@ -180,7 +180,7 @@ fn push_view(out: &mut Vec<u8>, width: u64, height: u64) -> Result<(), AllocErro
     push_measures(out, width, height)
 }
 
-// Puts the look of each class.
+/// Puts the look of each class.
 #[tactic(auto, unfolding(crate::specs::Svg::style_text))]
 fn push_style(out: &mut Vec<u8>) -> Result<(), AllocError>
     ensures { OnOk result (out.new.items ≡ out.old.items ++ style_text) }

@@ -75,7 +75,7 @@ impl MemLines {
         Ok(())
     }
 
-    // Counts a call, and says whether it is to fail.
+    /// Counts a call, and says whether it is to fail.
     fn begin_call(&mut self) -> bool
         ensures answer { result ≡ fails_next self.old }
         ensures counted { self.new ≡ record self.old { calls = next_count self.old.calls } }

@@ -55,14 +55,14 @@ impl Model for MemFiles {
     ghost invariant = { λ m. m.log.count < 2 ^ 64 };
 }
 
-// Where the file of a name stands.
+/// Where the file of a name stands.
 fn position_of(files: &[File], name: &[u8]) -> Option<usize>
     ensures { result ≡ position (λ f. bytes_eq f.name name.now) files.now }
 {
     files.iter().position(|f| f.name.as_bytes() == name)
 }
 
-// Makes the name hold the bytes.
+/// Makes the name hold the bytes.
 fn put(alloc: Global, files: &mut Vec<File>, name: &[u8], bytes: &[u8]) -> Result<(), AllocError>
     ensures ok { OnOk result (store_of files.new.items
         ≡ with_file (store_of files.old.items) name.now bytes.now) }
@@ -119,7 +119,7 @@ impl MemFiles {
         }
     }
 
-    // Counts a call, and says whether it is to fail.
+    /// Counts a call, and says whether it is to fail.
     fn begin_call(&mut self) -> bool
         ensures answer { result ≡ fails_next self.old }
         ensures counted { self.new ≡ called self.old }

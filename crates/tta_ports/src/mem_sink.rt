@@ -40,7 +40,7 @@ impl Model for MemSink {
         × (s.faults < 2 ^ 64) };
 }
 
-// Puts bytes at the end of others. There is room for them, so this takes no memory.
+/// Puts bytes at the end of others. There is room for them, so this takes no memory.
 fn append(to: &mut Vec<u8>, bytes: &[u8])
     requires { vec_len to.old + length bytes.now ≤ vec_capacity to.old }
     ensures items { to.new.items ≡ to.old.items ++ bytes.now }
@@ -73,7 +73,7 @@ impl MemSink {
         &self.bytes
     }
 
-    // Counts a put, and says whether it is to fail.
+    /// Counts a put, and says whether it is to fail.
     fn begin_put(&mut self) -> bool
         ensures answer { result ≡ put_is_failing self.old }
         ensures counted { self.new ≡ put_counted self.old }

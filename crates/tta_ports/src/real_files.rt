@@ -44,7 +44,7 @@ impl<R> RealFiles<R> {
     }
 }
 
-// The bytes of a file of the host.
+/// The bytes of a file of the host.
 fn read_file<R: rt::Files + AllocGlobal>(
     rt: &R,
     name: &str,
@@ -59,7 +59,7 @@ fn read_file<R: rt::Files + AllocGlobal>(
     }
 }
 
-// Makes a file of the host hold the bytes.
+/// Makes a file of the host hold the bytes.
 fn write_file<R: rt::Files>(rt: &R, name: &str, bytes: &[u8]) -> Result<(), Failed> {
     match fs::create(rt, name) {
         Ok(mut file) => write_whole(&mut file, bytes),

@@ -9,7 +9,7 @@ use crate::line::Line;
 use crate::put::put_line;
 use tta_ports::{Failed, Sink};
 
-// Puts a line for a word that is not 0, and nothing for any other.
+/// Puts a line for a word that is not 0, and nothing for any other.
 fn put_word<S: Sink>(sink: &mut S, address: u32, word: u32) -> Result<(), Failed>
     ensures grows { PutsBytes (lines_text (memory_lines address (word ∷ [])))
         (S.output sink.old).taken (S.output sink.new).taken result }

@@ -35,7 +35,7 @@ pub enum Reply {
     Refused(u8),
 }
 
-// Puts the number of cycles after a text.
+/// Puts the number of cycles after a text.
 fn push_cycle(text: &mut ArrayString<ROOM>, cycle: u64)
     requires { array_string_len text.old ≤ 31 }
     ensures bytes { text.new.bytes ≡ text.old.bytes ++ codes " cycle " ++ decimal cycle }
@@ -45,7 +45,7 @@ fn push_cycle(text: &mut ArrayString<ROOM>, cycle: u64)
     push_number(text, cycle);
 }
 
-// Puts an address and the number of cycles after a text.
+/// Puts an address and the number of cycles after a text.
 fn push_place(text: &mut ArrayString<ROOM>, pc: u32, cycle: u64)
     requires { array_string_len text.old ≤ 11 }
     ensures bytes { text.new.bytes
@@ -56,7 +56,7 @@ fn push_place(text: &mut ArrayString<ROOM>, pc: u32, cycle: u64)
     push_cycle(text, cycle);
 }
 
-// Puts what a reply says of a run into an empty text.
+/// Puts what a reply says of a run into an empty text.
 fn push_reply(text: &mut ArrayString<ROOM>, reply: &Reply)
     requires { array_string_len text.old ≡ 0 }
     ensures bytes { text.new.bytes ++ codes "\n" ≡ reply_text reply.now }
@@ -94,7 +94,7 @@ fn push_reply(text: &mut ArrayString<ROOM>, reply: &Reply)
     }
 }
 
-// A reply with its end.
+/// A reply with its end.
 fn text_of_reply(reply: &Reply) -> ArrayString<ROOM>
     ensures { result.bytes ≡ reply_text reply.now }
 {
@@ -115,7 +115,7 @@ pub fn put_reply<S: Sink>(sink: &mut S, reply: &Reply) -> Result<(), Failed>
     sink.put(text.as_bytes())
 }
 
-// What follows the name of a unit in the line of a result that is due.
+/// What follows the name of a unit in the line of a result that is due.
 fn due_end(cycle: u64, value: u32) -> ArrayString<ROOM>
     ensures { result.bytes
         ≡ codes " due " ++ decimal cycle ++ codes " value " ++ decimal value ++ codes "\n" }

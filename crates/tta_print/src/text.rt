@@ -11,7 +11,7 @@ use itoa::Buffer;
 /// How many bytes a line has room for; the longest takes 31.
 pub const ROOM: usize = 64;
 
-// Appends a number to a text. A number of 64 bits has at most 20 digits.
+/// Appends a number to a text. A number of 64 bits has at most 20 digits.
 pub fn push_number(text: &mut ArrayString<ROOM>, n: u64)
     requires { array_string_len text.old + 20 ≤ 64 }
     ensures bytes { text.new.bytes ≡ text.old.bytes ++ decimal n }
@@ -21,7 +21,7 @@ pub fn push_number(text: &mut ArrayString<ROOM>, n: u64)
     text.push_str(buffer.format(n));
 }
 
-// Appends two numbers with a blank between them to a word.
+/// Appends two numbers with a blank between them to a word.
 fn push_two(text: &mut ArrayString<ROOM>, first: u64, second: u64)
     requires { array_string_len text.old ≤ 6 }
     ensures bytes { text.new.bytes
@@ -33,7 +33,7 @@ fn push_two(text: &mut ArrayString<ROOM>, first: u64, second: u64)
     push_number(text, second);
 }
 
-// Puts what a line says into an empty text.
+/// Puts what a line says into an empty text.
 fn push_line(text: &mut ArrayString<ROOM>, line: &Line)
     requires { array_string_len text.old ≡ 0 }
     ensures bytes { text.new.bytes ++ codes "\n" ≡ line_text line.now }

@@ -6,7 +6,7 @@ ghost use Rattle.tta_program.specs.Program.{data_of, datum_of};
 
 use crate::program::{DataLine, Program};
 
-// puts a word at an address, and does nothing where the memory has none
+/// Puts a word at an address, and does nothing where the memory has none.
 fn set(memory: &mut Vec<u32>, address: u32, word: u32)
     ensures { memory.new.items ≡ slice_set memory.old.items address word }
 {

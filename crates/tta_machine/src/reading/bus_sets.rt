@@ -26,7 +26,7 @@ impl Draft {
         Some(set)
     }
 
-    // the bus of a name, of which there are 16 at most
+    /// The bus of a name, of which there are 16 at most.
     fn bus_below(&self, name: &[u8]) -> Option<u8>
         requires { IsDraft self.now }
         ensures value { result ≡ bus_named self.now name.now }
@@ -36,7 +36,7 @@ impl Draft {
     }
 }
 
-// the set with one bus more, where it was not there
+/// The set with one bus more, where it was not there.
 fn with_bus(set: Option<u16>, bus: u8) -> Option<u16>
     requires { bus < 16 }
     ensures { (buses : List ℕ) → set ≡ set_once buses

@@ -57,7 +57,7 @@ struct Bare {
     lines: Items<u32>,
 }
 
-// the control of a draft that has a bus
+/// The control of a draft that has a bus.
 fn control_of(draft: &Draft) -> Result<Control, MachineError>
     ensures control { IfOk result (λ c. draft.now.control ≡ Some c) }
     ensures bus { OnOk result (0 < length draft.now.buses) }
@@ -69,7 +69,7 @@ fn control_of(draft: &Draft) -> Result<Control, MachineError>
     }
 }
 
-// the machine of a draft, its templates apart
+/// The machine of a draft, its templates apart.
 fn bare_of(alloc: Global, draft: Draft, control: Control) -> Bare
     requires rules { IsDraft draft }
     requires control { draft.control ≡ Some control }
@@ -97,7 +97,7 @@ fn bare_of(alloc: Global, draft: Draft, control: Control) -> Bare
     }
 }
 
-// the machine with its templates
+/// The machine with its templates.
 fn whole(bare: Bare) -> Machine
     requires { IsMachine (record bare.machine { templates = bare.templates }) }
     ensures { result ≡ record bare.machine { templates = bare.templates } }
@@ -107,7 +107,7 @@ fn whole(bare: Bare) -> Machine
     machine
 }
 
-// whether the buses of each template have 32 bits or more together
+/// Whether the buses of each template have 32 bits or more together.
 fn check_widths(
     alloc: Global,
     m: &Machine,
@@ -124,7 +124,7 @@ fn check_widths(
     }
 }
 
-// a refusal at a line
+/// A refusal at a line.
 fn at_line(line: u32, refusal: Refusal) -> MachineError
     ensures { result ≡ Refused line (code_of refusal) }
 {
@@ -134,7 +134,7 @@ fn at_line(line: u32, refusal: Refusal) -> MachineError
     }
 }
 
-// the line of the first template whose buses have fewer than 32 bits together
+/// The line of the first template whose buses have fewer than 32 bits together.
 fn narrow_line(m: &Machine, layout: &Layout, templates: &[Template], lines: &[u32]) -> Option<u32>
     requires layout { layout.now ≡ layout_of m.now }
     requires fits { sum_by (λ f. f.width) layout.now.buses < 2 ^ 32 }

@@ -74,7 +74,7 @@ impl Draft {
     }
 }
 
-// the words of a space that has none declared yet
+/// The words of a space that has none declared yet.
 fn words_once(declared: Option<u32>, most: u32, size: u32) -> Result<u32, Refusal>
     ensures { result ≡ refuse_if (is_some declared) Twice (
         refuse_if (nat_lt most size) Range (Ok size)) }

@@ -105,7 +105,7 @@ impl Draft {
     }
 }
 
-// whether a number of a file is outside its range, its name is too long or there are 8 files
+/// Whether a number of a file is outside its range, its name is too long or there are 8 files.
 fn is_outside(form: &FileForm, files: &[File]) -> bool
     ensures value { result ≡ (not (form.now.width == 1 || form.now.width == 32)
         || not (is_from_to 1 64 form.now.size) || not (is_from_to 1 16 form.now.read)

@@ -35,7 +35,7 @@ impl Draft {
         }
     }
 
-    // puts a guard after the others, where nothing refuses it
+    /// Puts a guard after the others, where nothing refuses it.
     #[tactic(auto, unfolding(crate::specs::Declarations::take_guard))]
     fn add_guard(&mut self, form: &GuardForm) -> Result<(), LineError>
         ensures { Takes self.new result (take_guard self.old (guard_seen form.now)) }
@@ -69,7 +69,7 @@ impl Draft {
     }
 }
 
-// whether the file does not hold one bit, it has no such register, or there are 64 guards
+/// Whether the file does not hold one bit, it has no such register, or there are 64 guards.
 fn is_outside(width: u8, size: u8, index: u32, guards: &[Guard]) -> bool
     ensures value { result ≡ (not (width == 1) || nat_le size index
         || nat_le 64 (length guards.now)) }
@@ -78,7 +78,7 @@ fn is_outside(width: u8, size: u8, index: u32, guards: &[Guard]) -> bool
     width != 1 || index >= u32::from(size) || guards.len() >= 64
 }
 
-// the width and the size of the file at a place
+/// The width and the size of the file at a place.
 fn shape_at(files: &[File], place: u8) -> Option<(u8, u8)>
     ensures { result ≡ option_map (λ f. (f.width, f.size)) (slice_get files.now place) }
 {
@@ -88,7 +88,7 @@ fn shape_at(files: &[File], place: u8) -> Option<(u8, u8)>
     }
 }
 
-// whether there is a guard of this bus, this register and this sense
+/// Whether there is a guard of this bus, this register and this sense.
 fn has_guard(guards: &[Guard], bus: u8, file: u8, index: u32, inverted: bool) -> bool
     ensures { let added = guard_of bus file index inverted in
         result ≡ list_any (λ g. same_guard g added) guards.now }

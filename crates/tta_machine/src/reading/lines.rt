@@ -15,7 +15,7 @@ use tta_ops::UnitSet;
 use tta_reading::Word;
 
 impl Draft {
-    // The first word gives the kind of a line.
+    /// The first word gives the kind of a line.
     fn declare(
         &mut self,
         alloc: Global,
@@ -43,7 +43,7 @@ impl Draft {
         }
     }
 
-    // What such a part can do, where it is used, or what the whole machine has.
+    /// What such a part can do, where it is used, or what the whole machine has.
     fn declare_use(
         &mut self,
         alloc: Global,

@@ -73,7 +73,7 @@ impl Draft {
         }
     }
 
-    // puts an operation after the others of a unit
+    /// Puts an operation after the others of a unit.
     fn push_op(&mut self, place: usize, added: UnitOp) -> Result<(), AllocError>
         requires { place < length self.old.units }
         ensures ok { (unit : UnitSeen) → slice_get self.old.units place ≡ Some unit
@@ -86,7 +86,7 @@ impl Draft {
     }
 }
 
-// the operation of a name, in a line with a latency or without one
+/// The operation of a name, in a line with a latency or without one.
 fn op_named(units: &UnitSet, latency: Option<u32>, name: &[u8]) -> Option<Op>
     ensures value { result ≡ op_named (stated unit_meaning units.now) latency name.now }
     ensures offered { IfSome result (λ op. IsOffered (stated unit_meaning units.now) op) }
@@ -131,7 +131,7 @@ fn untimed_op(name: &[u8]) -> Option<Op>
     None
 }
 
-// how many words an operation takes
+/// How many words an operation takes.
 fn arity_of(units: &UnitSet, op: Op) -> u8
     requires { IsOffered (stated unit_meaning units.now) op }
     ensures { result ≡ arity_of (stated unit_meaning units.now) op }
@@ -143,7 +143,7 @@ fn arity_of(units: &UnitSet, op: Op) -> u8
     }
 }
 
-// whether the unit at a place has the operation already, or another unit serves what it serves
+/// Whether the unit at a place has the operation already, or another unit serves what it serves.
 fn is_twice(units: &[Unit], place: usize, unit: &Unit, op: Op) -> bool
     ensures { result ≡ (list_any (λ p. same_op p.op op) unit.now.ops
         || is_served units.now place op) }
@@ -151,7 +151,7 @@ fn is_twice(units: &[Unit], place: usize, unit: &Unit, op: Op) -> bool
     has_same(unit, op) || is_served(units, place, op)
 }
 
-// whether the latency is outside its range, or the unit has as many operations as it may
+/// Whether the latency is outside its range, or the unit has as many operations as it may.
 fn is_outside(unit: &Unit, latency: Option<u32>) -> bool
     ensures value { result ≡ (not (is_latency latency) || nat_le 32 (length unit.now.ops)) }
     ensures latency { result ≡ false → is_latency latency ≡ true }
@@ -183,7 +183,7 @@ fn same_op(a: Op, b: Op) -> bool
     }
 }
 
-// whether the unit lacks a port that the operation needs
+/// Whether the unit lacks a port that the operation needs.
 fn lacks_port(unit: &Unit, op: Op, arity: u8) -> bool
     ensures { result ≡ ((arity == 2 && is_none unit.now.operand)
         || (has_result op && is_none unit.now.result)) }
@@ -209,7 +209,7 @@ fn is_latency(latency: Option<u32>) -> bool
     }
 }
 
-// the latency, and 0 where the line gives none
+/// The latency, and 0 where the line gives none.
 fn cycles(latency: Option<u32>) -> u8
     requires { is_latency latency ≡ true }
     ensures { result ≡ option_map_or (λ l. l) latency 0 }

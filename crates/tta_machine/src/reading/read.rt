@@ -17,7 +17,7 @@ use tta_arch::Machine;
 use tta_ops::UnitSet;
 use tta_reading::Lines;
 
-// What all lines of a text declare.
+/// What all lines of a text declare.
 fn read_draft(alloc: Global, text: &[u8], units: &UnitSet) -> Result<Draft, MachineError>
     requires { length text.now ≤ 2 ^ 24 }
     ensures { DraftEnds (stated unit_meaning units.now) (lines_of text.now) result }
@@ -33,7 +33,7 @@ fn read_draft(alloc: Global, text: &[u8], units: &UnitSet) -> Result<Draft, Mach
     }
 }
 
-// Takes all lines of a text into an empty draft.
+/// Takes all lines of a text into an empty draft.
 #[tactic(auto, using(crate::proofs::Whole::lines_taken, crate::proofs::Whole::lines_refused))]
 fn read_lines(
     alloc: Global,

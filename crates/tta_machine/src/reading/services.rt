@@ -33,7 +33,7 @@ fn is_served_of(units: &[Unit], place: usize, op: Op, service: Service) -> bool
     serves(service, op) && has_other(service, place, units)
 }
 
-// whether a unit other than the one at this place serves it
+/// Whether a unit other than the one at this place serves it.
 fn has_other(service: Service, place: usize, units: &[Unit]) -> bool
     ensures { result ≡ has_other (serves service) place 0 units.now }
 {

@@ -67,7 +67,7 @@ impl Draft {
         self.add_template(alloc, line, template)
     }
 
-    // puts a template after the others, with its line and its name
+    /// Puts a template after the others, with its line and its name.
     fn add_template(
         &mut self,
         alloc: Global,
@@ -87,7 +87,7 @@ impl Draft {
     }
 }
 
-// how many registers the immediate unit at a place has
+/// How many registers the immediate unit at a place has.
 fn size_at(imms: &[ImmUnit], place: u8) -> Option<u8>
     ensures { result ≡ option_map (λ i. i.size) (slice_get imms.now place) }
 {

@@ -51,7 +51,7 @@ impl<'t> Draft<'t> {
         }
     }
 
-    // the label of a line in a procedure that was moved out of the draft
+    /// The label of a line in a procedure that was moved out of the draft.
     #[tactic(auto, using(crate::proofs::Seen::steps_seen_length))]
     fn add_label(
         &self,
@@ -103,7 +103,7 @@ impl<'t> Draft<'t> {
         }
     }
 
-    // puts a procedure into the draft after a step, by which it may have ended
+    /// Puts a procedure into the draft after a step, by which it may have ended.
     #[tactic(auto, using(crate::proofs::Seen::procs_seen_append))]
     fn put_stepped(&mut self, proc: DraftProc<'t>, ends: bool) -> Result<(), AllocError>
         requires lines { self.old.lines ≤ 65535 }
@@ -120,7 +120,7 @@ impl<'t> Draft<'t> {
         Ok(())
     }
 
-    // the step of a line at the end of a procedure that was moved out of the draft
+    /// The step of a line at the end of a procedure that was moved out of the draft.
     #[tactic(auto, using(crate::proofs::Seen::steps_seen_append))]
     fn add_step(
         &self,

@@ -153,7 +153,7 @@ impl<'t> Draft<'t> {
         Ok(())
     }
 
-    // begins a procedure that is not refused
+    /// Begins a procedure that is not refused.
     #[tactic(auto, using(crate::proofs::Seen::procs_seen_length))]
     fn begin(
         &mut self,
@@ -177,7 +177,7 @@ impl<'t> Draft<'t> {
         Ok(())
     }
 
-    // puts a procedure that has not ended into the draft, after one line more
+    /// Puts a procedure that has not ended into the draft, after one line more.
     pub fn put_back(&mut self, proc: DraftProc<'t>)
         requires { self.old.lines ≤ 65535 }
         ensures { draft_seen self.new ≡ labelled (draft_seen self.old) (proc_seen proc.entry) }
@@ -186,7 +186,7 @@ impl<'t> Draft<'t> {
         self.lines += 1;
     }
 
-    // whether a procedure has this name already, or a parameter stands twice
+    /// Whether a procedure has this name already, or a parameter stands twice.
     fn is_taken(&self, alloc: Global, name: &[u8], params: &[Word]) -> Result<bool, AllocError>
         ensures { let named = is_some (named_in self.now.names name.now) in
             IfOk result (λ taken. taken ≡ (named || has_twice (texts params.now))) }

@@ -30,7 +30,7 @@ pub fn check_op(units: &UnitSet, form: &Form) -> Result<(), Refusal>
     }
 }
 
-// tests that a unit offers an operation of this name that takes so many words
+/// Tests that a unit offers an operation of this name that takes so many words.
 fn check_offer(units: &UnitSet, name: &[u8], words: u8) -> Result<(), Refusal>
     ensures { let U = stated unit_meaning units.now in
         let op = named U name.now in
@@ -58,7 +58,7 @@ fn operand_count(operands: Operands) -> u8
     }
 }
 
-// the operation that a relation rests on
+/// The operation that a relation rests on.
 fn relation_name(rel: Rel) -> &'static [u8]
     ensures { result.now ≡ test_name rel }
 {

@@ -17,8 +17,8 @@ use tta_ops::UnitSet;
 use tta_program::Program;
 use tta_reading::Lines;
 
-// Takes all lines of a text into an empty draft. A text that ends inside a procedure is refused at
-// the line after it.
+/// Takes all lines of a text into an empty draft. A text that ends inside a procedure is refused at
+/// the line after it.
 #[tactic(auto, using(crate::proofs::Whole::line_refused))]
 fn read_lines<'t>(
     alloc: Global,
@@ -57,7 +57,7 @@ fn read_lines<'t>(
     Ok(())
 }
 
-// The program of a text, whose lines are taken into an empty draft.
+/// The program of a text, whose lines are taken into an empty draft.
 fn program_of<'t>(
     alloc: Global,
     text: &'t [u8],
