@@ -88,6 +88,7 @@ fn candidate(kept: &BitRow, starts: &Met, ends: &Met, x: u32) -> Option<Interval
     }
 }
 
+/// Puts an interval after the others, if there is one. It fails only where there is no memory.
 fn push_some(taken: &mut Vec<Interval>, one: Option<Interval>) -> Result<(), AllocError>
     ensures { OnOk result (taken.new.items ≡ taken.old.items ++ option_to_list one) }
 {

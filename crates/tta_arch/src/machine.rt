@@ -73,6 +73,7 @@ impl Machine {
     }
 }
 
+/// Two to this power.
 fn power_of_two(exponent: u8) -> u32
     requires { exponent ≤ 16 }
     ensures all { result ≡ 2 ^ exponent }

@@ -40,6 +40,7 @@ fn ones(short: u8) -> u64
     (1u64 << (33 - short)) - 1
 }
 
+/// Whether a word has no more bits than this.
 fn is_below(word: u32, short: u8) -> bool
     requires { short ≤ 32 }
     ensures { result ≡ nat_lt word (2 ^ short) }

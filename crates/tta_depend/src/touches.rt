@@ -79,6 +79,7 @@ pub fn is_control(x: Item) -> bool
     }
 }
 
+/// Adds the register of a guard, if there is one.
 fn push_guard(touches: &mut ArrayVec<Touched, 3>, guard: Option<GuardRef>)
     requires { array_vec_len touches.old < 3 }
     ensures items { touches.new.items ≡ touches.old.items
@@ -95,6 +96,7 @@ fn push_guard(touches: &mut ArrayVec<Touched, 3>, guard: Option<GuardRef>)
     }
 }
 
+/// Adds the place that a source reads, if it reads one.
 fn push_source(touches: &mut ArrayVec<Touched, 3>, src: ItemSource)
     requires { array_vec_len touches.old < 3 }
     ensures items { touches.new.items ≡ touches.old.items
@@ -108,6 +110,7 @@ fn push_source(touches: &mut ArrayVec<Touched, 3>, src: ItemSource)
     }
 }
 
+/// Adds the operand port that a trigger reads.
 fn push_operand(touches: &mut ArrayVec<Touched, 3>, dst: Dest)
     requires { array_vec_len touches.old < 3 }
     ensures items { touches.new.items ≡ touches.old.items
@@ -147,6 +150,7 @@ fn one(spot: usize) -> ArrayVec<Touched, 2>
     touches
 }
 
+/// What a trigger changes: its port, and the result port once its result is due.
 fn started(m: &Machine, unit: u8, op: u8) -> ArrayVec<Touched, 2>
     ensures items { result.items ≡ map touched (written_at m.now (Trigger unit op)) }
     ensures soon { list_all is_soon result.items ≡ true }

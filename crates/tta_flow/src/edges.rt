@@ -33,6 +33,7 @@ fn add_next(table: &mut Table, step: &Step, at: usize) -> Result<(), AllocError>
     Ok(())
 }
 
+/// Adds the edge from a step to the next one, if the step goes on to it.
 fn add_fall(table: &mut Table, step: &Step, at: usize) -> Result<(), AllocError>
     requires { at + 1 < 2 ^ 64 }
     ensures { OnOk result (Adds at (λ k. falls step.now && at + 1 == k) table.old table.new) }
@@ -43,6 +44,7 @@ fn add_fall(table: &mut Table, step: &Step, at: usize) -> Result<(), AllocError>
     Ok(())
 }
 
+/// Adds the edge from a step to the one that it jumps to, if it jumps.
 fn add_target(table: &mut Table, step: &Step, at: usize) -> Result<(), AllocError>
     ensures { OnOk result (Adds at (λ k. option_map_or (λ to. to == k) (target step.now) false)
         table.old table.new) }

@@ -40,6 +40,7 @@ fn add_firsts(firsts: &mut BitRow, step: &Step, at: usize, reached: bool)
     add_target(firsts, step, reached);
 }
 
+/// Marks the step after one that ends a block.
 fn add_after(firsts: &mut BitRow, step: &Step, at: usize)
     requires { at + 1 < 2 ^ 64 }
     ensures { Sets (λ k. cuts step.now && at + 1 == k) firsts.old firsts.new }
@@ -49,6 +50,7 @@ fn add_after(firsts: &mut BitRow, step: &Step, at: usize)
     }
 }
 
+/// Marks the step that one that is reached jumps to.
 fn add_target(firsts: &mut BitRow, step: &Step, reached: bool)
     ensures { Sets (λ k. reached && option_map_or (λ to. to == k) (target step.now) false)
         firsts.old firsts.new }

@@ -53,6 +53,7 @@ fn blocks_of(alloc: Global, owner: u32, steps: &[Step]) -> Result<Vec<Block>, Al
     Ok(blocks)
 }
 
+/// Puts blocks after others. It fails only where there is no memory.
 fn append(blocks: &mut Items<Block>, more: &[Block]) -> Result<(), AllocError>
     ensures { OnOk result (blocks.new ≡ blocks.old ++ more.now) }
 {

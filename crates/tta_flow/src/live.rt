@@ -76,6 +76,7 @@ impl Live {
 }
 
 impl LiveProc {
+    /// What is live in a procedure. An `Err` is out of memory.
     fn of(alloc: Global, q: &Proc) -> Result<Self, AllocError>
         ensures { IfOk result (λ live. IsLiveProc q.now live) }
     {
@@ -86,12 +87,14 @@ impl LiveProc {
         })
     }
 
+    /// Whether a variable is live before a step.
     fn before(&self, step: usize, var: usize) -> bool
         ensures { result ≡ before_in self.now step var }
     {
         step < self.rows.len() && self.rows[step].get(var)
     }
 
+    /// Adds what is live before a step.
     fn add_before(&self, step: usize, row: &mut BitRow)
         ensures { Sets (before_in self.now step) row.old row.new }
     {
@@ -100,6 +103,7 @@ impl LiveProc {
         }
     }
 
+    /// Whether a variable is live after a step.
     fn after(&self, step: usize, var: usize) -> bool
         ensures { result ≡ after_in self.now step var }
     {

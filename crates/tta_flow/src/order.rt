@@ -107,6 +107,7 @@ impl Walk {
         Ok(())
     }
 
+    /// The order, without what else the walk holds.
     fn into_order(self) -> Vec<usize>
         ensures { result ≡ self.left }
     {

@@ -41,6 +41,7 @@ fn mark_next(search: &mut Search, step: &Step, at: usize) -> Result<(), AllocErr
     Ok(())
 }
 
+/// Finds the next step, if this one goes on to it.
 fn mark_fall(search: &mut Search, step: &Step, at: usize) -> Result<(), AllocError>
     requires marked { IsMarked search.old }
     requires small { at + 1 < 2 ^ 64 }
@@ -52,6 +53,7 @@ fn mark_fall(search: &mut Search, step: &Step, at: usize) -> Result<(), AllocErr
     Ok(())
 }
 
+/// Finds the step that this one jumps to, if it jumps.
 fn mark_target(search: &mut Search, step: &Step) -> Result<(), AllocError>
     requires { IsMarked search.old }
     ensures { OnOk result (Finds (λ k. option_map_or (λ to. to == k) (target step.now) false)

@@ -30,6 +30,7 @@ pub fn add_reads(row: &mut BitRow, step: &Step)
     }
 }
 
+/// Adds the variables among operands.
 fn add_all(row: &mut BitRow, operands: &[Src])
     ensures { Sets (λ x. list_any (λ s. is_var s x) operands.now) row.old row.new }
 {
@@ -38,6 +39,7 @@ fn add_all(row: &mut BitRow, operands: &[Src])
     }
 }
 
+/// Adds the variables among two operands.
 fn add_vars(row: &mut BitRow, a: &Src, b: &Src)
     ensures { Sets (λ x. is_var a.now x || is_var b.now x) row.old row.new }
 {

@@ -22,6 +22,7 @@ impl<'t> Model for Lines<'t> {
 }
 
 impl<'t> Lines<'t> {
+    /// The lines of these bytes.
     pub(crate) fn new(bytes: &'t [u8]) -> Lines<'t>
         ensures lines { result ≡ spec.lines_of bytes.now }
         ensures few { length result ≤ length bytes.now }

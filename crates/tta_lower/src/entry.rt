@@ -39,6 +39,7 @@ pub fn set_variable(
     Ok(())
 }
 
+/// Sets a variable that is live at the entry, and leaves any other as it is.
 fn set_if(
     into: &mut Vec<RStep>,
     plan: &Plan<'_>,

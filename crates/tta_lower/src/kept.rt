@@ -50,6 +50,7 @@ fn mark_all(marks: &mut Vec<bool>, plan: &Plan<'_>, part: Part)
     }
 }
 
+/// Puts a number after others, if it is kept.
 fn push_if(into: &mut Vec<u32>, k: u32, is_kept: bool) -> Result<(), AllocError>
     ensures { OnOk result (into.new.items ≡ into.old.items ++ (if is_kept then k ∷ [] else [])) }
 {

@@ -126,6 +126,7 @@ pub fn lower_step(
     }
 }
 
+/// Puts the register code of a step that neither branches nor calls.
 fn push_plain(
     into: &mut Vec<RStep>,
     plan: &Plan<'_>,

@@ -60,6 +60,7 @@ pub fn is_joined(
     }
 }
 
+/// Whether a template fills this register of an immediate unit.
 fn fills(t: &Template, imm: u8, reg: u8) -> bool
     ensures { result ≡ fills imm reg t.now }
 {

@@ -98,6 +98,7 @@ impl OpUnit for Shift {
     }
 }
 
+/// The word shifted right by so many bits, with its top bit in each bit that comes free.
 fn shift_right_with_sign(a: u32, n: u32) -> u32
     requires { n < 32 }
     ensures { result ≡ shifted_with_sign a n }

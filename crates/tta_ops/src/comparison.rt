@@ -57,6 +57,7 @@ impl OpUnit for Compare {
     }
 }
 
+/// 1 where a comparison holds, and else 0.
 fn truth(holds: bool) -> u32
     ensures { result ≡ truth holds }
 {

@@ -16,6 +16,7 @@ fn set(memory: &mut Vec<u32>, address: u32, word: u32)
     }
 }
 
+/// Puts each word of data at its address, the later over the earlier.
 fn lay(init: &[DataLine], memory: &mut Vec<u32>)
     ensures { memory.new.items ≡ over (map datum_of init.now) memory.old.items }
 {

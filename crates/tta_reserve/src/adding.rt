@@ -24,6 +24,7 @@ fn one_more(counts: [u8; 8], at: u8) -> [u8; 8]
     counts
 }
 
+/// The set of this bus alone.
 fn bus_bit(bus: u8) -> u16
     requires { bus < 16 }
     ensures { result ≡ 2 ^ bus }
@@ -31,6 +32,7 @@ fn bus_bit(bus: u8) -> u16
     1 << bus
 }
 
+/// The set of this unit alone.
 fn unit_bit(unit: u8) -> u8
     requires { unit < 8 }
     ensures { result ≡ 2 ^ unit }

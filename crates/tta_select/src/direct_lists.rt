@@ -56,6 +56,7 @@ fn put_all(items: &mut Items<Item>, f: Call, steps: &[RStep]) -> Result<(), Allo
     Ok(())
 }
 
+/// The list of a block whose every step outputs, in a machine that joins what they need.
 fn direct_block(alloc: Global, f: Call, b: &RBlock) -> Result<BlockList, AllocError>
     ensures { IfOk result (λ x. x ≡ direct_block f b.now) }
 {
@@ -73,6 +74,7 @@ fn direct_block(alloc: Global, f: Call, b: &RBlock) -> Result<BlockList, AllocEr
     })
 }
 
+/// The list of each block.
 #[tactic(auto, using(crate::proofs::Walks::map_more, crate::proofs::Walks::map_done))]
 fn direct_blocks(alloc: Global, f: Call, blocks: &[RBlock]) -> Result<Vec<BlockList>, AllocError>
     ensures { IfOk result (λ lists. lists.items ≡ map (direct_block f) blocks.now) }

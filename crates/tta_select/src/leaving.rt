@@ -17,6 +17,7 @@ use tta_moves::{Item, LongValue};
 use tta_ops::UnitSet;
 use tta_rcode::Exit;
 
+/// Whether a block ends without a condition.
 fn has_no_condition(e: Exit) -> bool
     ensures { result ≡ has_no_condition e }
 {

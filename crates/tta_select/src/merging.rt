@@ -34,6 +34,7 @@ fn put_old(items: &mut Items<Item>, on: &Target<'_>, d: Place) -> Result<(), All
     }
 }
 
+/// Whether a bus joins two ends under a guard, or the second end and the hub's register.
 fn joined_or_hub(on: &Target<'_>, guard: Option<GuardRef>, src: ItemSource, dst: Dest) -> bool
     requires { IsTarget on.now }
     ensures { result ≡ (joined on.now.m.now src dst guard

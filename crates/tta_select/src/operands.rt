@@ -15,12 +15,14 @@ use tta_list::Items;
 use tta_moves::{Item, ItemSource, LongValue};
 use tta_rcode::{Place, RSrc};
 
+/// The operand port of the unit that is called.
 pub fn operand_at(f: Call) -> Dest
     ensures { result ≡ operand_at f }
 {
     Dest::Operand { unit: f.unit }
 }
 
+/// The trigger port of the unit that is called, with its operation.
 pub fn trigger_at(f: Call) -> Dest
     ensures { result ≡ trigger_at f }
 {
@@ -30,6 +32,7 @@ pub fn trigger_at(f: Call) -> Dest
     }
 }
 
+/// The result port of the unit that is called.
 pub fn shown_at(f: Call) -> ItemSource
     ensures { result ≡ shown_at f }
 {

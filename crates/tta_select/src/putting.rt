@@ -18,18 +18,21 @@ use tta_moves::{Item, ItemSource, LongValue, is_joined};
 /// The hub's register for ways.
 pub const PASSING: u8 = 0;
 
+/// A register of the hub, as a destination.
 pub fn hub_at(c: &Choice, index: u8) -> Dest
     ensures { result ≡ Dest.Reg c.now.hub index }
 {
     Dest::Reg { file: c.hub, index }
 }
 
+/// A register of the hub, as a source.
 pub fn from_hub(c: &Choice, index: u8) -> ItemSource
     ensures { result ≡ ItemSource.Port (Source.Reg c.now.hub index) }
 {
     ItemSource::Port(Source::Reg { file: c.hub, index })
 }
 
+/// A long immediate as a source: a word, or the address of a block.
 pub fn source_of_long(value: LongValue) -> ItemSource
     ensures { result ≡ source_of_long value }
 {
@@ -85,6 +88,7 @@ pub fn carry(
     put_through_hub(items, on, guard, src, dst)
 }
 
+/// The immediate register that a template fills, as a source.
 fn filled(t: &Template) -> ItemSource
     ensures { result ≡ filled t.now }
 {

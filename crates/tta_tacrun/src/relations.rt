@@ -44,6 +44,7 @@ pub struct Relations {
 }
 
 impl Relations {
+    /// Relations that rest on the first operation, before the units are asked.
     pub fn new() -> Self {
         Relations {
             eq: OpId(0),

@@ -19,18 +19,21 @@ impl Model for Words {
 }
 
 impl Words {
+    /// These words.
     pub fn of(words: Vec<u32>) -> Self
         ensures { result ≡ words.items }
     {
         Words { words }
     }
 
+    /// All words, in order.
     pub fn as_slice(&self) -> &[u32]
         ensures { result.now ≡ self.now }
     {
         self.words.as_slice()
     }
 
+    /// The word at a place, and 0 past the end.
     pub fn get(&self, i: usize) -> u32
         ensures { result ≡ slice_index self.now i }
     {
@@ -40,6 +43,7 @@ impl Words {
         }
     }
 
+    /// Puts a word at a place; past the end it does nothing.
     pub fn set(&mut self, i: usize, word: u32)
         ensures { self.new ≡ slice_set self.old i word }
     {

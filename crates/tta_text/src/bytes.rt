@@ -3,24 +3,28 @@
 ghost use Rattle.std.specs.Prelude.{◌≡◌, ◌≤◌, length};
 ghost use Rattle.tta_text.specs.Bytes as spec;
 
+/// Whether a name can begin with the byte: a letter or `_`.
 pub(crate) fn is_name_start(byte: u8) -> bool
     ensures { result ≡ spec.is_name_start byte }
 {
     byte.is_ascii_alphabetic() || byte == b'_'
 }
 
+/// Whether a name or a number can go on with the byte: a letter, a digit or `_`.
 pub(crate) fn is_word_byte(byte: u8) -> bool
     ensures { result ≡ spec.is_word_byte byte }
 {
     byte.is_ascii_alphanumeric() || byte == b'_'
 }
 
+/// Whether the byte is a space, a tab or a carriage return.
 pub(crate) fn is_blank(byte: u8) -> bool
     ensures { result ≡ spec.is_blank byte }
 {
     byte == b' ' || byte == b'\t' || byte == b'\r'
 }
 
+/// Whether the byte is a mark by itself.
 pub(crate) fn is_mark(byte: u8) -> bool
     ensures { result ≡ spec.is_mark byte }
 {
@@ -43,6 +47,7 @@ pub(crate) fn line_len(bytes: &[u8]) -> usize
     bytes.iter().take_while(|byte| **byte != b'\n').count()
 }
 
+/// Whether the first byte is a digit.
 pub(crate) fn starts_with_digit(bytes: &[u8]) -> bool
     ensures { result ≡ spec.starts_with_digit bytes.now }
 {

@@ -16,6 +16,7 @@ pub(crate) struct Piece {
 }
 
 impl Piece {
+    /// A token of this kind, made of so many bytes.
     fn token(kind: Kind, len: usize) -> Piece
         ensures { result ≡ spec.token kind len }
     {
@@ -25,6 +26,7 @@ impl Piece {
         }
     }
 
+    /// So many bytes that are no token.
     fn gap(len: usize) -> Piece
         ensures { result ≡ spec.gap len }
     {

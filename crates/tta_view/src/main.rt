@@ -57,6 +57,7 @@ fn run<F: Files, L: Lines, S: Sink>(
     }
 }
 
+/// Carries out the command that the words name, and ends with its status as a number.
 fn main(rt: HostRuntime) -> ExitCode {
     let mut files = RealFiles::new(&rt);
     let mut lines = RealLines::new(&rt);

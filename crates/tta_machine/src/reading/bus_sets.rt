@@ -53,6 +53,7 @@ fn with_bus(set: Option<u16>, bus: u8) -> Option<u16>
     }
 }
 
+/// The set of this bus alone.
 fn bit_of(bus: u8) -> u16
     requires { bus < 16 }
     ensures { result ≡ 2 ^ bus }

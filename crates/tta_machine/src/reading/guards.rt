@@ -98,6 +98,7 @@ fn has_guard(guards: &[Guard], bus: u8, file: u8, index: u32, inverted: bool) ->
         .any(|guard| is_guard(*guard, bus, file, index, inverted))
 }
 
+/// Whether a guard is that of this bus, this register and this sense.
 fn is_guard(guard: Guard, bus: u8, file: u8, index: u32, inverted: bool) -> bool
     ensures { result ≡ same_guard guard (guard_of bus file index inverted) }
 {
@@ -107,6 +108,7 @@ fn is_guard(guard: Guard, bus: u8, file: u8, index: u32, inverted: bool) -> bool
         && is_same(guard.on.inverted, inverted)
 }
 
+/// Whether two senses are one.
 fn is_same(a: bool, b: bool) -> bool
     ensures { result ≡ is_same a b }
 {

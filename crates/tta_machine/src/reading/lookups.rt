@@ -132,6 +132,7 @@ pub fn add_part<T: Drop>(
     Ok(())
 }
 
+/// The place, if a socket of this direction stands there.
 fn only_of_direction(sockets: &[Socket], input: bool, place: u8) -> Option<u8>
     ensures { result ≡ (if is_socket sockets.now input place then Some place else None) }
 {
@@ -142,6 +143,7 @@ fn only_of_direction(sockets: &[Socket], input: bool, place: u8) -> Option<u8>
     }
 }
 
+/// Whether a socket of this direction stands at a place.
 fn is_socket(sockets: &[Socket], input: bool, place: u8) -> bool
     ensures { result ≡ is_socket sockets.now input place }
 {

@@ -97,6 +97,7 @@ fn op_named(units: &UnitSet, latency: Option<u32>, name: &[u8]) -> Option<Op>
     }
 }
 
+/// The operation of a name, if it has a result and so a latency.
 fn timed_op(units: &UnitSet, name: &[u8]) -> Option<Op>
     ensures value { result ≡ timed_op (stated unit_meaning units.now) name.now }
     ensures offered { IfSome result (λ op. IsOffered (stated unit_meaning units.now) op) }
@@ -116,6 +117,7 @@ fn timed_op(units: &UnitSet, name: &[u8]) -> Option<Op>
     }
 }
 
+/// The operation of a name, if it has no result.
 fn untimed_op(name: &[u8]) -> Option<Op>
     ensures { result ≡ untimed_op name.now }
 {
@@ -159,6 +161,7 @@ fn is_outside(unit: &Unit, latency: Option<u32>) -> bool
     !is_latency(latency) || unit.ops.len() >= 32
 }
 
+/// Whether a unit has this operation.
 fn has_same(unit: &Unit, op: Op) -> bool
     ensures { result ≡ list_any (λ p. same_op p.op op) unit.now.ops }
 {
@@ -168,6 +171,7 @@ fn has_same(unit: &Unit, op: Op) -> bool
         .any(|offered| same_op(offered.op, op))
 }
 
+/// Whether two operations are one.
 fn same_op(a: Op, b: Op) -> bool
     ensures { result ≡ same_op a b }
 {
@@ -191,6 +195,7 @@ fn lacks_port(unit: &Unit, op: Op, arity: u8) -> bool
     (arity == 2 && unit.operand.is_none()) || (has_result(op) && unit.result.is_none())
 }
 
+/// Whether an operation has a result.
 fn has_result(op: Op) -> bool
     ensures { result ≡ has_result op }
 {
@@ -200,6 +205,7 @@ fn has_result(op: Op) -> bool
     }
 }
 
+/// Whether a latency is between 1 and 16 cycles, or none is given.
 fn is_latency(latency: Option<u32>) -> bool
     ensures { result ≡ is_latency latency }
 {

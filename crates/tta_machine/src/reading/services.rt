@@ -27,6 +27,7 @@ pub fn is_served(units: &[Unit], place: usize, op: Op) -> bool
         || is_served_of(units, place, op, Service::Streams)
 }
 
+/// Whether an operation is of a service that another unit has.
 fn is_served_of(units: &[Unit], place: usize, op: Op, service: Service) -> bool
     ensures { result ≡ (serves service op && has_other (serves service) place 0 units.now) }
 {
@@ -45,6 +46,7 @@ fn has_other(service: Service, place: usize, units: &[Unit]) -> bool
     false
 }
 
+/// Whether a unit has an operation of a service.
 fn has_op(service: Service, unit: &Unit) -> bool
     ensures { result ≡ has_op (serves service) unit.now }
 {
@@ -54,6 +56,7 @@ fn has_op(service: Service, unit: &Unit) -> bool
         .any(|offered| serves(service, offered.op))
 }
 
+/// Whether an operation is of a service.
 fn serves(service: Service, op: Op) -> bool
     ensures { result ≡ serves service op }
 {

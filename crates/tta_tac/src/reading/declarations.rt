@@ -46,6 +46,7 @@ pub fn declare_names(alloc: Global, vars: &mut Names<u32>, form: &Form) -> Resul
     }
 }
 
+/// Gives numbers to the variable that a line assigns, and to its operand's.
 fn declare_assigned(
     alloc: Global,
     vars: &mut Names<u32>,
@@ -61,6 +62,7 @@ fn declare_assigned(
     Ok(())
 }
 
+/// Gives numbers to the variables among two operands.
 fn declare_pair(
     alloc: Global,
     vars: &mut Names<u32>,
@@ -77,6 +79,7 @@ fn declare_pair(
     Ok(())
 }
 
+/// Gives numbers to the variables among an operation's operands.
 fn declare_given(alloc: Global, vars: &mut Names<u32>, operands: Operands) -> Result<(), AllocError>
     requires { length vars.old ≤ 5000 }
     ensures { OnOk result (vars.new ≡ with_operands vars.old (operands_seen operands.entry)) }

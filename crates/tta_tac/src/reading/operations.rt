@@ -49,6 +49,7 @@ fn check_offer(units: &UnitSet, name: &[u8], words: u8) -> Result<(), Refusal>
     }
 }
 
+/// How many operands stand there.
 fn operand_count(operands: Operands) -> u8
     ensures { result ≡ length (operands_seen operands.entry) }
 {

@@ -155,6 +155,7 @@ fn close(open: &mut Vec<usize>, numbers: &mut Vec<u64>, place: usize, number: u6
     }
 }
 
+/// The time of a place, and never for a place that has none.
 fn read(times: &Vec<u64>, place: usize) -> u64 {
     match times.get(place) {
         Some(time) => *time,
@@ -162,6 +163,7 @@ fn read(times: &Vec<u64>, place: usize) -> u64 {
     }
 }
 
+/// Notes the time of a place that there is.
 fn write(times: &mut Vec<u64>, place: usize, time: u64)
     ensures { length times.new.items ≡ length times.old.items }
 {
@@ -196,6 +198,7 @@ pub fn are_at_most(steps: &[Step], numbers: &[u64], most: u64) -> bool
     true
 }
 
+/// Whether a step calls no procedure with a greater number than this.
 fn is_at_most(step: &Step, numbers: &[u64], most: u64) -> bool
     ensures { result ≡ passes (λ n. nat_le n most) numbers.now step.now }
 {

@@ -71,6 +71,7 @@ pub fn step_of<'t>(
     Ok(Some(NamedStep::Plain(step)))
 }
 
+/// The step of `d = s`.
 fn copy_step(vars: &Names<u32>, d: &[u8], s: Operand) -> Step
     ensures { result
         ≡ Step.Copy (var_number vars.now d.now) (src_of vars.now (operand_seen s.entry)) }
@@ -80,6 +81,7 @@ fn copy_step(vars: &Names<u32>, d: &[u8], s: Operand) -> Step
     Step::Copy { d, s }
 }
 
+/// The step of `d = load a`.
 fn load_step(vars: &Names<u32>, d: &[u8], a: Operand) -> Step
     ensures { result
         ≡ Step.Load (var_number vars.now d.now) (src_of vars.now (operand_seen a.entry)) }
@@ -89,6 +91,7 @@ fn load_step(vars: &Names<u32>, d: &[u8], a: Operand) -> Step
     Step::Load { d, a }
 }
 
+/// The step of `store a v`.
 fn store_step(vars: &Names<u32>, a: Operand, v: Operand) -> Step
     ensures { let address = src_of vars.now (operand_seen a.entry) in
         result ≡ Step.Store address (src_of vars.now (operand_seen v.entry)) }
@@ -98,6 +101,7 @@ fn store_step(vars: &Names<u32>, a: Operand, v: Operand) -> Step
     Step::Store { a, v }
 }
 
+/// The step of `d = OPERATION a b`; an operation of one word has it as the second.
 fn apply_step(units: &UnitSet, vars: &Names<u32>, d: &[u8], op: &[u8], operands: Operands) -> Step
     ensures { Plain result ≡ apply_step (stated unit_meaning units.now) vars.now
         (var_number vars.now d.now) op.now (operands_seen operands.entry) }
@@ -120,6 +124,7 @@ fn apply_step(units: &UnitSet, vars: &Names<u32>, d: &[u8], op: &[u8], operands:
     }
 }
 
+/// The step of `if REL a b goto NAME`, its label still a name.
 fn if_step<'t>(
     vars: &Names<u32>,
     rel: Rel,
@@ -136,6 +141,7 @@ fn if_step<'t>(
     NamedStep::If { rel, a, b, label }
 }
 
+/// The step of `when REL a b d = s`.
 fn when_step(vars: &Names<u32>, rel: Rel, a: Operand, b: Operand, d: &[u8], s: Operand) -> Step
     ensures { let left = src_of vars.now (operand_seen a.entry) in
         let right = src_of vars.now (operand_seen b.entry) in
@@ -149,6 +155,7 @@ fn when_step(vars: &Names<u32>, rel: Rel, a: Operand, b: Operand, d: &[u8], s: O
     Step::When { rel, a, b, d, s }
 }
 
+/// The step of a call, its procedure still a name. An `Err` is out of memory.
 fn call_step<'t>(
     alloc: Global,
     vars: &Names<u32>,
@@ -169,6 +176,7 @@ fn call_step<'t>(
     Ok(NamedStep::Call { d, callee, args })
 }
 
+/// The step of `return`, with a value or without one.
 fn return_step(vars: &Names<u32>, s: Option<Operand>) -> Step
     ensures { result ≡ Step.Return (option_map (λ s. src_of vars.now (operand_seen s)) s.entry) }
 {
