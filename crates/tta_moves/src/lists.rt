@@ -85,6 +85,7 @@ fn has_slot(m: &Machine, net: &Net, x: Item) -> bool
     }
 }
 
+/// Whether an item is a jump, a call or a halt.
 fn is_control(x: Item) -> bool
     ensures { result ≡ is_control x }
 {
@@ -94,6 +95,7 @@ fn is_control(x: Item) -> bool
     }
 }
 
+/// Whether each item has a bus or a template.
 fn have_slots(m: &Machine, net: &Net, items: &[Item]) -> bool
     requires { IsNetOf net.now m.now }
     ensures { result ≡ list_all (has_slot m.now) items.now }
@@ -101,6 +103,7 @@ fn have_slots(m: &Machine, net: &Net, items: &[Item]) -> bool
     items.iter().all(|x| has_slot(m, net, *x))
 }
 
+/// Whether no item but the last one is a jump, a call or a halt.
 fn control_is_last(items: &[Item]) -> bool
     ensures { result ≡ control_is_last items.now }
 {

@@ -28,6 +28,7 @@ impl Table {
     ghost use Rattle.tta_ops.specs.Offers.{row_of, unit_rows, rows_from};
     ghost use Rattle.tta_ops.specs.Refusal.{refusal_of, first_refusal, IsWalkResult};
 
+    /// A table without operations.
     fn new(alloc: Global) -> Self
         ensures { result.operations ≡ [] }
     {
@@ -36,6 +37,7 @@ impl Table {
         }
     }
 
+    /// Adds an operation that was not refused. It fails only where there is no memory.
     fn add(&mut self, name: String, place: Place) -> Result<(), AllocError>
         requires fresh { first_at (string_bytes name) 0 (names_of self.old.operations) ≡ None }
         requires free { is_reserved (string_bytes name) ≡ false }
@@ -49,6 +51,7 @@ impl Table {
         Ok(())
     }
 
+    /// Adds the operation with this index of a unit, or refuses it.
     fn add_from<U: OpUnit>(
         &mut self,
         alloc: Global,
@@ -76,6 +79,7 @@ impl Table {
         Ok(())
     }
 
+    /// Adds all operations of a unit, up to the first that is refused.
     fn add_unit<U: OpUnit>(
         &mut self,
         alloc: Global,

@@ -16,6 +16,7 @@ use tta_list::entry_at;
 use tta_moves::numbers::register;
 use tta_moves::{Item, ItemSource, is_joined, keeps_rules};
 
+/// Whether a file has registers of 32 bits.
 fn is_wide_file(m: &Machine, file: u8) -> bool
     ensures { result ≡ is_wide_file m.now file }
 {
@@ -25,6 +26,7 @@ fn is_wide_file(m: &Machine, file: u8) -> bool
     }
 }
 
+/// Whether a source is a result port.
 fn is_port_source(src: ItemSource) -> bool
     ensures { result ≡ is_port_source src }
 {
@@ -76,6 +78,8 @@ fn port_by(
     }
 }
 
+/// The item, with the result port in place of a register that was copied from it, where a bus joins
+/// the ends.
 fn bypassed(m: &Machine, net: &Net, notes: &Notes, x: Item) -> Item
     requires { IsNetOf net.now m.now }
     ensures { result ≡ bypassed_by m.now notes.now x }

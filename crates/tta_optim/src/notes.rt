@@ -44,6 +44,7 @@ fn note_in(list: u64, e: Entry) -> Note
     if e.list == list { e.note } else { BLANK }
 }
 
+/// A long immediate as a source: a word, or the address of a block.
 fn source_of_long(value: LongValue) -> ItemSource
     ensures { result ≡ source_of_long value }
 {
@@ -63,6 +64,7 @@ pub fn source_of(x: Item) -> ItemSource
     }
 }
 
+/// What an item surely brings: nothing where it has a guard.
 fn sure_source(x: Item) -> Option<ItemSource>
     ensures { result ≡ sure_source x }
 {
@@ -120,6 +122,7 @@ impl Notes {
         }
     }
 
+    /// The note of a place, if there is such a place.
     fn note(&self, place: usize) -> Option<Note>
         ensures { result ≡ slice_get self.now place }
     {
@@ -160,6 +163,7 @@ impl Notes {
         }
     }
 
+    /// Notes something of a place; past the last place it does nothing.
     fn put(&mut self, place: usize, note: Note)
         ensures { self.new ≡ slice_set self.old place note }
     {

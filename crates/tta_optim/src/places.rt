@@ -10,6 +10,7 @@ use tta_list::entry_at;
 use tta_moves::Item;
 use tta_moves::numbers::{immediate, operand, port, register, return_address};
 
+/// Whether an operation has a result.
 fn has_result(op: Op) -> bool
     ensures { result ≡ has_result op }
 {
@@ -19,6 +20,7 @@ fn has_result(op: Op) -> bool
     }
 }
 
+/// The result port that an operation of a unit writes, by its number, if it has a result.
 fn started(m: &Machine, unit: u8, op: u8) -> Option<usize>
     ensures { result ≡ option_map place_number (place_written m.now (Trigger unit op)) }
 {
@@ -35,6 +37,7 @@ fn started(m: &Machine, unit: u8, op: u8) -> Option<usize>
     }
 }
 
+/// The place that a move to a destination writes, by its number, if there is one.
 fn written_by(m: &Machine, dst: Dest) -> Option<usize>
     ensures { result ≡ option_map place_number (place_written m.now (target_of dst)) }
 {

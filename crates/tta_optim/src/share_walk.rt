@@ -13,6 +13,7 @@ use tta_arch::{Dest, Machine, Source};
 use tta_moves::numbers::operand;
 use tta_moves::{Item, ItemSource, keeps_rules};
 
+/// Whether two ends are one.
 fn same_end(a: Source, b: Source) -> bool
     ensures { result ≡ same_end a b }
 {
@@ -37,6 +38,7 @@ fn same_end(a: Source, b: Source) -> bool
     }
 }
 
+/// Whether two sources are one.
 fn same_source(a: ItemSource, b: ItemSource) -> bool
     ensures { result ≡ same_source a b }
 {

@@ -62,6 +62,7 @@ fn guard_register(x: Item) -> Option<usize>
     }
 }
 
+/// Whether an item is carried out whatever the guards are.
 fn is_unguarded(x: Item) -> bool
     ensures { result ≡ is_unguarded x }
 {
@@ -129,6 +130,7 @@ impl Wanted {
         }
     }
 
+    /// Notes whether a place is wanted, if there is such a place.
     fn set(&mut self, place: Option<usize>, is: bool)
         ensures { self.new ≡ set_wanted self.old place is }
     {
@@ -140,6 +142,7 @@ impl Wanted {
         }
     }
 
+    /// Whether a place is wanted; past the last place none is.
     fn is_wanted(&self, place: usize) -> bool
         ensures { result ≡ wanted_at self.now place }
     {
