@@ -145,10 +145,9 @@ one_to_many low high one order last is =
     let small : 2 ^ high - 2 ^ low < 18446744073709551616 = omega (arith, most, some, least) in
     ap (λ n. n % 18446744073709551616) less ∙ mod-eq_of_lt small
 
-module _ (words : List ℕ) (number from end k low high some : ℕ) (there : number < length words) (single : some ≡ 2 ^ high - 2 ^ low) (small : some < 2 ^ 64)
-    (first : from < 64 * number + 64) (last : 64 * number < end) (low_is : low ≡ from - 64 * number) (high_is : high ≡ min (end - 64 * number) 64) where
+module _ (number from end k low high some : ℕ) (single : some ≡ 2 ^ high - 2 ^ low) (low_is : low ≡ from - 64 * number) (high_is : high ≡ min (end - 64 * number) 64) where
   -- they are those of the units from one on and before an end
-  between : k / 64 ≡ number → (bit_at some (k % 64) == 1) ≡ (nat_le from k && nat_lt k end)
+  pub between : k / 64 ≡ number → (bit_at some (k % 64) == 1) ≡ (nat_le from k && nat_lt k end)
   between here = elim (nat_le from k) as (λ b. nat_le from k ≡ b → (bit_at some (k % 64) == 1) ≡ (b && nat_lt k end)) [
     | false ↦ λ is.
         let before : k < from = grind (arith, is) in
@@ -166,8 +165,9 @@ module _ (words : List ℕ) (number from end k low high some : ℕ) (there : num
     ] refl
   ] refl
 
+module _ (words : List ℕ) (number k some : ℕ) (there : number < length words) (small : some < 2 ^ 64) where
   pub bits_removed : bit_in (set words number (bit_and (get_or words number 0) (18446744073709551615 - some))) k
-      ≡ (bit_in words k && not (k / 64 == number && nat_le from k && nat_lt k end))
+      ≡ (bit_in words k && not (k / 64 == number && bit_at some (k % 64) == 1))
   bits_removed = elim (cases_eq (k / 64) number) [
     | inl here ↦
         let word : ℕ = bit_and (get_or words number 0) (18446744073709551615 - some) in
@@ -178,10 +178,28 @@ module _ (words : List ℕ) (number from end k low high some : ℕ) (there : num
         ∙ ap (λ n. min (bit_at old (k % 64)) n == 1) (bit_at_not w64 some (k % 64) small (omega arith))
         ∙ both_bits (bit_at old (k % 64)) (bit_at some (k % 64)) (bit_at-lt old (k % 64)) (bit_at-lt some (k % 64))
         ∙ ap (λ b. b && not (bit_at some (k % 64) == 1)) (ap (λ i. bit_at (get_or words i 0) (k % 64) == 1) (sym here))
-        ∙ ap (λ b. bit_in words k && not b) (between here) ∙ ap (λ b. bit_in words k && not (b && nat_le from k && nat_lt k end)) (sym is)
+        ∙ ap (λ b. bit_in words k && not (b && bit_at some (k % 64) == 1)) (sym is)
     | inr other ↦
         let word : ℕ = bit_and (get_or words number 0) (18446744073709551615 - some) in
         let is : (k / 64 == number) ≡ false = ne_eqb (k / 64) number other in
         ap (λ n. bit_at n (k % 64) == 1) (get_or-set_other words number (k / 64) word 0 other)
-        ∙ sym (ap (λ b. bit_in words k && not (b && nat_le from k && nat_lt k end)) is ∙ and-true (bit_in words k))
+        ∙ sym (ap (λ b. bit_in words k && not (b && bit_at some (k % 64) == 1)) is ∙ and-true (bit_in words k))
   ]
+
+-- ---- some bits of a word
+
+min_off : (x y : ℕ) → y ≡ 1 → x < 2 → min x y ≡ 0 → x ≡ 0
+min_off x y is small off = sym (min_one x small) ∙ ap (min x) (sym is) ∙ off
+
+min_on : (x y : ℕ) → y < 2 → min x y ≡ 1 → y ≡ 1
+min_on x zero small is = absurd (let none : min x 0 ≡ 0 = min_none x in omega (arith, none, is))
+min_on x (suc zero) small is = refl
+min_on x (suc (suc y)) small is = absurd (omega arith)
+
+-- one of these bits that a word lacks too
+pub bit_lacks : (word among i : ℕ) → bit_at among i ≡ 1 → bit_at (bit_and word among) i ≡ 0 → bit_at word i ≡ 0
+bit_lacks word among i is off = min_off (bit_at word i) (bit_at among i) is (bit_at-lt word i) (sym (bit_at_and word among i) ∙ off)
+
+-- what a word has of these bits is one of them
+pub bit_among : (word among i : ℕ) → bit_at (bit_and word among) i ≡ 1 → bit_at among i ≡ 1
+bit_among word among i is = min_on (bit_at word i) (bit_at among i) (bit_at-lt among i) (sym (bit_at_and word among i) ∙ is)

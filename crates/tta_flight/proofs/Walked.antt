@@ -1,6 +1,8 @@
 -- Units whose bits are in one word of a set.
 use Rattle.std.proofs.Common.{◌≡◌, ◌≢◌, ◌<◌, ◌≤◌, ◌+◌, ◌-◌, ◌*◌, ◌/◌, ◌%◌, ℕ, zero, suc, true, false, length, None, refl, ap, sym, ◌∙◌, subst, arith}
 use Rattle.std.specs.Prelude.{◌==◌, ◌&&◌, if◌then◌else◌, nat_le, nat_lt}
+use Rattle.std.specs.Int.{bit_at}
+use Rattle.tta_flight.specs.Marked.{AreBits}
 use Rattle.std.proofs.lemmas.Bool.{and_parts, eq-eqb}
 use Rattle.tta_flight.proofs.Among.{among_past}
 use Rattle.tta_flight.specs.Rings.{Rings, due_in, later_in, is_among, nearest, IsAdvanced, AreEmpty}
@@ -51,6 +53,9 @@ module _ (base end : ℕ) (order : base ≤ end) where
 
   pub nearest_low : (at : ℕ) → at ≤ base → nearest base end at ≡ base
   nearest_low at low = grind (arith, low)
+
+  pub nearest_high : (at : ℕ) → base < at → end ≤ at → nearest base end at ≡ end
+  nearest_high at past high = grind (arith, past, high)
 
   -- one of the units is the nearest to itself
   pub nearest_here : (unit : ℕ) → base ≤ unit → unit < end → nearest base end unit ≡ unit
@@ -117,3 +122,24 @@ module _ (base end : ℕ) (order : base ≤ end) where
               sym (ap (λ b. b && nat_lt u (from + (to - from))) is_least ∙ is_most) ∙ none
         ] refl
       ] refl
+
+module _ (number base end bits : ℕ) (are : AreBits number base end bits) where
+  -- the bits are those of the units of one word that are not before one unit and are before an end
+  pub among_bits : (u : ℕ) → (u / 64 == number && bit_at bits (u % 64) == 1) ≡ (u / 64 == number && nat_le base u && nat_lt u end)
+  among_bits u = elim (u / 64 == number) as (λ b. (u / 64 == number) ≡ b → (b && bit_at bits (u % 64) == 1) ≡ (b && nat_le base u && nat_lt u end)) [
+    | true ↦ λ is. are u (grind (arith, is))
+    | false ↦ λ is. refl
+  ] refl
+
+  pub bit_is : (u : ℕ) → u / 64 ≡ number → base ≤ u → u < end → bit_at bits (u % 64) ≡ 1
+  bit_is u here first last =
+      let is_first : nat_le base u ≡ true = grind (arith, first) in
+      let is_last : nat_lt u end ≡ true = grind (arith, last) in
+      let is : (bit_at bits (u % 64) == 1) ≡ true = are u here ∙ ap (λ b. b && nat_lt u end) is_first ∙ is_last in
+      grind (arith, is)
+
+  pub within_bits : (u : ℕ) → u / 64 ≡ number → bit_at bits (u % 64) ≡ 1 → (base ≤ u) × (u < end)
+  within_bits u here is =
+      let both : (nat_le base u && nat_lt u end) ≡ true = sym (are u here) ∙ ap (λ n. n == 1) is in
+      let parts = and_parts (nat_le base u) (nat_lt u end) both in
+      (grind (arith, parts.0), grind (arith, parts.1))

@@ -1,9 +1,9 @@
 -- Rings of cells in one row, and what the calls of a region do to them.
-use Rattle.std.specs.Prelude.{◌≡◌, ◌≢◌, ℕ, zero, suc, ◌+◌, ◌-◌, ◌<◌, ◌≤◌, ◌==◌, Bool, true, false, ◌&&◌, nat_lt, nat_le, if◌then◌else◌, List, [], ◌∷◌, length, Option, None, Some, is_some, slice_index_or}
+use Rattle.std.specs.Prelude.{◌≡◌, ◌≢◌, ℕ, zero, suc, ◌+◌, ◌-◌, ◌*◌, ◌<◌, ◌≤◌, ◌==◌, Bool, true, false, ◌&&◌, nat_lt, nat_le, if◌then◌else◌, List, [], ◌∷◌, length, Option, None, Some, is_some, slice_index_or}
 use Rattle.std.specs.Option.{option_or}
 use Rattle.tta_flight.specs.declared.ring.Ring.{Ring}
 use Rattle.tta_flight.specs.declared.marked.Marked.{Marked}
-use Rattle.tta_flight.specs.Marked.{has}
+use Rattle.tta_flight.specs.Marked.{has, AreBits}
 
 -- the rings of the units, the cells of all rings, the units whose rings have to turn, and those of which a result is due at this
 -- very moment: it is the one that shows
@@ -146,3 +146,17 @@ pub record AreOver (base count : ℕ) (old new : Rings) : Type 0 where
 -- Nothing is due of the units from one on and before an end.
 abbrev pub AreEmpty : (from end : ℕ) → Rings → Type 0
 AreEmpty from end r = (unit delay : ℕ) → from ≤ unit → unit < end → due_in r unit delay ≡ None
+
+-- ---- the units of one word of a set
+
+-- Those of 64 units, from unit 64 × number on, that have one of these bits went to their next cycle.
+abbrev pub AdvancesWord : (number bits : ℕ) (old new : Rings) → Type 0
+AdvancesWord number bits old new =
+    (base end : ℕ) → base ≤ end → AreBits number base end bits
+    → IsAdvanced (nearest base end (64 * number)) (nearest base end (64 * number + 64) - nearest base end (64 * number)) old new
+
+-- What was due of them at this moment is over.
+abbrev pub EndsWord : (number bits : ℕ) (old new : Rings) → Type 0
+EndsWord number bits old new =
+    (base end : ℕ) → base ≤ end → AreBits number base end bits
+    → AreOver (nearest base end (64 * number)) (nearest base end (64 * number + 64) - nearest base end (64 * number)) old new

@@ -1,9 +1,9 @@
 //! A set of units.
 
-ghost use Rattle.std.specs.Prelude.{◌≢◌, ◌/◌, ◌%◌, ◌*◌, ◌+◌, ◌-◌, ◌≡◌, ◌<◌, ◌≤◌, ◌^◌, ◌==◌, ◌||◌, ◌&&◌};
-ghost use Rattle.std.specs.Prelude.{ℕ, not, false, nat_le, nat_lt};
+ghost use Rattle.std.specs.Prelude.{◌≢◌, ◌/◌, ◌%◌, ◌*◌, ◌+◌, ◌-◌, ◌≡◌, ◌<◌, ◌≤◌, ◌^◌, ◌==◌};
+ghost use Rattle.std.specs.Prelude.{◌||◌, ◌&&◌, ℕ, not, false};
 ghost use Rattle.std.specs.Int.{bit_at};
-ghost use Rattle.tta_flight.specs.Marked.{has};
+ghost use Rattle.tta_flight.specs.Marked.{has, AreBits};
 
 /// A set of units below 256: bit k of word w stands for unit `64 * w + k`.
 #[derive(Clone, Copy)]
@@ -54,30 +54,34 @@ impl Marked {
         }
     }
 
-    /// Takes out those units of one word, which stands for 64 from unit `64 * number` on, that are not
-    /// before one unit and are before an end.
+    /// Takes out those of 64 units, from unit `64 * number` on, that have one of these bits.
     #[inline(always)]
-    pub fn remove_among(&mut self, number: usize, from: usize, end: usize)
-        requires order { from ≤ end }
-        requires first { from < 64 * number + 64 }
-        requires last { 64 * number < end }
-        requires word { number < 4 }
+    pub fn remove_bits(&mut self, number: usize, among: u64)
+        requires { number < 4 }
         ensures { (k : ℕ) → has self.new k
-            ≡ (has self.old k && not (k / 64 == number && nat_le from k && nat_lt k end)) }
+            ≡ (has self.old k && not (k / 64 == number && bit_at among (k % 64) == 1)) }
     {
-        let first = 64 * number;
-        let low = from.saturating_sub(first);
-        let high = (end - first).min(64);
-        self.words[number] &= !bits_between(low, high);
+        self.words[number] &= !among;
     }
 
     /// The word that has the bits of 64 units, from unit `64 * number` on.
     #[inline(always)]
-    pub fn word(&self, number: usize) -> u64
+    fn word(&self, number: usize) -> u64
         requires { number < 4 }
         ensures { (k : ℕ) → k / 64 ≡ number → bit_at result (k % 64) ≡ 0 → has self.now k ≡ false }
     {
         self.words[number]
+    }
+
+    /// Those of these bits that are in the word of 64 units, from unit `64 * number` on.
+    #[inline(always)]
+    pub fn bits_in(&self, number: usize, among: u64) -> u64
+        requires { number < 4 }
+        ensures none { (k : ℕ) → k / 64 ≡ number → bit_at among (k % 64) ≡ 1
+            → bit_at result (k % 64) ≡ 0 → has self.now k ≡ false }
+        ensures some { (i : ℕ) → bit_at result i ≡ 1 → bit_at among i ≡ 1 }
+    {
+        self.word(number) & among
     }
 }
 
@@ -87,6 +91,17 @@ fn one_bit(bit: usize) -> u64
     ensures { result ≡ 2 ^ bit }
 {
     1 << bit
+}
+
+/// The word that has so many bits from one on.
+#[inline(always)]
+fn bits_from(low: usize, count: usize) -> u64
+    requires first { low < 64 }
+    requires few { count < 64 }
+    requires last { low + count ≤ 64 }
+    ensures { result ≡ 2 ^ (low + count) - 2 ^ low }
+{
+    (one_bit(count) - 1) << low
 }
 
 /// The word that has the bits from one on and before another.
@@ -100,7 +115,32 @@ fn bits_between(low: usize, high: usize) -> u64
     if high - low == 64 {
         return u64::MAX;
     }
-    (one_bit(high - low) - 1) << low
+    bits_from(low, high - low)
+}
+
+/// The bits that stand for the units from one on and before an end, in the word of 64 units from
+/// unit `64 * number` on.
+#[inline(always)]
+pub fn bits_of_word(number: usize, from: usize, end: usize) -> u64
+    requires order { from ≤ end }
+    requires first { from < 64 * number + 64 }
+    requires last { 64 * number < end }
+    requires word { number < 4 }
+    ensures { AreBits number from end result }
+{
+    let first = 64 * number;
+    let low = from.saturating_sub(first);
+    let high = (end - first).min(64);
+    bits_between(low, high)
+}
+
+/// The same for so many units from one on, where one word has all of them.
+#[inline(always)]
+pub fn bits_of_units(from: usize, count: usize) -> u64
+    requires { from % 64 + count < 64 }
+    ensures { AreBits (from / 64) from (from + count) result }
+{
+    bits_from(from % 64, count)
 }
 
 /// The least bit of a word that has one.

@@ -1,11 +1,12 @@
 //! A region's next cycle.
 
-ghost use Rattle.std.specs.Prelude.{◌≡◌, ◌<◌, ◌≤◌, ◌+◌, ◌-◌, ◌*◌, ◌/◌, ◌%◌, ◌^◌, ℕ, length, None};
+ghost use Rattle.std.specs.Prelude.{◌≡◌, ◌<◌, ◌≤◌, ◌+◌, ◌*◌, ◌/◌, ◌%◌, ◌^◌, ℕ, length, None};
 ghost use Rattle.std.specs.Int.{bit_at};
 ghost use Rattle.tta_flight.specs.Flight.{Flight, advanced, StandsFor, AdvancesAll, StayBeside};
-ghost use Rattle.tta_flight.specs.Rings.{IsAdvanced, IsTurned, AreOver, due_in, later_in, nearest};
+ghost use Rattle.tta_flight.specs.Rings.{IsAdvanced, IsTurned, AdvancesWord, EndsWord};
+ghost use Rattle.tta_flight.specs.Rings.{due_in, later_in};
 
-use crate::marked::{least_bit, without_bit};
+use crate::marked::{bits_of_units, bits_of_word, least_bit, without_bit};
 use crate::region::Region;
 
 impl Region {
@@ -37,83 +38,66 @@ impl Region {
         }
     }
 
-    /// Goes to a unit's next cycle, if the unit is one of those from one on and before an end.
+    /// Those of these bits of 64 units, from unit `64 * number` on, whose rings have to turn. Nothing
+    /// is due of the others after this moment.
     #[inline(always)]
-    fn step_among(&mut self, unit: usize, base: usize, end: usize)
-        requires order { base ≤ end }
-        requires there { end ≤ length self.old.rings }
-        requires over { base ≤ unit → unit < end → due_in self.old unit 0 ≡ None }
-        ensures { let count = nearest base end (unit + 1) - nearest base end unit in
-            IsAdvanced (nearest base end unit) count self.old self.new }
-    {
-        if base <= unit && unit < end {
-            self.step(unit);
-        }
-    }
-
-    /// The bits of 64 units, from unit `64 * number` on. Where a bit is 0, nothing is due after this
-    /// moment.
-    #[inline(always)]
-    fn word(&self, number: usize) -> u64
+    fn word(&self, number: usize, among: u64) -> u64
         requires { number < 4 }
-        ensures { (unit past : ℕ) → unit < length self.now.rings → unit / 64 ≡ number
-            → bit_at result (unit % 64) ≡ 0 → later_in self.now unit past ≡ None }
+        ensures none { (unit past : ℕ) → unit < length self.now.rings → unit / 64 ≡ number
+            → bit_at among (unit % 64) ≡ 1 → bit_at result (unit % 64) ≡ 0
+            → later_in self.now unit past ≡ None }
+        ensures some { (i : ℕ) → bit_at result i ≡ 1 → bit_at among i ≡ 1 }
     {
-        self.moving.word(number)
+        self.moving.bits_in(number, among)
     }
 
-    /// Lets what is due at this moment be over, of those of 64 units, from unit `64 * number` on, that
-    /// are not before one unit and are before an end.
+    /// Lets what is due at this moment be over, of those of 64 units, from unit `64 * number` on,
+    /// that have one of these bits.
     #[inline(always)]
-    fn pass(&mut self, number: usize, base: usize, end: usize)
-        requires word { number < 4 }
-        requires order { base ≤ end }
-        requires first { base < 64 * number + 64 }
-        requires last { 64 * number < end }
-        ensures { let first = nearest base end (64 * number) in
-            AreOver first (nearest base end (64 * number + 64) - first) self.old self.new }
+    fn pass(&mut self, number: usize, among: u64)
+        requires { number < 4 }
+        ensures units { length self.new.rings ≡ length self.old.rings }
+        ensures none { (unit : ℕ) → unit / 64 ≡ number → bit_at among (unit % 64) ≡ 1
+            → due_in self.new unit 0 ≡ None }
+        ensures over { EndsWord number among self.old self.new }
     {
-        self.fresh.remove_among(number, base, end);
+        self.fresh.remove_bits(number, among);
     }
 
-    /// Goes to the next cycle of those of 64 units, from unit `64 * number` on, that are not before
-    /// one unit and are before an end, where nothing is due of them at this moment. Where nothing is
-    /// coming, it looks at no ring.
+    /// Goes to the next cycle of those of 64 units, from unit `64 * number` on, that have one of
+    /// these bits, where nothing is due of them at this moment. Where nothing is coming, it looks at
+    /// no ring.
     #[inline(always)]
-    fn turn(&mut self, number: usize, base: usize, end: usize)
+    fn turn(&mut self, number: usize, among: u64)
         requires word { number < 4 }
-        requires order { base ≤ end }
-        requires there { end ≤ length self.old.rings }
-        requires over { (unit : ℕ) → base ≤ unit → unit < end → unit / 64 ≡ number
+        requires there { (unit : ℕ) → unit / 64 ≡ number → bit_at among (unit % 64) ≡ 1
+            → unit < length self.old.rings }
+        requires over { (unit : ℕ) → unit / 64 ≡ number → bit_at among (unit % 64) ≡ 1
             → due_in self.old unit 0 ≡ None }
-        ensures { let first = nearest base end (64 * number) in
-            IsAdvanced first (nearest base end (64 * number + 64) - first) self.old self.new }
+        ensures { AdvancesWord number among self.old self.new }
     {
         let first = 64 * number;
-        let mut left = self.word(number);
+        let mut left = self.word(number, among);
         let mut at = first;
         'bits: while left != 0 {
             let bit = least_bit(left);
-            self.step_among(first + bit, base, end);
+            self.step(first + bit);
             at = first + bit + 1;
             left = without_bit(left, bit);
         }
     }
 
-    /// Goes to the next cycle of those of 64 units, from unit `64 * number` on, that are not before
-    /// one unit and are before an end.
+    /// Goes to the next cycle of those of 64 units, from unit `64 * number` on, that have one of
+    /// these bits.
     #[inline(always)]
-    fn walk(&mut self, number: usize, base: usize, end: usize)
+    fn walk(&mut self, number: usize, among: u64)
         requires word { number < 4 }
-        requires order { base ≤ end }
-        requires first { base < 64 * number + 64 }
-        requires last { 64 * number < end }
-        requires there { end ≤ length self.old.rings }
-        ensures { let first = nearest base end (64 * number) in
-            IsAdvanced first (nearest base end (64 * number + 64) - first) self.old self.new }
+        requires there { (unit : ℕ) → unit / 64 ≡ number → bit_at among (unit % 64) ≡ 1
+            → unit < length self.old.rings }
+        ensures { AdvancesWord number among self.old self.new }
     {
-        self.pass(number, base, end);
-        self.turn(number, base, end);
+        self.pass(number, among);
+        self.turn(number, among);
     }
 
     /// Goes to the next cycle of so many units from one on, word by word of the set.
@@ -128,9 +112,25 @@ impl Region {
         let end = base + count;
         let mut number = base / 64;
         'words: while 64 * number < end {
-            self.walk(number, base, end);
+            self.walk(number, bits_of_word(number, base, end));
             number += 1;
         }
+    }
+
+    /// Goes to the next cycle of so many units from one on. Where one word of the set has them all,
+    /// it makes no loop over words.
+    #[inline(always)]
+    fn go(&mut self, base: usize, count: usize)
+        requires there { base + count ≤ length self.old.rings }
+        requires few { base < 256 }
+        requires some { count < 256 }
+        ensures { IsAdvanced base count self.old self.new }
+    {
+        if base % 64 + count < 64 {
+            self.walk(base / 64, bits_of_units(base, count));
+            return;
+        }
+        self.steps(base, count);
     }
 
     /// Goes to the next cycle.
@@ -153,6 +153,6 @@ impl Region {
         ensures part { AdvancesAll base count self.old self.new }
         ensures beside { StayBeside base count self.old self.new }
     {
-        self.steps(usize::from(base), usize::from(count));
+        self.go(usize::from(base), usize::from(count));
     }
 }

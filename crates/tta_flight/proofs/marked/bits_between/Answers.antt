@@ -1,5 +1,7 @@
-use Rattle.tta_flight.proofs.BitLemmas.{one_to_many}
+use Rattle.std.proofs.Common.{◌≡◌, ◌+◌, ◌-◌, ◌^◌, ap, ◌∙◌, arith}
 use Rattle.tta_flight.proofs.marked.bits_between.Goals as goal
 
 pub returns : goal.returns
-returns c = one_to_many c.args.low c.args.high c.one_bit.result c.requires.order c.requires.last c.one_bit.ensures
+returns c =
+    let high : c.args.low + (c.args.high - c.args.low) ≡ c.args.high = omega (arith, c.requires.order) in
+    c.bits_from.ensures ∙ ap (λ n. 2 ^ n - 2 ^ c.args.low) high

@@ -1,7 +1,11 @@
 use Rattle.tta_flight.specs.Rings.{rings_of}
-use Rattle.tta_flight.proofs.Passed.{passed}
+use Rattle.tta_flight.proofs.Passed.{passed, passed_none}
 use Rattle.tta_flight.proofs.region.Region.pass.Goals as goal
 
-pub returns : goal.returns
-returns c =
-    rw (← c.self.view_is) (passed (rings_of c.self.inside.rings.items c.self.inside.cells.items c.self.inside.moving c.self.inside.fresh) c.args.base c.args.end c.requires.order c.args.number _ c.remove_among.ensures)
+pub returns-clause-none : goal.returns-clause-none
+returns-clause-none c =
+    passed_none (rings_of c.self.inside.rings.items c.self.inside.cells.items c.self.inside.moving c.self.inside.fresh) c.args.number c.args.among _ c.remove_bits.ensures
+
+pub returns-clause-over : goal.returns-clause-over
+returns-clause-over c =
+    rw (← c.self.view_is) (passed (rings_of c.self.inside.rings.items c.self.inside.cells.items c.self.inside.moving c.self.inside.fresh) c.args.number c.args.among _ c.remove_bits.ensures)
