@@ -1,10 +1,10 @@
 //! A run whose results are kept in a region that it is given.
 
 ghost use Rattle.std.specs.Prelude.{◌≡◌, ◌+◌, ◌<◌, ◌≤◌, ◌^◌, [], ℕ, List, length, slice_index};
-ghost use Rattle.std.specs.Prelude.{IfOk, IsTrue, if◌then◌else◌, false, ◌&&◌, is_none};
+ghost use Rattle.std.specs.Prelude.{IfOk, IsTrue, if◌then◌else◌, true, false, ◌&&◌, is_none};
 ghost use Rattle.tta_ops.specs.Set.{stated};
 ghost use Rattle.tta_arch.specs.Effects.{KeptReg, kept};
-ghost use Rattle.tta_code.specs.Cycle.{State, next as next_state, start};
+ghost use Rattle.tta_code.specs.Cycle.{State, Running, next as next_state, start};
 ghost use Rattle.tta_code.specs.Legal.{IsLegalCode};
 ghost use Rattle.tta_flight.specs.Flight.{StayBeside};
 ghost use Rattle.tta_sim.specs.Places.{is_place};
@@ -174,6 +174,8 @@ impl SimState {
         ensures stays { result ≡ false → region.new ≡ region.old }
         ensures stops { result ≡ false
             → goes_quietly self.new.lines self.new.pc self.new.outcome ≡ false }
+        ensures runs { result ≡ true → self.old.outcome ≡ Running }
+        ensures grows { self.old.cycle ≤ self.new.cycle }
         ensures counted { self.new.cycle ≤ self.old.cycle + (if result then 1 else 0) }
         ensures next { let U = stated unit_meaning units.now in (s : State)
             → StandsWith (units_of base m.now region.old) self.old s

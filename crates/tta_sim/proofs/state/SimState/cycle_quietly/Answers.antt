@@ -1,4 +1,4 @@
-use Rattle.std.proofs.Common.{◌≡◌, ◌+◌, false, get_or, None, length, slice_get, refl, ap, ◌∙◌, subst, arith}
+use Rattle.std.proofs.Common.{◌≡◌, ◌+◌, false, get_or, None, length, slice_get, refl, sym, ap, ◌∙◌, subst, arith}
 use Rattle.tta_ops.specs.Set.{stated}
 use Rattle.tta_arch.specs.Rules.{IsMachine}
 use Rattle.tta_flight.specs.Flight.{StayBeside}
@@ -61,6 +61,15 @@ pub returns-clause-counted : goal.returns-clause-counted
 returns-clause-counted g c =
     let made = c.carry_quietly.ensures.cycle None in
     omega (arith, made.counted, at_most_one c.carry_quietly.result, ap (λ h. h.cycle) c.self.view_is)
+
+pub returns-clause-runs : goal.returns-clause-runs
+returns-clause-runs g c = λ made.
+    ap (λ h. h.outcome) (sym c.self.view_is) ∙ ap (outcome_of c.self.inside.run.store.cycle) c.in-Running.is
+
+pub returns-clause-grows : goal.returns-clause-grows
+returns-clause-grows g c =
+    let made = c.carry_quietly.ensures.cycle None in
+    omega (arith, made.counted, ap (λ h. h.cycle) c.self.view_is)
 
 -- ---- where it makes none
 
