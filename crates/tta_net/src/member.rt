@@ -1,7 +1,7 @@
 //! One core among others.
 
-ghost use Rattle.std.specs.Prelude.{◌≡◌, ◌+◌, ◌<◌, ◌≤◌, ◌++◌, ◌^◌, length, List, ℕ, option_to_list};
-ghost use Rattle.std.specs.Prelude.{if◌then◌else◌, IfOk};
+ghost use Rattle.std.specs.Prelude.{◌≡◌, ◌+◌, ◌<◌, ◌≤◌, ◌++◌, ◌^◌, length, List, ℕ};
+ghost use Rattle.std.specs.Prelude.{option_to_list, None, if◌then◌else◌, IfOk, IfSome};
 ghost use Rattle.tta_list.specs.Input.{IsFed};
 ghost use Rattle.tta_ops.specs.Set.{stated};
 ghost use Rattle.tta_code.specs.Cycle.{State};
@@ -10,6 +10,7 @@ ghost use Rattle.tta_sim.specs.Results.{AreKept};
 ghost use Rattle.tta_cores.specs.Network.{Joined, after_step, stepped};
 ghost use Rattle.tta_net.specs.Members.{IsMemberOf, StandsAs, alone, turn_of};
 ghost use Rattle.tta_net.specs.Loaded.{CanLoad, IsFirst};
+ghost use Rattle.tta_net.specs.declared.turn.Turn.TheVariants as told;
 
 use crate::outputs::Outputs;
 use crate::turn::Turn;
@@ -17,7 +18,7 @@ use std::alloc::{AllocError, Global};
 use tta_cores::Core;
 use tta_flight::Region;
 use tta_ops::UnitSet;
-use tta_sim::{CycleStep, SimState};
+use tta_sim::{CycleStep, Ending, SimState};
 
 /// A core among others: its run, the first of its units in the region of all, the core whose outputs
 /// are its input, what it has output, and how many words of its input it has taken.
@@ -28,6 +29,15 @@ pub struct Member {
     pub feeder: Option<u8>,
     pub output: Outputs,
     pub taken: usize,
+}
+
+/// The answer of a turn with this fault. It is not in line: the answer of nearly all turns then
+/// stays one that the caller knows.
+#[inline(never)]
+fn faulted(number: u8) -> Turn
+    ensures { result ≡ told.Fault number }
+{
+    Turn::Fault(number)
 }
 
 impl Member {
@@ -74,6 +84,48 @@ impl Member {
         self.output.add(put);
         if took {
             self.taken += 1;
+        }
+    }
+
+    /// Makes one cycle, if the core goes on and the cycle's line is quiet, so that it neither takes
+    /// nor outputs a word. Else it answers `None`, and all stays. It takes no memory.
+    #[inline(always)]
+    pub fn turn_quietly(
+        &mut self,
+        region: &mut Region,
+        core: &Core,
+        units: &UnitSet,
+    ) -> Option<Turn>
+        requires loaded { IsMemberOf region.old core.now self.old }
+        requires room { self.old.state.cycle < self.old.output.room }
+        ensures loaded { IsMemberOf region.new core.now self.new }
+        ensures kept { AreKept region.old region.new }
+        ensures beside { StayBeside self.old.base (length core.now.machine.units)
+            region.old region.new }
+        ensures base { self.new.base ≡ self.old.base }
+        ensures feeder { self.new.feeder ≡ self.old.feeder }
+        ensures room { self.new.output.room ≡ self.old.output.room }
+        ensures counted { self.new.state.cycle ≤ self.old.state.cycle + 1 }
+        ensures waits { result ≡ None → self.new ≡ self.old }
+        ensures stays { result ≡ None → region.new ≡ region.old }
+        ensures next { let U = stated unit_meaning units.now in (c : Joined State) (input : List ℕ)
+            → StandsAs region.old core.now self.old c → IfSome result (λ _.
+            StandsAs region.new core.now self.new (stepped (alone U core.now) 0 input c)) }
+        ensures answer { let U = stated unit_meaning units.now in
+            (c : Joined State) (input : List ℕ)
+            → StandsAs region.old core.now self.old c → IfSome result (λ t.
+            t ≡ turn_of c.state (after_step (alone U core.now) 0 input c)) }
+    {
+        let base = self.base;
+        if !self
+            .state
+            .cycle_quietly(region, base, &core.machine, &core.code, units)
+        {
+            return None;
+        }
+        match self.state.ending() {
+            Ending::Running | Ending::Halted => Some(Turn::Ran),
+            Ending::Fault { number, .. } => Some(faulted(number)),
         }
     }
 
