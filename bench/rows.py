@@ -61,6 +61,13 @@ def run_cycles(folder, work):
     return ["run", "M", "IMAGE", "/dev/null", str(work)], 12
 
 
+def net_cycles(folder, work):
+    """The same loop on each of eight cores, in rounds, where the words of each would go to the next."""
+    words, status = run_cycles(folder, work // 8)
+    folder.write("LINKS", "".join(f"link {core} {core + 1}\n" for core in range(7)))
+    return ["net", words[-1], "LINKS", *words[1:4] * 8], status
+
+
 def asm(folder, machine, text):
     folder.write("M", machine)
     folder.write("A", text)
@@ -133,6 +140,7 @@ class Row:
 ROWS = [
     Row("exec: a loop of arithmetic", 40_000_000, "steps", exec_steps),
     Row("run: a loop on three buses", 15_000_000, "cycles", run_cycles),
+    Row("net: the same on eight cores", 8_000_000, "cycles", net_cycles),
     Row("asm: three buses", 65_536, "instructions", asm_instructions),
     Row("asm: labels alone", 2**24, "bytes", asm_labels),
     Row("dis: three buses", 65_536, "instructions", dis_instructions),
