@@ -37,6 +37,7 @@ fn immediate(unit: u8, index: u8) -> u32
     IMMEDIATES + u32::from(unit) * IMMEDIATE_REGISTERS + u32::from(index)
 }
 
+/// A source, with its place in the words that a run keeps.
 fn source(src: Source) -> DecodedSource
     ensures { result ≡ source_decoded src }
 {
@@ -49,6 +50,7 @@ fn source(src: Source) -> DecodedSource
     }
 }
 
+/// A guard, with the place of its register.
 fn guard(g: Option<GuardRef>) -> Option<DecodedGuard>
     ensures { result ≡ option_map guard_decoded g }
 {
@@ -61,6 +63,7 @@ fn guard(g: Option<GuardRef>) -> Option<DecodedGuard>
     }
 }
 
+/// What a move reads: its guard and its source.
 fn reading(v: &Move) -> Reading
     ensures { result ≡ reading_of v.now }
 {

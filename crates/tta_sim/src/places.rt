@@ -60,6 +60,7 @@ impl Places {
         self.words[number as usize]
     }
 
+    /// The word of a register, if it was set.
     pub fn register(&self, file: u8, index: u8) -> Option<u32>
         requires { IsTrue (is_place (KeptReg file index)) }
         ensures { result ≡ word_at self.now (KeptReg file index) }
@@ -67,6 +68,7 @@ impl Places {
         self.words[usize::from(file) * REGISTERS as usize + usize::from(index)]
     }
 
+    /// The word at the operand port of a unit, if one was brought.
     pub fn operand(&self, unit: u8) -> Option<u32>
         requires { IsTrue (is_place (KeptOperand unit)) }
         ensures { result ≡ word_at self.now (KeptOperand unit) }

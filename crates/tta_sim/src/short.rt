@@ -23,6 +23,7 @@ impl<T: Drop> Model for Short<T> {
 }
 
 impl<T: Drop> Short<T> {
+    /// An empty list with room for 32 values. An `Err` is out of memory.
     pub fn new(alloc: Global) -> Result<Self, AllocError>
         ensures { IfOk result (λ s. s ≡ []) }
     {
@@ -31,18 +32,21 @@ impl<T: Drop> Short<T> {
         })
     }
 
+    /// The values in order.
     pub fn as_slice(&self) -> &[T]
         ensures { result.now ≡ self.now }
     {
         self.values.as_slice()
     }
 
+    /// Takes all values out.
     pub fn clear(&mut self)
         ensures { self.new ≡ [] }
     {
         self.values.clear();
     }
 
+    /// Puts a value at the end, for which there is room.
     pub fn push(&mut self, value: T)
         requires { length self.old < 32 }
         ensures { self.new ≡ self.old ++ value ∷ [] }
