@@ -13,4 +13,5 @@ pub mod Completes
 pub mod ConvertedCompletes
 pub mod WriteCompletes
 pub mod PutCompletes
+pub mod SampleHalts
 pub mod NetCompletes

@@ -19,6 +19,7 @@ ghost use Rattle.tta_endings.specs.WriteCompletes.{BuildConvertedCompletesWithou
 ghost use Rattle.tta_endings.specs.PutCompletes.{ExecCompletes, RunCompletes};
 ghost use Rattle.tta_endings.specs.PutCompletes.{DebugCompletes, CheckCompletes, SampleCompletes};
 ghost use Rattle.tta_endings.specs.NetCompletes.{NetCompletes};
+ghost use Rattle.tta_endings.specs.SampleHalts.{SampleHalts};
 
 /// `build` takes every machine and program that are accepted and have room: where no call on the
 /// files fails, it writes an image or is out of memory.
@@ -88,6 +89,12 @@ pub fn debug_completes()
 /// program has halted at the bound and no call fails.
 pub fn sample_completes()
     ensures { SampleCompletes }
+{}
+
+/// `sample` never ends because its program goes on or waits, where the units' `sub` and `eq` are the
+/// standard ones.
+pub fn sample_halts()
+    ensures { SampleHalts }
 {}
 
 /// `net` is done with cores that come to rest within the rounds and at no fault, or is out of

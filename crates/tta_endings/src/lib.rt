@@ -11,4 +11,5 @@ pub use laws::{
     check_by_status, check_completes, debug_by_status, debug_completes, dis_by_status,
     dis_completes, exec_by_status, exec_completes, ifconv_by_status, ifconv_completes,
     net_by_status, net_completes, run_by_status, run_completes, sample_by_status, sample_completes,
+    sample_halts,
 };
