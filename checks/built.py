@@ -6,4 +6,4 @@ CRATES = os.path.normpath(os.path.join(os.path.dirname(os.path.abspath(__file__)
 PROGRAM = os.path.join(CRATES, "tta", "out", "tta")
 VIEW = os.path.join(CRATES, "tta_view", "out", "tta_view")
 if not os.access(PROGRAM, os.X_OK):
-    sys.exit("the program is not built yet: ./tta builds it at its first use, from nothing in about three quarters of an hour")
+    sys.exit("the program is not built yet: ./tta builds it at its first use, from nothing in an hour or more")

@@ -65,7 +65,7 @@ def prove(program, log):
 def main():
     program = sys.argv[1]
     log = os.path.join(TOP, "crates", f"{program}.log")
-    print("tta: proving and building the program first; from nothing this takes about three quarters of an hour", file=sys.stderr)
+    print("tta: proving and building the program first; from nothing this takes an hour or more", file=sys.stderr)
     print("tta: ./tta --plain COMMAND takes a minute instead, with a program whose proofs are left out", file=sys.stderr)
     begun = time.time()
     try:
