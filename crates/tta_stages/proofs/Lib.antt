@@ -1,6 +1,8 @@
 pub mod Pieces
 pub mod Rows
 pub mod Procs
+pub mod Hulls
+pub mod EachProc
 pub mod Trails
 pub mod CoveredStages
 pub mod DirectStages

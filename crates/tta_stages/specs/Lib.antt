@@ -1,3 +1,4 @@
+pub mod Intervals
 pub mod Lowered
 pub mod Trail
 pub mod Planned

@@ -8,6 +8,7 @@ use Rattle.tta_arch.specs.declared.ends.Source.TheVariants.{Value}
 use Rattle.tta_arch.specs.declared.ends.Dest.{Dest}
 use Rattle.tta_arch.specs.Fields.{numbers}
 use Rattle.tta_arch.specs.Machine.{Machine}
+use Rattle.tta_program.specs.Program.{Program}
 use Rattle.tta_code.specs.declared.code.Instruction.{Instruction}
 use Rattle.tta_moves.specs.declared.items.Item.{Item}
 use Rattle.tta_moves.specs.declared.items.Item.TheVariants.{Move, Long}
@@ -17,6 +18,7 @@ use Rattle.tta_moves.specs.declared.items.LongValue.{LongValue}
 use Rattle.tta_moves.specs.declared.items.LongValue.TheVariants as long
 use Rattle.tta_moves.specs.declared.items.BlockList.{BlockList}
 use Rattle.tta_moves.specs.declared.items.Placed.{Placed}
+use Rattle.tta_lower.specs.declared.part.Part.{Part}
 use Rattle.tta_asm.specs.Canonical.{imm_name, place_text, guard_text, move_text, instruction_text}
 use Rattle.tta_build.specs.declared.candidates.Order.{Order}
 use Rattle.tta_build.specs.declared.candidates.Order.TheVariants.{Plain, Items, Groups}
@@ -24,8 +26,8 @@ use Rattle.tta_stages.specs.declared.passed.Passed.{Passed}
 use Rattle.tta_stages.specs.declared.trail.Ordered.{Ordered}
 use Rattle.tta_stages.specs.declared.trail.Round.{Round}
 use Rattle.tta_stages.specs.declared.trail.Trail.{Trail}
-use Rattle.tta_stages.specs.Words.{count_text, block_name, pairs_text}
-use Rattle.tta_stages.specs.RegisterText.{range_text}
+use Rattle.tta_stages.specs.Words.{count_text, pairs_text}
+use Rattle.tta_stages.specs.RegisterText.{named_text, range_text}
 
 -- ---- items
 
@@ -72,11 +74,11 @@ order_name Groups = codes " ordered by groups"
 unfoldable pub live_text : Machine → BlockList → List ℕ
 live_text m list = codes " live after :" ++ (pairs_text m list.live_out ++ codes "\n")
 
-module _ (u : Units) (m : Machine) (k : ℕ) where
-  -- a list of a block, after what it is
+module _ (u : Units) (m : Machine) (p : Program) (parts : List Part) (k : ℕ) where
+  -- a list of a block, after what the block stands for and what the list is
   unfoldable pub list_text : (what : List ℕ) → BlockList → List ℕ
   list_text what list =
-      codes "list " ++ (block_name k ++ (what ++ (count_text (codes " items ") (length list.items) ++ (codes "\n" ++ items_text u m list.items))))
+      codes "list " ++ (named_text p parts k ++ (what ++ (count_text (codes " items ") (length list.items) ++ (codes "\n" ++ items_text u m list.items))))
 
   -- a list in another order, if there is one
   abbrev pub ordered_text : Option Ordered → List ℕ
@@ -84,7 +86,7 @@ module _ (u : Units) (m : Machine) (k : ℕ) where
 
   -- a list after each of the passes
   unfoldable pub passed_text : Passed → List ℕ
-  passed_text p = list_text (codes " after bypass") p.bypassed ++ (list_text (codes " after share") p.shared ++ list_text (codes " after dead") p.lively)
+  passed_text r = list_text (codes " after bypass") r.bypassed ++ (list_text (codes " after share") r.shared ++ list_text (codes " after dead") r.lively)
 
   -- a round
   unfoldable pub round_text : Round → List ℕ
@@ -108,8 +110,8 @@ module _ (u : Units) (m : Machine) (k : ℕ) where
       list_text (codes " selected") list ++ (live_text m list ++ trail_at trails)
 
 -- the lists of each block
-abbrev pub lists_text : Units → Machine → List Trail → List BlockList → List ℕ
-lists_text u m trails lists = flat_map (λ x. block_lists_text u m x.0 trails x.1) (enumerate_from 0 lists)
+abbrev pub lists_text : Units → Machine → Program → List Part → List Trail → List BlockList → List ℕ
+lists_text u m p parts trails lists = flat_map (λ x. block_lists_text u m p parts x.0 trails x.1) (enumerate_from 0 lists)
 
 -- ---- code
 
@@ -125,15 +127,16 @@ row_at u m words address = option_map_or (row_text u m address) (slice_get words
 abbrev pub rows_text : Units → Machine → List Instruction → (start count : ℕ) → List ℕ
 rows_text u m words start count = flat_map (λ c. row_at u m words (start + c)) (numbers count)
 
--- the code of a block with its heading
-unfoldable pub placed_text : Units → Machine → List Instruction → (k start cycles : ℕ) → List ℕ
-placed_text u m words k start cycles =
-    codes "placed " ++ (block_name k ++ (range_text start cycles ++ (codes "\n" ++ rows_text u m words start cycles)))
+module _ (u : Units) (m : Machine) (p : Program) (parts : List Part) (words : List Instruction) where
+  -- the code of a block with its heading
+  unfoldable pub placed_text : (k start cycles : ℕ) → List ℕ
+  placed_text k start cycles =
+      codes "placed " ++ (named_text p parts k ++ (range_text start cycles ++ (codes "\n" ++ rows_text u m words start cycles)))
 
--- the same where the block's code begins at an address
-abbrev pub placed_at : Units → Machine → List Instruction → (starts : List ℕ) → (k : ℕ) → Placed → List ℕ
-placed_at u m words starts k p = option_map_or (λ a. placed_text u m words k a p.length) (slice_get starts k) []
+  -- the same where the block's code begins at an address
+  abbrev pub placed_at : (starts : List ℕ) → (k : ℕ) → Placed → List ℕ
+  placed_at starts k x = option_map_or (λ a. placed_text k a x.length) (slice_get starts k) []
 
--- the code of each block
-abbrev pub code_rows : Units → Machine → List Instruction → (starts : List ℕ) → List Placed → List ℕ
-code_rows u m words starts placed = flat_map (λ x. placed_at u m words starts x.0 x.1) (enumerate_from 0 placed)
+  -- the code of each block
+  abbrev pub code_rows : (starts : List ℕ) → List Placed → List ℕ
+  code_rows starts placed = flat_map (λ x. placed_at starts x.0 x.1) (enumerate_from 0 placed)

@@ -1,5 +1,5 @@
--- The text of a program by its blocks, and of the homes of its variables.
-use Rattle.std.specs.Prelude.{ℕ, ◌+◌, ◌-◌, ◌==◌, if◌then◌else◌, List, [], ◌∷◌, ◌++◌, slice_get, slice_index, codes}
+-- The text of a program by its blocks, and of the homes and intervals of its variables.
+use Rattle.std.specs.Prelude.{ℕ, ◌+◌, ◌-◌, ◌==◌, if◌then◌else◌, List, [], ◌∷◌, ◌++◌, Option, Some, None, slice_get, slice_index, codes}
 use Rattle.std.specs.Option.{option_map_or}
 use Rattle.std.specs.List.{flat_map, enumerate_from}
 use Rattle.tta_ops.specs.Units.{Units}
@@ -13,9 +13,11 @@ use Rattle.tta_flow.specs.declared.live.Live.{Live}
 use Rattle.tta_flow.specs.Live.{live_before, live_after}
 use Rattle.tta_alloc.specs.declared.home.Home.{Home}
 use Rattle.tta_alloc.specs.declared.home.Home.TheVariants.{Reg, Slot}
-use Rattle.tta_alloc.specs.declared.homes.Homes.{Homes}
+use Rattle.tta_alloc.specs.declared.interval.Interval.{Interval}
 use Rattle.tta_alloc.specs.Homes.{home_of}
 use Rattle.tta_printed.specs.Printed.{Words, proc_name, line_text, step_line}
+use Rattle.tta_stages.specs.declared.lowered.Lowered.{Lowered}
+use Rattle.tta_stages.specs.Intervals.{interval_of}
 use Rattle.tta_stages.specs.Words.{count_text, var_if, home_text}
 
 -- ---- blocks
@@ -77,24 +79,40 @@ program_text u p l blocks = flat_map (λ b. block_text u p l b.0 b.1) (enumerate
 abbrev pub own_slots : (main owner : ℕ) → ℕ
 own_slots main owner = if owner == main then 0 else 2
 
+-- a position of an interval: the entry of the procedure, or the line of a step
+abbrev pub position_text : Program → (owner at : ℕ) → List ℕ
+position_text p owner at = if at == 0 then codes "entry" else count_text (codes "line ") (line_at p owner (at - 1))
+
+-- from where to where an interval goes
+unfoldable pub from_to_text : Program → (owner : ℕ) → Interval → List ℕ
+from_to_text p owner iv = codes " from " ++ (position_text p owner iv.start ++ (codes " to " ++ position_text p owner iv.end))
+
+-- the interval of a variable, if there is one
+abbrev pub interval_text : Program → (owner : ℕ) → Option Interval → List ℕ
+interval_text p owner None = codes " no interval"
+interval_text p owner (Some iv) = from_to_text p owner iv
+
 module _ (m : Machine) (homes : List (ℕ × ℕ)) where
   -- the home of a variable, whose slot this would be
   abbrev pub home_or_slot : Home → (slot : ℕ) → List ℕ
   home_or_slot (Reg k) slot = home_text m homes k
   home_or_slot (Slot x) slot = count_text (codes "slot.") slot
 
-  -- a variable and its home
-  unfoldable pub variable_text : Homes → (owner first x : ℕ) → List ℕ
-  variable_text h owner first x = count_text (codes " v") x ++ (codes " " ++ (home_or_slot (home_of h owner x) (first + x) ++ codes "\n"))
+  module _ (p : Program) (r : Lowered) where
+    -- a variable, its home and its interval
+    unfoldable pub variable_text : (owner first x : ℕ) → List ℕ
+    variable_text owner first x =
+        count_text (codes " v") x
+        ++ (codes " " ++ (home_or_slot (home_of r.homes owner x) (first + x) ++ (interval_text p owner (interval_of r.intervals owner x) ++ codes "\n")))
 
-  -- the variables of a procedure, of which the first has this slot
-  unfoldable pub proc_variables_text : Homes → (main owner vars first : ℕ) → List ℕ
-  proc_variables_text h main owner vars first =
-      codes "variables proc " ++ (proc_name main owner ++ (codes "\n" ++ flat_map (variable_text h owner first) (numbers vars)))
+    -- the variables of a procedure, of which the first has this slot
+    unfoldable pub proc_variables_text : (owner vars first : ℕ) → List ℕ
+    proc_variables_text owner vars first =
+        codes "variables proc " ++ (proc_name p.main owner ++ (codes "\n" ++ flat_map (variable_text owner first) (numbers vars)))
 
-  -- the variables of procedures, from one on, whose frame begins with this slot
-  abbrev pub variables_from : Homes → (main owner next : ℕ) → List Proc → List ℕ
-  variables_from h main owner next [] = []
-  variables_from h main owner next (q ∷ qs) =
-      proc_variables_text h main owner q.vars (next + own_slots main owner)
-      ++ variables_from h main (owner + 1) (next + own_slots main owner + q.vars) qs
+    -- the variables of procedures, from one on, whose frame begins with this slot
+    abbrev pub variables_from : (owner next : ℕ) → List Proc → List ℕ
+    variables_from owner next [] = []
+    variables_from owner next (q ∷ qs) =
+        proc_variables_text owner q.vars (next + own_slots p.main owner)
+        ++ variables_from (owner + 1) (next + own_slots p.main owner + q.vars) qs

@@ -32,6 +32,14 @@ part_text p (Entry owner) = codes " entry of " ++ proc_name p.main owner
 part_text p (Steps b) = codes " steps of " ++ lines_text p b
 part_text p (Returned b d callee) = codes " return to " ++ return_text p b
 
+-- the same of the block of a number, if there is one
+abbrev pub part_at : Program → List Part → (k : ℕ) → List ℕ
+part_at p parts k = option_map_or (part_text p) (slice_get parts k) []
+
+-- the name of a block, and what it stands for
+unfoldable pub named_text : Program → List Part → (k : ℕ) → List ℕ
+named_text p parts k = block_name k ++ part_at p parts k
+
 -- where the code of a block begins, and how many cycles it takes
 unfoldable pub range_text : (start cycles : ℕ) → List ℕ
 range_text start cycles = count_text (codes " address ") start ++ count_text (codes " cycles ") cycles

@@ -19,16 +19,16 @@ kind_text choice = option_map_or (λ c. codes "pair covered\n") choice (codes "p
 abbrev pub homes_in : Option Choice → List (ℕ × ℕ)
 homes_in choice = option_map_or (λ c. c.homes) choice []
 
--- All that is told, where the code of the blocks begins at these addresses: the program by its blocks, the homes of its
--- variables, its register code, the lists of each block from the selected one to the one that is placed, and the code.
+-- All that is told, where the code of the blocks begins at these addresses: the program by its blocks, the homes and intervals
+-- of its variables, its register code, the lists of each block from the selected one to the one that is placed, and the code.
 unfoldable pub told_text : Units → Machine → Program → Stages → (starts : List ℕ) → List ℕ
 told_text u m p s starts =
     kind_text s.choice
     ++ (program_text u p s.lowered.live s.lowered.flow.blocks
-    ++ (variables_from m (homes_in s.choice) s.lowered.homes p.main 0 0 p.procs
+    ++ (variables_from m (homes_in s.choice) p s.lowered 0 0 p.procs
     ++ (register_text u m (homes_in s.choice) p starts s.planned.placed.items s.lowered.code.blocks s.lowered.parts.items
-    ++ (lists_text u m s.planned.trails.items s.planned.selected.items
-    ++ code_rows u m s.code.words starts s.planned.placed.items))))
+    ++ (lists_text u m p s.lowered.parts.items s.planned.trails.items s.planned.selected.items
+    ++ code_rows u m p s.lowered.parts.items s.code.words starts s.planned.placed.items))))
 
 -- the same, by the addresses at which the code of the blocks begins
 abbrev pub stages_text : Units → Machine → Program → Stages → List ℕ

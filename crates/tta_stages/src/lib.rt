@@ -1,11 +1,13 @@
-//! What a program becomes on the way to code for a machine, stage by stage: its blocks, the homes of
-//! its variables, its register code, the lists of each block from the selected one to the one that is
-//! placed, and the code. They are made once more by the passes of `build`, in its order; that the code
-//! is the one that `build` writes is only tested.
+//! What a program becomes on the way to code for a machine, stage by stage: its blocks, the intervals
+//! and homes of its variables, its register code, the lists of each block from the selected one to the
+//! one that is placed, and the code. They are made once more by the passes of `build`, in its order;
+//! that the code is the one that `build` writes is only tested.
 #![tactic(auto)]
 
+mod body;
 mod covered;
 mod direct;
+mod intervals;
 mod listed;
 mod lowered;
 mod passed;
@@ -15,6 +17,7 @@ mod starts;
 mod text;
 mod trail;
 
+pub use intervals::Intervals;
 pub use lowered::Lowered;
 pub use passed::Passed;
 pub use planned::Planned;

@@ -11,6 +11,7 @@ ghost use Rattle.tta_lower.specs.Lower.{parts};
 ghost use Rattle.tta_lower.specs.Statement.{IsCause};
 ghost use Rattle.tta_stages.specs.Lowered.{IsLoweredAs};
 
+use crate::intervals::Intervals;
 use std::alloc::{AllocError, Global};
 use tta_alloc::Homes;
 use tta_build::{Sharing, homes_by};
@@ -26,6 +27,8 @@ pub struct Lowered {
     pub flow: Flow,
     /// Which variables are live where.
     pub live: Live,
+    /// The intervals of the variables.
+    pub intervals: Intervals,
     /// The homes of the variables.
     pub homes: Homes,
     /// What the blocks of the register code stand for, one after another.
@@ -74,12 +77,14 @@ pub fn lower_program(
 {
     let flow = Flow::of(alloc, p)?;
     let live = Live::of(alloc, p, &flow)?;
+    let intervals = Intervals::of(alloc, p, &flow, &live)?;
     let kept = homes_by(alloc, p, &flow, &live, homes, sharing)?;
     let code = lower(alloc, p, &flow, &live, &kept, frame_words)?;
     let parts = parts_of(alloc, p, &flow, &live, &kept)?;
     Ok(Lowered {
         flow,
         live,
+        intervals,
         homes: kept,
         parts,
         code,

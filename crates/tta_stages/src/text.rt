@@ -2,6 +2,7 @@
 
 mod items;
 mod lists;
+mod named;
 mod placed;
 mod program;
 mod register;

@@ -9,35 +9,30 @@ ghost use Rattle.tta_stages.specs.ListText.{trail_at, block_lists_text, lists_te
 
 use crate::passed::Passed;
 use crate::text::items::push_items;
-use crate::text::words::{push_block, push_count, push_pairs};
+use crate::text::named::{Of, push_named};
+use crate::text::words::{push_count, push_pairs};
 use crate::trail::{Ordered, Round, Trail};
 use std::alloc::AllocError;
-use tta_arch::Machine;
 use tta_build::Order;
 use tta_moves::BlockList;
 use tta_ops::UnitSet;
 
-/// What the lists of a block are told of: a machine, and the number of the block.
-#[derive(Drop)]
-pub struct Of<'a> {
-    pub m: &'a Machine,
-    pub k: usize,
-}
-
-/// Puts a list of a block, after what it is.
+/// Puts a list of a block, after what the block stands for and what the list is.
 #[tactic(auto, unfolding(crate::specs::ListText::list_text))]
 fn push_list(
     out: &mut Vec<u8>,
     units: &UnitSet,
     of: &Of<'_>,
+    k: usize,
     what: &[u8],
     list: &BlockList,
 ) -> Result<(), AllocError>
     ensures { OnOk result (out.new.items ≡ out.old.items
-        ++ list_text (stated unit_meaning units.now) of.now.m.now of.now.k what.now list.now) }
+        ++ list_text (stated unit_meaning units.now) of.now.m.now of.now.p.now of.now.parts.now
+        k what.now list.now) }
 {
     out.extend_from_slice(b"list ")?;
-    push_block(out, of.k as u128)?;
+    push_named(out, of, k)?;
     out.extend_from_slice(what)?;
     push_count(out, b" items ", list.items.len() as u128)?;
     out.extend_from_slice(b"\n")?;
@@ -60,13 +55,15 @@ fn push_ordered(
     out: &mut Vec<u8>,
     units: &UnitSet,
     of: &Of<'_>,
+    k: usize,
     ordered: &Option<Ordered>,
 ) -> Result<(), AllocError>
     ensures { OnOk result (out.new.items ≡ out.old.items
-        ++ ordered_text (stated unit_meaning units.now) of.now.m.now of.now.k ordered.now) }
+        ++ ordered_text (stated unit_meaning units.now) of.now.m.now of.now.p.now of.now.parts.now
+        k ordered.now) }
 {
     match ordered {
-        Some(o) => push_list(out, units, of, order_name(o.by), &o.list),
+        Some(o) => push_list(out, units, of, k, order_name(o.by), &o.list),
         None => Ok(()),
     }
 }
@@ -77,14 +74,16 @@ fn push_passed(
     out: &mut Vec<u8>,
     units: &UnitSet,
     of: &Of<'_>,
+    k: usize,
     passed: &Passed,
 ) -> Result<(), AllocError>
     ensures { OnOk result (out.new.items ≡ out.old.items
-        ++ passed_text (stated unit_meaning units.now) of.now.m.now of.now.k passed.now) }
+        ++ passed_text (stated unit_meaning units.now) of.now.m.now of.now.p.now of.now.parts.now
+        k passed.now) }
 {
-    push_list(out, units, of, b" after bypass", &passed.bypassed)?;
-    push_list(out, units, of, b" after share", &passed.shared)?;
-    push_list(out, units, of, b" after dead", &passed.lively)
+    push_list(out, units, of, k, b" after bypass", &passed.bypassed)?;
+    push_list(out, units, of, k, b" after share", &passed.shared)?;
+    push_list(out, units, of, k, b" after dead", &passed.lively)
 }
 
 /// Puts a round.
@@ -93,13 +92,15 @@ fn push_round(
     out: &mut Vec<u8>,
     units: &UnitSet,
     of: &Of<'_>,
+    k: usize,
     round: &Round,
 ) -> Result<(), AllocError>
     ensures { OnOk result (out.new.items ≡ out.old.items
-        ++ round_text (stated unit_meaning units.now) of.now.m.now of.now.k round.now) }
+        ++ round_text (stated unit_meaning units.now) of.now.m.now of.now.p.now of.now.parts.now
+        k round.now) }
 {
-    push_ordered(out, units, of, &round.ordered)?;
-    push_passed(out, units, of, &round.passed)
+    push_ordered(out, units, of, k, &round.ordered)?;
+    push_passed(out, units, of, k, &round.passed)
 }
 
 /// Puts a list in which loads are served, if there is one.
@@ -107,13 +108,15 @@ fn push_served(
     out: &mut Vec<u8>,
     units: &UnitSet,
     of: &Of<'_>,
+    k: usize,
     served: &Option<BlockList>,
 ) -> Result<(), AllocError>
     ensures { OnOk result (out.new.items ≡ out.old.items
-        ++ served_text (stated unit_meaning units.now) of.now.m.now of.now.k served.now) }
+        ++ served_text (stated unit_meaning units.now) of.now.m.now of.now.p.now of.now.parts.now
+        k served.now) }
 {
     match served {
-        Some(list) => push_list(out, units, of, b" served", list),
+        Some(list) => push_list(out, units, of, k, b" served", list),
         None => Ok(()),
     }
 }
@@ -123,14 +126,15 @@ fn push_second(
     out: &mut Vec<u8>,
     units: &UnitSet,
     of: &Of<'_>,
+    k: usize,
     second: &Option<Round>,
 ) -> Result<(), AllocError>
     ensures { OnOk result (out.new.items ≡ out.old.items
-        ++ option_map_or (round_text (stated unit_meaning units.now) of.now.m.now of.now.k)
-        second.now []) }
+        ++ option_map_or (round_text (stated unit_meaning units.now) of.now.m.now of.now.p.now
+        of.now.parts.now k) second.now []) }
 {
     match second {
-        Some(round) => push_round(out, units, of, round),
+        Some(round) => push_round(out, units, of, k, round),
         None => Ok(()),
     }
 }
@@ -141,14 +145,16 @@ fn push_trail(
     out: &mut Vec<u8>,
     units: &UnitSet,
     of: &Of<'_>,
+    k: usize,
     trail: &Trail,
 ) -> Result<(), AllocError>
     ensures { OnOk result (out.new.items ≡ out.old.items
-        ++ trail_text (stated unit_meaning units.now) of.now.m.now of.now.k trail.now) }
+        ++ trail_text (stated unit_meaning units.now) of.now.m.now of.now.p.now of.now.parts.now
+        k trail.now) }
 {
-    push_served(out, units, of, &trail.served)?;
-    push_round(out, units, of, &trail.first)?;
-    push_second(out, units, of, &trail.second)
+    push_served(out, units, of, k, &trail.served)?;
+    push_round(out, units, of, k, &trail.first)?;
+    push_second(out, units, of, k, &trail.second)
 }
 
 /// Puts the registers that are read after a list.
@@ -166,13 +172,15 @@ fn push_trail_at(
     out: &mut Vec<u8>,
     units: &UnitSet,
     of: &Of<'_>,
+    k: usize,
     trails: &[Trail],
 ) -> Result<(), AllocError>
     ensures { OnOk result (out.new.items ≡ out.old.items
-        ++ trail_at (stated unit_meaning units.now) of.now.m.now of.now.k trails.now) }
+        ++ trail_at (stated unit_meaning units.now) of.now.m.now of.now.p.now of.now.parts.now
+        k trails.now) }
 {
-    match trails.get(of.k) {
-        Some(trail) => push_trail(out, units, of, trail),
+    match trails.get(k) {
+        Some(trail) => push_trail(out, units, of, k, trail),
         None => Ok(()),
     }
 }
@@ -183,31 +191,33 @@ fn push_block_lists(
     out: &mut Vec<u8>,
     units: &UnitSet,
     of: &Of<'_>,
+    k: usize,
     trails: &[Trail],
     list: &BlockList,
 ) -> Result<(), AllocError>
     ensures { OnOk result (out.new.items ≡ out.old.items
-        ++ block_lists_text (stated unit_meaning units.now) of.now.m.now of.now.k trails.now
-        list.now) }
+        ++ block_lists_text (stated unit_meaning units.now) of.now.m.now of.now.p.now
+        of.now.parts.now k trails.now list.now) }
 {
-    push_list(out, units, of, b" selected", list)?;
+    push_list(out, units, of, k, b" selected", list)?;
     push_live(out, of, list)?;
-    push_trail_at(out, units, of, trails)
+    push_trail_at(out, units, of, k, trails)
 }
 
 /// Puts the lists of each block.
 pub fn push_lists(
     out: &mut Vec<u8>,
     units: &UnitSet,
-    m: &Machine,
+    of: &Of<'_>,
     trails: &[Trail],
     lists: &[BlockList],
 ) -> Result<(), AllocError>
     ensures { OnOk result (out.new.items ≡ out.old.items
-        ++ lists_text (stated unit_meaning units.now) m.now trails.now lists.now) }
+        ++ lists_text (stated unit_meaning units.now) of.now.m.now of.now.p.now of.now.parts.now
+        trails.now lists.now) }
 {
     for (k, list) in lists.iter().enumerate() {
-        push_block_lists(out, units, &Of { m, k }, trails, list)?;
+        push_block_lists(out, units, of, k, trails, list)?;
     }
     Ok(())
 }

@@ -5,8 +5,9 @@ ghost use Rattle.tta_ops.specs.Set.{stated};
 ghost use Rattle.tta_stages.specs.ListText.{row_text, row_at, rows_text, placed_text};
 ghost use Rattle.tta_stages.specs.ListText.{placed_at, code_rows};
 
+use crate::text::named::{Of, push_named};
 use crate::text::register::push_range;
-use crate::text::words::{push_block, push_count};
+use crate::text::words::push_count;
 use std::alloc::AllocError;
 use tta_arch::Machine;
 use tta_asm::push_instruction;
@@ -71,36 +72,37 @@ fn push_rows(
 fn push_placed(
     out: &mut Vec<u8>,
     units: &UnitSet,
-    m: &Machine,
+    of: &Of<'_>,
     words: &[Instruction],
     k: usize,
     range: (u32, u32),
 ) -> Result<(), AllocError>
     ensures { OnOk result (out.new.items ≡ out.old.items
-        ++ placed_text (stated unit_meaning units.now) m.now words.now k range.0 range.1) }
+        ++ placed_text (stated unit_meaning units.now) of.now.m.now of.now.p.now of.now.parts.now
+        words.now k range.0 range.1) }
 {
     out.extend_from_slice(b"placed ")?;
-    push_block(out, k as u128)?;
+    push_named(out, of, k)?;
     push_range(out, range.0, range.1)?;
     out.extend_from_slice(b"\n")?;
-    push_rows(out, units, m, words, range.0, range.1)
+    push_rows(out, units, of.m, words, range.0, range.1)
 }
 
 /// Puts the code of a block where it begins at an address.
 fn push_placed_at(
     out: &mut Vec<u8>,
     units: &UnitSet,
-    m: &Machine,
+    of: &Of<'_>,
     words: &[Instruction],
     starts: &[u32],
     block: (usize, &Placed),
 ) -> Result<(), AllocError>
     ensures { OnOk result (out.new.items ≡ out.old.items
-        ++ placed_at (stated unit_meaning units.now) m.now words.now starts.now
-        block.entry.0 block.entry.1.now) }
+        ++ placed_at (stated unit_meaning units.now) of.now.m.now of.now.p.now of.now.parts.now
+        words.now starts.now block.entry.0 block.entry.1.now) }
 {
     match starts.get(block.0) {
-        Some(start) => push_placed(out, units, m, words, block.0, (*start, block.1.length)),
+        Some(start) => push_placed(out, units, of, words, block.0, (*start, block.1.length)),
         None => Ok(()),
     }
 }
@@ -109,16 +111,17 @@ fn push_placed_at(
 pub fn push_blocks(
     out: &mut Vec<u8>,
     units: &UnitSet,
-    m: &Machine,
+    of: &Of<'_>,
     words: &[Instruction],
     starts: &[u32],
     placed: &[Placed],
 ) -> Result<(), AllocError>
     ensures { OnOk result (out.new.items ≡ out.old.items
-        ++ code_rows (stated unit_meaning units.now) m.now words.now starts.now placed.now) }
+        ++ code_rows (stated unit_meaning units.now) of.now.m.now of.now.p.now of.now.parts.now
+        words.now starts.now placed.now) }
 {
     for (k, p) in placed.iter().enumerate() {
-        push_placed_at(out, units, m, words, starts, (k, p))?;
+        push_placed_at(out, units, of, words, starts, (k, p))?;
     }
     Ok(())
 }

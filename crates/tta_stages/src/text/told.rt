@@ -9,6 +9,7 @@ ghost use Rattle.tta_stages.specs.Text.{kind_text, homes_in, told_text, stages_t
 use crate::stages::{Stages, keep_rules};
 use crate::starts::block_starts;
 use crate::text::lists::push_lists;
+use crate::text::named::Of;
 use crate::text::placed::push_blocks;
 use crate::text::program::push_program;
 use crate::text::register::{Ranges, push_register};
@@ -60,20 +61,29 @@ fn push_told(
     };
     let placed = s.planned.placed.as_slice();
     let ranges = Ranges { p, starts, placed };
-    let of = &s.lowered;
+    let lowered = &s.lowered;
+    let parts = lowered.parts.as_slice();
+    let of = Of { m, p, parts };
     push_kind(out, &s.choice)?;
-    push_program(out, units, p, &of.live, of.flow.blocks.as_slice())?;
-    push_variables(out, &on, p, &of.homes)?;
-    let blocks = of.code.blocks.as_slice();
-    push_register(out, units, &on, &ranges, blocks, of.parts.as_slice())?;
+    push_program(out, units, p, &lowered.live, lowered.flow.blocks.as_slice())?;
+    push_variables(out, &on, p, lowered)?;
+    push_register(
+        out,
+        units,
+        &on,
+        &ranges,
+        lowered.code.blocks.as_slice(),
+        parts,
+    )?;
     let trails = s.planned.trails.as_slice();
-    push_lists(out, units, m, trails, s.planned.selected.as_slice())?;
-    push_blocks(out, units, m, s.code.words.as_slice(), starts, placed)
+    push_lists(out, units, &of, trails, s.planned.selected.as_slice())?;
+    push_blocks(out, units, &of, s.code.words.as_slice(), starts, placed)
 }
 
 /// What is told of the stages of a program on the way to code for a machine, as text: its blocks, the
-/// homes of its variables, its register code, the lists of each block from the selected one to the one
-/// that is placed, and the code, a heading before each part. It fails only where there is no memory.
+/// homes and intervals of its variables, its register code, the lists of each block from the selected
+/// one to the one that is placed, and the code, a heading before each part. It fails only where there
+/// is no memory.
 pub fn tell_stages(
     alloc: Global,
     m: &Machine,

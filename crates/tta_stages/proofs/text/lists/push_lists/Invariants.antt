@@ -7,4 +7,4 @@ use Rattle.tta_stages.proofs.text.lists.push_lists.Given as goal
 abbrev pub invariant-loop-k : goal.invariant-loop-k
 invariant-loop-k g l =
     let U = stated (λ v. (goal.OpUnit-dyn g v).unit_meaning v.1) l.units in
-    l.out.items ++ flat_map (λ x. block_lists_text U l.m x.0 l.trails x.1) (enumerate_from l.k (drop l.k l.lists)) ≡ l.initial.out.items ++ flat_map (λ x. block_lists_text U l.m x.0 l.trails x.1) (enumerate_from 0 l.lists)
+    l.out.items ++ flat_map (λ x. block_lists_text U l.of.m.now l.of.p.now l.of.parts.now x.0 l.trails x.1) (enumerate_from l.k (drop l.k l.lists)) ≡ l.initial.out.items ++ flat_map (λ x. block_lists_text U l.of.m.now l.of.p.now l.of.parts.now x.0 l.trails x.1) (enumerate_from 0 l.lists)

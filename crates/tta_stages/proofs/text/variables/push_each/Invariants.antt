@@ -6,4 +6,4 @@ use Rattle.tta_stages.proofs.text.variables.push_each.Given as goal
 
 abbrev pub invariant-loop-x : goal.invariant-loop-x
 invariant-loop-x l =
-    l.out.items ≡ l.initial.out.items ++ flat_map (variable_text l.on.m.now l.on.homes.now l.homes l.owner l.first) (numbers l.x)
+    l.out.items ≡ l.initial.out.items ++ flat_map (variable_text l.on.m.now l.on.homes.now l.of.p.now l.of.lowered.now l.owner l.first) (numbers l.x)

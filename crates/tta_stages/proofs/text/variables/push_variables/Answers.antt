@@ -1,7 +1,7 @@
-use Rattle.std.proofs.Common.{rules, ◌≡◌, ◌<◌, ◌+◌, ◌++◌, ℕ, List, length, get_or, ap, subst, ◌∙◌}
+use Rattle.std.proofs.Common.{rules, ◌≡◌, ◌<◌, ℕ, List, length, get_or, ap, subst, ◌∙◌}
 use Rattle.tta_program.specs.Program.{Program}
 use Rattle.tta_program.specs.declared.program.Proc.{Proc}
-use Rattle.tta_stages.specs.ProgramText.{own_slots, proc_variables_text}
+use Rattle.tta_stages.specs.ProgramText.{own_slots}
 use Rattle.tta_stages.proofs.Procs.{proc_more}
 use Rattle.tta_stages.proofs.text.variables.push_variables.Goals as goal
 
@@ -12,11 +12,8 @@ loop-owner-preserved c =
     let low = subst (λ (qs : List Proc). c.loop-owner.owner < length qs) procs c.loop-owner-test.true in
     let is = subst (λ (qs : List Proc). c.q-item.result ≡ get_or qs c.loop-owner.owner c.q-item.result) procs c.q-item.is in
     let own = subst (λ (x : ℕ). c.own_slots.result ≡ own_slots x c.loop-owner.owner) main c.own_slots.ensures.value in
-    let put = subst (λ (x : ℕ). c.push_proc_variables.new.out.items ≡ c.loop-owner.out.items
-    ++ proc_variables_text c.args.on.now.m.now c.args.on.now.homes.now c.args.homes.now x c.loop-owner.owner c.q-item.result.vars (c.loop-owner.next + c.own_slots.result)) main
-    c.in_ok-push_proc_variables.ensures in
     record {
-      text = proc_more c.args.on.now.m.now c.args.on.now.homes.now c.args.homes.now c.args.p.now.main c.args.p.now.procs c.loop-owner.owner c.loop-owner.next
-          c.q-item.result c.own_slots.result c.from.result _ _ _ low is own c.from.ensures put c.loop-owner.invariant.text;
+      text = proc_more c.args.on.now.m.now c.args.on.now.homes.now c.args.p.now c.args.lowered.now c.args.p.now.procs c.loop-owner.owner c.loop-owner.next
+          c.q-item.result c.own_slots.result c.from.result _ _ _ low is own c.from.ensures c.in_ok-push_proc_variables.ensures c.loop-owner.invariant.text;
       few = search rules;
     }
