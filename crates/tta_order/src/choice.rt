@@ -2,9 +2,9 @@
 
 use crate::awaited::flow_paths;
 use crate::clock::{Clock, end_of};
-use crate::edges::{flows, number_of, overwrites, rewrites};
+use crate::edges::{Edge, flows, number_of, overwrites};
 use crate::graph::{Graph, at};
-use crate::groups::{between, groups_of, starts_of};
+use crate::groups::{between, groups_of, is_chain, starts_of};
 use crate::marks::Marks;
 use crate::ready::Ready;
 use crate::uses::{Uses, all_uses};
@@ -43,6 +43,22 @@ fn control_of(items: &[Item]) -> Option<usize> {
     }
 }
 
+/// Which items have to come after which. The only error is out of memory.
+fn edges_of(alloc: Global, marks: &mut Marks, all: &[Uses]) -> Result<Vec<Edge>, AllocError> {
+    let mut edges = flows(alloc, marks, all)?;
+    overwrites(marks, all, &mut edges)?;
+    Ok(edges)
+}
+
+/// So many numbers, counted up from 0. The only error is out of memory.
+fn counted(alloc: Global, count: usize) -> Result<Vec<usize>, AllocError> {
+    let mut numbers = Vec::with_capacity(alloc, count)?;
+    for n in 0..count {
+        numbers.push(n)?;
+    }
+    Ok(numbers)
+}
+
 /// The numbers of items in the order of single items. The only error is out of memory.
 fn by_items(
     alloc: Global,
@@ -50,12 +66,10 @@ fn by_items(
     all: &[Uses],
     last: Option<usize>,
 ) -> Result<Vec<usize>, AllocError> {
-    let mut edges = flows(alloc, marks, all)?;
-    rewrites(marks, all, &mut edges)?;
-    overwrites(marks, all, &mut edges)?;
+    let edges = edges_of(alloc, marks, all)?;
     let graph = Graph::of(alloc, all.len(), edges.as_slice())?;
     let paths = graph.paths(own_paths(alloc, all)?);
-    let mut ready = Ready::new(alloc, all.len(), last, None);
+    let mut ready = Ready::new(alloc, all.len(), last, None)?;
     let order = graph.in_turn(alloc, paths.as_slice(), &mut ready);
     // Dropped here as a whole, so that no part of it is left to drop at the end.
     drop(ready);
@@ -128,16 +142,17 @@ fn by_groups(
     let groups = groups_of(alloc, all.len(), starts.as_slice())?;
     let count = starts.len();
     bypass_copies(all);
+    let edges = edges_of(alloc, marks, all.as_slice())?;
+    let kept = between(alloc, hub, groups.as_slice(), edges.as_slice())?;
+    let last = if is_ended { count.checked_sub(1) } else { None };
+    if is_chain(alloc, last.unwrap_or(count), kept.as_slice())? {
+        return counted(alloc, all.len());
+    }
     let paths = flow_paths(alloc, marks, all.as_slice())?;
     let most = longest(alloc, groups.as_slice(), count, paths.as_slice())?;
-    let mut edges = flows(alloc, marks, all.as_slice())?;
-    rewrites(marks, all.as_slice(), &mut edges)?;
-    overwrites(marks, all.as_slice(), &mut edges)?;
-    let kept = between(alloc, hub, groups.as_slice(), edges.as_slice())?;
     let graph = Graph::of(alloc, count, kept.as_slice())?;
-    let last = if is_ended { count.checked_sub(1) } else { None };
-    let clock = clock_with(alloc, all.as_slice(), starts.as_slice(), marks, buses);
-    let mut ready = Ready::new(alloc, count, last, clock);
+    let clock = clock_with(alloc, all.as_slice(), starts.as_slice(), marks, buses)?;
+    let mut ready = Ready::new(alloc, count, last, clock)?;
     let order = graph.in_turn(alloc, most.as_slice(), &mut ready);
     // Dropped here as a whole, so that no part of it is left to drop at the end.
     drop(ready);
@@ -145,17 +160,17 @@ fn by_groups(
     members(alloc, order.as_slice(), starts.as_slice(), all.len())
 }
 
-/// A clock, where a number of buses is given.
+/// A clock, where a number of buses is given. The only error is out of memory.
 fn clock_with<'c>(
     alloc: Global,
     all: &'c [Uses],
     starts: &'c [u32],
     marks: &'c mut Marks,
     buses: Option<u32>,
-) -> Option<Clock<'c>> {
+) -> Result<Option<Clock<'c>>, AllocError> {
     match buses {
-        None => None,
-        Some(n) => Some(Clock::new(alloc, all, starts, marks, n)),
+        None => Ok(None),
+        Some(n) => Ok(Some(Clock::new(alloc, all, starts, marks, n)?)),
     }
 }
 

@@ -35,23 +35,25 @@ pub struct Clock<'c> {
 }
 
 impl<'c> Clock<'c> {
-    /// A clock before the list, for a machine with so many buses.
+    /// A clock before the list, for a machine with so many buses. It fails only where there is no
+    /// memory.
     pub fn new(
         alloc: Global,
         all: &'c [Uses],
         starts: &'c [u32],
         shown: &'c mut Marks,
         buses: u32,
-    ) -> Self {
+    ) -> Result<Self, AllocError> {
         shown.begin();
-        Clock {
+        let moves = Vec::with_capacity(alloc, all.len())?;
+        Ok(Clock {
             all,
             starts,
             shown,
-            moves: Vec::new(alloc),
+            moves,
             buses,
             full: 0,
-        }
+        })
     }
 
     fn since(&self, channel: Option<u16>) -> u32 {

@@ -67,22 +67,6 @@ fn note(marks: &mut Marks, channel: Option<u16>, item: u32) {
     }
 }
 
-/// Each item that asks for a channel comes after the last before it that changed it.
-pub fn flows(alloc: Global, marks: &mut Marks, all: &[Uses]) -> Result<Vec<Edge>, AllocError> {
-    marks.begin();
-    let mut edges = Vec::with_capacity(alloc, all.len().saturating_mul(4))?;
-    for (n, u) in all.iter().enumerate() {
-        let to = number_of(n);
-        read(&mut edges, marks, all, to, u.source, 0)?;
-        read(&mut edges, marks, all, to, u.guard, 0)?;
-        read(&mut edges, marks, all, to, u.operand, 1)?;
-        read(&mut edges, marks, all, to, u.used, 0)?;
-        note(marks, u.written, to);
-        note(marks, u.stored, to);
-    }
-    Ok(edges)
-}
-
 /// An item changes a channel: what changed it before shows before.
 fn rewrite(
     edges: &mut Vec<Edge>,
@@ -107,17 +91,22 @@ fn rewrite(
     Ok(())
 }
 
-/// Each item that changes a channel comes after the last before it that changed it.
-pub fn rewrites(marks: &mut Marks, all: &[Uses], edges: &mut Vec<Edge>) -> Result<(), AllocError> {
+/// Each item that asks for a channel, or changes it, comes after the last before it that changed it.
+pub fn flows(alloc: Global, marks: &mut Marks, all: &[Uses]) -> Result<Vec<Edge>, AllocError> {
     marks.begin();
+    let mut edges = Vec::with_capacity(alloc, all.len().saturating_mul(4))?;
     for (n, u) in all.iter().enumerate() {
         let to = number_of(n);
-        rewrite(edges, marks, all, to, u.written)?;
-        rewrite(edges, marks, all, to, u.stored)?;
+        read(&mut edges, marks, all, to, u.source, 0)?;
+        read(&mut edges, marks, all, to, u.guard, 0)?;
+        read(&mut edges, marks, all, to, u.operand, 1)?;
+        read(&mut edges, marks, all, to, u.used, 0)?;
+        rewrite(&mut edges, marks, all, to, u.written)?;
+        rewrite(&mut edges, marks, all, to, u.stored)?;
         note(marks, u.written, to);
         note(marks, u.stored, to);
     }
-    Ok(())
+    Ok(edges)
 }
 
 /// An item reads a channel so many cycles after its own: the next that changes it comes after it.

@@ -42,9 +42,10 @@ pub struct Graph {
     links: Vec<Link>,
 }
 
-fn count_firsts(first: &mut Vec<u32>, edges: &[Edge]) {
+/// For each node how many edges begin in it or in one before it.
+fn count_ends(first: &mut Vec<u32>, edges: &[Edge]) {
     for e in edges {
-        let n = (e.from as usize).saturating_add(1);
+        let n = e.from as usize;
         let count = at(first.as_slice(), n);
         put(first, n, count.saturating_add(1));
     }
@@ -59,19 +60,19 @@ impl Graph {
     /// The graph of edges between so many nodes. The only error is out of memory.
     pub fn of(alloc: Global, nodes: usize, edges: &[Edge]) -> Result<Self, AllocError> {
         let mut first = vec![in alloc; 0; nodes.saturating_add(1)]?;
-        count_firsts(&mut first, edges);
-        let mut next = Vec::from_slice(alloc, first.as_slice())?;
+        count_ends(&mut first, edges);
         let mut links = vec![in alloc; NONE; edges.len()]?;
+        // From the last place of a node's down to its first, which is then where its edges are.
         for e in edges {
             let from = e.from as usize;
-            let k = at(next.as_slice(), from);
+            let k = at(first.as_slice(), from).saturating_sub(1);
             if (k as usize) < links.len() {
                 links[k as usize] = Link {
                     to: e.to,
                     gap: e.gap,
                 };
             }
-            put(&mut next, from, k.saturating_add(1));
+            put(&mut first, from, k);
         }
         Ok(Graph { first, links })
     }

@@ -70,7 +70,7 @@ pub fn starts_of(
         count: 0,
         marks,
     };
-    let mut starts = Vec::new(alloc);
+    let mut starts = Vec::with_capacity(alloc, all.len())?;
     for n in (0..all.len()).rev() {
         awaited.before(all[n]);
         if awaited.count == 0 || n == 0 {
@@ -101,7 +101,7 @@ pub fn between(
     groups: &[u32],
     edges: &[Edge],
 ) -> Result<Vec<Edge>, AllocError> {
-    let mut kept = Vec::new(alloc);
+    let mut kept = Vec::with_capacity(alloc, edges.len())?;
     for e in edges {
         let from = at(groups, e.from as usize);
         let to = at(groups, e.to as usize);
@@ -110,4 +110,20 @@ pub fn between(
         }
     }
     Ok(kept)
+}
+
+/// Whether each of so many groups but the first comes after the one before it: then they have no
+/// other order. The only error is out of memory.
+pub fn is_chain(alloc: Global, count: usize, edges: &[Edge]) -> Result<bool, AllocError> {
+    let mut follows = vec![in alloc; false; count]?;
+    if count > 0 {
+        follows[0] = true;
+    }
+    for e in edges {
+        let to = e.to as usize;
+        if to < follows.len() && e.from.saturating_add(1) == e.to {
+            follows[to] = true;
+        }
+    }
+    Ok(follows.as_slice().iter().all(|is| *is))
 }

@@ -15,7 +15,7 @@ use tta_moves::{BlockList, Item};
 
 /// The items from a number on. The only error is out of memory.
 fn items_from(alloc: Global, items: &[Item], front: usize) -> Result<Vec<Item>, AllocError> {
-    let mut rest = Vec::new(alloc);
+    let mut rest = Vec::with_capacity(alloc, items.len())?;
     for n in front..items.len() {
         rest.push(items[n])?;
     }
@@ -25,7 +25,7 @@ fn items_from(alloc: Global, items: &[Item], front: usize) -> Result<Vec<Item>, 
 /// The numbers of the items before a number, and then other numbers, counted from it. The only error
 /// is out of memory.
 fn numbers_after(alloc: Global, front: usize, rest: &[usize]) -> Result<Vec<usize>, AllocError> {
-    let mut numbers = Vec::new(alloc);
+    let mut numbers = Vec::with_capacity(alloc, front.saturating_add(rest.len()))?;
     for n in 0..front {
         numbers.push(n)?;
     }
@@ -56,6 +56,24 @@ impl Orders {
         })
     }
 
+    /// The numbers of a list's items in the order that a rule chooses, where the last item that may
+    /// wait and those before it stay where they are. It fails only where there is no memory.
+    fn numbers(
+        &mut self,
+        alloc: Global,
+        m: &Machine,
+        items: &[Item],
+        rule: Rule,
+    ) -> Result<Vec<usize>, AllocError> {
+        let front = settled(m, items);
+        if front == 0 {
+            return chosen(alloc, &mut self.marks, m, self.hub, items, rule);
+        }
+        let rest = items_from(alloc, items, front)?;
+        let order = chosen(alloc, &mut self.marks, m, self.hub, rest.as_slice(), rule)?;
+        numbers_after(alloc, front, order.as_slice())
+    }
+
     /// The list of a block in the order that a rule chooses; none where that is the list's own, or
     /// is not known to be an order. It fails only where there is no memory.
     pub fn order(
@@ -70,11 +88,7 @@ impl Orders {
         requires list { is_list m.now b.now.items ≡ true }
         ensures { IfOk result (λ o. IfSome o (λ r. IsStandIn m.now b.now r)) }
     {
-        let items = b.items.as_slice();
-        let front = settled(m, items);
-        let rest = items_from(alloc, items, front)?;
-        let order = chosen(alloc, &mut self.marks, m, self.hub, rest.as_slice(), rule)?;
-        let numbers = numbers_after(alloc, front, order.as_slice())?;
+        let numbers = self.numbers(alloc, m, b.items.as_slice(), rule)?;
         if count_up(numbers.as_slice(), numbers.len()) {
             return Ok(None);
         }

@@ -32,15 +32,21 @@ pub struct Ready<'c> {
 }
 
 impl<'c> Ready<'c> {
-    /// No node of so many is ready.
-    pub fn new(alloc: Global, nodes: usize, last: Option<usize>, clock: Option<Clock<'c>>) -> Self {
-        Ready {
+    /// No node of so many is ready. It fails only where there is no memory.
+    pub fn new(
+        alloc: Global,
+        nodes: usize,
+        last: Option<usize>,
+        clock: Option<Clock<'c>>,
+    ) -> Result<Self, AllocError> {
+        let heap = BinaryHeap::with_capacity(alloc, nodes)?;
+        Ok(Ready {
             nodes,
             last,
             clock,
-            heap: BinaryHeap::new(alloc),
+            heap,
             passed: Vec::new(alloc),
-        }
+        })
     }
 
     /// The node that has to stay last, if there is one.

@@ -1,14 +1,13 @@
 //! What each item of a list asks for and what it changes, for whoever chooses an order.
 
 use crate::channels::{CHANNELS, DATA, FRAME, TRAFFIC};
-use crate::parts::{
-    guard_number, is_unguarded, operand_number, source_number, started, written_number,
-};
+use crate::parts::{guard_number, is_unguarded, source_number, written_number};
 use crate::slots::{part_at, parts_of};
 use std::alloc::{AllocError, Global};
-use tta_arch::{Dest, Machine, Op, Source};
-use tta_depend::{is_control, lasts};
+use tta_arch::{Dest, Machine, Op, Source, UnitOp};
+use tta_depend::is_control;
 use tta_list::entry_at;
+use tta_moves::numbers::{operand, port};
 use tta_moves::{Item, ItemSource};
 
 /// The channels that an item asks for and those that it may change, each by its number. There is one
@@ -34,34 +33,6 @@ pub struct Uses {
     pub takes: u8,
 }
 
-/// The space or the part of the frame space that an item's operation loads from or stores into, or the
-/// traffic that it is part of.
-fn used(m: &Machine, part: u16, x: Item) -> Option<usize> {
-    let Some(op) = started(m, x) else {
-        return None;
-    };
-    match op {
-        Op::Ldw | Op::Stw => Some(DATA),
-        Op::Ldf | Op::Stf => Some(FRAME + usize::from(part)),
-        Op::Out | Op::Take => Some(TRAFFIC),
-        Op::Set(_) => None,
-    }
-}
-
-/// The space or the part of the frame space that an item's operation stores into, or the traffic that
-/// it is part of.
-fn stored(m: &Machine, part: u16, x: Item) -> Option<usize> {
-    let Some(op) = started(m, x) else {
-        return None;
-    };
-    match op {
-        Op::Stw => Some(DATA),
-        Op::Stf => Some(FRAME + usize::from(part)),
-        Op::Out | Op::Take => Some(TRAFFIC),
-        Op::Ldw | Op::Ldf | Op::Set(_) => None,
-    }
-}
-
 fn is_wide(m: &Machine, file: u8) -> bool {
     match entry_at(m.files.as_slice(), file) {
         None => false,
@@ -81,36 +52,6 @@ fn is_copy(m: &Machine, x: Item) -> bool {
     }
 }
 
-/// The number of the unit that an item starts.
-fn trigger(x: Item) -> Option<usize> {
-    match x {
-        Item::Move {
-            dst: Dest::Trigger { unit, .. },
-            ..
-        } => Some(CHANNELS + usize::from(unit)),
-        _ => None,
-    }
-}
-
-/// How many cycles after its own what an item writes shows.
-fn shows(m: &Machine, x: Item) -> u8 {
-    match x {
-        Item::Move {
-            dst: Dest::Trigger { .. },
-            ..
-        } => lasts(m, x) as u8,
-        _ => 1,
-    }
-}
-
-/// How many cycles an item takes: a control item those until its effect shows.
-fn takes(m: &Machine, x: Item) -> u8 {
-    if is_control(x) {
-        return m.control.delay.saturating_add(1);
-    }
-    lasts(m, x) as u8
-}
-
 /// The number of a channel, in short. All are below 2^16.
 fn short(channel: Option<usize>) -> Option<u16> {
     let Some(c) = channel else {
@@ -122,20 +63,102 @@ fn short(channel: Option<usize>) -> Option<u16> {
     }
 }
 
-/// What an item uses, which uses this part of the frame space, if it uses one.
-fn uses_of(m: &Machine, part: u16, x: Item) -> Uses {
+/// The space, the part of the frame space or the traffic that an operation uses.
+fn space_of(op: Op, part: u16) -> Option<usize> {
+    match op {
+        Op::Ldw | Op::Stw => Some(DATA),
+        Op::Ldf | Op::Stf => Some(FRAME + usize::from(part)),
+        Op::Out | Op::Take => Some(TRAFFIC),
+        Op::Set(_) => None,
+    }
+}
+
+/// Whether an operation changes the space that it uses, or is traffic.
+fn changes_space(op: Op) -> bool {
+    matches!(op, Op::Stw | Op::Stf | Op::Out | Op::Take)
+}
+
+fn has_result(op: Op) -> bool {
+    matches!(op, Op::Ldw | Op::Ldf | Op::Take | Op::Set(_))
+}
+
+/// How many cycles an item takes that starts no operation: a control item those until its effect
+/// shows.
+fn takes(m: &Machine, x: Item) -> u8 {
+    if is_control(x) {
+        m.control.delay.saturating_add(1)
+    } else {
+        1
+    }
+}
+
+/// What an item uses that starts no operation.
+fn uses_of_move(m: &Machine, x: Item) -> Uses {
     Uses {
         source: short(source_number(x)),
         guard: short(guard_number(x)),
-        operand: short(operand_number(m, x)),
-        used: short(used(m, part, x)),
+        operand: None,
+        used: None,
         written: short(written_number(m, x)),
-        stored: short(stored(m, part, x)),
-        trigger: short(trigger(x)),
+        stored: None,
+        trigger: None,
         is_guarded: !is_unguarded(x),
         is_copy: is_copy(m, x),
-        shows: shows(m, x),
+        shows: 1,
         takes: takes(m, x),
+    }
+}
+
+/// What an item uses that starts an operation of a unit.
+fn uses_of_start(x: Item, unit: u8, o: UnitOp, part: u16) -> Uses {
+    let used = short(space_of(o.op, part));
+    let due = if has_result(o.op) {
+        o.latency.max(1)
+    } else {
+        1
+    };
+    Uses {
+        source: short(source_number(x)),
+        guard: short(guard_number(x)),
+        operand: if o.arity == 2 {
+            short(Some(operand(unit)))
+        } else {
+            None
+        },
+        used,
+        written: if has_result(o.op) {
+            short(Some(port(unit)))
+        } else {
+            None
+        },
+        stored: if changes_space(o.op) { used } else { None },
+        trigger: short(Some(CHANNELS + usize::from(unit))),
+        is_guarded: !is_unguarded(x),
+        is_copy: false,
+        shows: due,
+        takes: due,
+    }
+}
+
+/// The operation of a unit's by its number.
+fn operation(m: &Machine, unit: u8, op: u8) -> Option<UnitOp> {
+    let u = entry_at(m.units.as_slice(), unit)?;
+    let o = entry_at(u.ops.as_slice(), op)?;
+    Some(*o)
+}
+
+/// What an item uses, which uses this part of the frame space, if it uses one.
+fn uses_of(m: &Machine, part: u16, x: Item) -> Uses {
+    let Item::Move {
+        dst: Dest::Trigger { unit, op },
+        ..
+    } = x
+    else {
+        return uses_of_move(m, x);
+    };
+    match operation(m, unit, op) {
+        None => uses_of_move(m, x),
+        Some(o) => uses_of_start(x, unit, o, part),
     }
 }
 
