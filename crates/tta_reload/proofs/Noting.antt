@@ -17,7 +17,7 @@ use Rattle.tta_order.specs.Channels.{operand_place}
 use Rattle.tta_reload.specs.declared.facts.Fact.{Fact}
 use Rattle.tta_reload.specs.Known.{fact, unit_of, port_of, register_in, stored, by_load, by_twin, by_store, by_copy, stays, known}
 use Rattle.tta_reload.specs.Facts.{is_among, are_among, StoresBy}
-use Rattle.tta_reload.proofs.Among.{among_copied, among_left, among_right, all_among}
+use Rattle.tta_reload.proofs.Among.{among_copied, among_left, among_right, all_among, among_in, among_filter}
 
 -- the operand port that is numbered is that of the unit
 pub operand_unit : (m : Machine) (t : Target) (unit n : ℕ) → unit_of t ≡ Some unit → option_map place_number (operand_place m t) ≡ Some n → operand_place m t ≡ Some (KeptOperand unit)
@@ -77,3 +77,8 @@ module _ (m : Machine) (before : List Item) (x : Item) where
   pub rest_known : are_among (known m (x ∷ before)) rest ≡ true
   rest_known = all_among (known m (x ∷ before)) rest (λ f e.
       among_right loads (twins ++ (stores ++ (copies ++ rest))) f (among_right twins (stores ++ (copies ++ rest)) f (among_right stores (copies ++ rest) f (among_right copies rest f e))))
+
+  -- what stays known is known then, where the item leaves each fact as it is
+  pub all_stay : (fs : List Fact) → are_among (known m before) fs ≡ true → ((f : Fact) → stays m before x f ≡ true) → are_among (known m (x ∷ before)) fs ≡ true
+  all_stay fs old stay = all_among (known m (x ∷ before)) fs (λ f e.
+      among_in (known m (x ∷ before)) rest f rest_known (among_filter (stays m before x) (known m before) f (among_in (known m before) fs f old e) (stay f)))

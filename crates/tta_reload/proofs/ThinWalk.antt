@@ -143,3 +143,9 @@ thinned_done m items last pending out i t le empty =
       no_more : (pending : List ℕ) → length pending ≡ 0 → (v : ℕ) → is_in v pending ≡ true → is_over m v t.before (drop i items) ≡ true
       no_more [] e v among = absurd cc
       no_more (w ∷ pending) e v among = absurd (omega (arith, e))
+
+-- ---- nothing to leave out
+
+pub thinned_itself : (m : Machine) (before items : List Item) → AreThinned m before items items
+thinned_itself m before [] = ends before
+thinned_itself m before (x ∷ xs) = stays before x xs xs (thinned_itself m (x ∷ before) xs)

@@ -1,5 +1,5 @@
 -- What a table of facts says of the items before, the newest first.
-use Rattle.std.specs.Prelude.{◌≡◌, ℕ, ◌==◌, Bool, true, ◌&&◌, List, ◌∷◌, Option, Some, IfSome}
+use Rattle.std.specs.Prelude.{◌≡◌, ℕ, ◌==◌, Bool, true, ◌&&◌, List, ◌∷◌, Option, Some, IfSome, option_map, ◌++◌, []}
 use Rattle.std.specs.List.{list_all, list_any}
 use Rattle.tta_arch.specs.declared.ends.Source.TheVariants as source
 use Rattle.tta_arch.specs.Machine.{Machine}
@@ -7,12 +7,14 @@ use Rattle.tta_arch.specs.Effects.{KeptOperand}
 use Rattle.tta_moves.specs.declared.items.ItemSource.TheVariants.{Port}
 use Rattle.tta_moves.specs.declared.items.Item.{Item}
 use Rattle.tta_moves.specs.Forms.{same_end, copied}
-use Rattle.tta_moves.specs.Touches.{target_of_item, is_unguarded}
+use Rattle.tta_moves.specs.Touches.{target_of_item, place_written, is_unguarded}
+use Rattle.tta_moves.specs.Numbers.{place_number}
 use Rattle.tta_order.specs.Channels.{starts, stores_frame, operand_place}
 use Rattle.tta_reload.specs.declared.accesses.Operand.{Operand}
 use Rattle.tta_reload.specs.declared.known.Known.{Known}
+use Rattle.tta_reload.specs.declared.known.Change.{Change}
 use Rattle.tta_reload.specs.declared.facts.Fact.{Fact}
-use Rattle.tta_reload.specs.Known.{known}
+use Rattle.tta_reload.specs.Known.{known, stored, IsServed}
 
 -- two facts are of one slot and one source
 abbrev pub same_fact : Fact → Fact → Bool
@@ -45,3 +47,16 @@ pub record Knows (m : Machine) (before : List Item) (k : Known) : Type 0 where
   pub operand : IsOperand m before k.operand
   pub newest : IsNewest before k.newest
   pub facts : are_among (known m before) k.facts.items ≡ true
+
+-- what an item changes, after others
+pub record IsChange (m : Machine) (before : List Item) (x : Item) (c : Change) : Type 0 where
+  pub written : c.written ≡ option_map place_number (place_written m (target_of_item x))
+  pub stores : c.stores ≡ starts m stores_frame (target_of_item x)
+  pub slot : IfSome c.slot (λ v. stored m before x ≡ Some v)
+
+-- one item more is served, and what is known after it is noted
+pub record GoesOn (m : Machine) (k : Known) (out : List Item) (x : Item) (later : Known) (more : List Item) : Type 0 where
+  pub one : Item
+  pub are : more ≡ out ++ one ∷ []
+  pub serves : (before : List Item) → Knows m before k → IsServed m before x one
+  pub passes : (before : List Item) → Knows m before k → Knows m (x ∷ before) later

@@ -8,6 +8,12 @@ use Rattle.tta_reload.specs.Known.{AreServed}
 use Rattle.tta_reload.specs.Copied.{AreCopied, AreSpare}
 use Rattle.tta_reload.specs.Thinned.{AreThinned}
 
+-- a list came from another with copies into some registers, and then with served reads
+pub record AreWorked (m : Machine) (fresh : List (ℕ × ℕ)) (items others : List Item) : Type 0 where
+  pub with_copies : List Item
+  pub copied : AreCopied fresh items with_copies
+  pub served : AreServed m [] with_copies others
+
 -- A list came from another in three steps: copies into spare registers, served reads, and fewer stores.
 pub record IsReworked (m : Machine) (hub : ℕ) (b r : BlockList) : Type 0 where
   pub fresh : List (ℕ × ℕ)

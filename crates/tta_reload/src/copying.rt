@@ -1,18 +1,16 @@
 //! Copies of words that a later load asks for.
 
-ghost use Rattle.std.specs.Prelude.{◌≡◌, List, [], true, ◌∷◌, ◌++◌, IfOk, IfSome};
-ghost use Rattle.std.specs.Option.{option_map_or};
+ghost use Rattle.std.specs.Prelude.{◌≡◌, true, IfSome};
 ghost use Rattle.tta_arch.specs.Effects.{KeptReg};
 ghost use Rattle.tta_connect.specs.Net.{IsNetOf};
 ghost use Rattle.tta_moves.specs.Touches.{is_unguarded};
-ghost use Rattle.tta_reload.specs.Copied.{is_one_of, copy_of, AreCopied};
+ghost use Rattle.tta_reload.specs.Copied.{is_one_of, copy_of};
 
 use crate::accesses::{Access, sure_port};
 use crate::known::Known;
 use crate::serving::alternative;
 use crate::upcoming::NEVER;
 use arrayvec::ArrayVec;
-use std::alloc::{AllocError, Global};
 use tta_arch::{Dest, Machine, Source};
 use tta_connect::Net;
 use tta_moves::Item;
@@ -58,7 +56,7 @@ fn kept_after(k: Kept, access: Access, next: usize) -> Kept {
     }
 }
 
-/// What all registers keep after an item.
+/// What all registers keep after an item that uses the frame.
 fn all_after(kept: &[Kept], access: Access, next: usize) -> ArrayVec<Kept, 2> {
     let mut out = ArrayVec::new();
     for k in kept {
@@ -169,7 +167,7 @@ fn register_at(fresh: &[(u8, u8)], number: usize) -> Option<(u8, u8)>
 }
 
 /// The word of an item into a register as well.
-fn copy_of(x: Item, r: (u8, u8)) -> Item
+pub fn copy_of(x: Item, r: (u8, u8)) -> Item
     ensures { result ≡ copy_of x r }
 {
     Item::Move {
@@ -182,8 +180,16 @@ fn copy_of(x: Item, r: (u8, u8)) -> Item
     }
 }
 
+/// What all registers keep after the item of a number.
+pub fn kept_past(kept: ArrayVec<Kept, 2>, plan: &Plan<'_>, i: usize) -> ArrayVec<Kept, 2> {
+    match access_at(plan.accesses, i) {
+        Access::Nothing => kept,
+        access => all_after(kept.as_slice(), access, next_at(plan.next, i)),
+    }
+}
+
 /// The register into which the word of an item is to be copied, which then keeps it.
-fn chosen(
+pub fn chosen(
     plan: &Plan<'_>,
     known: &Known,
     kept: &mut ArrayVec<Kept, 2>,
@@ -209,7 +215,7 @@ fn chosen(
 }
 
 /// Registers that keep nothing, as many as these.
-fn nothing_kept(fresh: &[(u8, u8)]) -> ArrayVec<Kept, 2> {
+pub fn nothing_kept(fresh: &[(u8, u8)]) -> ArrayVec<Kept, 2> {
     let mut out = ArrayVec::new();
     for _r in fresh {
         if !out.is_full() {
@@ -217,35 +223,4 @@ fn nothing_kept(fresh: &[(u8, u8)]) -> ArrayVec<Kept, 2> {
         }
     }
     out
-}
-
-/// The items, some with a copy of their word into one of some registers before them. The only error
-/// is out of memory.
-pub fn copied(
-    alloc: Global,
-    plan: &Plan<'_>,
-    fresh: &[(u8, u8)],
-    items: &[Item],
-) -> Result<Vec<Item>, AllocError>
-    requires { IsNetOf plan.now.net.now plan.now.m.now }
-    ensures { IfOk result (λ v. AreCopied fresh.now items.now v.items) }
-{
-    let mut known = Known::new();
-    let mut kept = nothing_kept(fresh);
-    let mut out = Vec::with_capacity(alloc, items.len())?;
-    for (i, x) in items.iter().enumerate() {
-        let next = next_at(plan.next, i);
-        kept = all_after(kept.as_slice(), access_at(plan.accesses, i), next);
-        let Some(r) = chosen(plan, &known, &mut kept, fresh, i, *x) else {
-            known.pass(plan.m, *x);
-            out.push(*x)?;
-            continue;
-        };
-        let copy = copy_of(*x, r);
-        known.pass(plan.m, copy);
-        out.push(copy)?;
-        known.pass(plan.m, *x);
-        out.push(*x)?;
-    }
-    Ok(out)
 }

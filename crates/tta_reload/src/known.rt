@@ -8,7 +8,7 @@ ghost use Rattle.tta_moves.specs.declared.items.Item.{Item};
 ghost use Rattle.tta_moves.specs.Touches.{target_of_item};
 ghost use Rattle.tta_reload.specs.Known as spec;
 ghost use Rattle.tta_reload.specs.declared.facts.Fact.{Fact};
-ghost use Rattle.tta_reload.specs.Facts.{are_among, Knows};
+ghost use Rattle.tta_reload.specs.Facts.{are_among, Knows, IsChange};
 
 use crate::accesses::{Operand, loaded, operand_after, stored, sure_port, unit_of};
 use crate::facts::{Fact, note, same_end};
@@ -31,13 +31,51 @@ pub struct Known {
     pub newest: Option<Item>,
 }
 
-/// Whether an item may write the place of a source.
-fn spoils(m: &Machine, x: Item, src: Source) -> bool
-    ensures { result ≡ false → spec.spoils m.now x src ≡ false }
+/// What an item changes: the place that it may write, by its number, whether it stores into the
+/// frame, and into which slot it does, where that is known.
+#[derive(Clone, Copy)]
+pub struct Change {
+    pub written: Option<usize>,
+    pub stores: bool,
+    pub slot: Option<u32>,
+}
+
+/// Whether an item that changes this may write the place of a source.
+fn spoils(c: Change, src: Source) -> bool
+    ensures { (m : Machine) (before : List Item) (x : Item) → IsChange m before x c
+        → result ≡ false → spec.spoils m x src ≡ false }
 {
-    match written_number(m, x) {
+    match c.written {
         None => false,
         Some(n) => read_place(ItemSource::Port(src)) == Some(n),
+    }
+}
+
+/// Whether an item that changes this leaves a fact as it is.
+fn stays(c: Change, slot: u32, src: Source) -> bool
+    ensures { (m : Machine) (before : List Item) (x : Item) → IsChange m before x c
+        → result ≡ true → spec.stays m before x (spec.fact slot src) ≡ true }
+{
+    if spoils(c, src) {
+        return false;
+    }
+    if !c.stores {
+        return true;
+    }
+    match c.slot {
+        None => false,
+        Some(other) => other != slot,
+    }
+}
+
+/// Whether an item moves into an operand port, which leaves each fact as it is.
+fn is_operand(x: Item) -> bool
+    ensures { (m : Machine) (before : List Item) (f : Fact) → result ≡ true
+        → spec.stays m before x f ≡ true }
+{
+    match x {
+        Item::Move { dst, .. } => matches!(dst, Dest::Operand { .. }),
+        Item::Long { .. } => false,
     }
 }
 
@@ -142,20 +180,15 @@ impl Known {
         note(facts, slot, src);
     }
 
-    /// Whether an item leaves a fact as it is.
-    fn stays(&self, m: &Machine, x: Item, slot: u32, src: Source) -> bool
-        ensures { (before : List Item) → Knows m.now before self.now → result ≡ true
-            → spec.stays m.now before x (spec.fact slot src) ≡ true }
+    /// What an item changes.
+    fn change(&self, m: &Machine, x: Item) -> Change
+        ensures { (before : List Item) → Knows m.now before self.now
+            → IsChange m.now before x result }
     {
-        if spoils(m, x, src) {
-            return false;
-        }
-        if !stores_frame(m, x) {
-            return true;
-        }
-        match stored(m, self.operand, x) {
-            None => false,
-            Some(other) => other != slot,
+        Change {
+            written: written_number(m, x),
+            stores: stores_frame(m, x),
+            slot: stored(m, self.operand, x),
         }
     }
 
@@ -187,8 +220,9 @@ impl Known {
             → are_among all (filter (spec.stays m.now before x) (spec.known m.now before)) ≡ true
             → are_among all facts.new.items ≡ true }
     {
+        let c = self.change(m, x);
         for f in self.facts.as_slice() {
-            if !self.stays(m, x, f.slot, f.from) {
+            if !stays(c, f.slot, f.from) {
                 continue;
             }
             note(facts, f.slot, f.from);
@@ -200,6 +234,11 @@ impl Known {
         ensures { (before : List Item) → Knows m.now before self.old
             → Knows m.now (x ∷ before) self.new }
     {
+        if is_operand(x) {
+            self.operand = operand_after(self.operand, x);
+            self.newest = Some(x);
+            return;
+        }
         let mut facts = ArrayVec::new();
         Known::note_load(&mut facts, m, x);
         self.note_store(&mut facts, m, x);

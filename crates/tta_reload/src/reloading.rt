@@ -5,35 +5,26 @@ ghost use Rattle.tta_connect.specs.Net.{IsNetOf};
 ghost use Rattle.tta_connect.specs.Coverage.{IsChoice};
 ghost use Rattle.tta_optim.specs.Kept.{IsStandIn};
 ghost use Rattle.tta_moves.specs.declared.items.Item.{Item};
-ghost use Rattle.tta_reload.specs.Copied.{AreSpare, AreCopied};
-ghost use Rattle.tta_reload.specs.Known.{AreServed};
-ghost use Rattle.tta_reload.specs.Reworked.{IsReworked};
+ghost use Rattle.tta_reload.specs.Copied.{AreSpare};
+ghost use Rattle.tta_reload.specs.Thinned.{AreThinned};
+ghost use Rattle.tta_reload.specs.Reworked.{AreWorked, IsReworked};
 
 use crate::accesses::{Access, accesses};
 use crate::asking::asked;
-use crate::copying::{Plan, copied};
+use crate::copying::Plan;
 use crate::serving::serve;
 use crate::sparing::spare_registers;
 use crate::straight::is_straight;
 use crate::thinning::thinned;
 use crate::upcoming::next_loads;
+use crate::worth::{is_worth, may_store_over};
 use std::alloc::{AllocError, Global};
 use tta_arch::Machine;
 use tta_connect::{Choice, Net};
 use tta_list::Items;
 use tta_moves::{BlockList, Item, is_list};
-use tta_order::in_order;
+use tta_order::Checker;
 use tta_order::parts::uses_frame;
-
-/// Whether an item loads or stores a slot.
-fn uses_slot(access: Access) -> bool {
-    matches!(access, Access::Loads(_) | Access::Stores(_))
-}
-
-/// Whether there can be something to gain.
-fn is_worth(accesses: &[Access]) -> bool {
-    accesses.iter().any(|a| uses_slot(*a))
-}
 
 /// A list with these items, and the registers of another that are read after it.
 fn with_items(alloc: Global, b: &BlockList, items: Vec<Item>) -> Result<BlockList, AllocError>
@@ -58,8 +49,8 @@ fn served(
     accesses: &[Access],
 ) -> Result<Vec<Item>, AllocError>
     requires { IsNetOf net.now m.now }
-    ensures { IfOk result (λ v. (fresh : List (ℕ × ℕ)) × (one : List Item)
-        × AreSpare hub b.now fresh × AreCopied fresh b.now.items one × AreServed m.now [] one v.items) }
+    ensures { IfOk result (λ v. (fresh : List (ℕ × ℕ))
+        × AreSpare hub b.now fresh × AreWorked m.now fresh b.now.items v.items) }
 {
     let items = b.items.as_slice();
     let next = next_loads(alloc, accesses)?;
@@ -71,9 +62,25 @@ fn served(
         accesses,
         next: next.as_slice(),
     };
-    let one = copied(alloc, &plan, fresh.as_slice(), items)?;
-    let two = serve(alloc, m, net, hub, fresh.as_slice(), one.as_slice())?;
-    Ok(two)
+    let all = serve(alloc, &plan, fresh.as_slice(), items)?;
+    Ok(all)
+}
+
+/// The items but stores into slots that a later item stores into before any loads them, if there are
+/// such; none where it is not known that all of these can go. The only error is out of memory.
+fn without_stores(
+    alloc: Global,
+    m: &Machine,
+    are_some: bool,
+    items: Vec<Item>,
+) -> Result<Option<Vec<Item>>, AllocError>
+    ensures { IfOk result (λ o. IfSome o (λ v. AreThinned m.now [] items.items v.items)) }
+{
+    if !are_some {
+        return Ok(Some(items));
+    }
+    let rest = thinned(alloc, m, items.as_slice())?;
+    Ok(rest)
 }
 
 /// The list of a block with copies and served reads, and without stores that are stored over; none
@@ -94,7 +101,8 @@ fn reworked(
         return Ok(None);
     }
     let all = served(alloc, m, net, hub, b, uses.as_slice())?;
-    let Some(items) = thinned(alloc, m, all.as_slice())? else {
+    let stores_over = may_store_over(uses.as_slice());
+    let Some(items) = without_stores(alloc, m, stores_over, all)? else {
         return Ok(None);
     };
     let more = with_items(alloc, b, items)?;
@@ -124,9 +132,57 @@ fn gains(m: &Machine, b: &BlockList, r: &BlockList) -> bool
         && frame_uses(m, r.items.as_slice()) < frame_uses(m, b.items.as_slice())
 }
 
-/// A list that may stand for the list of a block, with fewer loads and stores of frame slots; none
-/// where nothing is gained, or where it is not known that the list may stand for it. The only error
-/// is out of memory.
+/// The pass with the tables by which it checks its lists, which serve one block after another.
+#[derive(Drop)]
+pub struct Reloads {
+    checker: Checker,
+}
+
+impl Reloads {
+    /// The pass for any number of blocks. The only error is out of memory.
+    pub fn new(alloc: Global) -> Result<Self, AllocError> {
+        let checker = Checker::new(alloc)?;
+        Ok(Reloads { checker })
+    }
+
+    /// A list that may stand for the list of a block, with fewer loads and stores of frame slots;
+    /// none where nothing is gained, or where it is not known that the list may stand for it. The
+    /// only error is out of memory.
+    pub fn reload(
+        &mut self,
+        alloc: Global,
+        m: &Machine,
+        net: &Net,
+        c: &Choice,
+        b: &BlockList,
+    ) -> Result<Option<BlockList>, AllocError>
+        requires net { IsNetOf net.now m.now }
+        requires choice { IsChoice m.now c.now }
+        ensures { IfOk result (λ o. IfSome o (λ r. IsStandIn m.now b.now r)) }
+    {
+        let Some(more) = reworked(alloc, m, net, c.hub, b)? else {
+            return Ok(None);
+        };
+        let numbers = asked(alloc, m, more.live_out.as_slice(), more.items.as_slice())?;
+        let Some(r) = self
+            .checker
+            .in_order(alloc, &more, m, net, numbers.as_slice())?
+        else {
+            return Ok(None);
+        };
+        if !gains(m, b, &r) {
+            return Ok(None);
+        }
+        if is_straight(alloc, m, net, c.hub, r.items.as_slice())? {
+            Ok(Some(r))
+        } else {
+            Ok(None)
+        }
+    }
+}
+
+/// A list that may stand for the list of a block, as `Reloads::reload` gives it. The only error is
+/// out of memory. Whoever has many blocks keeps `Reloads` instead.
 pub fn reload(
     alloc: Global,
     m: &Machine,
@@ -138,19 +194,6 @@ pub fn reload(
     requires choice { IsChoice m.now c.now }
     ensures { IfOk result (λ o. IfSome o (λ r. IsStandIn m.now b.now r)) }
 {
-    let Some(more) = reworked(alloc, m, net, c.hub, b)? else {
-        return Ok(None);
-    };
-    let numbers = asked(alloc, m, more.live_out.as_slice(), more.items.as_slice())?;
-    let Some(r) = in_order(alloc, &more, m, net, numbers.as_slice())? else {
-        return Ok(None);
-    };
-    if !gains(m, b, &r) {
-        return Ok(None);
-    }
-    if is_straight(alloc, m, net, c.hub, r.items.as_slice())? {
-        Ok(Some(r))
-    } else {
-        Ok(None)
-    }
+    let mut reloads = Reloads::new(alloc)?;
+    reloads.reload(alloc, m, net, c, b)
 }

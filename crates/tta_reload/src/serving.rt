@@ -1,6 +1,6 @@
-//! Reads that another source with the same word serves.
+//! Reads that another source with the same word serves, with copies that later reads take.
 
-ghost use Rattle.std.specs.Prelude.{◌≡◌, List, [], true, IfOk, IfSome};
+ghost use Rattle.std.specs.Prelude.{◌≡◌, List, true, IfOk, OnOk, IfSome};
 ghost use Rattle.tta_arch.specs.declared.ends.Source.{Source};
 ghost use Rattle.tta_connect.specs.Net.{IsNetOf};
 ghost use Rattle.tta_moves.specs.declared.items.Item.{Item};
@@ -8,9 +8,11 @@ ghost use Rattle.tta_moves.specs.declared.items.ItemSource.TheVariants.{Port};
 ghost use Rattle.tta_moves.specs.Touches.{source_of};
 ghost use Rattle.tta_optim.specs.Passes.{with_source};
 ghost use Rattle.tta_reload.specs.Known as spec;
-ghost use Rattle.tta_reload.specs.Known.{have_one, IsServed, AreServed};
-ghost use Rattle.tta_reload.specs.Facts.{Knows};
+ghost use Rattle.tta_reload.specs.Known.{have_one, IsServed};
+ghost use Rattle.tta_reload.specs.Facts.{Knows, GoesOn};
+ghost use Rattle.tta_reload.specs.Reworked.{AreWorked};
 
+use crate::copying::{Plan, chosen, copy_of, kept_past, nothing_kept};
 use crate::known::Known;
 use std::alloc::{AllocError, Global};
 use tta_arch::{Dest, Machine, Source};
@@ -83,30 +85,60 @@ fn is_into(fresh: &[(u8, u8)], x: Item) -> bool {
     fresh.iter().any(|r| r.0 == file && r.1 == index)
 }
 
-/// The items, each reading an older source with the same word, where there is one, but for those
-/// that move into some registers. The only error is out of memory.
+/// An item that reads another source with the same word, where there is one and the item does not
+/// move into one of some registers.
+fn served_but(plan: &Plan<'_>, known: &Known, fresh: &[(u8, u8)], x: Item) -> Item
+    requires { IsNetOf plan.now.net.now plan.now.m.now }
+    ensures { (before : List Item) → Knows plan.now.m.now before known.now
+        → IsServed plan.now.m.now before x result }
+{
+    if is_into(fresh, x) {
+        return x;
+    }
+    served(plan.m, plan.net, plan.hub, known, x)
+}
+
+/// Goes past an item, which is served. It fails only where there is no memory.
+fn push_served(
+    out: &mut Vec<Item>,
+    known: &mut Known,
+    plan: &Plan<'_>,
+    fresh: &[(u8, u8)],
+    x: Item,
+) -> Result<(), AllocError>
+    requires { IsNetOf plan.now.net.now plan.now.m.now }
+    ensures { OnOk result (
+        GoesOn plan.now.m.now known.old out.old.items x known.new out.new.items) }
+{
+    let y = served_but(plan, known, fresh, x);
+    out.push(y)?;
+    known.pass(plan.m, x);
+    Ok(())
+}
+
+/// The items, some with a copy of their word into one of some registers before them, each reading an
+/// older source with the same word, where there is one, but for those that move into these
+/// registers. The only error is out of memory.
 pub fn serve(
     alloc: Global,
-    m: &Machine,
-    net: &Net,
-    hub: u8,
+    plan: &Plan<'_>,
     fresh: &[(u8, u8)],
     items: &[Item],
 ) -> Result<Vec<Item>, AllocError>
-    requires { IsNetOf net.now m.now }
-    ensures { IfOk result (λ v. AreServed m.now [] items.now v.items) }
+    requires { IsNetOf plan.now.net.now plan.now.m.now }
+    ensures { IfOk result (λ v. AreWorked plan.now.m.now fresh.now items.now v.items) }
 {
     let mut known = Known::new();
+    let mut kept = nothing_kept(fresh);
     let mut out = Vec::with_capacity(alloc, items.len())?;
-    for x in items {
-        if is_into(fresh, *x) {
-            out.push(*x)?;
-            known.pass(m, *x);
+    for (i, x) in items.iter().enumerate() {
+        kept = kept_past(kept, plan, i);
+        let Some(r) = chosen(plan, &known, &mut kept, fresh, i, *x) else {
+            push_served(&mut out, &mut known, plan, fresh, *x)?;
             continue;
-        }
-        let y = served(m, net, hub, &known, *x);
-        out.push(y)?;
-        known.pass(m, *x);
+        };
+        push_served(&mut out, &mut known, plan, fresh, copy_of(*x, r))?;
+        push_served(&mut out, &mut known, plan, fresh, *x)?;
     }
     Ok(out)
 }

@@ -77,7 +77,9 @@ fn stored_over(alloc: Global, accesses: &[Access]) -> Result<Vec<bool>, AllocErr
     while i > 0 {
         i -= 1;
         marks.push(is_over(&over, accesses[i]))?;
-        over = over_before(&over, accesses[i]);
+        if !matches!(accesses[i], Access::Nothing) {
+            over = over_before(&over, accesses[i]);
+        }
     }
     marks.reverse();
     Ok(marks)

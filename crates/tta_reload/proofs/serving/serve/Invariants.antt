@@ -1,5 +1,5 @@
-use Rattle.tta_reload.proofs.Walks.{ServedTo}
+use Rattle.tta_reload.proofs.Walks.{WorkedTo}
 use Rattle.tta_reload.proofs.serving.serve.Given as goal
 
-abbrev pub invariant-loop-x : goal.invariant-loop-x
-invariant-loop-x l = ServedTo l.m l.items l.known l.out.items l.x-index
+abbrev pub invariant-loop-i : goal.invariant-loop-i
+invariant-loop-i l = WorkedTo l.plan.m.now l.fresh l.items l.known l.out.items l.i

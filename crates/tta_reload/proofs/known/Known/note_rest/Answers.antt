@@ -12,5 +12,5 @@ loop-f-preserved c before all knows old kept =
     let f : Fact = get_or c.as_slice-f-items.result.now c.loop-f.f-index (record { slot = 0; from = source.Reg 0 0 }) in
     let facts : are_among (known c.args.m.now before) c.as_slice-f-items.result.now ≡ true = rw c.as_slice-f-items.ensures.value knows.facts in
     let among : is_among (known c.args.m.now before) f ≡ true = among_at (known c.args.m.now before) c.as_slice-f-items.result.now c.loop-f.f-index _ f facts c.loop-f-test.true refl in
-    let next = among_filter (stays c.args.m.now before c.args.x) (known c.args.m.now before) f among (c.stays.ensures before knows c.if-not-stays.false) in
+    let next = among_filter (stays c.args.m.now before c.args.x) (known c.args.m.now before) f among (c.stays.ensures c.args.m.now before c.args.x (c.change-c.ensures before knows) c.if-not-stays.false) in
     c.note.ensures all (c.loop-f.invariant before all knows old kept) (among_in all (filter (stays c.args.m.now before c.args.x) (known c.args.m.now before)) f kept next)

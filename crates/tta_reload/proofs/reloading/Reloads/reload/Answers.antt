@@ -4,7 +4,7 @@ use Rattle.tta_moves.specs.Forms.{is_straight}
 use Rattle.tta_optim.specs.Kept.{KeepsMeaning, AsksNoMore}
 use Rattle.tta_reload.specs.Reworked.{IsReworked}
 use Rattle.tta_reload.proofs.Standing.{reworked_stands}
-use Rattle.tta_reload.proofs.reloading.reload.Goals as goal
+use Rattle.tta_reload.proofs.reloading.Reloads.reload.Goals as goal
 
 pub returns-then-branch : goal.returns-then-branch
 returns-then-branch c =
