@@ -90,45 +90,65 @@ each_some m served o list (Some r) is zero c e =
     subst (IsMadeOf m served list) same (record { served_so = refl; comes = is })
 each_some m served o list (Some r) is (suc k) c e = absurd cc
 
--- from what a list becomes by items, as it is after the passes, and by groups
-pub adds : (m : Machine) (served : Bool) (list plain : BlockList) (one other : Option BlockList) (old first next new : List Candidate)
+-- from what a block's list becomes as it is, after the passes, by items and by groups
+pub adds : (m : Machine) (list plain : BlockList) (one other : Option BlockList) (old first next new : List Candidate)
     → plain.items ≡ optimise_items m list.live_out list.items → plain.live_out ≡ list.live_out
     → IfSome one (λ r. IsReordered m plain r) → IfSome other (λ r. IsGrouped m list r)
-    → first ≡ old ++ record { way = record { served = served; order = Plain }; list = plain } ∷ []
-    → next ≡ first ++ some_by served Items one → new ≡ next ++ some_by served Groups other → AddsCandidates m served list old new
-adds m served list plain one other old first next new items live by_items by_groups a b c = record {
+    → first ≡ old ++ record { way = record { served = false; order = Plain }; list = plain } ∷ []
+    → next ≡ first ++ some_by false Items one → new ≡ next ++ some_by false Groups other → AddsCandidates m list old new
+adds m list plain one other old first next new items live by_items by_groups a b c = record {
   first = own;
-  more = some_by served Items one ++ some_by served Groups other;
+  more = some_by false Items one ++ some_by false Groups other;
   are = all;
   plain = same;
   made = record { served_so = refl; comes = same };
-  each = each_more m served list (some_by served Items one) (some_by served Groups other)
-      (each_some m served Items list one (subst (λ (x : BlockList). IfSome one (λ r. IsReordered m x r)) same by_items))
-      (each_some m served Groups list other by_groups);
+  each = each_more m false list (some_by false Items one) (some_by false Groups other)
+      (each_some m false Items list one (subst (λ (x : BlockList). IfSome one (λ r. IsReordered m x r)) same by_items))
+      (each_some m false Groups list other by_groups);
 } where
   own : Candidate
-  own = record { way = record { served = served; order = Plain }; list = plain }
+  own = record { way = record { served = false; order = Plain }; list = plain }
 
   same : plain ≡ optimised m list
   same = same_list m list plain items live
 
-  all : new ≡ old ++ own ∷ (some_by served Items one ++ some_by served Groups other)
+  all : new ≡ old ++ own ∷ (some_by false Items one ++ some_by false Groups other)
   all =
       c
-      ∙ ap (λ (xs : List Candidate). xs ++ some_by served Groups other) (b ∙ ap (λ (xs : List Candidate). xs ++ some_by served Items one) a)
-      ∙ ap (λ (xs : List Candidate). xs ++ some_by served Groups other) (append_assoc old (own ∷ []) (some_by served Items one))
-      ∙ append_assoc old (own ∷ some_by served Items one) (some_by served Groups other)
+      ∙ ap (λ (xs : List Candidate). xs ++ some_by false Groups other) (b ∙ ap (λ (xs : List Candidate). xs ++ some_by false Items one) a)
+      ∙ ap (λ (xs : List Candidate). xs ++ some_by false Groups other) (append_assoc old (own ∷ []) (some_by false Items one))
+      ∙ append_assoc old (own ∷ some_by false Items one) (some_by false Groups other)
 
 -- and from what it is after the passes alone
-pub adds_plain : (m : Machine) (served : Bool) (list plain : BlockList) (old new : List Candidate) → plain.items ≡ optimise_items m list.live_out list.items
-    → plain.live_out ≡ list.live_out → new ≡ old ++ record { way = record { served = served; order = Plain }; list = plain } ∷ []
-    → AddsCandidates m served list old new
-adds_plain m served list plain old new items live is =
-    adds m served list plain None None old new new new items live tt tt is (sym (append_none new)) (sym (append_none new))
+pub adds_plain : (m : Machine) (list plain : BlockList) (old new : List Candidate) → plain.items ≡ optimise_items m list.live_out list.items
+    → plain.live_out ≡ list.live_out → new ≡ old ++ record { way = record { served = false; order = Plain }; list = plain } ∷ []
+    → AddsCandidates m list old new
+adds_plain m list plain old new items live is =
+    adds m list plain None None old new new new items live tt tt is (sym (append_none new)) (sym (append_none new))
   where
     append_none : (xs : List Candidate) → xs ++ [] ≡ xs
     append_none [] = refl
     append_none (x ∷ xs) = ap (λ (ys : List Candidate). x ∷ ys) (append_none xs)
+
+-- ---- what a list becomes in which loads are served
+
+-- by groups
+pub served_groups : (m : Machine) (list l : BlockList) (c : Candidate) → IsGrouped m list l
+    → c ≡ record { way = record { served = true; order = Groups }; list = l } → IsMadeOf m true list c
+served_groups m list l c grouped is = subst (IsMadeOf m true list) (sym is) (record { served_so = refl; comes = grouped })
+
+-- by items, as it is after the passes
+pub served_items : (m : Machine) (list plain l : BlockList) (c : Candidate) → plain.items ≡ optimise_items m list.live_out list.items
+    → plain.live_out ≡ list.live_out → IsReordered m plain l → c ≡ record { way = record { served = true; order = Items }; list = l } → IsMadeOf m true list c
+served_items m list plain l c items live ordered is =
+    subst (IsMadeOf m true list) (sym is)
+    (record { served_so = refl; comes = subst (λ (x : BlockList). IsReordered m x l) (same_list m list plain items live) ordered })
+
+-- and as it is
+pub served_plain : (m : Machine) (list plain : BlockList) (c : Candidate) → plain.items ≡ optimise_items m list.live_out list.items
+    → plain.live_out ≡ list.live_out → c ≡ record { way = record { served = true; order = Plain }; list = plain } → IsMadeOf m true list c
+served_plain m list plain c items live is =
+    subst (IsMadeOf m true list) (sym is) (record { served_so = refl; comes = same_list m list plain items live })
 
 -- ---- the candidates of a block
 
@@ -177,25 +197,25 @@ of_block m b first more plain all = record {
       subst (IsCandidate m b) h.2 (all k h.0 h.1).0
 
 -- so a block's own list has the block's candidates
-pub own_candidates : (m : Machine) (b : BlockList) (old new : List Candidate) → old ≡ [] → AddsCandidates m false b old new → AreOfBlock m b new
+pub own_candidates : (m : Machine) (b : BlockList) (old new : List Candidate) → old ≡ [] → AddsCandidates m b old new → AreOfBlock m b new
 own_candidates m b old new none adds =
     subst (AreOfBlock m b) (sym (adds.are ∙ ap (λ (xs : List Candidate). xs ++ adds.first ∷ adds.more) none))
     (of_block m b adds.first adds.more adds.plain (all_added m false b b adds.first adds.more refl adds.made adds.each))
 
--- and those of a list in which loads are served are more of them
-pub more_candidates : (m : Machine) (b other : BlockList) (old one new : List Candidate) → IsStandIn m b other → old ≡ [] → AddsCandidates m false b old one
-    → AddsCandidates m true other one new → AreOfBlock m b new
-more_candidates m b other old one new stands none own adds =
+-- and one of a list in which loads are served is one more of them
+pub more_candidates : (m : Machine) (b other : BlockList) (old one new : List Candidate) (c : Candidate) → IsStandIn m b other → old ≡ [] → AddsCandidates m b old one
+    → IsMadeOf m true other c → new ≡ one ++ c ∷ [] → AreOfBlock m b new
+more_candidates m b other old one new c stands none own made more =
     subst (AreOfBlock m b) (sym is)
-    (of_block m b own.first (own.more ++ adds.first ∷ adds.more) own.plain
-    (all_more m b (own.first ∷ own.more) (adds.first ∷ adds.more)
+    (of_block m b own.first (own.more ++ c ∷ []) own.plain
+    (all_more m b (own.first ∷ own.more) (c ∷ [])
     (all_added m false b b own.first own.more refl own.made own.each)
-    (all_added m true b other adds.first adds.more stands adds.made adds.each)))
+    (all_added m true b other c [] stands made (λ k x e. absurd cc))))
   where
-    is : new ≡ own.first ∷ (own.more ++ adds.first ∷ adds.more)
+    is : new ≡ own.first ∷ (own.more ++ c ∷ [])
     is =
-        adds.are
-        ∙ ap (λ (xs : List Candidate). xs ++ adds.first ∷ adds.more)
+        more
+        ∙ ap (λ (xs : List Candidate). xs ++ c ∷ [])
         (own.are ∙ ap (λ (xs : List Candidate). xs ++ own.first ∷ own.more) none)
 
 list_here : (cs : List Candidate) (k : ℕ) (c : Candidate) → slice_get cs k ≡ Some c → slice_get (lists_of cs) k ≡ Some c.list

@@ -60,14 +60,14 @@ pub record IsMadeOf (m : Machine) (served : Bool) (list : BlockList) (c : Candid
   pub served_so : c.way.served ≡ served
   pub comes : Comes m c.way.order list c.list
 
--- To some candidates those are added that come of one list: the list itself after the passes, and then others.
-pub record AddsCandidates (m : Machine) (served : Bool) (list : BlockList) (old new : List Candidate) : Type 0 where
+-- To some candidates those are added that come of a block's own list: the list itself after the passes, and then others.
+pub record AddsCandidates (m : Machine) (list : BlockList) (old new : List Candidate) : Type 0 where
   pub first : Candidate
   pub more : List Candidate
   pub are : new ≡ old ++ first ∷ more
   pub plain : first.list ≡ optimised m list
-  pub made : IsMadeOf m served list first
-  pub each : (k : ℕ) (c : Candidate) → slice_get more k ≡ Some c → IsMadeOf m served list c
+  pub made : IsMadeOf m false list first
+  pub each : (k : ℕ) (c : Candidate) → slice_get more k ≡ Some c → IsMadeOf m false list c
 
 -- The lists are candidates of a block, and each came by its way.
 pub record AreOfBlock (m : Machine) (b : BlockList) (cs : List Candidate) : Type 0 where

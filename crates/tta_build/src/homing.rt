@@ -16,8 +16,8 @@ ghost use Rattle.tta_compose.specs.Needs.{are_offered};
 ghost use Rattle.tta_build.specs.Parts.{IsLowered, AreSelected, ArePlacedFor};
 
 use crate::choosing::place_chosen;
-use crate::register::{Sharing, register_code};
-use std::alloc::Global;
+use crate::register::{Sharing, register_code, share_alike};
+use std::alloc::{AllocError, Global};
 use tta_arch::Machine;
 use tta_connect::{Choice, Net};
 use tta_lower::LowerError;
@@ -138,6 +138,18 @@ pub fn is_small(p: &Program) -> bool
     have_at_most(p.procs.as_slice(), FEW_STEPS)
 }
 
+/// Whether a program is placed with home registers given in one way alone: it is long, or either way
+/// gives its variables the same homes. It fails only where there is no memory.
+fn has_one_way(alloc: Global, c: &Choice, p: &Program) -> Result<bool, AllocError> {
+    if !is_small(p) {
+        return Ok(true);
+    }
+    match u32::try_from(c.homes.len()) {
+        Ok(homes) => share_alike(alloc, p, homes),
+        Err(_) => Ok(false),
+    }
+}
+
 /// The placed lists that take fewer cycles, the first on a tie.
 fn shorter(first: Vec<Placed>, other: Vec<Placed>) -> Vec<Placed>
     requires first { length first.items ≤ 16777216 }
@@ -153,8 +165,8 @@ fn shorter(first: Vec<Placed>, other: Vec<Placed>) -> Vec<Placed>
 }
 
 /// The placed lists of a program whose needs usable units offer. A small program is tried with home
-/// registers in turn and with the least free ones, and the shorter stays; any other has them in
-/// turn.
+/// registers in turn and with the least free ones, where these differ, and the shorter stays; any
+/// other has them in turn.
 pub fn placements(
     alloc: Global,
     on: &Covered<'_>,
@@ -170,8 +182,9 @@ pub fn placements(
         IfOk result (λ ps. ArePlacedFor U on.now.machine.now on.now.choice.now p.now ps.items) }
     ensures cause { IfErr result (λ e. IsCause p.now on.now.machine.now.frame_words e) }
 {
+    let is_one = has_one_way(alloc, on.choice, p)?;
     let first = placements_by(alloc, on, p, units, Sharing::InTurn)?;
-    if !is_small(p) {
+    if is_one {
         return Ok(first);
     }
     match placements_by(alloc, on, p, units, Sharing::Least) {

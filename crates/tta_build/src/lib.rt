@@ -5,6 +5,7 @@
 //! passes prove together stands in `tta_compose`.
 #![tactic(auto)]
 
+mod adding;
 mod candidates;
 mod choosing;
 mod converted;

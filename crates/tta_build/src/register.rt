@@ -9,7 +9,7 @@ ghost use Rattle.tta_build.specs.Parts.{IsLowered};
 ghost use Rattle.tta_build.specs.Sharing.{AreGivenBy};
 
 use std::alloc::{AllocError, Global};
-use tta_alloc::{Homes, assign, in_turn};
+use tta_alloc::{Home, Homes, assign, in_turn};
 use tta_flow::{Flow, Live};
 use tta_lower::{LowerError, lower};
 use tta_program::Program;
@@ -61,4 +61,40 @@ pub fn register_code(
     let kept = homes_by(alloc, p, &flow, &live, homes, sharing)?;
     let code = lower(alloc, p, &flow, &live, &kept, frame_words)?;
     Ok(code)
+}
+
+/// Whether two homes are one.
+fn is_same(a: Home, b: Home) -> bool {
+    match (a, b) {
+        (Home::Reg(k), Home::Reg(other)) | (Home::Slot(k), Home::Slot(other)) => k == other,
+        _ => false,
+    }
+}
+
+/// Whether the variables of a procedure, so many, have the same homes by two ways.
+fn have_same(owner: u32, vars: u32, a: &Homes, b: &Homes) -> bool {
+    for var in 0..vars {
+        if !is_same(a.home(owner, var), b.home(owner, var)) {
+            return false;
+        }
+    }
+    true
+}
+
+/// Whether either way of sharing gives each variable of a program the same home, for so many home
+/// registers. It fails only where there is no memory.
+pub fn share_alike(alloc: Global, p: &Program, homes: u32) -> Result<bool, AllocError> {
+    let flow = Flow::of(alloc, p)?;
+    let live = Live::of(alloc, p, &flow)?;
+    let turns = homes_by(alloc, p, &flow, &live, homes, Sharing::InTurn)?;
+    let least = homes_by(alloc, p, &flow, &live, homes, Sharing::Least)?;
+    for (owner, q) in p.procs.as_slice().iter().enumerate() {
+        let Ok(owner) = u32::try_from(owner) else {
+            return Ok(false);
+        };
+        if !have_same(owner, q.vars, &turns, &least) {
+            return Ok(false);
+        }
+    }
+    Ok(true)
 }
