@@ -59,6 +59,7 @@ fn is_brought(m: &Machine, net: &Net, step: &Step) -> bool
     }
 }
 
+/// Whether the constant of each step, if it outputs one, is brought to the output.
 fn are_brought(m: &Machine, net: &Net, steps: &[Step]) -> bool
     requires { IsNetOf net.now m.now }
     ensures { result ≡ list_all (is_brought m.now) steps.now }
@@ -73,6 +74,7 @@ fn is_constant_or_halt(step: &Step) -> bool
     matches!(step, Step::Put { v: Src::Word(_) } | Step::Halt)
 }
 
+/// Whether a step is an `end`.
 fn is_end(step: &Step) -> bool
     ensures { result ≡ is_end step.now }
 {
@@ -92,6 +94,7 @@ fn only_constants(steps: &[Step]) -> bool
     false
 }
 
+/// Whether a procedure only outputs constants that are brought to the output, and halts.
 fn is_direct_proc(m: &Machine, net: &Net, q: &Proc) -> bool
     requires { IsNetOf net.now m.now }
     ensures { result ≡ is_direct_proc m.now q.now }
@@ -99,6 +102,7 @@ fn is_direct_proc(m: &Machine, net: &Net, q: &Proc) -> bool
     only_constants(q.steps.as_slice()) && are_brought(m, net, q.steps.as_slice())
 }
 
+/// Whether each procedure does.
 fn are_direct_procs(m: &Machine, net: &Net, procs: &[Proc]) -> bool
     requires { IsNetOf net.now m.now }
     ensures { result ≡ list_all (is_direct_proc m.now) procs.now }

@@ -23,6 +23,7 @@ fn ask(marks: &mut Marks, channel: Option<u16>, path: u32) {
     }
 }
 
+/// Nothing is asked of a channel any longer.
 fn answer(marks: &mut Marks, channel: Option<u16>) {
     if let Some(c) = channel {
         marks.unset(c);

@@ -56,6 +56,7 @@ impl<'c> Clock<'c> {
         })
     }
 
+    /// From which cycle on a channel shows what was brought to it.
     fn since(&self, channel: Option<u16>) -> u32 {
         let Some(c) = channel else {
             return 0;
@@ -126,12 +127,14 @@ impl<'c> Clock<'c> {
         Ok(())
     }
 
+    /// A channel shows what was brought to it from a cycle on.
     fn show(&mut self, channel: Option<u16>, cycle: u32) {
         if let Some(c) = channel {
             self.shown.set(c, cycle);
         }
     }
 
+    /// Puts an item into the first cycle that suits it. The only error is out of memory.
     fn place(&mut self, u: Uses) -> Result<(), AllocError> {
         let least = self.least(u);
         // A copy of a result is mostly left out later.

@@ -61,6 +61,7 @@ fn read(
     Ok(())
 }
 
+/// Notes that an item is the latest at a channel.
 fn note(marks: &mut Marks, channel: Option<u16>, item: u32) {
     if let Some(c) = channel {
         marks.set(c, item);

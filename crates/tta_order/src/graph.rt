@@ -12,6 +12,7 @@ pub fn at(list: &[u32], n: usize) -> u32 {
     }
 }
 
+/// Puts a number at a place; past the end it does nothing.
 fn put(list: &mut Vec<u32>, n: usize, k: u32) {
     if n < list.len() {
         list[n] = k;
@@ -77,6 +78,7 @@ impl Graph {
         Ok(Graph { first, links })
     }
 
+    /// The edge at a place, and none past the end.
     fn link(&self, k: u32) -> Link {
         match self.links.get(k as usize) {
             None => NONE,
@@ -84,14 +86,17 @@ impl Graph {
         }
     }
 
+    /// The place of the first edge of a node.
     fn from(&self, node: usize) -> u32 {
         at(self.first.as_slice(), node)
     }
 
+    /// The place after the last edge of a node.
     fn to(&self, node: usize) -> u32 {
         at(self.first.as_slice(), node.saturating_add(1))
     }
 
+    /// The longest path from a node to the end, over its edges, and no shorter than its own.
     fn path(&self, paths: &[i32], node: usize, own: i32) -> i32 {
         let mut path = own;
         for k in self.from(node)..self.to(node) {

@@ -26,6 +26,7 @@ struct Awaited<'m> {
 }
 
 impl Awaited<'_> {
+    /// A channel is no longer waited for.
     fn done(&mut self, channel: Option<u16>) {
         let Some(c) = channel else {
             return;
@@ -36,6 +37,7 @@ impl Awaited<'_> {
         }
     }
 
+    /// A channel of the hub's passing registers is waited for.
     fn asked(&mut self, channel: Option<u16>) {
         let Some(c) = channel else {
             return;
@@ -46,6 +48,7 @@ impl Awaited<'_> {
         }
     }
 
+    /// What is waited for before an item, by what is waited for after it.
     fn before(&mut self, u: Uses) {
         self.done(u.written);
         self.asked(u.source);

@@ -53,6 +53,7 @@ impl Marks {
         }
     }
 
+    /// Marks a channel; past the last channel it does nothing.
     fn put(&mut self, channel: u16, mark: Mark) {
         let n = usize::from(channel);
         if n < self.marks.len() {

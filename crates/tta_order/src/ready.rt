@@ -54,6 +54,7 @@ impl<'c> Ready<'c> {
         self.last
     }
 
+    /// How early a node may stand: the greater, the earlier; 0 without a clock.
     fn early(&self, node: usize) -> u32 {
         match &self.clock {
             None => 0,
@@ -61,6 +62,7 @@ impl<'c> Ready<'c> {
         }
     }
 
+    /// The node of an entry of the heap.
     fn node(&self, next: Next) -> usize {
         self.nodes.saturating_sub(next.behind as usize)
     }
@@ -97,6 +99,7 @@ impl<'c> Ready<'c> {
         Ok(best)
     }
 
+    /// The better of two entries; the other one is put back later. The only error is out of memory.
     fn better(&mut self, best: Option<Next>, y: Next) -> Result<Option<Next>, AllocError> {
         let Some(x) = best else {
             return Ok(Some(y));
@@ -110,6 +113,7 @@ impl<'c> Ready<'c> {
         }
     }
 
+    /// Puts back the entries that were passed over. The only error is out of memory.
     fn put_back(&mut self) -> Result<(), AllocError> {
         for x in self.passed.as_slice() {
             self.heap.push(*x)?;

@@ -33,6 +33,7 @@ pub struct Uses {
     pub takes: u8,
 }
 
+/// Whether a file has registers of 32 bits.
 fn is_wide(m: &Machine, file: u8) -> bool {
     match entry_at(m.files.as_slice(), file) {
         None => false,
