@@ -48,7 +48,8 @@ const HOTTEST: &str = "cycles 2\nbus B moves 2 share 100\nunit OUT starts 1 shar
 const PROGRAM: &str = "proc main\nout 7\nhalt\nend\n";
 
 /// How its stages end.
-const CODE: &str = "placed b0 address 0 cycles 2\n 0 : 7 -> OUT.t.out ;\n 1 : 0 -> gcu.t.halt ;\n";
+const CODE: &str = "placed b0 steps of main lines 2 3 address 0 cycles 2\n 0 : 7 -> OUT.t.out ;\n \
+    1 : 0 -> gcu.t.halt ;\n";
 
 /// The profile of its run.
 const COSTLIEST: &str = "cycles 2\nbus B moves 2 share 100\nunit OUT starts 1 share 50\n\
