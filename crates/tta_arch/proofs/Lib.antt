@@ -6,3 +6,4 @@ pub mod CodeLists
 pub mod Sizes
 pub mod BusSources
 pub mod Layouts
+pub mod SetLemmas

@@ -9,6 +9,7 @@ mod joins;
 mod layout;
 mod machine;
 mod parts;
+mod sets;
 mod word;
 
 pub use ends::{Dest, GuardRef, Source};
@@ -16,3 +17,4 @@ pub use joins::{has_bus, has_socket, has_source_socket, is_dest_on};
 pub use layout::{BusFields, Layout};
 pub use machine::Machine;
 pub use parts::{Bus, Control, File, Guard, ImmUnit, Op, Socket, Template, Unit, UnitOp, same_op};
+pub use sets::{bus_bit, least_bus, unit_bit, with_bus, with_unit};

@@ -74,6 +74,22 @@ pub enum Op {
     Set(OpId),
 }
 
+impl Op {
+    ghost use Rattle.std.specs.Prelude.{◌≡◌};
+    ghost use Rattle.tta_arch.specs.Effects.{has_result};
+
+    /// Whether an operation has a result.
+    #[inline(always)]
+    pub fn has_result(self) -> bool
+        ensures { result ≡ has_result self }
+    {
+        match self {
+            Op::Ldw | Op::Ldf | Op::Take | Op::Set(_) => true,
+            Op::Stw | Op::Stf | Op::Out => false,
+        }
+    }
+}
+
 /// Whether two operations are one.
 pub fn same_op(a: Op, b: Op) -> bool
     ensures { result ≡ same_op a b }

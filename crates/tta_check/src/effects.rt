@@ -75,16 +75,6 @@ pub fn write_into(m: &Machine, back: u32, i: &Instruction, spot: Spot) -> Option
     }
 }
 
-/// Whether an operation shows a result.
-pub fn has_result(op: Op) -> bool
-    ensures { result ≡ has_result op }
-{
-    match op {
-        Op::Ldw | Op::Ldf | Op::Take | Op::Set(_) => true,
-        Op::Stw | Op::Stf | Op::Out => false,
-    }
-}
-
 /// The latency of the operation with a result that a destination starts on a unit.
 pub fn starts_on(m: &Machine, unit: u8, dst: Dest) -> Option<u8>
     ensures { result ≡ starts_on m.now unit (target_of dst) }
@@ -96,7 +86,7 @@ pub fn starts_on(m: &Machine, unit: u8, dst: Dest) -> Option<u8>
         return None;
     }
     match op_at(m, u, op) {
-        Some(o) if has_result(o.op) => Some(o.latency),
+        Some(o) if o.op.has_result() => Some(o.latency),
         _ => None,
     }
 }

@@ -12,7 +12,7 @@ ghost use Rattle.tta_check.specs.Causes.{wants, covers, clash, delayed, unknown}
 ghost use Rattle.tta_check.specs.Rows.{place_of, tells, tells_word};
 ghost use Rattle.tta_check.specs.Codes.{in_slot, gives_in};
 
-use crate::effects::{has_result, op_at};
+use crate::effects::op_at;
 use crate::held::{Held, same_word};
 use crate::row::{Row, cell_of, port_of};
 use crate::spot::Spot;
@@ -178,7 +178,7 @@ pub fn clash(row: &Row, m: &Machine, slot: Option<Move>) -> bool
         return false;
     };
     match op_at(m, unit, op) {
-        Some(o) if has_result(o.op) => is_late(row, unit, o.latency),
+        Some(o) if o.op.has_result() => is_late(row, unit, o.latency),
         _ => false,
     }
 }

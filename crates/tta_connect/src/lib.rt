@@ -10,14 +10,14 @@ mod guard;
 mod guards;
 mod homes;
 mod hub;
+mod joined;
 mod net;
 mod ports;
-mod sets;
 mod units;
 mod way;
 
 pub use calls::{Call, anywhere, offered};
 pub use choice::{Choice, CoverError, cover};
+pub use joined::{Covered, Joined};
 pub use net::Net;
-pub use sets::least_bus;
 pub use way::Way;

@@ -1,6 +1,6 @@
 //! The last rule: the units that all words can reach, and what they offer.
 
-ghost use Rattle.std.specs.Prelude.{◌≡◌, ◌&&◌, ◌||◌, ◌==◌, ◌<◌, ◌^◌, ℕ, true, Some, None, is_some};
+ghost use Rattle.std.specs.Prelude.{◌≡◌, ◌&&◌, ◌||◌, ℕ, true, Some, None, is_some};
 ghost use Rattle.std.specs.Option.{option_map_or};
 ghost use Rattle.tta_arch.specs.declared.ends.Source.TheVariants as source;
 ghost use Rattle.tta_arch.specs.Joins.{has_bit, has_socket, is_source_on};
@@ -12,7 +12,7 @@ ghost use Rattle.tta_connect.specs.Coverage.{some_bus, offered};
 use crate::calls::offered;
 use crate::ends::{from, into, some_bus};
 use crate::net::Net;
-use tta_arch::{Machine, Op, Source, Unit, has_socket, has_source_socket};
+use tta_arch::{Machine, Op, Source, Unit, has_socket, has_source_socket, with_unit};
 
 /// Whether a bus leads from the hub into a socket.
 fn hub_feeds_over(m: &Machine, hub: u8, socket: u8, bus: usize) -> bool
@@ -60,22 +60,6 @@ fn is_usable(m: &Machine, net: &Net, hub: u8, unit: u8, v: &Unit) -> bool
     hub_feeds_port(m, hub, v.operand)
         && hub_feeds(m, hub, v.trigger)
         && hub_takes(m, net, hub, unit, v.result)
-}
-
-/// The set of one unit alone.
-fn bit_of(unit: usize) -> u32
-    requires { unit < 32 }
-    ensures { result ≡ 2 ^ unit }
-{
-    1 << unit
-}
-
-/// The set with one unit more.
-fn with_unit(units: u32, unit: usize) -> u32
-    requires { unit < 32 }
-    ensures { (k : ℕ) → has_bit result k ≡ (has_bit units k || unit == k) }
-{
-    units | bit_of(unit)
 }
 
 /// The units that all words can reach.

@@ -4,7 +4,7 @@ ghost use Rattle.std.specs.Prelude.{◌≡◌, ◌+◌, ◌<◌, ◌≤◌, ◌�
 ghost use Rattle.std.specs.Option.{option_map_or};
 ghost use Rattle.std.specs.List.{list_all};
 ghost use Rattle.arrayvec.specs.ArrayVec.{array_vec_len};
-ghost use Rattle.tta_arch.specs.Effects.{Trigger, has_result, target_of};
+ghost use Rattle.tta_arch.specs.Effects.{Trigger, target_of};
 ghost use Rattle.tta_moves.specs.Touches.{place_of_source, guard_place, is_control};
 ghost use Rattle.tta_moves.specs.Bounds.{due_after, At, operand_read, written_at};
 ghost use Rattle.tta_moves.specs.Bounds.{reads_by, writes_by, lasts};
@@ -24,16 +24,6 @@ pub struct Touched {
     pub after: u32,
 }
 
-/// Whether an operation shows a result.
-fn has_result(op: Op) -> bool
-    ensures { result ≡ has_result op }
-{
-    match op {
-        Op::Ldw | Op::Ldf | Op::Take | Op::Set(_) => true,
-        Op::Stw | Op::Stf | Op::Out => false,
-    }
-}
-
 /// After how many cycles the result of an operation is due, if it has one.
 fn due_after(m: &Machine, unit: u8, op: u8) -> Option<u8>
     ensures { result ≡ due_after m.now (Trigger unit op) }
@@ -44,7 +34,7 @@ fn due_after(m: &Machine, unit: u8, op: u8) -> Option<u8>
     let Some(o) = entry_at(u.ops.as_slice(), op) else {
         return None;
     };
-    if has_result(o.op) {
+    if o.op.has_result() {
         Some(o.latency)
     } else {
         None

@@ -1,7 +1,7 @@
 //! The numbers of the places that items write.
 
 ghost use Rattle.std.specs.Prelude.{◌≡◌, option_map};
-ghost use Rattle.tta_arch.specs.Effects.{Trigger, target_of, has_result};
+ghost use Rattle.tta_arch.specs.Effects.{Trigger, target_of};
 ghost use Rattle.tta_moves.specs.Touches.{place_written, target_of_item};
 ghost use Rattle.tta_moves.specs.Numbers.{place_number};
 
@@ -9,16 +9,6 @@ use tta_arch::{Dest, Machine, Op};
 use tta_list::entry_at;
 use tta_moves::Item;
 use tta_moves::numbers::{immediate, operand, port, register, return_address};
-
-/// Whether an operation has a result.
-fn has_result(op: Op) -> bool
-    ensures { result ≡ has_result op }
-{
-    match op {
-        Op::Ldw | Op::Ldf | Op::Take | Op::Set(_) => true,
-        Op::Stw | Op::Stf | Op::Out => false,
-    }
-}
 
 /// The result port that an operation of a unit writes, by its number, if it has a result.
 fn started(m: &Machine, unit: u8, op: u8) -> Option<usize>
@@ -30,7 +20,7 @@ fn started(m: &Machine, unit: u8, op: u8) -> Option<usize>
     let Some(o) = entry_at(u.ops.as_slice(), op) else {
         return None;
     };
-    if has_result(o.op) {
+    if o.op.has_result() {
         Some(port(unit))
     } else {
         None

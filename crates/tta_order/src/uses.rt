@@ -79,10 +79,6 @@ fn changes_space(op: Op) -> bool {
     matches!(op, Op::Stw | Op::Stf | Op::Out | Op::Take)
 }
 
-fn has_result(op: Op) -> bool {
-    matches!(op, Op::Ldw | Op::Ldf | Op::Take | Op::Set(_))
-}
-
 /// How many cycles an item takes that starts no operation: a control item those until its effect
 /// shows.
 fn takes(m: &Machine, x: Item) -> u8 {
@@ -113,7 +109,7 @@ fn uses_of_move(m: &Machine, x: Item) -> Uses {
 /// What an item uses that starts an operation of a unit.
 fn uses_of_start(x: Item, unit: u8, o: UnitOp, part: u16) -> Uses {
     let used = short(space_of(o.op, part));
-    let due = if has_result(o.op) {
+    let due = if o.op.has_result() {
         o.latency.max(1)
     } else {
         1
@@ -127,7 +123,7 @@ fn uses_of_start(x: Item, unit: u8, o: UnitOp, part: u16) -> Uses {
             None
         },
         used,
-        written: if has_result(o.op) {
+        written: if o.op.has_result() {
             short(Some(port(unit)))
         } else {
             None

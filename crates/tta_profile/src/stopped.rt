@@ -9,6 +9,7 @@ ghost use Rattle.tta_sim.specs.Held.{Stands};
 ghost use Rattle.tta_sim.specs.Moves.{is_askable, is_possible_slot};
 ghost use Rattle.tta_profile.specs.Counts.{is_stopped};
 
+use tta_arch::with_bus;
 use tta_code::Move;
 use tta_sim::Sim;
 
@@ -35,22 +36,6 @@ fn is_slot_stopped(sim: &Sim, units: usize, slot: Option<Move>) -> bool
         None => false,
         Some(v) => is_stopped(sim, v),
     }
-}
-
-/// The set of one bus alone.
-fn bit_of(bus: usize) -> u16
-    requires { bus < 16 }
-    ensures { result ≡ 2 ^ bus }
-{
-    1 << bus
-}
-
-/// A set with one bus more.
-fn with_bus(buses: u16, bus: usize) -> u16
-    requires { bus < 16 }
-    ensures { (k : ℕ) → has_bit result k ≡ (has_bit buses k || bus == k) }
-{
-    buses | bit_of(bus)
 }
 
 /// A set with one bus more, where something holds.

@@ -12,7 +12,7 @@ use Rattle.tta_arch.specs.declared.ends.Dest.TheVariants as dest
 use Rattle.tta_arch.specs.Machine.{Machine}
 use Rattle.tta_arch.specs.Joins.{has_bit}
 use Rattle.tta_arch.specs.Legal.{reads_file, reads_imm, writes_file}
-use Rattle.tta_connect.proofs.SetLemmas.{has_bit-or, has_bit-one}
+use Rattle.tta_arch.proofs.SetLemmas.{has_bit-or, has_bit-one}
 use Rattle.tta_moves.specs.declared.items.ItemSource.{ItemSource}
 use Rattle.tta_moves.specs.declared.items.ItemSource.TheVariants.{Port, Address}
 use Rattle.tta_moves.specs.Slots.{carried}

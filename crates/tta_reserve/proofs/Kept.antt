@@ -8,7 +8,7 @@ use Rattle.std.proofs.lemmas.Bool.Decides.{nat_tests}
 use Rattle.tta_list.proofs.Lists.{slice_get-front, slice_get-back, list_all_weaker}
 use Rattle.tta_arch.specs.Machine.{Machine}
 use Rattle.tta_arch.specs.Legal.{Ends, ends_of, reads_file, reads_imm, writes_file}
-use Rattle.tta_connect.proofs.SetLemmas.{has_bit-empty}
+use Rattle.tta_arch.proofs.SetLemmas.{has_bit-empty}
 use Rattle.tta_moves.specs.declared.items.PlacedItem.{PlacedItem}
 use Rattle.tta_moves.specs.Slots.{slots_of}
 use Rattle.tta_moves.specs.Bounds.{in_cycle}

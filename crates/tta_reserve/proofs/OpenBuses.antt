@@ -6,7 +6,7 @@ use Rattle.std.proofs.lemmas.Bool.{cases_lt}
 use Rattle.std.proofs.lemmas.Nat.Bits.{bit_at_not, bit_at-lt}
 use Rattle.tta_arch.specs.Joins.{has_bit}
 use Rattle.tta_arch.proofs.Widths.{no_high}
-use Rattle.tta_connect.proofs.SetLemmas.{has_bit-and}
+use Rattle.tta_arch.proofs.SetLemmas.{has_bit-and}
 
 other_bit : (x : ℕ) → x < 2 → (1 - x == 1) ≡ not (x == 1)
 other_bit zero small = refl

@@ -19,7 +19,7 @@ use Rattle.tta_arch.specs.Joins.{joins, has_bit}
 use Rattle.tta_arch.specs.Legal.{Ends, keeps_taken}
 use Rattle.tta_arch.specs.Effects.{first_some}
 use Rattle.tta_arch.proofs.Widths.{no_high, pow_le}
-use Rattle.tta_connect.proofs.SetLemmas.{has_bit-and, has_bit-empty, trailing-has}
+use Rattle.tta_arch.proofs.SetLemmas.{has_bit-and, has_bit-empty, trailing-has}
 use Rattle.tta_moves.specs.declared.items.ItemSource.{ItemSource}
 use Rattle.tta_moves.specs.declared.items.LongValue.{LongValue}
 use Rattle.tta_moves.specs.declared.items.Item.TheVariants as item

@@ -7,7 +7,7 @@ ghost use Rattle.tta_reserve.specs.Adding.{with_item_source, with_move, with_sou
 ghost use Rattle.tta_reserve.specs.Adding.{with_template};
 
 use crate::row::Row;
-use tta_arch::{Dest, Source, Template};
+use tta_arch::{Dest, Source, Template, bus_bit};
 use tta_list::entry_at;
 use tta_moves::{Item, ItemSource, Slot};
 
@@ -24,14 +24,6 @@ fn one_more(counts: [u8; 8], at: u8) -> [u8; 8]
     counts
 }
 
-/// The set of this bus alone.
-fn bus_bit(bus: u8) -> u16
-    requires { bus < 16 }
-    ensures { result ≡ 2 ^ bus }
-{
-    1 << bus
-}
-
 /// The set of this unit alone.
 fn unit_bit(unit: u8) -> u8
     requires { unit < 8 }
@@ -45,7 +37,7 @@ fn with_bus(buses: u16, bus: u8) -> u16
     ensures { result ≡ with_bit 16 buses bus }
 {
     if bus < 16 {
-        buses | bus_bit(bus)
+        buses | bus_bit(usize::from(bus))
     } else {
         buses
     }

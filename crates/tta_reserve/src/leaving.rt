@@ -8,8 +8,8 @@ ghost use Rattle.tta_reserve.specs.Leaving.{row_reads, row_writes, row_takes};
 ghost use Rattle.tta_reserve.specs.Leaving.{fills_beside, row_fills};
 
 use crate::row::Row;
-use tta_arch::{Dest, GuardRef, Machine, Source, Template, has_bus};
-use tta_connect::{Net, least_bus};
+use tta_arch::{Dest, GuardRef, Machine, Source, Template, has_bus, least_bus};
+use tta_connect::Net;
 use tta_list::entry_at;
 
 /// A count, 0 past the end.

@@ -39,17 +39,6 @@ impl Model for Start {
     } };
 }
 
-/// Whether an operation shows a result.
-#[inline(always)]
-pub fn has_result(op: Op) -> bool
-    ensures { result ≡ has_result op }
-{
-    match op {
-        Op::Ldw | Op::Ldf | Op::Take | Op::Set(_) => true,
-        Op::Stw | Op::Stf | Op::Out => false,
-    }
-}
-
 /// Whether an operation does more than show a result of words that the machine has: it stores its
 /// word, outputs it, or takes one of the input.
 pub fn is_loud(op: Op) -> bool
@@ -67,7 +56,7 @@ fn clashes(results: &Results<'_>, unit: u8, does: &UnitOp) -> bool
     requires { unit < results.now.units }
     ensures { result ≡ clashes_at results.now unit does.now }
 {
-    results.clashes(unit, does.latency) && has_result(does.op)
+    results.clashes(unit, does.latency) && does.op.has_result()
 }
 
 /// Whether an operation cannot start: it lacks its operand, or its result would be due at the time of

@@ -9,6 +9,7 @@ ghost use Rattle.tta_machine.specs.Draft.{bus_named};
 ghost use Rattle.tta_machine.specs.Kept.{IsDraft};
 
 use crate::reading::draft::Draft;
+use tta_arch::bus_bit;
 use tta_reading::Word;
 
 impl Draft {
@@ -45,7 +46,7 @@ fn with_bus(set: Option<u16>, bus: u8) -> Option<u16>
     let Some(mask) = set else {
         return None;
     };
-    let bit = bit_of(bus);
+    let bit = bus_bit(usize::from(bus));
     if mask & bit == 0 {
         Some(mask | bit)
     } else {
@@ -53,10 +54,3 @@ fn with_bus(set: Option<u16>, bus: u8) -> Option<u16>
     }
 }
 
-/// The set of this bus alone.
-fn bit_of(bus: u8) -> u16
-    requires { bus < 16 }
-    ensures { result ≡ 2 ^ bus }
-{
-    1 << bus
-}

@@ -24,7 +24,7 @@ use crate::reading::refusal::{LineError, Refusal};
 use crate::reading::services::is_served;
 use crate::reading::syntax;
 use std::alloc::AllocError;
-use tta_arch::{Op, Unit, UnitOp};
+use tta_arch::{Op, Unit, UnitOp, same_op};
 use tta_list::entry_at;
 use tta_ops::UnitSet;
 use tta_reading::Word;
@@ -171,38 +171,12 @@ fn has_same(unit: &Unit, op: Op) -> bool
         .any(|offered| same_op(offered.op, op))
 }
 
-/// Whether two operations are one.
-fn same_op(a: Op, b: Op) -> bool
-    ensures { result ≡ same_op a b }
-{
-    match (a, b) {
-        (Op::Ldw, Op::Ldw) => true,
-        (Op::Stw, Op::Stw) => true,
-        (Op::Ldf, Op::Ldf) => true,
-        (Op::Stf, Op::Stf) => true,
-        (Op::Out, Op::Out) => true,
-        (Op::Take, Op::Take) => true,
-        (Op::Set(a), Op::Set(b)) => a.0 == b.0,
-        _ => false,
-    }
-}
-
 /// Whether the unit lacks a port that the operation needs.
 fn lacks_port(unit: &Unit, op: Op, arity: u8) -> bool
     ensures { result ≡ ((arity == 2 && is_none unit.now.operand)
         || (has_result op && is_none unit.now.result)) }
 {
-    (arity == 2 && unit.operand.is_none()) || (has_result(op) && unit.result.is_none())
-}
-
-/// Whether an operation has a result.
-fn has_result(op: Op) -> bool
-    ensures { result ≡ has_result op }
-{
-    match op {
-        Op::Ldw | Op::Ldf | Op::Take | Op::Set(_) => true,
-        Op::Stw | Op::Stf | Op::Out => false,
-    }
+    (arity == 2 && unit.operand.is_none()) || (op.has_result() && unit.result.is_none())
 }
 
 /// Whether a latency is between 1 and 16 cycles, or none is given.

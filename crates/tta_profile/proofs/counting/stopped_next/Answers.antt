@@ -6,7 +6,7 @@ use Rattle.tta_arch.specs.Machine.{Machine}
 use Rattle.tta_arch.specs.Rules.{IsMachine}
 use Rattle.tta_code.specs.declared.code.Move.{Move}
 use Rattle.tta_code.specs.declared.code.Instruction.{Instruction}
-use Rattle.tta_connect.proofs.SetLemmas.{has_bit-empty}
+use Rattle.tta_arch.proofs.SetLemmas.{has_bit-empty}
 use Rattle.tta_sim.specs.Moves.{IsPossible, is_possible_slot}
 use Rattle.tta_profile.specs.Counts.{is_stopped}
 use Rattle.tta_profile.proofs.Guards.{possible_at}

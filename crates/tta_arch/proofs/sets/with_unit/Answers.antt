@@ -1,10 +1,10 @@
 use Rattle.std.proofs.Common.{ℕ, ap, ◌∙◌}
 use Rattle.std.specs.Prelude.{bit_or, ◌||◌}
 use Rattle.tta_arch.specs.Joins.{has_bit}
-use Rattle.tta_connect.proofs.SetLemmas.{has_bit-or, has_bit-one}
-use Rattle.tta_connect.proofs.units.with_unit.Goals as goal
+use Rattle.tta_arch.proofs.SetLemmas.{has_bit-or, has_bit-one}
+use Rattle.tta_arch.proofs.sets.with_unit.Goals as goal
 
 pub returns : goal.returns
 returns c = λ k.
-    ap (λ (n : ℕ). has_bit (bit_or c.args.units n) k) c.bit_of.ensures ∙ has_bit-or c.args.units _ k
+    ap (λ (n : ℕ). has_bit (bit_or c.args.units n) k) c.unit_bit.ensures ∙ has_bit-or c.args.units _ k
     ∙ ap (λ b. has_bit c.args.units k || b) (has_bit-one c.args.unit k)
