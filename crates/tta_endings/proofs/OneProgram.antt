@@ -7,7 +7,7 @@ use Rattle.tta_program.specs.declared.program.Proc.{Proc}
 use Rattle.tta_program.specs.declared.program.DataLine.{DataLine}
 use Rattle.tta_program.specs.Program.{Program}
 use Rattle.tta_program.specs.Rules.{Reaches}
-use Rattle.tta_tac.specs.declared.reading.refusal.Refusal.{Refusal}
+use Rattle.tta_tac.specs.declared.refusal.Refusal.{Refusal}
 use Rattle.tta_tac.specs.Text.{Linked, linked_text, with_main, ProgramText, IsRefusedAt, InPasses, ByRecursion, WithoutMain}
 
 module _ (u : Units) (text : List ℕ) where

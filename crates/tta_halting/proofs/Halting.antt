@@ -21,7 +21,7 @@ use Rattle.tta_program.specs.declared.step.Step.TheVariants as step
 use Rattle.tta_program.specs.declared.program.Proc.{Proc}
 use Rattle.tta_program.specs.Program.{Program}
 use Rattle.tta_program.specs.Sequential.{Halted, seq, holds}
-use Rattle.tta_tac.specs.declared.reading.refusal.Refusal.TheVariants.{UnknownLabel}
+use Rattle.tta_tac.specs.declared.refusal.Refusal.TheVariants.{UnknownLabel}
 use Rattle.tta_tac.specs.Forms.{Form, ProcForm}
 use Rattle.tta_tac.specs.Draft.{Unlinked, Plain, IfTo, Draft}
 use Rattle.tta_tac.specs.FirstPass.{vars_after, op_id, is_end, numbered}

@@ -13,7 +13,7 @@ use Rattle.tta_program.specs.declared.operand.Src.TheVariants.{Var, Word}
 use Rattle.tta_program.specs.declared.operand.Rel.TheVariants.{Lt, Ltu}
 use Rattle.tta_program.specs.declared.step.Step.{Step}
 use Rattle.tta_program.specs.declared.step.Step.TheVariants as step
-use Rattle.tta_tac.specs.declared.reading.refusal.Refusal.TheVariants.{UnknownLabel}
+use Rattle.tta_tac.specs.declared.refusal.Refusal.TheVariants.{UnknownLabel}
 use Rattle.tta_tac.specs.Forms.{Form, Named, Constant, LabelForm, CopyForm, ApplyForm, LoadForm, StoreForm, PutForm, IfForm, WhenForm}
 use Rattle.tta_tac.specs.Draft.{Unlinked, Plain, IfTo, Draft}
 use Rattle.tta_tac.specs.FirstPass.{with_var, vars_after, var_number, op_id, step_of, numbered}

@@ -11,7 +11,7 @@ use Rattle.std.proofs.lemmas.List.{map-append, map_more, drop_more, take-append-
 use Rattle.tta_reading.specs.Steps.{◌>>?◌}
 use Rattle.tta_reading.specs.Lines.{texts}
 use Rattle.tta_reading.specs.declared.word.Word.{Word}
-use Rattle.tta_machine.specs.declared.reading.draft.Draft.{Draft}
+use Rattle.tta_machine.specs.declared.draft.Draft.{Draft}
 use Rattle.tta_arch.specs.Rules.{are_different}
 use Rattle.tta_machine.specs.Draft.{bus_named}
 use Rattle.tta_machine.specs.Declarations.{bus_set, buses_named}

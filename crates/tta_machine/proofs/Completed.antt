@@ -5,10 +5,10 @@ use Rattle.std.specs.Option.{option_map_or}
 use Rattle.std.specs.List.{sum_by}
 use Rattle.std.proofs.lemmas.List.{drop_more}
 use Rattle.std.proofs.lemmas.Bool.{lt-ltb, le-ltb}
-use Rattle.tta_machine.specs.declared.reading.refusal.Refusal.TheVariants.{Missing, TooNarrow}
-use Rattle.tta_machine.specs.declared.reading.refusal.MachineError.{MachineError}
-use Rattle.tta_machine.specs.declared.reading.refusal.MachineError.TheVariants as machine_error
-use Rattle.tta_machine.specs.declared.reading.draft.Draft.{Draft}
+use Rattle.tta_machine.specs.declared.refusal.Refusal.TheVariants.{Missing, TooNarrow}
+use Rattle.tta_machine.specs.declared.refusal.MachineError.{MachineError}
+use Rattle.tta_machine.specs.declared.refusal.MachineError.TheVariants as machine_error
+use Rattle.tta_machine.specs.declared.draft.Draft.{Draft}
 use Rattle.tta_arch.specs.declared.parts.Template.{Template}
 use Rattle.tta_arch.specs.declared.parts.Control.{Control}
 use Rattle.tta_arch.specs.declared.ends.Source.{Source}

@@ -7,9 +7,9 @@ use Rattle.tta_list.proofs.Tests.{none_from_is_some}
 use Rattle.tta_reading.specs.Names.{named_in}
 use Rattle.tta_reading.specs.Steps.{only_if}
 use Rattle.tta_ops.specs.Units.{Units}
-use Rattle.tta_machine.specs.declared.reading.draft.Named.{Named}
-use Rattle.tta_machine.specs.declared.reading.draft.Named.TheVariants as place
-use Rattle.tta_machine.specs.declared.reading.draft.Draft.{Draft}
+use Rattle.tta_machine.specs.declared.draft.Named.{Named}
+use Rattle.tta_machine.specs.declared.draft.Named.TheVariants as place
+use Rattle.tta_machine.specs.declared.draft.Draft.{Draft}
 use Rattle.tta_arch.specs.declared.parts.Socket.{Socket}
 use Rattle.tta_arch.specs.declared.parts.Unit.{Unit as OpUnit}
 use Rattle.tta_arch.specs.declared.parts.UnitOp.{UnitOp}
@@ -18,7 +18,7 @@ use Rattle.tta_machine.specs.Declarations.{bus_set}
 use Rattle.tta_machine.specs.Kept.{IsDraft}
 use Rattle.tta_machine.specs.Grammar.{is_known_op, place_of, bus_made, socket_made, file_made, imm_made, op_made, ops_of, unit_made, guard_made, template_made, control_made, data_size, frame_size}
 use Rattle.tta_machine.proofs.Naming.{named_in-longer}
-use Rattle.tta_machine.proofs.Lookups.{unit_named-some}
+use Rattle.tta_machine.proofs.LookedUp.{unit_named-some}
 use Rattle.tta_machine.proofs.MadeParts.{bus_added, BusMade, socket_of, socket_added, SocketMade, file_of, file_added, FileMade, imm_of, imm_added, ImmMade, unit_of, unit_added, UnitMade}
 use Rattle.tta_machine.proofs.MadeLinks.{unit_op, op_added, OpMade, guard_of, guard_added, GuardMade, template_of, template_added, TemplateMade, control_of, control_added, ControlMade, spaces_added, DataMade, FrameMade}
 use Rattle.tta_machine.proofs.KindLines.{ByKind, Adds, adds_one}

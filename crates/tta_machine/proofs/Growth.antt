@@ -7,9 +7,9 @@ use Rattle.std.proofs.lemmas.Bool.{and_parts, and_from, ltb-true, lt-ltb}
 use Rattle.tta_list.proofs.Lists.{slice_get-longer}
 use Rattle.tta_list.proofs.Tests.{and_map}
 use Rattle.tta_reading.specs.Names.{named_in}
-use Rattle.tta_machine.specs.declared.reading.draft.Named.{Named}
-use Rattle.tta_machine.specs.declared.reading.draft.Named.TheVariants as place
-use Rattle.tta_machine.specs.declared.reading.draft.Draft.{Draft}
+use Rattle.tta_machine.specs.declared.draft.Named.{Named}
+use Rattle.tta_machine.specs.declared.draft.Named.TheVariants as place
+use Rattle.tta_machine.specs.declared.draft.Draft.{Draft}
 use Rattle.tta_arch.specs.declared.parts.Socket.{Socket}
 use Rattle.tta_arch.specs.declared.parts.File.{File}
 use Rattle.tta_arch.specs.declared.parts.ImmUnit.{ImmUnit}

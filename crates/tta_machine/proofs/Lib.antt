@@ -4,7 +4,7 @@ pub mod Names
 pub mod Pieces
 pub mod Naming
 pub mod Growth
-pub mod Lookups
+pub mod LookedUp
 pub mod BusSets
 pub mod Owners
 pub mod MadeParts
@@ -27,4 +27,4 @@ pub mod Completed
 pub mod Over
 pub mod Whole
 pub mod OnlyOne
-pub mod Limits
+pub mod LimitLemmas

@@ -8,9 +8,9 @@ use Rattle.std.proofs.lemmas.Bool.{or_parts, not-false, ltb-false}
 use Rattle.tta_reading.specs.Steps.{refuse_if}
 use Rattle.tta_reading.proofs.Steps.{then-ok, some-ok, refuse_if-ok, same_ok}
 use Rattle.tta_ops.specs.Units.{Units}
-use Rattle.tta_machine.specs.declared.reading.refusal.Refusal.TheVariants.{Unknown, Twice, Range, Missing}
-use Rattle.tta_machine.specs.declared.reading.draft.Named.TheVariants as place
-use Rattle.tta_machine.specs.declared.reading.draft.Draft.{Draft}
+use Rattle.tta_machine.specs.declared.refusal.Refusal.TheVariants.{Unknown, Twice, Range, Missing}
+use Rattle.tta_machine.specs.declared.draft.Named.TheVariants as place
+use Rattle.tta_machine.specs.declared.draft.Draft.{Draft}
 use Rattle.tta_arch.specs.declared.parts.File.{File}
 use Rattle.tta_arch.specs.declared.parts.ImmUnit.{ImmUnit}
 use Rattle.tta_arch.specs.declared.parts.Unit.{Unit as OpUnit}

@@ -9,9 +9,9 @@ use Rattle.tta_list.proofs.Tests.{none_from_is_some}
 use Rattle.tta_text.specs.Words.{is_name}
 use Rattle.tta_reading.specs.Names.{Declared, named_in}
 use Rattle.tta_reading.proofs.Found.{named_in-new}
-use Rattle.tta_machine.specs.declared.reading.draft.Named.{Named}
-use Rattle.tta_machine.specs.declared.reading.draft.Named.TheVariants as place
-use Rattle.tta_machine.specs.declared.reading.draft.Draft.{Draft}
+use Rattle.tta_machine.specs.declared.draft.Named.{Named}
+use Rattle.tta_machine.specs.declared.draft.Named.TheVariants as place
+use Rattle.tta_machine.specs.declared.draft.Draft.{Draft}
 use Rattle.tta_machine.specs.Draft.{is_taken, is_too_long}
 use Rattle.tta_arch.specs.Rules.{IsMachineName}
 use Rattle.tta_machine.specs.Kept.{AreNamed, PartsAreNamed}

@@ -10,17 +10,17 @@ use Rattle.std.proofs.lemmas.Slice.Eq.{bytes_eq-Decides}
 use Rattle.tta_reading.specs.Names.{named_in}
 use Rattle.tta_reading.specs.Steps.{or_refuse}
 use Rattle.tta_reading.proofs.Steps.{same_ok, then-some}
-use Rattle.tta_machine.specs.declared.reading.refusal.Refusal.TheVariants.{Unknown}
-use Rattle.tta_machine.specs.declared.reading.draft.Named.{Named}
-use Rattle.tta_machine.specs.declared.reading.draft.Named.TheVariants as place
-use Rattle.tta_machine.specs.declared.reading.draft.Draft.{Draft}
+use Rattle.tta_machine.specs.declared.refusal.Refusal.TheVariants.{Unknown}
+use Rattle.tta_machine.specs.declared.draft.Named.{Named}
+use Rattle.tta_machine.specs.declared.draft.Named.TheVariants as place
+use Rattle.tta_machine.specs.declared.draft.Draft.{Draft}
 use Rattle.tta_arch.specs.Rules.{are_different}
 use Rattle.tta_machine.specs.Draft.{bus_named, socket_named, file_named, imm_named}
 use Rattle.tta_machine.specs.Declarations.{buses_named, port_named}
 use Rattle.tta_machine.specs.Kept.{IsDraft}
 use Rattle.tta_machine.specs.Grammar.{place_of}
 use Rattle.tta_machine.proofs.Distinct.{different_parts}
-use Rattle.tta_machine.proofs.Lookups.{bus_named-some, socket_named-some, file_named-some, imm_named-some}
+use Rattle.tta_machine.proofs.LookedUp.{bus_named-some, socket_named-some, file_named-some, imm_named-some}
 use Rattle.tta_machine.proofs.Borne.{AreBorne}
 
 -- ---- one list

@@ -13,7 +13,7 @@ use Rattle.tta_text.specs.Tokens.{tokens_of, tokens_from, piece_at, number_piece
 use Rattle.tta_reading.specs.Lines.{lines_of}
 use Rattle.tta_ops.specs.Reserved.{is_reserved, AreFree}
 use Rattle.tta_ops.specs.Units.{Units, AreDistinct, AreArities}
-use Rattle.tta_machine.specs.declared.reading.refusal.Refusal.TheVariants.{Syntax, Unknown, Twice, Range, Missing, TooNarrow}
+use Rattle.tta_machine.specs.declared.refusal.Refusal.TheVariants.{Syntax, Unknown, Twice, Range, Missing, TooNarrow}
 use Rattle.tta_arch.specs.Rules.{are_different, is_from_to}
 use Rattle.tta_arch.specs.Fields.{width_for}
 use Rattle.tta_machine.specs.Forms.{bus_form, socket_form, file_form, imm_form, unit_form, op_form, guard_form, template_form, control_form, space_form}

@@ -9,7 +9,7 @@ use Rattle.tta_reading.specs.Steps.{at_line}
 use Rattle.tta_reading.proofs.Steps.{same_ok, then-ok, at_line-ok}
 use Rattle.tta_reading.proofs.TextNames.{LineNames, text_names}
 use Rattle.tta_ops.specs.Units.{Units}
-use Rattle.tta_machine.specs.declared.reading.draft.Draft.{Draft}
+use Rattle.tta_machine.specs.declared.draft.Draft.{Draft}
 use Rattle.tta_arch.specs.declared.parts.Control.{Control}
 use Rattle.tta_arch.specs.Machine.{Machine}
 use Rattle.tta_arch.specs.Rules.{IsMachine}

@@ -6,9 +6,9 @@ use Rattle.tta_reading.specs.Words.{is_keyword}
 use Rattle.tta_reading.specs.Steps.{◌>>=◌, or_refuse, at_line}
 use Rattle.tta_reading.proofs.Steps.{some-ok, same_ok, then-ok, at_line-ok}
 use Rattle.tta_ops.specs.Units.{Units}
-use Rattle.tta_machine.specs.declared.reading.refusal.Refusal.{Refusal}
-use Rattle.tta_machine.specs.declared.reading.refusal.Refusal.TheVariants.{Syntax}
-use Rattle.tta_machine.specs.declared.reading.draft.Draft.{Draft}
+use Rattle.tta_machine.specs.declared.refusal.Refusal.{Refusal}
+use Rattle.tta_machine.specs.declared.refusal.Refusal.TheVariants.{Syntax}
+use Rattle.tta_machine.specs.declared.draft.Draft.{Draft}
 use Rattle.tta_machine.specs.Forms.{BusForm, SocketForm, FileForm, ImmForm, UnitForm, OpForm, GuardForm, TemplateForm, ControlForm, SpaceForm, bus_form, socket_form, file_form, imm_form, unit_form, op_form, guard_form, template_form, control_form, space_form}
 use Rattle.tta_machine.specs.Declarations.{take_bus, take_socket, take_file, take_imm, take_unit, take_op, take_guard, take_template, take_control, take_space}
 use Rattle.tta_machine.specs.Text.{declare, take_line, take_lines}

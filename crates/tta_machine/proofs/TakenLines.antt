@@ -11,8 +11,8 @@ use Rattle.tta_reading.specs.Steps.{at_line}
 use Rattle.tta_reading.proofs.Steps.{same_ok, then-some, only_if-some, then-ok, at_line-ok}
 use Rattle.tta_reading.proofs.TextNames.{LineNames}
 use Rattle.tta_ops.specs.Units.{Units}
-use Rattle.tta_machine.specs.declared.reading.refusal.Refusal.TheVariants.{Missing, TooNarrow}
-use Rattle.tta_machine.specs.declared.reading.draft.Draft.{Draft}
+use Rattle.tta_machine.specs.declared.refusal.Refusal.TheVariants.{Missing, TooNarrow}
+use Rattle.tta_machine.specs.declared.draft.Draft.{Draft}
 use Rattle.tta_arch.specs.declared.parts.Template.{Template}
 use Rattle.tta_arch.specs.declared.parts.Control.{Control}
 use Rattle.tta_arch.specs.Machine.{Machine}

@@ -7,9 +7,9 @@ use Rattle.std.proofs.lemmas.List.{length_push}
 use Rattle.tta_list.proofs.Lists.{list_all_push, all_push}
 use Rattle.tta_text.specs.Words.{is_name}
 use Rattle.tta_reading.specs.Names.{Declared}
-use Rattle.tta_machine.specs.declared.reading.draft.Named.{Named}
-use Rattle.tta_machine.specs.declared.reading.draft.Named.TheVariants as place
-use Rattle.tta_machine.specs.declared.reading.draft.Draft.{Draft}
+use Rattle.tta_machine.specs.declared.draft.Named.{Named}
+use Rattle.tta_machine.specs.declared.draft.Named.TheVariants as place
+use Rattle.tta_machine.specs.declared.draft.Draft.{Draft}
 use Rattle.tta_arch.specs.declared.parts.File.{File}
 use Rattle.tta_arch.specs.declared.parts.Guard.{Guard}
 use Rattle.tta_arch.specs.declared.parts.Template.{Template}
@@ -21,7 +21,7 @@ use Rattle.tta_machine.specs.Kept.{IsDraft}
 use Rattle.tta_arch.proofs.Lists.{different_push}
 use Rattle.tta_machine.proofs.Naming.{AreNamed-push, are_named_longer, not_taken, good_name}
 use Rattle.tta_machine.proofs.Growth.{Grows, there_more, there_still}
-use Rattle.tta_machine.proofs.Lookups.{bus_named-some, buses_named-some, is_socket-named, port_named-ok}
+use Rattle.tta_machine.proofs.LookedUp.{bus_named-some, buses_named-some, is_socket-named, port_named-ok}
 use Rattle.tta_machine.proofs.BusSets.{IsBusSet-bus_set}
 use Rattle.tta_machine.proofs.MadeLinks.{guard_of, guard_added, GuardMade, template_of, template_added, TemplateMade, control_of, control_added, ControlMade, spaces_added, DataMade, FrameMade}
 

@@ -10,8 +10,8 @@ use Rattle.std.proofs.lemmas.List.{length_push}
 use Rattle.tta_list.proofs.Lists.{list_all_push, list_all_changed, list_all_one}
 use Rattle.tta_list.proofs.Tests.{and_map}
 use Rattle.tta_ops.specs.Units.{Units, named, first_at}
-use Rattle.tta_machine.specs.declared.reading.draft.Named.TheVariants as place
-use Rattle.tta_machine.specs.declared.reading.draft.Draft.{Draft}
+use Rattle.tta_machine.specs.declared.draft.Named.TheVariants as place
+use Rattle.tta_machine.specs.declared.draft.Draft.{Draft}
 use Rattle.tta_arch.specs.declared.parts.Socket.{Socket}
 use Rattle.tta_arch.specs.declared.parts.Unit.{Unit as OpUnit}
 use Rattle.tta_arch.specs.declared.parts.UnitOp.{UnitOp}

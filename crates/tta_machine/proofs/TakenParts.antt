@@ -9,9 +9,9 @@ use Rattle.std.proofs.lemmas.List.Elements.{filter-append}
 use Rattle.tta_list.proofs.Lists.{list_all_push, list_all_weaker, all_push, all_weaker}
 use Rattle.tta_text.specs.Words.{is_name}
 use Rattle.tta_reading.specs.Names.{Declared}
-use Rattle.tta_machine.specs.declared.reading.draft.Named.{Named}
-use Rattle.tta_machine.specs.declared.reading.draft.Named.TheVariants as place
-use Rattle.tta_machine.specs.declared.reading.draft.Draft.{Draft}
+use Rattle.tta_machine.specs.declared.draft.Named.{Named}
+use Rattle.tta_machine.specs.declared.draft.Named.TheVariants as place
+use Rattle.tta_machine.specs.declared.draft.Draft.{Draft}
 use Rattle.tta_arch.specs.declared.parts.Socket.{Socket}
 use Rattle.tta_arch.specs.declared.parts.File.{File}
 use Rattle.tta_arch.specs.declared.parts.ImmUnit.{ImmUnit}
@@ -26,7 +26,7 @@ use Rattle.tta_machine.specs.Kept.{IsDraft}
 use Rattle.tta_machine.specs.Grammar.{bus_made}
 use Rattle.tta_machine.proofs.Naming.{AreNamed-push, are_named_longer, not_taken, good_name}
 use Rattle.tta_machine.proofs.Growth.{Grows, there_more, IsBusSet-more, is_guard-more_buses, is_file-more_sockets, is_imm-more_sockets, is_unit-more_sockets, is_control-more_sockets, is_guard-more_files, is_template-more_imms}
-use Rattle.tta_machine.proofs.Lookups.{buses_named-some, is_socket-named, port_named-ok}
+use Rattle.tta_machine.proofs.LookedUp.{buses_named-some, is_socket-named, port_named-ok}
 use Rattle.tta_machine.proofs.BusSets.{IsBusSet-bus_set}
 use Rattle.tta_machine.proofs.MadeParts.{bus_added, BusMade, socket_of, socket_added, SocketMade, file_of, file_added, FileMade, imm_of, imm_added, ImmMade, unit_of, unit_added, UnitMade}
 

@@ -10,8 +10,8 @@ use Rattle.std.proofs.lemmas.Slice.Eq.{bytes_eq-Decides}
 use Rattle.tta_list.proofs.Lists.{slice_get-back}
 use Rattle.tta_reading.specs.Names.{named_in}
 use Rattle.tta_ops.specs.Units.{Units}
-use Rattle.tta_machine.specs.declared.reading.draft.Named.TheVariants as place
-use Rattle.tta_machine.specs.declared.reading.draft.Draft.{Draft}
+use Rattle.tta_machine.specs.declared.draft.Named.TheVariants as place
+use Rattle.tta_machine.specs.declared.draft.Draft.{Draft}
 use Rattle.tta_arch.specs.declared.parts.Unit.{Unit as OpUnit}
 use Rattle.tta_arch.specs.declared.parts.UnitOp.{UnitOp}
 use Rattle.tta_machine.specs.Forms.{UnitForm, OpForm}

@@ -3,10 +3,10 @@ use Rattle.std.proofs.Common.{◌≡◌, ℕ, ◌+◌, List, ◌∷◌, Result, 
 use Rattle.tta_reading.specs.Lines.{Line, lines_of}
 use Rattle.tta_reading.specs.Steps.{◌>>=◌}
 use Rattle.tta_ops.specs.Units.{Units}
-use Rattle.tta_machine.specs.declared.reading.refusal.Refusal.{Refusal}
-use Rattle.tta_machine.specs.declared.reading.draft.Draft.{Draft}
-use Rattle.tta_machine.specs.declared.reading.refusal.MachineError.{MachineError}
-use Rattle.tta_machine.specs.declared.reading.refusal.MachineError.TheVariants as machine_error
+use Rattle.tta_machine.specs.declared.refusal.Refusal.{Refusal}
+use Rattle.tta_machine.specs.declared.draft.Draft.{Draft}
+use Rattle.tta_machine.specs.declared.refusal.MachineError.{MachineError}
+use Rattle.tta_machine.specs.declared.refusal.MachineError.TheVariants as machine_error
 use Rattle.tta_arch.specs.Machine.{Machine}
 use Rattle.tta_arch.specs.Over.{StandsOver}
 use Rattle.tta_machine.specs.Grammar.{IsMachineText}

@@ -7,10 +7,10 @@ use Rattle.std.specs.List.{list_any}
 use Rattle.tta_reading.specs.Steps.{◌>>=◌, ◌>>?◌, or_refuse, refuse_if}
 use Rattle.tta_ops.specs.Units.{Units, named}
 use Rattle.std.specs.Prelude.{get_or}
-use Rattle.tta_machine.specs.declared.reading.refusal.Refusal.{Refusal}
-use Rattle.tta_machine.specs.declared.reading.refusal.Refusal.TheVariants.{Unknown, Twice, Range, Missing}
-use Rattle.tta_machine.specs.declared.reading.draft.Named.TheVariants as place
-use Rattle.tta_machine.specs.declared.reading.draft.Draft.{Draft}
+use Rattle.tta_machine.specs.declared.refusal.Refusal.{Refusal}
+use Rattle.tta_machine.specs.declared.refusal.Refusal.TheVariants.{Unknown, Twice, Range, Missing}
+use Rattle.tta_machine.specs.declared.draft.Named.TheVariants as place
+use Rattle.tta_machine.specs.declared.draft.Draft.{Draft}
 use Rattle.tta_arch.specs.declared.parts.Unit.{Unit as OpUnit}
 use Rattle.tta_arch.specs.declared.parts.UnitOp.{UnitOp}
 use Rattle.tta_arch.specs.declared.parts.Op.{Op}

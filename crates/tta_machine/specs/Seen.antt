@@ -2,19 +2,19 @@
 use Rattle.std.specs.Prelude.{Option, Result, option_map}
 use Rattle.tta_reading.specs.Lines.{texts}
 use Rattle.tta_reading.specs.Steps.{◌>>=◌, or_refuse}
-use Rattle.tta_machine.specs.declared.reading.refusal.Refusal.{Refusal}
-use Rattle.tta_machine.specs.declared.reading.refusal.Refusal.TheVariants.{Syntax}
-use Rattle.tta_machine.specs.declared.reading.draft.Draft.{Draft}
-use Rattle.tta_machine.specs.declared.reading.forms.BusForm.{BusForm as BusWords}
-use Rattle.tta_machine.specs.declared.reading.forms.SocketForm.{SocketForm as SocketWords}
-use Rattle.tta_machine.specs.declared.reading.forms.FileForm.{FileForm as FileWords}
-use Rattle.tta_machine.specs.declared.reading.forms.ImmForm.{ImmForm as ImmWords}
-use Rattle.tta_machine.specs.declared.reading.forms.UnitForm.{UnitForm as UnitWords}
-use Rattle.tta_machine.specs.declared.reading.forms.OpForm.{OpForm as OpWords}
-use Rattle.tta_machine.specs.declared.reading.forms.GuardForm.{GuardForm as GuardWords}
-use Rattle.tta_machine.specs.declared.reading.forms.TemplateForm.{TemplateForm as TemplateWords}
-use Rattle.tta_machine.specs.declared.reading.forms.ControlForm.{ControlForm as ControlWords}
-use Rattle.tta_machine.specs.declared.reading.forms.SpaceForm.{SpaceForm as SpaceWords}
+use Rattle.tta_machine.specs.declared.refusal.Refusal.{Refusal}
+use Rattle.tta_machine.specs.declared.refusal.Refusal.TheVariants.{Syntax}
+use Rattle.tta_machine.specs.declared.draft.Draft.{Draft}
+use Rattle.tta_machine.specs.declared.forms.BusForm.{BusForm as BusWords}
+use Rattle.tta_machine.specs.declared.forms.SocketForm.{SocketForm as SocketWords}
+use Rattle.tta_machine.specs.declared.forms.FileForm.{FileForm as FileWords}
+use Rattle.tta_machine.specs.declared.forms.ImmForm.{ImmForm as ImmWords}
+use Rattle.tta_machine.specs.declared.forms.UnitForm.{UnitForm as UnitWords}
+use Rattle.tta_machine.specs.declared.forms.OpForm.{OpForm as OpWords}
+use Rattle.tta_machine.specs.declared.forms.GuardForm.{GuardForm as GuardWords}
+use Rattle.tta_machine.specs.declared.forms.TemplateForm.{TemplateForm as TemplateWords}
+use Rattle.tta_machine.specs.declared.forms.ControlForm.{ControlForm as ControlWords}
+use Rattle.tta_machine.specs.declared.forms.SpaceForm.{SpaceForm as SpaceWords}
 use Rattle.tta_machine.specs.Forms.{BusForm, SocketForm, FileForm, ImmForm, UnitForm, OpForm, GuardForm, TemplateForm, ControlForm, SpaceForm}
 
 -- what a line's words declare where they have the form of its kind

@@ -1,8 +1,8 @@
 -- A template of a line.
 use Rattle.std.specs.Prelude.{ℕ, [], ◌∷◌, ◌++◌, length}
 use Rattle.tta_arch.specs.declared.parts.Template.{Template}
-use Rattle.tta_machine.specs.declared.reading.draft.Draft.{Draft}
-use Rattle.tta_machine.specs.declared.reading.draft.Named.TheVariants as place
+use Rattle.tta_machine.specs.declared.draft.Draft.{Draft}
+use Rattle.tta_machine.specs.declared.draft.Named.TheVariants as place
 
 -- the draft with a template more, with its name and with the line where it stands
 abbrev pub with_template : Draft → (line : ℕ) → Template → Draft

@@ -5,15 +5,15 @@ use Rattle.tta_reading.specs.Lines.{Line, Lexeme, lines_of}
 use Rattle.tta_reading.specs.Words.{is_keyword}
 use Rattle.tta_reading.specs.Steps.{◌>>=◌, or_refuse, at_line}
 use Rattle.tta_ops.specs.Units.{Units}
-use Rattle.tta_machine.specs.declared.reading.refusal.Refusal.{Refusal}
-use Rattle.tta_machine.specs.declared.reading.refusal.Refusal.TheVariants.{Syntax, Missing, TooNarrow}
-use Rattle.tta_machine.specs.declared.reading.draft.Draft.{Draft}
+use Rattle.tta_machine.specs.declared.refusal.Refusal.{Refusal}
+use Rattle.tta_machine.specs.declared.refusal.Refusal.TheVariants.{Syntax, Missing, TooNarrow}
+use Rattle.tta_machine.specs.declared.draft.Draft.{Draft}
 use Rattle.tta_arch.specs.declared.parts.Template.{Template}
 use Rattle.tta_arch.specs.declared.parts.Control.{Control}
 use Rattle.tta_arch.specs.Machine.{Machine}
 use Rattle.tta_arch.specs.Fields.{taken_width}
-use Rattle.tta_machine.specs.declared.reading.refusal.MachineError.{MachineError}
-use Rattle.tta_machine.specs.declared.reading.refusal.MachineError.TheVariants as machine_error
+use Rattle.tta_machine.specs.declared.refusal.MachineError.{MachineError}
+use Rattle.tta_machine.specs.declared.refusal.MachineError.TheVariants as machine_error
 use Rattle.tta_machine.specs.Draft.{nothing, machine_of, code_of}
 use Rattle.tta_machine.specs.Forms.{bus_form, socket_form, file_form, imm_form, unit_form, op_form, guard_form, template_form, control_form, space_form}
 use Rattle.tta_machine.specs.Declarations.{take_bus, take_socket, take_file, take_imm, take_unit, take_op, take_guard, take_template, take_control, take_space}

@@ -7,8 +7,8 @@ use Rattle.tta_ops.specs.Units.{Units}
 use Rattle.tta_arch.specs.Machine.{Machine}
 use Rattle.tta_code.specs.declared.code.Code.{Code}
 use Rattle.tta_code.specs.Cycle.{State, Halted as HasHalted, next, next_of}
-use Rattle.tta_sim.specs.declared.answer.CycleStep.{CycleStep}
-use Rattle.tta_sim.specs.declared.answer.CycleStep.TheVariants.{Ran, Halted, Waiting, Fault}
+use Rattle.tta_sim.specs.declared.cycle_step.CycleStep.{CycleStep}
+use Rattle.tta_sim.specs.declared.cycle_step.CycleStep.TheVariants.{Ran, Halted, Waiting, Fault}
 use Rattle.tta_sim.specs.Held.{Held, Stands, GoesTo, IsAnswer, cycles_of}
 use Rattle.tta_profile.specs.Counts.{is_made}
 use Rattle.tta_play.specs.States.{out_text, outs_text, end_text}

@@ -2,8 +2,8 @@
 use Rattle.std.specs.Prelude.{◌≡◌, ℕ, Bool, true, false, List, [], ◌++◌, Option, None, Some, codes, decimal}
 use Rattle.tta_list.specs.Input.{left}
 use Rattle.tta_code.specs.Cycle.{State}
-use Rattle.tta_sim.specs.declared.answer.CycleStep.{CycleStep}
-use Rattle.tta_sim.specs.declared.answer.CycleStep.TheVariants.{Ran, Halted, Waiting, Fault}
+use Rattle.tta_sim.specs.declared.cycle_step.CycleStep.{CycleStep}
+use Rattle.tta_sim.specs.declared.cycle_step.CycleStep.TheVariants.{Ran, Halted, Waiting, Fault}
 use Rattle.tta_profile.specs.Counts.{is_made}
 use Rattle.tta_play.specs.States.{out_text, outs_text, end_text}
 

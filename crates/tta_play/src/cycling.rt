@@ -7,7 +7,7 @@ ghost use Rattle.tta_code.specs.Cycle.{State, next as next_state};
 ghost use Rattle.tta_sim.specs.Held.{Stands, IsRunOf};
 ghost use Rattle.tta_play.specs.States.{out_text, state_text, states_text};
 ghost use Rattle.tta_play.specs.Steps.{Goes, step_text, went_on};
-ghost use Rattle.tta_sim.specs.declared.answer.CycleStep.TheVariants.{Fault};
+ghost use Rattle.tta_sim.specs.declared.cycle_step.CycleStep.TheVariants.{Fault};
 
 use crate::state::push_state;
 use crate::words::push_number;

@@ -11,7 +11,7 @@ use Rattle.tta_reading.specs.Steps.{◌>>=◌, refuse_if, at_line}
 use Rattle.tta_ops.specs.Units.{Units}
 use Rattle.tta_program.specs.declared.step.Step.{Step}
 use Rattle.tta_program.specs.declared.step.Step.TheVariants as step
-use Rattle.tta_tac.specs.declared.reading.refusal.Refusal.TheVariants.{UnknownLabel, Arity}
+use Rattle.tta_tac.specs.declared.refusal.Refusal.TheVariants.{UnknownLabel, Arity}
 use Rattle.tta_tac.specs.Forms.{Operand, Named, Constant, Form, ProcForm, DataForm, LabelForm, CopyForm, ApplyForm, LoadForm, StoreForm, PutForm, TakeForm, IfForm, GotoForm, WhenForm, CallForm, ReturnForm, HaltForm, EndForm}
 use Rattle.tta_tac.specs.Draft.{Unlinked, Plain, IfTo, GotoTo, CallTo, Draft}
 use Rattle.tta_tac.specs.FirstPass.{numbered, with_var, var_number, with_operand, with_operands, src_of, srcs_of, vars_after, step_of}

@@ -17,7 +17,7 @@ use Rattle.tta_program.specs.declared.program.Proc.{Proc}
 use Rattle.tta_program.specs.Program.{Program}
 use Rattle.tta_program.specs.Rules.{IsProc, is_src, is_call, is_step}
 use Rattle.tta_program.specs.Over.{is_over}
-use Rattle.tta_tac.specs.declared.reading.refusal.Refusal.TheVariants.{UnknownLabel}
+use Rattle.tta_tac.specs.declared.refusal.Refusal.TheVariants.{UnknownLabel}
 use Rattle.tta_tac.specs.Draft.{CallTo, Draft}
 use Rattle.tta_tac.specs.FirstPass.{numbered, has_twice}
 use Rattle.tta_tac.specs.SecondPass.{params_of, link_step, link_steps, link_proc, link_procs}

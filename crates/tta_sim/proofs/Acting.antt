@@ -10,7 +10,7 @@ use Rattle.tta_arch.specs.Effects.{Kind, Jumps, Calls, Halts, KeptOperand, Writt
 use Rattle.tta_code.specs.declared.code.Instruction.{Instruction}
 use Rattle.tta_code.specs.Legal.{is_legal}
 use Rattle.tta_code.specs.Cycle.{Result', Pending as Underway, State, Running, Waiting, Fault, read_source, effects_of, fault_of, result_of, pending_after, takes_effect, lands, acts, or_fault, or_wait, waits, carry_out}
-use Rattle.tta_sim.specs.declared.answer.CycleStep.TheVariants.{Ran, Waiting as Waits, Fault as Faults}
+use Rattle.tta_sim.specs.declared.cycle_step.CycleStep.TheVariants.{Ran, Waiting as Waits, Fault as Faults}
 use Rattle.tta_sim.specs.declared.control.Control.{Control}
 use Rattle.tta_sim.specs.declared.control.Pending.{Pending}
 use Rattle.tta_sim.specs.declared.control.Phase.{Phase}
@@ -20,7 +20,7 @@ use Rattle.tta_sim.specs.declared.store.Store.{Store}
 use Rattle.tta_sim.specs.Places.{HasWritten, is_place}
 use Rattle.tta_sim.specs.Results.{Results, AreResultsOf, shown_by}
 use Rattle.tta_sim.specs.Moves.{Arrival, is_possible_slot, reads_of, arrivals_of, brought_of}
-use Rattle.tta_sim.specs.Starts.{starts_of, operand_with, fault_in, begun, puts, told_in}
+use Rattle.tta_sim.specs.Starts.{starts_of, operand_with, fault_in, begun, puts, acting_in}
 use Rattle.tta_sim.specs.Writing.{long_writes}
 use Rattle.tta_sim.specs.Controls.{underway, outcome_of, controlled, pending_with}
 use Rattle.tta_list.specs.Input.{IsFed, left}
@@ -31,7 +31,7 @@ use Rattle.tta_sim.proofs.Agreeing.{long_brought, brings_all}
 use Rattle.tta_sim.proofs.Starting.{reachable, outputs_apart, inputs_apart, put_once, all_there}
 use Rattle.tta_sim.proofs.Taking.{take_once, next_word}
 use Rattle.tta_sim.proofs.Wrote.{writes_all, starts_all}
-use Rattle.tta_sim.proofs.Faulting.{fault_same, told_all}
+use Rattle.tta_sim.proofs.Faulting.{fault_same, acting_all}
 
 -- ---- control
 
@@ -40,9 +40,9 @@ is_some_underway None = refl
 is_some_underway (Some p) = refl
 
 -- the control move that is under way after the cycle
-pending_same : (m : Machine) (s : State) (now : ℕ) (before : Option Underway) (told told' : Option (Kind × ℕ)) → now ≡ s.cycle + 1 → before ≡ s.pending
-    → told ≡ told' → pending_with now m.control.delay before told ≡ pending_after m s told'
-pending_same m s now before told told' cycle same tells = ap (pending_with now m.control.delay before) tells ∙ by told' where
+pending_same : (m : Machine) (s : State) (now : ℕ) (before : Option Underway) (acting acting' : Option (Kind × ℕ)) → now ≡ s.cycle + 1 → before ≡ s.pending
+    → acting ≡ acting' → pending_with now m.control.delay before acting ≡ pending_after m s acting'
+pending_same m s now before acting acting' cycle same controls = ap (pending_with now m.control.delay before) controls ∙ by acting' where
   by : (o : Option (Kind × ℕ)) → pending_with now m.control.delay before o ≡ pending_after m s o
   by None = same
   by (Some c) =
@@ -149,7 +149,7 @@ module _ (u : Units) (m : Machine) (rules : IsMachine m) (i : Instruction) (lega
 
   -- a cycle without a fault, which does not wait
   module _ (none : fault_in m store.places r (is_some control.pending) i.moves ≡ None) (running : control.phase ≡ phase.Running)
-      (after : Store) (r' : Results) (control' : Control) (arrivals' : List Arrival) (starts' : List Start) (word : Option ℕ) (told : Option (Kind × ℕ))
+      (after : Store) (r' : Results) (control' : Control) (arrivals' : List Arrival) (starts' : List Start) (word : Option ℕ) (acting : Option (Kind × ℕ))
       (next : Option ℕ) (took : Bool) (fed : IsFed s.rest next) (took_is : took ≡ list_any takes starts') (goes_on : (took && is_none next) ≡ false)
       (arrivals_are : arrivals' ≡ arrivals) (starts_are : starts' ≡ starts_of m store.places arrivals') where
     starts_ts : starts' ≡ ts
@@ -189,17 +189,17 @@ module _ (u : Units) (m : Machine) (rules : IsMachine m) (i : Instruction) (lega
         → after.memory.items ≡ fold store_data store.memory.items starts'
         → after.frame.items ≡ fold store_frame store.frame.items starts'
         → word ≡ option_map (λ t. t.word) (find puts starts')
-        → told ≡ told_in arrivals'
+        → acting ≡ acting_in arrivals'
         → ((t : State) → t.cycle ≡ after.cycle
-        → let p = pending_with after.cycle m.control.delay (option_map underway control.pending) told in
+        → let p = pending_with after.cycle m.control.delay (option_map underway control.pending) acting in
         controlled t control' ≡ lands (record t { pc = control.pc + 1; pending = p; outcome = outcome_of after.cycle control.phase }) p)
         → IsCarried r' (held_of lines after control') s (carry_out u m s (Some i)) (Ran word took)
-    carried has_written have_results cycle memory frame puts_it tells advances =
+    carried has_written have_results cycle memory frame puts_it controls advances =
         let now : after.cycle ≡ s.cycle + 1 = cycle ∙ ap (λ n. n + 1) same.cycle in
-        let p = pending_with after.cycle m.control.delay (option_map underway control.pending) told in
-        let tells_all : told ≡ first_some control_of bs =
-        tells ∙ ap told_in arrivals_are ∙ sym (told_all m (map brought_of arrivals) i.long) ∙ ap (first_some control_of) (sym brought) in
-        let p_is : p ≡ pending = pending_same m s after.cycle (option_map underway control.pending) told (first_some control_of bs) now same.pending tells_all in
+        let p = pending_with after.cycle m.control.delay (option_map underway control.pending) acting in
+        let controls_all : acting ≡ first_some control_of bs =
+        controls ∙ ap acting_in arrivals_are ∙ sym (acting_all m (map brought_of arrivals) i.long) ∙ ap (first_some control_of) (sym brought) in
+        let p_is : p ≡ pending = pending_same m s after.cycle (option_map underway control.pending) acting (first_some control_of bs) now same.pending controls_all in
         let pc : control.pc ≡ s.pc = same.pc in
         let goes : State = record after_all { pc = control.pc + 1; pending = p; outcome = outcome_of after.cycle control.phase } in
         let goes_is : goes ≡ after_all =
@@ -257,17 +257,17 @@ module _ (u : Units) (m : Machine) (rules : IsMachine m) (i : Instruction) (lega
         → after.memory.items ≡ fold store_data store.memory.items starts'
         → after.frame.items ≡ fold store_frame store.frame.items starts'
         → word ≡ option_map (λ t. t.word) (find puts starts')
-        → told ≡ told_in arrivals'
+        → acting ≡ acting_in arrivals'
         → ((t : State) → t.cycle ≡ now
-        → let p = pending_with now delay (option_map underway control.pending) told in
+        → let p = pending_with now delay (option_map underway control.pending) acting in
         controlled t control' ≡ lands (record t { pc = control.pc + 1; pending = p; outcome = outcome_of now control.phase }) p)
         → IsCarried r' (held_of lines after control') s (carry_out u m s (Some i)) (Ran word took)
-    carried_at back' delay now back_is delay_is now_is has_written have_results cycle memory frame puts_it tells advances =
+    carried_at back' delay now back_is delay_is now_is has_written have_results cycle memory frame puts_it controls advances =
         let address : back' ≡ control.pc + 1 + m.control.delay = back_is ∙ ap (λ n. control.pc + 1 + n) delay_is in
         carried
         (subst (λ n. (ws : Written) → HasWritten store.places ws → HasWritten after.places (filter_map (write_of m n) (map brought_of arrivals') ++ (long_writes m i.long ++ ws))) address has_written)
-        have_results cycle memory frame puts_it tells
-        (subst (λ d. (t : State) → t.cycle ≡ after.cycle → let p = pending_with after.cycle d (option_map underway control.pending) told in
+        have_results cycle memory frame puts_it controls
+        (subst (λ d. (t : State) → t.cycle ≡ after.cycle → let p = pending_with after.cycle d (option_map underway control.pending) acting in
         controlled t control' ≡ lands (record t { pc = control.pc + 1; pending = p; outcome = outcome_of after.cycle control.phase }) p) delay_is
-        (subst (λ n. (t : State) → t.cycle ≡ n → let p = pending_with n delay (option_map underway control.pending) told in
+        (subst (λ n. (t : State) → t.cycle ≡ n → let p = pending_with n delay (option_map underway control.pending) acting in
         controlled t control' ≡ lands (record t { pc = control.pc + 1; pending = p; outcome = outcome_of n control.phase }) p) now_is advances))

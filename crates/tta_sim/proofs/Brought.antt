@@ -20,11 +20,11 @@ use Rattle.tta_sim.specs.declared.lines.Write.{Write}
 use Rattle.tta_sim.specs.Places.{number_of, word_at, is_place}
 use Rattle.tta_sim.specs.Results.{Results, shown_by}
 use Rattle.tta_sim.specs.Moves.{Arrival, reads_of, lacks_register, is_reachable, arrival_of, brought_of}
-use Rattle.tta_sim.specs.Starts.{is_operand_of, operand_with, start_by, triggered, is_stopped, told_in, AreReachable}
+use Rattle.tta_sim.specs.Starts.{is_operand_of, operand_with, start_by, triggered, is_stopped, acting_in, AreReachable}
 use Rattle.tta_sim.specs.Writing.{long_writes, is_long_place, numbered, numbered_one}
-use Rattle.tta_sim.specs.Decoded.{reading_of, write_decoded, start_decoded, tell_decoded, long_decoded, has_operation}
-use Rattle.tta_sim.specs.Lines.{is_unread, write_brought, start_brought, tell_brought, operand_in, cannot_start}
-use Rattle.tta_sim.proofs.Lining.{filter_map-twice, filter_map-map, map-filter_map, filter_map-same, first-filter_map, first-map, first-same, any-filter_map, unread_same, write_same, start_same, tell_same, parts_same}
+use Rattle.tta_sim.specs.Decoded.{reading_of, write_decoded, start_decoded, control_decoded, long_decoded, has_operation}
+use Rattle.tta_sim.specs.Lines.{is_unread, write_brought, start_brought, control_brought, operand_in, cannot_start}
+use Rattle.tta_sim.proofs.Lining.{filter_map-twice, filter_map-map, map-filter_map, filter_map-same, first-filter_map, first-map, first-same, any-filter_map, unread_same, write_same, start_same, control_same, parts_same}
 
 -- ---- tests of lists
 
@@ -73,28 +73,28 @@ module _ (m : Machine) (back : ℕ) (places : List (Option ℕ)) (r : Results) w
   unread_starts ms = list_any (λ s. is_unread places (shown_by r) s.reading) (filter_map (start_decoded m) ms)
 
   -- whether any of these moves that goes to control's trigger port cannot be read
-  abbrev pub unread_tells : List Move → Bool
-  unread_tells ms = list_any (λ t. is_unread places (shown_by r) t.reading) (filter_map tell_decoded ms)
+  abbrev pub unread_controls : List Move → Bool
+  unread_controls ms = list_any (λ t. is_unread places (shown_by r) t.reading) (filter_map control_decoded ms)
 
   parts_all : (ms : List Move) → AllByRecursion (λ v. has_operation m v ≡ true) ms → AllByRecursion (λ v. unread v
       ≡ (option_map_or (λ w. is_unread places (shown_by r) w.reading) (write_decoded m back v) false
       || (option_map_or (λ s. is_unread places (shown_by r) s.reading) (start_decoded m v) false
-      || option_map_or (λ t. is_unread places (shown_by r) t.reading) (tell_decoded v) false))) ms
+      || option_map_or (λ t. is_unread places (shown_by r) t.reading) (control_decoded v) false))) ms
   parts_all [] there = tt
   parts_all (v ∷ ms) there = (parts_same places (shown_by r) m back v there.0, parts_all ms there.1)
 
   -- they cannot be read where some of what they are decoded into cannot
-  pub unread_parts : (ms : List Move) → AllByRecursion (λ v. has_operation m v ≡ true) ms → list_any unread ms ≡ (unread_writes ms || (unread_starts ms || unread_tells ms))
+  pub unread_parts : (ms : List Move) → AllByRecursion (λ v. has_operation m v ≡ true) ms → list_any unread ms ≡ (unread_writes ms || (unread_starts ms || unread_controls ms))
   unread_parts ms there =
       any_three unread (λ v. option_map_or (λ w. is_unread places (shown_by r) w.reading) (write_decoded m back v) false)
       (λ v. option_map_or (λ s. is_unread places (shown_by r) s.reading) (start_decoded m v) false)
-      (λ v. option_map_or (λ t. is_unread places (shown_by r) t.reading) (tell_decoded v) false) ms (parts_all ms there)
+      (λ v. option_map_or (λ t. is_unread places (shown_by r) t.reading) (control_decoded v) false) ms (parts_all ms there)
       ∙ ap (λ b. b || (list_any (λ v. option_map_or (λ s. is_unread places (shown_by r) s.reading) (start_decoded m v) false) ms
-      || list_any (λ v. option_map_or (λ t. is_unread places (shown_by r) t.reading) (tell_decoded v) false) ms))
+      || list_any (λ v. option_map_or (λ t. is_unread places (shown_by r) t.reading) (control_decoded v) false) ms))
       (sym (any-filter_map (λ w. is_unread places (shown_by r) w.reading) (write_decoded m back) ms))
-      ∙ ap (λ b. unread_writes ms || (b || list_any (λ v. option_map_or (λ t. is_unread places (shown_by r) t.reading) (tell_decoded v) false) ms))
+      ∙ ap (λ b. unread_writes ms || (b || list_any (λ v. option_map_or (λ t. is_unread places (shown_by r) t.reading) (control_decoded v) false) ms))
       (sym (any-filter_map (λ s. is_unread places (shown_by r) s.reading) (start_decoded m) ms))
-      ∙ ap (λ b. unread_writes ms || (unread_starts ms || b)) (sym (any-filter_map (λ t. is_unread places (shown_by r) t.reading) tell_decoded ms))
+      ∙ ap (λ b. unread_writes ms || (unread_starts ms || b)) (sym (any-filter_map (λ t. is_unread places (shown_by r) t.reading) control_decoded ms))
 
   -- ---- what is brought
 
@@ -138,10 +138,10 @@ module _ (m : Machine) (back : ℕ) (places : List (Option ℕ)) (r : Results) w
       each [] = tt
       each (v ∷ ms) = (start_same places (shown_by r) m operand v, each ms)
 
-  pub tells_in : (ms : List Move) → first_some (tell_brought places (shown_by r)) (filter_map tell_decoded ms) ≡ told_in (filter_map (arrival_of reads) ms)
-  tells_in ms =
-      first-filter_map (tell_brought places (shown_by r)) tell_decoded ms
-      ∙ first-same (λ v. option_and_then (tell_brought places (shown_by r)) (tell_decoded v)) (λ v. option_and_then (λ a. control_of (brought_of a)) (arrival_of reads v)) ms (tell_same places (shown_by r))
+  pub controls_in : (ms : List Move) → first_some (control_brought places (shown_by r)) (filter_map control_decoded ms) ≡ acting_in (filter_map (arrival_of reads) ms)
+  controls_in ms =
+      first-filter_map (control_brought places (shown_by r)) control_decoded ms
+      ∙ first-same (λ v. option_and_then (control_brought places (shown_by r)) (control_decoded v)) (λ v. option_and_then (λ a. control_of (brought_of a)) (arrival_of reads v)) ms (control_same places (shown_by r))
       ∙ sym (first-filter_map (λ a. control_of (brought_of a)) (arrival_of reads) ms)
       ∙ sym (first-map control_of brought_of (filter_map (arrival_of reads) ms))
 

@@ -8,7 +8,7 @@ use Rattle.tta_arch.specs.Machine.{Machine}
 use Rattle.tta_code.specs.declared.code.Move.{Move}
 use Rattle.tta_code.specs.declared.code.Instruction.{Instruction}
 use Rattle.tta_sim.specs.declared.decoded.Line.{Line}
-use Rattle.tta_sim.specs.Decoded.{write_decoded, start_decoded, tell_decoded, line_of, lines_from, with_move}
+use Rattle.tta_sim.specs.Decoded.{write_decoded, start_decoded, control_decoded, line_of, lines_from, with_move}
 use Rattle.tta_sim.proofs.Lists.{filter_map-one}
 
 -- what a function gives of the moves that there are
@@ -38,7 +38,7 @@ abbrev pub moves_noted : Machine → (back : ℕ) → List (Option Move) → Lin
 moves_noted m back slots = record {
   writes = of_slots (write_decoded m back) slots;
   starts = of_slots (start_decoded m) slots;
-  tells = of_slots tell_decoded slots;
+  controls = of_slots control_decoded slots;
   quiet = true;
 }
 
@@ -50,12 +50,12 @@ moves-more m back slots i d old new within before added =
     of_slots-more (write_decoded m back) slots i d _ _ within refl refl in
     let starts : of_slots (start_decoded m) (take i slots) ++ option_to_list (option_and_then (start_decoded m) slot) ≡ of_slots (start_decoded m) (take (i + 1) slots) =
     of_slots-more (start_decoded m) slots i d _ _ within refl refl in
-    let tells : of_slots tell_decoded (take i slots) ++ option_to_list (option_and_then tell_decoded slot) ≡ of_slots tell_decoded (take (i + 1) slots) =
-    of_slots-more tell_decoded slots i d _ _ within refl refl in
+    let controls : of_slots control_decoded (take i slots) ++ option_to_list (option_and_then control_decoded slot) ≡ of_slots control_decoded (take (i + 1) slots) =
+    of_slots-more control_decoded slots i d _ _ within refl refl in
     added ∙ ap (λ line. with_move m back line slot) before
     ∙ ap (λ list. record (with_move m back (moves_noted m back (take i slots)) slot) { writes = list }) writes
     ∙ ap (λ list. record (with_move m back (moves_noted m back (take i slots)) slot) { writes = of_slots (write_decoded m back) (take (i + 1) slots); starts = list }) starts
-    ∙ ap (λ list. record (moves_noted m back (take (i + 1) slots)) { tells = list }) tells
+    ∙ ap (λ list. record (moves_noted m back (take (i + 1) slots)) { controls = list }) controls
 
 lines-append : (m : Machine) (back : ℕ) (is : List Instruction) (i : Instruction) → lines_from m back (is ++ i ∷ []) ≡ lines_from m back is ++ line_of m (back + length is) i ∷ []
 lines-append m back [] i = ap (λ n. line_of m n i ∷ []) (omega arith)

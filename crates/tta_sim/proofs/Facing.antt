@@ -15,15 +15,15 @@ use Rattle.tta_sim.specs.declared.lines.Missing.TheVariants as missing
 use Rattle.tta_sim.specs.declared.lines.Write.{Write}
 use Rattle.tta_sim.specs.Results.{Results, HasUnits, shown_by}
 use Rattle.tta_sim.specs.Moves.{reads_of, effects_in, arrivals_of, brought_of}
-use Rattle.tta_sim.specs.Starts.{start_by, starts_of, fault_in, told_in, AreFitting, AreReachable}
+use Rattle.tta_sim.specs.Starts.{start_by, starts_of, fault_in, acting_in, AreFitting, AreReachable}
 use Rattle.tta_sim.specs.Writing.{long_writes, numbered, ArePlaces}
 use Rattle.tta_sim.specs.Decoded.{line_of}
-use Rattle.tta_sim.specs.Lines.{is_unread, write_brought, start_brought, tell_brought, operand_in, cannot_start, is_ready}
+use Rattle.tta_sim.specs.Lines.{is_unread, write_brought, start_brought, control_brought, operand_in, cannot_start, is_ready}
 use Rattle.tta_sim.specs.Unset.{lacks_for}
 use Rattle.tta_sim.proofs.Possible.{possible, long_possible, operations_there}
 use Rattle.tta_sim.proofs.Starting.{reachable, are_fitting}
 use Rattle.tta_sim.proofs.Fitting.{writes_placed}
-use Rattle.tta_sim.proofs.Brought.{starts_in, tells_in}
+use Rattle.tta_sim.proofs.Brought.{starts_in, controls_in}
 use Rattle.tta_sim.proofs.Readying.{ready_is, all_unread, could_read, brought_is, starts_are, fault_place, fault_port, fault_start, fault_control, writes_read, starts_read}
 
 module _ (m : Machine) (rules : IsMachine m) (i : Instruction) (legal : is_legal m i ≡ true) (back : ℕ) (l : Line) (decoded : l ≡ line_of m back i)
@@ -122,8 +122,8 @@ module _ (m : Machine) (rules : IsMachine m) (i : Instruction) (legal : is_legal
             fault_control m back places r i (operations_there m rules i legal) rules.limits.units reached (long_possible m rules i.long) p never no_place no_port (turned _ can false cannot_same could)
 
   -- its control move is that of its moves
-  pub told_same : first_some (tell_brought places (shown_by r)) l.tells ≡ told_in (arrivals_of (reads_of places (shown_by r)) i.moves)
-  told_same = ap (λ x. first_some (tell_brought places (shown_by r)) x.tells) decoded ∙ tells_in m back places r (moves_of i)
+  pub acting_same : first_some (control_brought places (shown_by r)) l.controls ≡ acting_in (arrivals_of (reads_of places (shown_by r)) i.moves)
+  acting_same = ap (λ x. first_some (control_brought places (shown_by r)) x.controls) decoded ∙ controls_in m back places r (moves_of i)
 
   -- its writes have places
   pub placed : ArePlaces (filter_map (write_of m back) (map brought_of (arrivals_of (reads_of places (shown_by r)) i.moves)) ++ long_writes m i.long)

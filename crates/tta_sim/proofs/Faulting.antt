@@ -13,7 +13,7 @@ use Rattle.tta_code.specs.Cycle.{State, first_fault, fault_of, clashes, reads_un
 use Rattle.tta_sim.specs.Places.{HasWritten}
 use Rattle.tta_sim.specs.Results.{Results, AreResultsOf, shown_by, is_due}
 use Rattle.tta_sim.specs.Moves.{is_possible_slot, reads_of, effects_in, arrivals_of, brought_of}
-use Rattle.tta_sim.specs.Starts.{is_stopped, clashes_with, starts_of, fault_in, told_in}
+use Rattle.tta_sim.specs.Starts.{is_stopped, clashes_with, starts_of, fault_in, acting_in}
 use Rattle.tta_sim.proofs.Agreeing.{long_brought, lacks_all, ports_all}
 
 -- ---- control
@@ -26,9 +26,9 @@ first_some-append f (x ∷ xs) ys =
       | Some y ↦ refl
     ]
 
-long_tells : (m : Machine) (long : Option Long) → first_some control_of (long_brought m long) ≡ None
-long_tells m None = refl
-long_tells m (Some l) = by (slice_get m.templates l.template) where
+long_controls : (m : Machine) (long : Option Long) → first_some control_of (long_brought m long) ≡ None
+long_controls m None = refl
+long_controls m (Some l) = by (slice_get m.templates l.template) where
   by : (o : Option Template) → first_some control_of (option_map_or (λ t. (Imm t.imm t.reg, l.value) ∷ []) o []) ≡ None
   by None = refl
   by (Some t) = refl
@@ -38,9 +38,9 @@ or_else_none None = refl
 or_else_none (Some x) = refl
 
 -- the control move of the moves and the long immediate is that of the moves
-pub told_all : (m : Machine) (bs : List Brought) (long : Option Long) → first_some control_of (bs ++ long_brought m long) ≡ first_some control_of bs
-told_all m bs long =
-    first_some-append control_of bs (long_brought m long) ∙ ap (or_else (first_some control_of bs)) (long_tells m long) ∙ or_else_none (first_some control_of bs)
+pub acting_all : (m : Machine) (bs : List Brought) (long : Option Long) → first_some control_of (bs ++ long_brought m long) ≡ first_some control_of bs
+acting_all m bs long =
+    first_some-append control_of bs (long_brought m long) ∙ ap (or_else (first_some control_of bs)) (long_controls m long) ∙ or_else_none (first_some control_of bs)
 
 -- ---- results
 
@@ -71,19 +71,19 @@ module _ (places : List (Option ℕ)) (r : Results) (s : State) (m : Machine) (i
       → fault_in m places r is_pending i.moves ≡ fault_of s (effects_of m i) bs ts
   fault_same bs ts brought starts fit =
       let arrivals = arrivals_of (reads_of places (shown_by r)) i.moves in
-      let told : told_in arrivals ≡ first_some control_of bs = sym (told_all m (map brought_of arrivals) i.long) ∙ ap (first_some control_of) (sym brought) in
+      let acting : acting_in arrivals ≡ first_some control_of bs = sym (acting_all m (map brought_of arrivals) i.long) ∙ ap (first_some control_of) (sym brought) in
       let registers = lacks_all places r s (length m.units) written results size m i possible in
       let ports = ports_all places r s (length m.units) written results size m i possible in
       let faults : Bool → Bool → List Start → (List Start → Bool) → Option (Kind × ℕ) → Bool → Option ℕ = λ one two list clash control under_way.
       first_fault ((one, 60) ∷ (two, 61) ∷ (list_any lacks_operand list, 62) ∷ (clash list, 63) ∷ (is_some control && under_way, 64) ∷ []) in
       let before = list_any (clashes_with r) in
       let after = list_any (clashes s) in
-      ap (λ b. faults b (list_any (has_unset (reads_of places (shown_by r)) is_port) (effects_in i.moves)) (starts_of m places arrivals) before (told_in arrivals) is_pending) registers
-      ∙ ap (λ b. faults (list_any (reads_unset_register s) (effects_of m i)) b (starts_of m places arrivals) before (told_in arrivals) is_pending) ports
-      ∙ ap (λ list. faults (list_any (reads_unset_register s) (effects_of m i)) (list_any (reads_unset_port s) (effects_of m i)) list before (told_in arrivals) is_pending) (sym starts)
-      ∙ ap (λ b. faults (list_any (reads_unset_register s) (effects_of m i)) (list_any (reads_unset_port s) (effects_of m i)) ts (λ list. b) (told_in arrivals) is_pending)
+      ap (λ b. faults b (list_any (has_unset (reads_of places (shown_by r)) is_port) (effects_in i.moves)) (starts_of m places arrivals) before (acting_in arrivals) is_pending) registers
+      ∙ ap (λ b. faults (list_any (reads_unset_register s) (effects_of m i)) b (starts_of m places arrivals) before (acting_in arrivals) is_pending) ports
+      ∙ ap (λ list. faults (list_any (reads_unset_register s) (effects_of m i)) (list_any (reads_unset_port s) (effects_of m i)) list before (acting_in arrivals) is_pending) (sym starts)
+      ∙ ap (λ b. faults (list_any (reads_unset_register s) (effects_of m i)) (list_any (reads_unset_port s) (effects_of m i)) ts (λ list. b) (acting_in arrivals) is_pending)
       (clashes_same r s results ts fit)
-      ∙ ap (λ o. faults (list_any (reads_unset_register s) (effects_of m i)) (list_any (reads_unset_port s) (effects_of m i)) ts after o is_pending) told
+      ∙ ap (λ o. faults (list_any (reads_unset_register s) (effects_of m i)) (list_any (reads_unset_port s) (effects_of m i)) ts after o is_pending) acting
       ∙ ap (λ b. faults (list_any (reads_unset_register s) (effects_of m i)) (list_any (reads_unset_port s) (effects_of m i)) ts after (first_some control_of bs) b) pending
 
 -- ---- each fault

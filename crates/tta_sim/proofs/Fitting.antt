@@ -26,8 +26,8 @@ use Rattle.tta_sim.specs.Places.{is_place, number_of}
 use Rattle.tta_sim.specs.Moves.{Arrival, is_askable, is_readable, is_reachable, is_possible, is_possible_slot, brought_of}
 use Rattle.tta_sim.specs.Starts.{AreReachable}
 use Rattle.tta_sim.specs.Writing.{is_long_place, long_writes, ArePlaces}
-use Rattle.tta_sim.specs.Decoded.{source_decoded, reading_of, write_decoded, start_decoded, tell_decoded, long_decoded, line_of}
-use Rattle.tta_sim.specs.Lines.{is_source_there, is_reading_there, is_write_there, is_start_there, is_tell_there, IsLineThere}
+use Rattle.tta_sim.specs.Decoded.{source_decoded, reading_of, write_decoded, start_decoded, control_decoded, long_decoded, line_of}
+use Rattle.tta_sim.specs.Lines.{is_source_there, is_reading_there, is_write_there, is_start_there, is_control_there, IsLineThere}
 use Rattle.tta_sim.proofs.Rows.{number_within}
 use Rattle.tta_sim.proofs.Lists.{length-filter_map}
 use Rattle.tta_sim.proofs.Possible.{possible, long_possible}
@@ -108,9 +108,9 @@ module _ (m : Machine) (units : ℕ) (few : units ≤ 32) where
     by dest.Call there = refl
     by dest.Halt there = refl
 
-  tell_there : (v : Move) → is_possible units v ≡ true → option_map_or (is_tell_there units) (tell_decoded v) true ≡ true
-  tell_there v possible = by v.dst where
-    by : (d : Dest) → option_map_or (is_tell_there units) (tell_decoded (record v { dst = d })) true ≡ true
+  control_there : (v : Move) → is_possible units v ≡ true → option_map_or (is_control_there units) (control_decoded v) true ≡ true
+  control_there v possible = by v.dst where
+    by : (d : Dest) → option_map_or (is_control_there units) (control_decoded (record v { dst = d })) true ≡ true
     by (dest.Reg file index) = refl
     by (dest.Operand unit) = refl
     by (dest.Trigger unit op) = refl
@@ -158,9 +158,9 @@ line_there m rules back i legal =
       starts =
           all_filter_map (is_start_there units) (start_decoded m) ms
           (each m units fits.units (λ v. option_map_or (is_start_there units) (start_decoded m v) true) (start_there m units fits.units) ms all);
-      tells =
-          all_filter_map (is_tell_there units) tell_decoded ms
-          (each m units fits.units (λ v. option_map_or (is_tell_there units) (tell_decoded v) true) (tell_there m units fits.units) ms all);
+      controls =
+          all_filter_map (is_control_there units) control_decoded ms
+          (each m units fits.units (λ v. option_map_or (is_control_there units) (control_decoded v) true) (control_there m units fits.units) ms all);
     }
 
 -- ---- places

@@ -12,8 +12,8 @@ use Rattle.tta_code.specs.declared.code.Instruction.{Instruction}
 use Rattle.tta_code.specs.declared.code.Code.{Code}
 use Rattle.tta_code.specs.Legal.{is_legal, IsLegalCode}
 use Rattle.tta_code.specs.Cycle.{State, Running, Halted, Fault, next, start, carry_out}
-use Rattle.tta_sim.specs.declared.answer.CycleStep.{CycleStep}
-use Rattle.tta_sim.specs.declared.answer.CycleStep.TheVariants.{Ran, Halted as HadHalted, Waiting as Waits, Fault as Faults}
+use Rattle.tta_sim.specs.declared.cycle_step.CycleStep.{CycleStep}
+use Rattle.tta_sim.specs.declared.cycle_step.CycleStep.TheVariants.{Ran, Halted as HadHalted, Waiting as Waits, Fault as Faults}
 use Rattle.tta_sim.specs.declared.control.Control.{Control}
 use Rattle.tta_sim.specs.declared.control.Phase.TheVariants as phase
 use Rattle.tta_sim.specs.declared.decoded.Line.{Line}

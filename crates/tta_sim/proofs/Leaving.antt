@@ -11,7 +11,7 @@ use Rattle.tta_sim.specs.declared.decoded.DecodedWrite.{DecodedWrite}
 use Rattle.tta_sim.specs.declared.decoded.Line.{Line}
 use Rattle.tta_sim.specs.declared.lines.Write.{Write}
 use Rattle.tta_sim.specs.declared.store.Store.{Store}
-use Rattle.tta_sim.specs.declared.store.Doings.{Doings}
+use Rattle.tta_sim.specs.declared.store.CycleBuffers.{CycleBuffers}
 use Rattle.tta_sim.specs.Results.{Results, shown_by}
 use Rattle.tta_sim.specs.Moves.{Arrival, reads_of, arrivals_of, brought_of}
 use Rattle.tta_sim.specs.declared.dues.Due.{Due}
@@ -34,18 +34,18 @@ module _ (m : Machine) (i : Instruction) (old : Store) (r : Results) where
   starts = starts_of m old.places arrivals
 
   -- What an instruction writes and starts.
-  pub record IsLeft (back : ℕ) (doings : Doings) : Type 0 where
-    pub writes : doings.writes ≡ numbered (filter_map (write_of m back) (map brought_of arrivals) ++ long_writes m i.long)
-    pub starts_are : doings.starts ≡ starts
+  pub record IsLeft (back : ℕ) (buffers : CycleBuffers) : Type 0 where
+    pub writes : buffers.writes ≡ numbered (filter_map (write_of m back) (map brought_of arrivals) ++ long_writes m i.long)
+    pub starts_are : buffers.starts ≡ starts
 
   -- where it gives no fault, its line leaves just that
-  pub is_left : (back : ℕ) (l : Line) (doings : Doings) → IsDecoded m back i l → (p : Bool) → fault_in m old.places r p i.moves ≡ None
-      → AreLeft old r l doings → IsLeft back doings
-  is_left back l doings decoded p none has =
+  pub is_left : (back : ℕ) (l : Line) (buffers : CycleBuffers) → IsDecoded m back i l → (p : Bool) → fault_in m old.places r p i.moves ≡ None
+      → AreLeft old r l buffers → IsLeft back buffers
+  is_left back l buffers decoded p none has =
       let ready : is_ready old.places r p l ≡ true = ready_same m decoded.rules i decoded.legal back l decoded.line old.places r p ∙ ap is_none none in
       record {
         writes =
-            writes_same m decoded.rules i decoded.legal back l decoded.line old.places r p (is_ready old.places r p l) refl ready doings.writes (λ yes'. has.writes);
+            writes_same m decoded.rules i decoded.legal back l decoded.line old.places r p (is_ready old.places r p l) refl ready buffers.writes (λ yes'. has.writes);
         starts_are =
             has.starts ∙ starts_same m decoded.rules i decoded.legal back l decoded.line old.places r p (is_ready old.places r p l) refl ready;
       }
@@ -67,25 +67,25 @@ written_within units store r l there = each l.writes there.writes where
     by (Some word) within rest = (within, rest)
 
 -- the results of the operations that are left can begin at once
-pub left_can : (u : Units) (next : ℕ) (store : Store) (r : Results) (l : Line) (doings : Doings) (dues : List Due) → FitsLine store r l → AreLeft store r l doings
-    → dues ≡ filter_map (shown_from u next store) doings.starts → CanAllBegin r dues
-left_can u next store r l doings dues fits left are =
+pub left_can : (u : Units) (next : ℕ) (store : Store) (r : Results) (l : Line) (buffers : CycleBuffers) (dues : List Due) → FitsLine store r l → AreLeft store r l buffers
+    → dues ≡ filter_map (shown_from u next store) buffers.starts → CanAllBegin r dues
+left_can u next store r l buffers dues fits left are =
     let fit = subst (AreFitting r) (sym left.starts) (fits (operand_in store.places (writes_in store r l))) in
-    subst (CanAllBegin r) (sym are) (dues_can u store.memory.items store.frame.items next r doings.starts fit left.free)
+    subst (CanAllBegin r) (sym are) (dues_can u store.memory.items store.frame.items next r buffers.starts fit left.free)
 
 -- no more operations are left than the line has
-pub left_few : (units : ℕ) (store : Store) (r : Results) (l : Line) (doings : Doings) (ts : List Start) → IsLineThere units l → AreLeft store r l doings
-    → ts ≡ doings.starts → length ts ≤ 16
-left_few units store r l doings ts there left same =
+pub left_few : (units : ℕ) (store : Store) (r : Results) (l : Line) (buffers : CycleBuffers) (ts : List Start) → IsLineThere units l → AreLeft store r l buffers
+    → ts ≡ buffers.starts → length ts ≤ 16
+left_few units store r l buffers ts there left same =
     let brought = start_brought store.places (shown_by r) (operand_in store.places (writes_in store r l)) in
     omega (arith, ap length (same ∙ left.starts), length-filter_map brought l.starts, there.few_starts)
 
 -- ---- quiet lines
 
 -- what a quiet line leaves, with its operations
-abbrev pub with_starts : Store → Results → Line → Doings → Doings
-with_starts store r l doings = record doings { starts = starts_in store r (writes_in store r l) l.starts }
+abbrev pub with_starts : Store → Results → Line → CycleBuffers → CycleBuffers
+with_starts store r l buffers = record buffers { starts = starts_in store r (writes_in store r l) l.starts }
 
 -- the operations are left of which the results are
-pub due_left : (u : Units) (store : Store) (r : Results) (l : Line) (doings : Doings) → AreDue u store r l doings → AreLeft store r l (with_starts store r l doings)
-due_left u store r l doings due = record { writes = due.writes; starts = refl; free = due.free }
+pub due_left : (u : Units) (store : Store) (r : Results) (l : Line) (buffers : CycleBuffers) → AreDue u store r l buffers → AreLeft store r l (with_starts store r l buffers)
+due_left u store r l buffers due = record { writes = due.writes; starts = refl; free = due.free }

@@ -18,8 +18,8 @@ use Rattle.tta_sim.specs.declared.lines.Write.{Write}
 use Rattle.tta_sim.specs.Moves.{Arrival, reads_of, lacks_register, arrival_of, brought_of}
 use Rattle.tta_sim.specs.Places.{number_of}
 use Rattle.tta_sim.specs.Starts.{start_by, started}
-use Rattle.tta_sim.specs.Decoded.{source_decoded, reading_of, write_decoded, start_decoded, tell_decoded, has_operation}
-use Rattle.tta_sim.specs.Lines.{source_word, is_let, word_read, is_unread, write_brought, start_brought, tell_brought}
+use Rattle.tta_sim.specs.Decoded.{source_decoded, reading_of, write_decoded, start_decoded, control_decoded, has_operation}
+use Rattle.tta_sim.specs.Lines.{source_word, is_let, word_read, is_unread, write_brought, start_brought, control_brought}
 use Rattle.tta_sim.specs.Writing.{numbered_one}
 
 -- ---- lists
@@ -219,27 +219,27 @@ module _ (places : List (Option ℕ)) (shown : ℕ → Option ℕ) where
       by dest.Halt = none dest.Halt (λ word. refl) (moved reads (effect_of v))
 
   -- a control move
-  pub tell_same : (v : Move) → option_and_then (tell_brought places shown) (tell_decoded v) ≡ option_and_then (λ a. control_of (brought_of a)) (arrival_of reads v)
-  tell_same v = by v.dst where
-    tells : Dest → Option ℕ → Option (Kind × ℕ)
-    tells d o = option_and_then (λ a. control_of (brought_of a)) (option_map (λ word. record { dst = d; word = word }) o)
+  pub control_same : (v : Move) → option_and_then (control_brought places shown) (control_decoded v) ≡ option_and_then (λ a. control_of (brought_of a)) (arrival_of reads v)
+  control_same v = by v.dst where
+    controls : Dest → Option ℕ → Option (Kind × ℕ)
+    controls d o = option_and_then (λ a. control_of (brought_of a)) (option_map (λ word. record { dst = d; word = word }) o)
 
-    none : (d : Dest) → ((word : ℕ) → control_of (brought_of (record { dst = d; word = word })) ≡ None) → (o : Option ℕ) → None ≡ tells d o
+    none : (d : Dest) → ((word : ℕ) → control_of (brought_of (record { dst = d; word = word })) ≡ None) → (o : Option ℕ) → None ≡ controls d o
     none d is None = refl
     none d is (Some word) = sym (is word)
 
     some : (d : Dest) (k : Kind) → ((word : ℕ) → control_of (brought_of (record { dst = d; word = word })) ≡ Some (k, word)) → (o : Option ℕ)
-        → option_map (λ word. (k, word)) o ≡ tells d o
+        → option_map (λ word. (k, word)) o ≡ controls d o
     some d k is None = refl
     some d k is (Some word) = sym (is word)
 
-    by : (d : Dest) → option_and_then (tell_brought places shown) (tell_decoded (record v { dst = d })) ≡ tells d (moved reads (effect_of v))
+    by : (d : Dest) → option_and_then (control_brought places shown) (control_decoded (record v { dst = d })) ≡ controls d (moved reads (effect_of v))
     by (dest.Reg file index) = none (dest.Reg file index) (λ word. refl) (moved reads (effect_of v))
     by (dest.Operand unit) = none (dest.Operand unit) (λ word. refl) (moved reads (effect_of v))
     by (dest.Trigger unit op) = none (dest.Trigger unit op) (λ word. refl) (moved reads (effect_of v))
-    by dest.Jump = some dest.Jump Jumps (λ word. refl) (word_read places shown (reading_of v)) ∙ ap (tells dest.Jump) (word_same v)
-    by dest.Call = some dest.Call Calls (λ word. refl) (word_read places shown (reading_of v)) ∙ ap (tells dest.Call) (word_same v)
-    by dest.Halt = some dest.Halt Halts (λ word. refl) (word_read places shown (reading_of v)) ∙ ap (tells dest.Halt) (word_same v)
+    by dest.Jump = some dest.Jump Jumps (λ word. refl) (word_read places shown (reading_of v)) ∙ ap (controls dest.Jump) (word_same v)
+    by dest.Call = some dest.Call Calls (λ word. refl) (word_read places shown (reading_of v)) ∙ ap (controls dest.Call) (word_same v)
+    by dest.Halt = some dest.Halt Halts (λ word. refl) (word_read places shown (reading_of v)) ∙ ap (controls dest.Halt) (word_same v)
 
   -- ---- whether moves can be read
 
@@ -249,7 +249,7 @@ module _ (places : List (Option ℕ)) (shown : ℕ → Option ℕ) where
     pub parts_same : (v : Move) → has_operation m v ≡ true → is_unread places shown (reading_of v)
         ≡ (option_map_or (λ w. is_unread places shown w.reading) (write_decoded m back v) false
         || (option_map_or (λ s. is_unread places shown s.reading) (start_decoded m v) false
-        || option_map_or (λ t. is_unread places shown t.reading) (tell_decoded v) false))
+        || option_map_or (λ t. is_unread places shown t.reading) (control_decoded v) false))
     parts_same v there = by v.dst there where
       alone : (b : Bool) → b ≡ (b || (false || false))
       alone true = refl
@@ -274,7 +274,7 @@ module _ (places : List (Option ℕ)) (shown : ℕ → Option ℕ) where
       by : (d : Dest) → has_operation m (record v { dst = d }) ≡ true → unread
           ≡ (option_map_or (λ w. is_unread places shown w.reading) (write_decoded m back (record v { dst = d })) false
           || (option_map_or (λ s. is_unread places shown s.reading) (start_decoded m (record v { dst = d })) false
-          || option_map_or (λ t. is_unread places shown t.reading) (tell_decoded (record v { dst = d })) false))
+          || option_map_or (λ t. is_unread places shown t.reading) (control_decoded (record v { dst = d })) false))
       by (dest.Reg file index) there = alone unread
       by (dest.Operand unit) there = alone unread
       by (dest.Trigger unit op) there = starts (op_at m unit op) unit there

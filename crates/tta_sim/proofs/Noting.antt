@@ -11,7 +11,7 @@ use Rattle.tta_sim.specs.declared.lines.Write.{Write}
 use Rattle.tta_sim.specs.Results.{Results, shown_by}
 use Rattle.tta_sim.specs.Decoded.{is_nil}
 use Rattle.tta_sim.specs.Starts.{clashes_with, is_stopped}
-use Rattle.tta_sim.specs.Lines.{is_unread, write_brought, start_brought, operand_in, cannot_start, tells_well, is_ready}
+use Rattle.tta_sim.specs.Lines.{is_unread, write_brought, start_brought, operand_in, cannot_start, controls_well, is_ready}
 use Rattle.tta_sim.specs.Ready.{AreNoted}
 
 -- a list without elements
@@ -64,12 +64,12 @@ module _ (places : List (Option ℕ)) (r : Results) (p : Bool) (l : Line) (noted
 
   -- a line whose writes could be read
   pub ready_with : (ss : List DecodedStart) → ss ≡ l.starts → (can : Bool) → can ≡ not (list_any (cannot_start places r (operand_in places noted)) ss)
-      → is_ready places r p l ≡ (can && tells_well places (shown_by r) p l.tells)
+      → is_ready places r p l ≡ (can && controls_well places (shown_by r) p l.controls)
   ready_with ss ss_are can can_is =
       let written = filter_map (write_brought places (shown_by r)) l.writes in
-      let told = tells_well places (shown_by r) p l.tells in
+      let acting = controls_well places (shown_by r) p l.controls in
       let all : not (list_any (λ w. is_unread places (shown_by r) w.reading) l.writes) ≡ true =
       ap (λ xs. not (list_any (λ w. is_unread places (shown_by r) w.reading) xs)) (sym ws_are) ∙ sym reads ∙ could in
-      ap (λ b. b && (not (list_any (cannot_start places r (operand_in places written)) l.starts) && told)) all
-      ∙ ap (λ xs. not (list_any (cannot_start places r (operand_in places xs)) l.starts) && told) (sym noted_are)
-      ∙ ap (λ xs. not (list_any (cannot_start places r (operand_in places noted)) xs) && told) (sym ss_are) ∙ ap (λ b. b && told) (sym can_is)
+      ap (λ b. b && (not (list_any (cannot_start places r (operand_in places written)) l.starts) && acting)) all
+      ∙ ap (λ xs. not (list_any (cannot_start places r (operand_in places xs)) l.starts) && acting) (sym noted_are)
+      ∙ ap (λ xs. not (list_any (cannot_start places r (operand_in places noted)) xs) && acting) (sym ss_are) ∙ ap (λ b. b && acting) (sym can_is)

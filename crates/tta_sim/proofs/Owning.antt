@@ -20,8 +20,8 @@ use Rattle.tta_sim.proofs.Agreeing.{port_is}
 use Rattle.tta_sim.specs.Ready.{KeepsOthers}
 use Rattle.tta_code.specs.declared.code.Code.{Code}
 use Rattle.tta_code.specs.Cycle.{State, port}
-use Rattle.tta_sim.specs.declared.answer.CycleStep.{CycleStep}
-use Rattle.tta_sim.specs.declared.answer.CycleStep.TheVariants.{Ran, Halted as HadHalted, Waiting as Waits, Fault as Faults}
+use Rattle.tta_sim.specs.declared.cycle_step.CycleStep.{CycleStep}
+use Rattle.tta_sim.specs.declared.cycle_step.CycleStep.TheVariants.{Ran, Halted as HadHalted, Waiting as Waits, Fault as Faults}
 use Rattle.tta_sim.specs.Held.{Held, HeldState, rings_held, held_with, StandsWith, Stands, GoesWith, GoesTo, IsStateOf, IsRunOf}
 
 -- ---- units that are there

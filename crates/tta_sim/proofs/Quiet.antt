@@ -10,11 +10,11 @@ use Rattle.tta_arch.specs.Effects.{Start, store_data, store_frame, takes}
 use Rattle.tta_sim.specs.declared.decoded.DecodedStart.{DecodedStart}
 use Rattle.tta_sim.specs.declared.decoded.Line.{Line}
 use Rattle.tta_sim.specs.declared.store.Store.{Store}
-use Rattle.tta_sim.specs.declared.store.Doings.{Doings}
+use Rattle.tta_sim.specs.declared.store.CycleBuffers.{CycleBuffers}
 use Rattle.tta_sim.specs.Results.{Results, shown_by}
 use Rattle.tta_sim.specs.Starts.{started, begun, is_loud, is_loud_op, puts}
 use Rattle.tta_sim.specs.Decoded.{is_loud_start, is_nil}
-use Rattle.tta_sim.specs.Lines.{word_read, start_brought, operand_in, tells_well, IsLineThere}
+use Rattle.tta_sim.specs.Lines.{word_read, start_brought, operand_in, controls_well, IsLineThere}
 use Rattle.tta_sim.specs.Ready.{writes_in, AreLeft}
 use Rattle.tta_sim.proofs.Noting.{nothing_in, quiet_parts}
 
@@ -95,23 +95,23 @@ soft_starts places shown operand (s ∷ ss) none =
     by (Some word) here rest = or_from (is_loud_start s) (list_any is_loud (filter_map (start_brought places shown operand) ss)) here rest
 
 -- a quiet line has no control moves
-pub quiet_tells : (units : ℕ) (l : Line) → IsLineThere units l → l.quiet ≡ true → l.tells ≡ []
-quiet_tells units l there quiet = nothing_in l.tells (quiet_parts l.quiet (not (list_any is_loud_start l.starts)) (is_nil l.tells) there.quiet quiet).1
+pub quiet_controls : (units : ℕ) (l : Line) → IsLineThere units l → l.quiet ≡ true → l.controls ≡ []
+quiet_controls units l there quiet = nothing_in l.controls (quiet_parts l.quiet (not (list_any is_loud_start l.starts)) (is_nil l.controls) there.quiet quiet).1
 
 -- so they can act
-pub quiet_told : (units : ℕ) (l : Line) (places : List (Option ℕ)) (shown : ℕ → Option ℕ) (is_pending : Bool) → IsLineThere units l → l.quiet ≡ true
-    → tells_well places shown is_pending l.tells ≡ true
-quiet_told units l places shown is_pending there quiet = ap (tells_well places shown is_pending) (quiet_tells units l there quiet) ∙ by is_pending where
-  by : (b : Bool) → tells_well places shown b [] ≡ true
+pub quiet_acting : (units : ℕ) (l : Line) (places : List (Option ℕ)) (shown : ℕ → Option ℕ) (is_pending : Bool) → IsLineThere units l → l.quiet ≡ true
+    → controls_well places shown is_pending l.controls ≡ true
+quiet_acting units l places shown is_pending there quiet = ap (controls_well places shown is_pending) (quiet_controls units l there quiet) ∙ by is_pending where
+  by : (b : Bool) → controls_well places shown b [] ≡ true
   by true = refl
   by false = refl
 
 -- what is left of a quiet line
-pub quiet_left : (units : ℕ) (store : Store) (r : Results) (l : Line) (doings : Doings) → IsLineThere units l → AreLeft store r l doings → l.quiet ≡ true
-    → (list_any is_loud doings.starts ≡ false) × (l.tells ≡ [])
-quiet_left units store r l doings there left quiet =
-    let parts = quiet_parts l.quiet (not (list_any is_loud_start l.starts)) (is_nil l.tells) there.quiet quiet in
+pub quiet_left : (units : ℕ) (store : Store) (r : Results) (l : Line) (buffers : CycleBuffers) → IsLineThere units l → AreLeft store r l buffers → l.quiet ≡ true
+    → (list_any is_loud buffers.starts ≡ false) × (l.controls ≡ [])
+quiet_left units store r l buffers there left quiet =
+    let parts = quiet_parts l.quiet (not (list_any is_loud_start l.starts)) (is_nil l.controls) there.quiet quiet in
     let soft : list_any is_loud_start l.starts ≡ false = not-true (list_any is_loud_start l.starts) parts.0 in (
       ap (list_any is_loud) left.starts ∙ soft_starts store.places (shown_by r) (operand_in store.places (writes_in store r l)) l.starts soft,
-      quiet_tells units l there quiet,
+      quiet_controls units l there quiet,
     )

@@ -7,7 +7,7 @@ use Rattle.tta_code.specs.declared.code.Code.{Code}
 use Rattle.tta_code.specs.Cycle.{State, carry_out, next as next_state}
 use Rattle.tta_flight.specs.Rings.{Rings}
 use Rattle.tta_list.specs.Input.{IsFed}
-use Rattle.tta_sim.specs.declared.answer.CycleStep.{CycleStep}
+use Rattle.tta_sim.specs.declared.cycle_step.CycleStep.{CycleStep}
 use Rattle.tta_sim.specs.declared.control.Control.{Control}
 use Rattle.tta_sim.specs.declared.control.Phase.TheVariants as phase
 use Rattle.tta_sim.specs.declared.decoded.Line.{Line}

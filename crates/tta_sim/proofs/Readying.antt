@@ -14,12 +14,12 @@ use Rattle.tta_sim.specs.declared.decoded.Line.{Line}
 use Rattle.tta_sim.specs.declared.lines.Write.{Write}
 use Rattle.tta_sim.specs.Results.{Results, shown_by}
 use Rattle.tta_sim.specs.Moves.{Arrival, reads_of, lacks_register, arrivals_of, brought_of}
-use Rattle.tta_sim.specs.Starts.{operand_with, starts_of, is_stopped, clashes_with, fault_in, told_in, AreReachable}
+use Rattle.tta_sim.specs.Starts.{operand_with, starts_of, is_stopped, clashes_with, fault_in, acting_in, AreReachable}
 use Rattle.tta_sim.specs.Writing.{long_writes, is_long_place, numbered, numbered_one}
 use Rattle.tta_sim.specs.Decoded.{reading_of, write_decoded, long_decoded, has_operation, line_of}
-use Rattle.tta_sim.specs.Lines.{is_unread, write_brought, start_brought, tell_brought, operand_in, cannot_start, is_ready}
+use Rattle.tta_sim.specs.Lines.{is_unread, write_brought, start_brought, control_brought, operand_in, cannot_start, is_ready}
 use Rattle.tta_sim.proofs.Faulting.{stopped_by}
-use Rattle.tta_sim.proofs.Brought.{all_false, unread_moves, unread_writes, unread_starts, unread_tells, unread_parts, writes_in, long_in, long_unread, starts_in, tells_in, cannot_all, operand_same, starts_alike}
+use Rattle.tta_sim.proofs.Brought.{all_false, unread_moves, unread_writes, unread_starts, unread_controls, unread_parts, writes_in, long_in, long_unread, starts_in, controls_in, cannot_all, operand_same, starts_alike}
 
 -- ---- a whole instruction
 
@@ -90,11 +90,11 @@ module _ (m : Machine) (back : ℕ) (places : List (Option ℕ)) (r : Results) (
 
   -- no fault: all can be read, all operations start, and no control move acts in a delay
   none_is : (is_pending : Bool) → is_none (fault_in m places r is_pending i.moves)
-      ≡ (not all_unread && (not (list_any (is_stopped r) starts) && not (is_some (told_in arrivals) && is_pending)))
+      ≡ (not all_unread && (not (list_any (is_stopped r) starts) && not (is_some (acting_in arrivals) && is_pending)))
   none_is is_pending =
-      faultless lacks lacks_port (list_any lacks_operand starts) (list_any (clashes_with r) starts) (is_some (told_in arrivals) && is_pending)
-      ∙ ap (λ b. not b && (not (list_any lacks_operand starts || list_any (clashes_with r) starts) && not (is_some (told_in arrivals) && is_pending))) (sym (unread_moves m back places r ms))
-      ∙ ap (λ b. not all_unread && (not b && not (is_some (told_in arrivals) && is_pending))) (sym (stopped_by r starts))
+      faultless lacks lacks_port (list_any lacks_operand starts) (list_any (clashes_with r) starts) (is_some (acting_in arrivals) && is_pending)
+      ∙ ap (λ b. not b && (not (list_any lacks_operand starts || list_any (clashes_with r) starts) && not (is_some (acting_in arrivals) && is_pending))) (sym (unread_moves m back places r ms))
+      ∙ ap (λ b. not all_unread && (not b && not (is_some (acting_in arrivals) && is_pending))) (sym (stopped_by r starts))
 
   -- whether any write of the moves, to a register, an operand port or the return address, cannot be read
   abbrev w : Bool
@@ -106,7 +106,7 @@ module _ (m : Machine) (back : ℕ) (places : List (Option ℕ)) (r : Results) (
 
   -- whether any of the moves that goes to control's trigger port cannot be read
   abbrev t : Bool
-  t = unread_tells m back places r ms
+  t = unread_controls m back places r ms
 
   or_false : (b : Bool) → (b || false) ≡ b
   or_false true = refl
@@ -118,11 +118,11 @@ module _ (m : Machine) (back : ℕ) (places : List (Option ℕ)) (r : Results) (
       ∙ ap (λ b. w || b) (long_unread m back places r i.long) ∙ or_false w
 
   ready_parts : (is_pending : Bool) → is_ready places r is_pending line
-      ≡ (not w && (not (s || list_any (is_stopped r) (filter_map (start_brought places (shown_by r) operand) line.starts)) && (not t && not (is_pending && is_some (told_in arrivals)))))
+      ≡ (not w && (not (s || list_any (is_stopped r) (filter_map (start_brought places (shown_by r) operand) line.starts)) && (not t && not (is_pending && is_some (acting_in arrivals)))))
   ready_parts is_pending =
-      ap (λ b. not b && (not (list_any (cannot_start places r operand) line.starts) && (not t && not (is_pending && is_some (first_some (tell_brought places (shown_by r)) line.tells))))) line_unread
-      ∙ ap (λ b. not w && (not b && (not t && not (is_pending && is_some (first_some (tell_brought places (shown_by r)) line.tells))))) (cannot_all m back places r operand line.starts)
-      ∙ ap (λ o. not w && (not (s || list_any (is_stopped r) (filter_map (start_brought places (shown_by r) operand) line.starts)) && (not t && not (is_pending && is_some o)))) (tells_in m back places r ms)
+      ap (λ b. not b && (not (list_any (cannot_start places r operand) line.starts) && (not t && not (is_pending && is_some (first_some (control_brought places (shown_by r)) line.controls))))) line_unread
+      ∙ ap (λ b. not w && (not b && (not t && not (is_pending && is_some (first_some (control_brought places (shown_by r)) line.controls))))) (cannot_all m back places r operand line.starts)
+      ∙ ap (λ o. not w && (not (s || list_any (is_stopped r) (filter_map (start_brought places (shown_by r) operand) line.starts)) && (not t && not (is_pending && is_some o)))) (controls_in m back places r ms)
 
   unread_is : all_unread ≡ (w || (s || t))
   unread_is = unread_parts m back places r ms there
@@ -132,13 +132,13 @@ module _ (m : Machine) (back : ℕ) (places : List (Option ℕ)) (r : Results) (
   ready_is is_pending = elim all_unread as (λ b. all_unread ≡ b → is_ready places r is_pending line ≡ is_none (fault_in m places r is_pending i.moves)) [
     | true ↦ λ is.
         ready_parts is_pending
-        ∙ never w s (list_any (is_stopped r) (filter_map (start_brought places (shown_by r) operand) line.starts)) t (not (is_pending && is_some (told_in arrivals))) (sym unread_is ∙ is)
-        ∙ sym (none_is is_pending ∙ ap (λ b. not b && (not (list_any (is_stopped r) starts) && not (is_some (told_in arrivals) && is_pending))) is)
+        ∙ never w s (list_any (is_stopped r) (filter_map (start_brought places (shown_by r) operand) line.starts)) t (not (is_pending && is_some (acting_in arrivals))) (sym unread_is ∙ is)
+        ∙ sym (none_is is_pending ∙ ap (λ b. not b && (not (list_any (is_stopped r) starts) && not (is_some (acting_in arrivals) && is_pending))) is)
     | false ↦ λ is.
         ready_parts is_pending
-        ∙ ap (λ list. not w && (not (s || list_any (is_stopped r) list) && (not t && not (is_pending && is_some (told_in arrivals))))) (starts_are is)
-        ∙ all w s (list_any (is_stopped r) starts) t is_pending (is_some (told_in arrivals)) (sym unread_is ∙ is)
-        ∙ sym (none_is is_pending ∙ ap (λ b. not b && (not (list_any (is_stopped r) starts) && not (is_some (told_in arrivals) && is_pending))) is)
+        ∙ ap (λ list. not w && (not (s || list_any (is_stopped r) list) && (not t && not (is_pending && is_some (acting_in arrivals))))) (starts_are is)
+        ∙ all w s (list_any (is_stopped r) starts) t is_pending (is_some (acting_in arrivals)) (sym unread_is ∙ is)
+        ∙ sym (none_is is_pending ∙ ap (λ b. not b && (not (list_any (is_stopped r) starts) && not (is_some (acting_in arrivals) && is_pending))) is)
   ] refl where
     never : (w s x t p : Bool) → (w || (s || t)) ≡ true → (not w && (not (s || x) && (not t && p))) ≡ false
     never true s x t p is = refl
@@ -170,8 +170,8 @@ module _ (m : Machine) (back : ℕ) (places : List (Option ℕ)) (r : Results) (
     abbrev fault : Option ℕ
     fault = fault_in m places r is_pending i.moves
 
-    abbrev told : Bool
-    told = is_some (told_in arrivals) && is_pending
+    abbrev acting : Bool
+    acting = is_some (acting_in arrivals) && is_pending
 
     abbrev no_operand : Bool
     no_operand = list_any lacks_operand starts
@@ -182,14 +182,14 @@ module _ (m : Machine) (back : ℕ) (places : List (Option ℕ)) (r : Results) (
     -- a register that was never written comes first
     pub fault_place : lacks ≡ true → Some 60 ≡ fault
     fault_place is = by lacks is where
-      by : (a : Bool) → a ≡ true → Some 60 ≡ first_fault ((a, 60) ∷ (lacks_port, 61) ∷ (no_operand, 62) ∷ (clash, 63) ∷ (told, 64) ∷ [])
+      by : (a : Bool) → a ≡ true → Some 60 ≡ first_fault ((a, 60) ∷ (lacks_port, 61) ∷ (no_operand, 62) ∷ (clash, 63) ∷ (acting, 64) ∷ [])
       by true is = refl
       by false is = cc
 
     -- then a result port that shows nothing yet
     pub fault_port : lacks ≡ false → lacks_port ≡ true → Some 61 ≡ fault
     fault_port no' is = by lacks lacks_port no' is where
-      by : (a b : Bool) → a ≡ false → b ≡ true → Some 61 ≡ first_fault ((a, 60) ∷ (b, 61) ∷ (no_operand, 62) ∷ (clash, 63) ∷ (told, 64) ∷ [])
+      by : (a b : Bool) → a ≡ false → b ≡ true → Some 61 ≡ first_fault ((a, 60) ∷ (b, 61) ∷ (no_operand, 62) ∷ (clash, 63) ∷ (acting, 64) ∷ [])
       by true b no' is = cc
       by false true no' is = refl
       by false false no' is = cc
@@ -223,7 +223,7 @@ module _ (m : Machine) (back : ℕ) (places : List (Option ℕ)) (r : Results) (
       pub fault_start : list_any (cannot_start places r operand) line.starts ≡ true → Some (if no_operand then 62 else 63) ≡ fault
       fault_start cannot = by lacks lacks_port no_operand clash no_place no_port (sym (stopped_by r starts) ∙ sym cannot_is ∙ cannot) where
         by : (a b c d : Bool) → a ≡ false → b ≡ false → (c || d) ≡ true
-            → Some (if c then 62 else 63) ≡ first_fault ((a, 60) ∷ (b, 61) ∷ (c, 62) ∷ (d, 63) ∷ (told, 64) ∷ [])
+            → Some (if c then 62 else 63) ≡ first_fault ((a, 60) ∷ (b, 61) ∷ (c, 62) ∷ (d, 63) ∷ (acting, 64) ∷ [])
         by true b c d no' none is = cc
         by false true c d no' none is = cc
         by false false true d no' none is = refl
@@ -232,7 +232,7 @@ module _ (m : Machine) (back : ℕ) (places : List (Option ℕ)) (r : Results) (
 
       -- and last control
       pub fault_control : list_any (cannot_start places r operand) line.starts ≡ false → Some 64 ≡ fault
-      fault_control can = by lacks lacks_port no_operand clash told no_place no_port (sym (stopped_by r starts) ∙ sym cannot_is ∙ can) (sym (ready_is is_pending) ∙ not_ready) where
+      fault_control can = by lacks lacks_port no_operand clash acting no_place no_port (sym (stopped_by r starts) ∙ sym cannot_is ∙ can) (sym (ready_is is_pending) ∙ not_ready) where
         by : (a b c d e : Bool) → a ≡ false → b ≡ false → (c || d) ≡ false → is_none (first_fault ((a, 60) ∷ (b, 61) ∷ (c, 62) ∷ (d, 63) ∷ (e, 64) ∷ [])) ≡ false
             → Some 64 ≡ first_fault ((a, 60) ∷ (b, 61) ∷ (c, 62) ∷ (d, 63) ∷ (e, 64) ∷ [])
         by true b c d e no' none is some = cc

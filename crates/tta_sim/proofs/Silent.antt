@@ -9,9 +9,9 @@ use Rattle.tta_arch.specs.Effects.{Kind, Jumps, Calls, Halts, control_of, first_
 use Rattle.tta_code.specs.declared.code.Code.{Code}
 use Rattle.tta_code.specs.declared.code.Instruction.{Instruction}
 use Rattle.tta_code.specs.Cycle.{State, Outcome, Running, Halted, Waiting, Fault, Pending, next, next_of, carry_out, or_fault, or_wait, waits, acts, lands, takes_effect, pending_after, effects_of, read_source, fault_of}
-use Rattle.tta_sim.specs.declared.answer.CycleStep.{CycleStep}
+use Rattle.tta_sim.specs.declared.cycle_step.CycleStep.{CycleStep}
 use Rattle.tta_sim.specs.declared.decoded.Line.{Line}
-use Rattle.tta_sim.specs.declared.answer.CycleStep.TheVariants.{Ran, Halted as HadHalted, Waiting as Waits, Fault as Faults}
+use Rattle.tta_sim.specs.declared.cycle_step.CycleStep.TheVariants.{Ran, Halted as HadHalted, Waiting as Waits, Fault as Faults}
 use Rattle.tta_sim.specs.Results.{Results}
 use Rattle.tta_sim.specs.Held.{HeldState, StandsWith, GoesWith, IsAnswer, IsQuiet, is_fault, cycles_of}
 use Rattle.tta_sim.specs.Kept.{is_silent}

@@ -32,28 +32,28 @@ use Rattle.tta_sim.specs.Starts.{triggered, start_by, is_fitting, puts, AreFitti
 any_filter_map : {A B : Type 0} (same : A → A → Bool) (same' : B → B → Bool) (f : A → Option B) (x : A) (p : B)
     → ((y : A) (q : B) → f y ≡ Some q → same x y ≡ false → same' p q ≡ false)
     → (xs : List A) → list_any (same x) xs ≡ false → list_any (same' p) (filter_map f xs) ≡ false
-any_filter_map same same' f x p tells [] none = refl
-any_filter_map same same' f x p tells (y ∷ xs) none =
+any_filter_map same same' f x p controls [] none = refl
+any_filter_map same same' f x p controls (y ∷ xs) none =
     let both = or_parts (same x y) (list_any (same x) xs) none in
-    let rest = any_filter_map same same' f x p tells xs both.1 in
+    let rest = any_filter_map same same' f x p controls xs both.1 in
     elim (f y) as (λ o. f y ≡ o → list_any (same' p) (cons_option o (filter_map f xs)) ≡ false) [
       | None ↦ λ is. rest
-      | Some q ↦ λ is. or_from (same' p q) (list_any (same' p) (filter_map f xs)) (tells y q is both.0) rest
+      | Some q ↦ λ is. or_from (same' p q) (list_any (same' p) (filter_map f xs)) (controls y q is both.0) rest
     ] refl
 
 -- where elements differ, what they give differs
 pub apart_filter_map : {A B : Type 0} (same : A → A → Bool) (same' : B → B → Bool) (f : A → Option B)
     → ((x y : A) (p q : B) → f x ≡ Some p → f y ≡ Some q → same x y ≡ false → same' p q ≡ false)
     → (xs : List A) → are_different same xs ≡ true → are_different same' (filter_map f xs) ≡ true
-apart_filter_map same same' f tells [] apart = refl
-apart_filter_map same same' f tells (x ∷ xs) apart =
+apart_filter_map same same' f controls [] apart = refl
+apart_filter_map same same' f controls (x ∷ xs) apart =
     let both = and_parts (not (list_any (same x) xs)) (are_different same xs) apart in
-    let rest = apart_filter_map same same' f tells xs both.1 in
+    let rest = apart_filter_map same same' f controls xs both.1 in
     let alone = not-true (list_any (same x) xs) both.0 in
     elim (f x) as (λ o. f x ≡ o → are_different same' (cons_option o (filter_map f xs)) ≡ true) [
       | None ↦ λ is. rest
       | Some p ↦ λ is.
-          let other = any_filter_map same same' f x p (λ y q gives differ. tells x y p q is gives differ) xs alone in
+          let other = any_filter_map same same' f x p (λ y q gives differ. controls x y p q is gives differ) xs alone in
           and_from (not (list_any (same' p) (filter_map f xs))) (are_different same' (filter_map f xs)) (ap not other) rest
     ] refl
 

@@ -20,12 +20,12 @@ use Rattle.tta_code.specs.Cycle.{effect_of, moves_of}
 use Rattle.tta_sim.specs.declared.decoded.DecodedSource.TheVariants as decoded
 use Rattle.tta_sim.specs.declared.decoded.DecodedWrite.{DecodedWrite}
 use Rattle.tta_sim.specs.declared.decoded.DecodedStart.{DecodedStart}
-use Rattle.tta_sim.specs.declared.decoded.DecodedTell.{DecodedTell}
+use Rattle.tta_sim.specs.declared.decoded.DecodedControl.{DecodedControl}
 use Rattle.tta_sim.specs.declared.decoded.Reading.{Reading}
 use Rattle.tta_sim.specs.declared.decoded.Line.{Line}
 use Rattle.tta_sim.specs.Places.{number_of}
 use Rattle.tta_sim.specs.Moves.{reads_of, effects_in}
-use Rattle.tta_sim.specs.Decoded.{source_decoded, reading_of, write_decoded, start_decoded, tell_decoded, long_decoded, has_operation, IsDecoded}
+use Rattle.tta_sim.specs.Decoded.{source_decoded, reading_of, write_decoded, start_decoded, control_decoded, long_decoded, has_operation, IsDecoded}
 use Rattle.tta_sim.specs.declared.lines.Missing.{Missing}
 use Rattle.tta_sim.specs.declared.lines.Missing.TheVariants as missing
 use Rattle.tta_sim.specs.Lines.{is_let, source_word}
@@ -79,8 +79,8 @@ module _ (what : Missing) (places : List (Option ℕ)) (shown : ℕ → Option �
     abbrev in_start : Move → Bool
     in_start v = option_map_or {T = DecodedStart} (λ s. lacks s.reading) (start_decoded m v) false
 
-    abbrev in_tell : Move → Bool
-    in_tell v = option_map_or {T = DecodedTell} (λ t. lacks t.reading) (tell_decoded v) false
+    abbrev in_control : Move → Bool
+    in_control v = option_map_or {T = DecodedControl} (λ t. lacks t.reading) (control_decoded v) false
 
     or_end : (b : Bool) → b ≡ (b || (false || false))
     or_end true = refl
@@ -96,7 +96,7 @@ module _ (what : Missing) (places : List (Option ℕ)) (shown : ℕ → Option �
     or_call false true k n = refl
     or_call false false k n = refl
 
-    part_same : (v : Move) → has_operation m v ≡ true → lacks (reading_of v) ≡ (in_write v || (in_start v || in_tell v))
+    part_same : (v : Move) → has_operation m v ≡ true → lacks (reading_of v) ≡ (in_write v || (in_start v || in_control v))
     part_same v there = by v.dst there where
       at : Dest → Move
       at d = record v { dst = d }
@@ -112,7 +112,7 @@ module _ (what : Missing) (places : List (Option ℕ)) (shown : ℕ → Option �
           (is_place_source (source_decoded v.src)) (is_none (source_word places shown (source_decoded v.src)))
       call missing.Port = or_port (is_let places (reading_of v)) (is_port_source (source_decoded v.src)) (is_none (source_word places shown (source_decoded v.src)))
 
-      by : (d : Dest) → has_operation m (at d) ≡ true → lacks (reading_of (at d)) ≡ (in_write (at d) || (in_start (at d) || in_tell (at d)))
+      by : (d : Dest) → has_operation m (at d) ≡ true → lacks (reading_of (at d)) ≡ (in_write (at d) || (in_start (at d) || in_control (at d)))
       by (dest.Reg file index) there = or_end (lacks (reading_of v))
       by (dest.Operand unit) there = or_end (lacks (reading_of v))
       by (dest.Trigger unit op) there = on_op (op_at m unit op) there where
@@ -125,7 +125,7 @@ module _ (what : Missing) (places : List (Option ℕ)) (shown : ℕ → Option �
       by dest.Halt there = refl
 
     parts_all : (ms : List Move) → AllByRecursion (λ v. has_operation m v ≡ true) ms
-        → AllByRecursion (λ v. lacks (reading_of v) ≡ (in_write v || (in_start v || in_tell v))) ms
+        → AllByRecursion (λ v. lacks (reading_of v) ≡ (in_write v || (in_start v || in_control v))) ms
     parts_all [] there = tt
     parts_all (v ∷ ms) there = (part_same v there.0, parts_all ms there.1)
 
@@ -149,18 +149,18 @@ module _ (what : Missing) (places : List (Option ℕ)) (shown : ℕ → Option �
 
     -- what a line lacks is what its instruction lacks
     pub lacks_same : (i : Instruction) (l : Line) → IsDecoded m back i l
-        → (list_any (λ w. lacks w.reading) l.writes || (list_any (λ s. lacks s.reading) l.starts || list_any (λ t. lacks t.reading) l.tells))
+        → (list_any (λ w. lacks w.reading) l.writes || (list_any (λ s. lacks s.reading) l.starts || list_any (λ t. lacks t.reading) l.controls))
         ≡ list_any (lacks_for what reads) (effects_in i.moves)
     lacks_same i l decoded =
         let ms = moves_of i in
         let there = operations_there m decoded.rules i decoded.legal in
         rw decoded.line
-        (ap (λ b. b || (list_any (λ s. lacks s.reading) (filter_map (start_decoded m) ms) || list_any (λ t. lacks t.reading) (filter_map tell_decoded ms)))
+        (ap (λ b. b || (list_any (λ s. lacks s.reading) (filter_map (start_decoded m) ms) || list_any (λ t. lacks t.reading) (filter_map control_decoded ms)))
         (list_any-append (λ w. lacks w.reading) (filter_map (write_decoded m back) ms) (option_to_list (long_decoded m i.long))
         ∙ ap (λ b. list_any (λ w. lacks w.reading) (filter_map (write_decoded m back) ms) || b) (long_lacks i.long)
         ∙ or_false (list_any (λ w. lacks w.reading) (filter_map (write_decoded m back) ms))
         ∙ any-filter_map (λ w. lacks w.reading) (write_decoded m back) ms)
-        ∙ ap (λ b. list_any in_write ms || (b || list_any (λ t. lacks t.reading) (filter_map tell_decoded ms))) (any-filter_map (λ s. lacks s.reading) (start_decoded m) ms)
-        ∙ ap (λ b. list_any in_write ms || (list_any in_start ms || b)) (any-filter_map (λ t. lacks t.reading) tell_decoded ms)
-        ∙ sym (any_three (λ v. lacks (reading_of v)) in_write in_start in_tell ms (parts_all ms there))
+        ∙ ap (λ b. list_any in_write ms || (b || list_any (λ t. lacks t.reading) (filter_map control_decoded ms))) (any-filter_map (λ s. lacks s.reading) (start_decoded m) ms)
+        ∙ ap (λ b. list_any in_write ms || (list_any in_start ms || b)) (any-filter_map (λ t. lacks t.reading) control_decoded ms)
+        ∙ sym (any_three (λ v. lacks (reading_of v)) in_write in_start in_control ms (parts_all ms there))
         ∙ moves_same ms)

@@ -10,7 +10,7 @@ use Rattle.tta_sim.specs.Starts.{kind_of}
 
 -- a control move that is under way
 abbrev pub underway : Pending → Underway
-underway p = record { time = p.time; kind = kind_of p.told.kind; word = p.told.word }
+underway p = record { time = p.time; kind = kind_of p.acting.kind; word = p.acting.word }
 
 -- how a run stands in a cycle
 abbrev pub outcome_of : (cycle : ℕ) → Phase → Outcome
@@ -25,4 +25,4 @@ controlled s c = record s { pc = c.pc; pending = option_map underway c.pending; 
 -- the control move that is under way after a cycle in which this one acted, where the cycle after it is `now`
 abbrev pub pending_with : (now delay : ℕ) → Option Underway → Option (Kind × ℕ) → Option Underway
 pending_with now delay before None = before
-pending_with now delay before (Some told) = Some (record { time = now + delay; kind = told.0; word = told.1 })
+pending_with now delay before (Some acting) = Some (record { time = now + delay; kind = acting.0; word = acting.1 })

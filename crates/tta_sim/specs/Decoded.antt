@@ -14,14 +14,14 @@ use Rattle.tta_code.specs.declared.code.Long.{Long}
 use Rattle.tta_code.specs.declared.code.Instruction.{Instruction}
 use Rattle.tta_code.specs.Cycle.{moves_of}
 use Rattle.tta_code.specs.Legal.{is_legal}
-use Rattle.tta_sim.specs.declared.control.Kind.TheVariants as told
+use Rattle.tta_sim.specs.declared.control.ControlKind.TheVariants as control_kind
 use Rattle.tta_sim.specs.declared.decoded.DecodedSource.{DecodedSource}
 use Rattle.tta_sim.specs.declared.decoded.DecodedSource.TheVariants as decoded
 use Rattle.tta_sim.specs.declared.decoded.DecodedGuard.{DecodedGuard}
 use Rattle.tta_sim.specs.declared.decoded.Reading.{Reading}
 use Rattle.tta_sim.specs.declared.decoded.DecodedWrite.{DecodedWrite}
 use Rattle.tta_sim.specs.declared.decoded.DecodedStart.{DecodedStart}
-use Rattle.tta_sim.specs.declared.decoded.DecodedTell.{DecodedTell}
+use Rattle.tta_sim.specs.declared.decoded.DecodedControl.{DecodedControl}
 use Rattle.tta_sim.specs.declared.decoded.Line.{Line}
 use Rattle.tta_sim.specs.Places.{number_of}
 use Rattle.tta_sim.specs.Starts.{is_loud_op}
@@ -80,15 +80,15 @@ has_operation m v = on v.dst where
   on dest.Halt = true
 
 -- a move to control's trigger port
-abbrev pub tell_decoded : Move → Option DecodedTell
-tell_decoded v = on v.dst where
-  on : Dest → Option DecodedTell
+abbrev pub control_decoded : Move → Option DecodedControl
+control_decoded v = on v.dst where
+  on : Dest → Option DecodedControl
   on (dest.Reg file index) = None
   on (dest.Operand unit) = None
   on (dest.Trigger unit op) = None
-  on dest.Jump = Some (record { reading = reading_of v; kind = told.Jump })
-  on dest.Call = Some (record { reading = reading_of v; kind = told.Call })
-  on dest.Halt = Some (record { reading = reading_of v; kind = told.Halt })
+  on dest.Jump = Some (record { reading = reading_of v; kind = control_kind.Jump })
+  on dest.Call = Some (record { reading = reading_of v; kind = control_kind.Call })
+  on dest.Halt = Some (record { reading = reading_of v; kind = control_kind.Halt })
 
 -- the write of a long immediate into the register that its template writes
 abbrev pub long_decoded : Machine → Option Long → Option DecodedWrite
@@ -107,16 +107,16 @@ abbrev pub is_loud_start : DecodedStart → Bool
 is_loud_start s = is_loud_op s.does.op
 
 -- whether there are no such moves, and no control moves
-abbrev pub is_quiet : List DecodedStart → List DecodedTell → Bool
-is_quiet starts tells = not (list_any is_loud_start starts) && is_nil tells
+abbrev pub is_quiet : List DecodedStart → List DecodedControl → Bool
+is_quiet starts controls = not (list_any is_loud_start starts) && is_nil controls
 
 -- an instruction, where a call in it comes back to this address
 abbrev pub line_of : Machine → (back : ℕ) → Instruction → Line
 line_of m back i = record {
   writes = filter_map (write_decoded m back) (moves_of i) ++ option_to_list (long_decoded m i.long);
   starts = filter_map (start_decoded m) (moves_of i);
-  tells = filter_map tell_decoded (moves_of i);
-  quiet = is_quiet (filter_map (start_decoded m) (moves_of i)) (filter_map tell_decoded (moves_of i));
+  controls = filter_map control_decoded (moves_of i);
+  quiet = is_quiet (filter_map (start_decoded m) (moves_of i)) (filter_map control_decoded (moves_of i));
 }
 
 -- an instruction to which what one more move does is added
@@ -124,7 +124,7 @@ abbrev pub with_move : Machine → (back : ℕ) → Line → Option Move → Lin
 with_move m back line slot = record line {
   writes = line.writes ++ option_to_list (option_and_then (write_decoded m back) slot);
   starts = line.starts ++ option_to_list (option_and_then (start_decoded m) slot);
-  tells = line.tells ++ option_to_list (option_and_then tell_decoded slot);
+  controls = line.controls ++ option_to_list (option_and_then control_decoded slot);
 }
 
 -- the instructions of some code, where a call in the first comes back to this address

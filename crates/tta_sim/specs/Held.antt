@@ -7,11 +7,11 @@ use Rattle.tta_arch.specs.Machine.{Machine}
 use Rattle.tta_code.specs.declared.code.Code.{Code}
 use Rattle.tta_code.specs.Legal.{IsLegalCode}
 use Rattle.tta_code.specs.Cycle.{Pending, Outcome, Running, Halted, Waiting, Fault, State, next}
-use Rattle.tta_sim.specs.declared.answer.CycleStep.{CycleStep}
-use Rattle.tta_sim.specs.declared.answer.CycleStep.TheVariants.{Ran, Halted as HadHalted, Waiting as Waits, Fault as Faults}
+use Rattle.tta_sim.specs.declared.cycle_step.CycleStep.{CycleStep}
+use Rattle.tta_sim.specs.declared.cycle_step.CycleStep.TheVariants.{Ran, Halted as HadHalted, Waiting as Waits, Fault as Faults}
 use Rattle.tta_sim.specs.declared.decoded.Line.{Line}
-use Rattle.tta_sim.specs.declared.told.Ending.{Ending}
-use Rattle.tta_sim.specs.declared.told.Ending.TheVariants as ending
+use Rattle.tta_sim.specs.declared.ending.Ending.{Ending}
+use Rattle.tta_sim.specs.declared.ending.Ending.TheVariants as ending
 use Rattle.tta_sim.specs.Decoded.{lines_from}
 use Rattle.tta_sim.specs.Places.{HasWritten}
 use Rattle.tta_sim.specs.Results.{Results, AreResultsOf, HasUnits}
@@ -166,10 +166,10 @@ fault_number Waiting = None
 fault_number (Fault number at) = Some number
 
 -- the outcome that is reported
-abbrev pub ending_told : Ending → Outcome
-ending_told ending.Running = Running
-ending_told ending.Halted = Halted
-ending_told (ending.Fault number cycle) = Fault number cycle
+abbrev pub as_outcome : Ending → Outcome
+as_outcome ending.Running = Running
+as_outcome ending.Halted = Halted
+as_outcome (ending.Fault number cycle) = Fault number cycle
 
 -- The run of a machine on code that it can carry out, which addresses of 16 bits reach: it has the code decoded, and each
 -- word of the spaces.

@@ -5,8 +5,8 @@ use Rattle.tta_arch.specs.Machine.{Machine}
 use Rattle.tta_code.specs.declared.code.Instruction.{Instruction}
 use Rattle.tta_code.specs.Cycle.{State, Waiting, Fault, carry_out}
 use Rattle.tta_flight.specs.Rings.{Rings}
-use Rattle.tta_sim.specs.declared.answer.CycleStep.{CycleStep}
-use Rattle.tta_sim.specs.declared.answer.CycleStep.TheVariants.{Ran, Halted as HadHalted, Waiting as Waits, Fault as Faults}
+use Rattle.tta_sim.specs.declared.cycle_step.CycleStep.{CycleStep}
+use Rattle.tta_sim.specs.declared.cycle_step.CycleStep.TheVariants.{Ran, Halted as HadHalted, Waiting as Waits, Fault as Faults}
 use Rattle.tta_sim.specs.declared.decoded.Line.{Line}
 use Rattle.tta_sim.specs.declared.store.Store.{Store}
 use Rattle.tta_sim.specs.declared.control.Control.{Control}

@@ -8,7 +8,7 @@ use Rattle.tta_sim.specs.declared.decoded.DecodedStart.{DecodedStart}
 use Rattle.tta_sim.specs.declared.decoded.Line.{Line}
 use Rattle.tta_sim.specs.declared.lines.Write.{Write}
 use Rattle.tta_sim.specs.declared.store.Store.{Store}
-use Rattle.tta_sim.specs.declared.store.Doings.{Doings}
+use Rattle.tta_sim.specs.declared.store.CycleBuffers.{CycleBuffers}
 use Rattle.tta_sim.specs.Lines.{is_unread, write_brought, start_brought, operand_in}
 use Rattle.tta_sim.specs.Results.{Results, shown_by, AreResultsOf, AreKept}
 use Rattle.tta_sim.specs.declared.results.Part.{Part}
@@ -34,16 +34,16 @@ abbrev pub AreNoted : (places : List (Option ℕ)) → (shown : ℕ → Option �
 AreNoted places shown l writes = list_any (λ w. is_unread places shown w.reading) l.writes ≡ false → writes ≡ filter_map (write_brought places shown) l.writes
 
 -- What is left of a line: the words to write, and its operations, no result of which would be due at the time of another.
-pub record AreLeft (store : Store) (r : Results) (l : Line) (doings : Doings) : Type 0 where
-  pub writes : doings.writes ≡ writes_in store r l
-  pub starts : doings.starts ≡ starts_in store r (writes_in store r l) l.starts
-  pub free : list_any (clashes_with r) doings.starts ≡ false
+pub record AreLeft (store : Store) (r : Results) (l : Line) (buffers : CycleBuffers) : Type 0 where
+  pub writes : buffers.writes ≡ writes_in store r l
+  pub starts : buffers.starts ≡ starts_in store r (writes_in store r l) l.starts
+  pub free : list_any (clashes_with r) buffers.starts ≡ false
 
 -- What is left of a quiet line: the words to write, and the results that its operations show, none of which would be due at the time
 -- of another.
-pub record AreDue (u : Units) (store : Store) (r : Results) (l : Line) (doings : Doings) : Type 0 where
-  pub writes : doings.writes ≡ writes_in store r l
-  pub dues : doings.dues ≡ filter_map (shown_from u 0 store) (starts_in store r (writes_in store r l) l.starts)
+pub record AreDue (u : Units) (store : Store) (r : Results) (l : Line) (buffers : CycleBuffers) : Type 0 where
+  pub writes : buffers.writes ≡ writes_in store r l
+  pub dues : buffers.dues ≡ filter_map (shown_from u 0 store) (starts_in store r (writes_in store r l) l.starts)
   pub free : list_any (clashes_with r) (starts_in store r (writes_in store r l) l.starts) ≡ false
 
 -- the operations of a line fit, whatever their operands are

@@ -13,9 +13,9 @@ use Rattle.tta_arch.specs.Rules.{are_different, same_op}
 use Rattle.tta_arch.specs.Effects.{KeptOperand, Start, Kind, Jumps, Calls, Halts, op_at, has_result, takes_in, result_word, lacks_operand, first_some, control_of, is_port, has_unset}
 use Rattle.tta_code.specs.Cycle.{Result', first_fault}
 use Rattle.tta_code.specs.declared.code.Move.{Move}
-use Rattle.tta_sim.specs.declared.control.Told.{Told}
-use Rattle.tta_sim.specs.declared.control.Kind.{Kind as ToldKind}
-use Rattle.tta_sim.specs.declared.control.Kind.TheVariants as told
+use Rattle.tta_sim.specs.declared.control.ControlMove.{ControlMove}
+use Rattle.tta_sim.specs.declared.control.ControlKind.{ControlKind}
+use Rattle.tta_sim.specs.declared.control.ControlKind.TheVariants as control_kind
 use Rattle.tta_sim.specs.Places.{word_at}
 use Rattle.tta_sim.specs.Results.{Results, shown_by, due_by, longest_by, due_after}
 use Rattle.tta_sim.specs.Moves.{Arrival, is_reachable, reads_of, lacks_register, effects_in, arrivals_of, brought_of}
@@ -130,15 +130,15 @@ AreReachable units arrivals = AllByRecursion (λ a. IsTrue (is_reachable units a
 -- ---- control
 
 -- the kind of a control move
-abbrev pub kind_of : ToldKind → Kind
-kind_of told.Jump = Jumps
-kind_of told.Call = Calls
-kind_of told.Halt = Halts
+abbrev pub kind_of : ControlKind → Kind
+kind_of control_kind.Jump = Jumps
+kind_of control_kind.Call = Calls
+kind_of control_kind.Halt = Halts
 
 -- a control move, with the word that it brings
-abbrev pub told_of : Told → Kind × ℕ
-told_of t = (kind_of t.kind, t.word)
+abbrev pub kind_and_word : ControlMove → Kind × ℕ
+kind_and_word t = (kind_of t.kind, t.word)
 
 -- the control move among the arrivals
-abbrev pub told_in : List Arrival → Option (Kind × ℕ)
-told_in arrivals = first_some control_of (map brought_of arrivals)
+abbrev pub acting_in : List Arrival → Option (Kind × ℕ)
+acting_in arrivals = first_some control_of (map brought_of arrivals)

@@ -8,10 +8,10 @@ ghost use Rattle.tta_arch.specs.Effects.{Written, store_data, store_frame};
 ghost use Rattle.tta_sim.specs.Places.{HasWritten};
 ghost use Rattle.tta_sim.specs.Starts.{puts};
 ghost use Rattle.tta_sim.specs.Writing.{numbered, ArePlaces};
-ghost use Rattle.tta_sim.specs.declared.answer.CycleStep.TheVariants.{Fault};
+ghost use Rattle.tta_sim.specs.declared.cycle_step.CycleStep.TheVariants.{Fault};
 ghost use Rattle.tta_sim.specs.Kept.{kept_as, is_silent, IsAtLine, IsCycle};
 
-use crate::answer::CycleStep;
+use crate::cycle_step::CycleStep;
 use crate::begin::begin_all;
 use crate::control::{Control, Phase};
 use crate::decoded::Line;
@@ -23,7 +23,7 @@ use crate::run::{Context, Run};
 use crate::spaces::{put_out, store_all};
 use crate::starts::{Start, any_takes};
 use crate::store::Store;
-use crate::telling::told_in;
+use crate::control_moves::acting_in;
 use crate::writing::write_all;
 use tta_flight::Region;
 
@@ -93,11 +93,11 @@ pub fn carry_quietly(
 {
     let results = Results::of(region, context.part);
     let units = context.units;
-    if let Some(number) = find_fault_quietly(&mut run.doings, &run.store, &results, units, line) {
+    if let Some(number) = find_fault_quietly(&mut run.buffers, &run.store, &results, units, line) {
         return stop(&mut run.control, number);
     }
-    begin_all(region, context.part, run.doings.dues.as_slice());
-    go_on(&mut run.store, run.doings.writes.as_slice());
+    begin_all(region, context.part, run.buffers.dues.as_slice());
+    go_on(&mut run.store, run.buffers.writes.as_slice());
     // No control move acted, so no delay is asked for.
     run.control.advance(None, run.store.cycle, 0);
     CycleStep::Ran {
@@ -108,7 +108,7 @@ pub fn carry_quietly(
 
 /// Carries out a cycle with any line.
 #[inline(always)]
-fn carry_loudly(
+fn carry_any(
     run: &mut Run,
     region: &mut Region,
     context: &Context<'_>,
@@ -123,27 +123,27 @@ fn carry_loudly(
         IsCycle U context.now.part context.now.delay line.now next old new result }
 {
     let results = Results::of(region, context.part);
-    if let Some(number) = find_fault(&mut run.doings, &run.store, &results, &run.control, line) {
+    if let Some(number) = find_fault(&mut run.buffers, &run.store, &results, &run.control, line) {
         return stop(&mut run.control, number);
     }
-    let starts = run.doings.starts.as_slice();
+    let starts = run.buffers.starts.as_slice();
     let took = any_takes(starts);
     if is_stuck(took, next) {
         return CycleStep::Waiting;
     }
-    let told = told_in(&run.store.places, &results, line);
+    let acting = acting_in(&run.store.places, &results, line);
     let word = next.unwrap_or(0);
     note_results(
-        &mut run.doings.dues,
+        &mut run.buffers.dues,
         context.units,
         &run.store,
         word,
         starts,
     );
-    begin_all(region, context.part, run.doings.dues.as_slice());
+    begin_all(region, context.part, run.buffers.dues.as_slice());
     let put = put_all(&mut run.store, starts);
-    go_on(&mut run.store, run.doings.writes.as_slice());
-    run.control.advance(told, run.store.cycle, context.delay);
+    go_on(&mut run.store, run.buffers.writes.as_slice());
+    run.control.advance(acting, run.store.cycle, context.delay);
     CycleStep::Ran { put, took }
 }
 
@@ -167,5 +167,5 @@ pub fn carry(
     if line.quiet {
         return carry_quietly(run, region, context, line);
     }
-    carry_loudly(run, region, context, line, next)
+    carry_any(run, region, context, line, next)
 }

@@ -2,12 +2,12 @@
 
 ghost use Rattle.std.specs.Prelude.{◌≡◌, ◌+◌, ◌<◌, ◌^◌, None, option_map};
 ghost use Rattle.tta_code.specs.Cycle.{State, takes_effect, lands};
-ghost use Rattle.tta_sim.specs.Starts.{told_of};
+ghost use Rattle.tta_sim.specs.Starts.{kind_and_word};
 ghost use Rattle.tta_sim.specs.Controls.{underway, controlled, pending_with, outcome_of};
 
 /// The kinds of control moves.
 #[derive(Clone, Copy)]
-pub enum Kind {
+pub enum ControlKind {
     Jump,
     Call,
     Halt,
@@ -15,8 +15,8 @@ pub enum Kind {
 
 /// A control move that acts, with the moved word.
 #[derive(Clone, Copy)]
-pub struct Told {
-    pub kind: Kind,
+pub struct ControlMove {
+    pub kind: ControlKind,
     pub word: u32,
 }
 
@@ -24,7 +24,7 @@ pub struct Told {
 #[derive(Clone, Copy)]
 pub struct Pending {
     pub time: u64,
-    pub told: Told,
+    pub acting: ControlMove,
 }
 
 /// How a run stands.
@@ -61,9 +61,9 @@ impl Control {
             → controlled s self.new ≡ takes_effect (controlled s self.old) (underway p) }
     {
         self.pending = None;
-        match p.told.kind {
-            Kind::Jump | Kind::Call => self.pc = p.told.word,
-            Kind::Halt => self.phase = Phase::Halted,
+        match p.acting.kind {
+            ControlKind::Jump | ControlKind::Call => self.pc = p.acting.word,
+            ControlKind::Halt => self.phase = Phase::Halted,
         }
     }
 
@@ -80,35 +80,35 @@ impl Control {
     }
 
     /// Takes the control move of a cycle, if any acted. The cycle after it is `now`.
-    fn tell(&mut self, told: Option<Told>, now: u64, delay: u8)
+    fn take_move(&mut self, acting: Option<ControlMove>, now: u64, delay: u8)
         requires few { now + 256 < 2 ^ 64 }
         ensures pc { self.new.pc ≡ self.old.pc }
         ensures phase { self.new.phase ≡ self.old.phase }
         ensures pending { let before = option_map underway self.old.pending in
             option_map underway self.new.pending
-            ≡ pending_with now delay before (option_map told_of told) }
+            ≡ pending_with now delay before (option_map kind_and_word acting) }
     {
-        if let Some(told) = told {
+        if let Some(acting) = acting {
             self.pending = Some(Pending {
                 time: now + u64::from(delay),
-                told,
+                acting,
             });
         }
     }
 
-    /// Goes on to the next cycle, which is `now`, where `told` is the control move that acted.
-    pub fn advance(&mut self, told: Option<Told>, now: u64, delay: u8)
+    /// Goes on to the next cycle, which is `now`, where `acting` is the control move that acted.
+    pub fn advance(&mut self, acting: Option<ControlMove>, now: u64, delay: u8)
         requires within { self.old.pc + 1 < 2 ^ 32 }
         requires few { now + 256 < 2 ^ 64 }
         ensures { (s : State) → s.cycle ≡ now
             → let before = option_map underway self.old.pending in
-            let p = pending_with now delay before (option_map told_of told) in
+            let p = pending_with now delay before (option_map kind_and_word acting) in
             let outcome = outcome_of now self.old.phase in
             let next = record s { pc = self.old.pc + 1; pending = p; outcome = outcome } in
             controlled s self.new ≡ lands next p }
     {
         self.pc += 1;
-        self.tell(told, now, delay);
+        self.take_move(acting, now, delay);
         self.land(now);
     }
 }

@@ -9,12 +9,12 @@ ghost use Rattle.std.specs.List.{list_any};
 ghost use Rattle.tta_arch.specs.Effects.{KeptReg, KeptImm, op_at, width_of};
 ghost use Rattle.tta_sim.specs.Places.{number_of};
 ghost use Rattle.tta_sim.specs.Decoded.{source_decoded, guard_decoded, reading_of, write_decoded};
-ghost use Rattle.tta_sim.specs.Decoded.{start_decoded, tell_decoded, is_loud_start, is_quiet};
+ghost use Rattle.tta_sim.specs.Decoded.{start_decoded, control_decoded, is_loud_start, is_quiet};
 ghost use Rattle.tta_sim.specs.Decoded.{long_decoded, line_of, lines_from, with_move};
 
-use crate::control::Kind;
+use crate::control::ControlKind;
 use crate::decoded::{
-    DecodedGuard, DecodedSource, DecodedStart, DecodedTell, DecodedWrite, Line, Reading,
+    DecodedGuard, DecodedSource, DecodedStart, DecodedControl, DecodedWrite, Line, Reading,
 };
 use crate::places::{IMMEDIATE_REGISTERS, IMMEDIATES, OPERANDS, REGISTERS, RETURN_ADDRESS};
 use crate::starts::is_loud;
@@ -146,19 +146,19 @@ fn start_in(m: &Machine, slot: &Option<Move>) -> Option<DecodedStart>
 }
 
 /// The control move that a move is, if it is one.
-fn tell_in(slot: &Option<Move>) -> Option<DecodedTell>
-    ensures { result ≡ option_and_then tell_decoded slot.now }
+fn control_in(slot: &Option<Move>) -> Option<DecodedControl>
+    ensures { result ≡ option_and_then control_decoded slot.now }
 {
     let Some(v) = slot else {
         return None;
     };
     let kind = match v.dst {
-        Dest::Jump => Kind::Jump,
-        Dest::Call => Kind::Call,
-        Dest::Halt => Kind::Halt,
+        Dest::Jump => ControlKind::Jump,
+        Dest::Call => ControlKind::Call,
+        Dest::Halt => ControlKind::Halt,
         Dest::Reg { .. } | Dest::Operand { .. } | Dest::Trigger { .. } => return None,
     };
-    Some(DecodedTell {
+    Some(DecodedControl {
         reading: reading(v),
         kind,
     })
@@ -200,7 +200,7 @@ fn add_move(line: &mut Line, m: &Machine, back: u32, slot: &Option<Move>) -> Res
 {
     add(&mut line.writes, write_in(m, back, slot))?;
     add(&mut line.starts, start_in(m, slot))?;
-    add(&mut line.tells, tell_in(slot))
+    add(&mut line.controls, control_in(slot))
 }
 
 /// Adds what the moves and the long immediate of an instruction do.
@@ -227,10 +227,10 @@ fn any_loud(starts: &[DecodedStart]) -> bool
 }
 
 /// Whether no operation stores, outputs or takes a word, and there is no control move.
-fn is_quiet(starts: &Items<DecodedStart>, tells: &Items<DecodedTell>) -> bool
-    ensures { result ≡ is_quiet starts.now tells.now }
+fn is_quiet(starts: &Items<DecodedStart>, controls: &Items<DecodedControl>) -> bool
+    ensures { result ≡ is_quiet starts.now controls.now }
 {
-    !any_loud(starts.as_slice()) && tells.is_empty()
+    !any_loud(starts.as_slice()) && controls.is_empty()
 }
 
 /// An instruction, decoded. Where it calls, `back` is the address to come back to.
@@ -240,14 +240,14 @@ fn line(alloc: Global, m: &Machine, back: u32, i: &Instruction) -> Result<Line, 
     let mut line = Line {
         writes: Items::new(alloc),
         starts: Items::new(alloc),
-        tells: Items::new(alloc),
+        controls: Items::new(alloc),
         quiet: true,
     };
     let Ok(()) = add_moves(&mut line, m, back, i) else {
         drop(line);
         return Err(AllocError);
     };
-    line.quiet = is_quiet(&line.starts, &line.tells);
+    line.quiet = is_quiet(&line.starts, &line.controls);
     Ok(line)
 }
 

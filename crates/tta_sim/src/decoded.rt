@@ -3,7 +3,7 @@
 //! A run carries out one instruction again and again. So its moves are sorted once, by what they
 //! do, and each end is looked up in the machine once.
 
-use crate::control::Kind;
+use crate::control::ControlKind;
 use tta_arch::UnitOp;
 use tta_list::Items;
 
@@ -49,9 +49,9 @@ pub struct DecodedStart {
 
 /// A control move.
 #[derive(Clone, Copy)]
-pub struct DecodedTell {
+pub struct DecodedControl {
     pub reading: Reading,
-    pub kind: Kind,
+    pub kind: ControlKind,
 }
 
 /// An instruction: its moves by what they do. A long immediate is a write like any other.
@@ -59,7 +59,7 @@ pub struct DecodedTell {
 pub struct Line {
     pub writes: Items<DecodedWrite>,
     pub starts: Items<DecodedStart>,
-    pub tells: Items<DecodedTell>,
+    pub controls: Items<DecodedControl>,
     /// Whether no operation stores, outputs or takes a word, and there is no control move, as in most
     /// instructions.
     pub quiet: bool,

@@ -1,13 +1,15 @@
 //! The run of a machine's code by its meaning, one cycle a call.
 #![tactic(auto)]
 
-mod answer;
 mod begin;
 mod carry;
 mod control;
+mod control_moves;
+mod cycle_step;
 mod decode;
 mod decoded;
 mod dues;
+mod ending;
 mod fault;
 mod lines;
 mod places;
@@ -20,13 +22,11 @@ mod spaces;
 mod starts;
 mod state;
 mod store;
-mod telling;
-mod told;
 mod truth;
 mod unset;
 mod writing;
 
-pub use answer::CycleStep;
+pub use cycle_step::CycleStep;
+pub use ending::Ending;
 pub use sim::Sim;
 pub use state::SimState;
-pub use told::Ending;

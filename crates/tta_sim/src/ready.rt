@@ -14,15 +14,15 @@ use crate::fault::{CONTROL_IN_DELAY, UNSET_PORT, UNSET_REGISTER};
 use crate::lines::{Missing, note_starts, note_writes};
 use crate::results::Results;
 use crate::starts;
-use crate::store::{Doings, Store};
-use crate::telling::tells_well;
+use crate::store::{CycleBuffers, Store};
+use crate::control_moves::controls_well;
 use crate::unset::reads_unset;
 use tta_ops::UnitSet;
 
 /// Collects what a line writes and starts, and answers whether all of its moves can be carried out.
 #[inline(always)]
 fn is_ready(
-    doings: &mut Doings,
+    buffers: &mut CycleBuffers,
     store: &Store,
     results: &Results<'_>,
     control: &Control,
@@ -32,19 +32,19 @@ fn is_ready(
     ensures ready { let is_pending = is_some control.now.pending in
         result ≡ is_ready store.now.places results.now is_pending line.now }
     ensures noted { let shown = shown_by results.now in
-        AreNoted store.now.places shown line.now doings.new.writes }
-    ensures left { result ≡ true → AreLeft store.now results.now line.now doings.new }
+        AreNoted store.now.places shown line.now buffers.new.writes }
+    ensures left { result ≡ true → AreLeft store.now results.now line.now buffers.new }
 {
     let places = &store.places;
-    if !note_writes(&mut doings.writes, places, results, line.writes.as_slice()) {
+    if !note_writes(&mut buffers.writes, places, results, line.writes.as_slice()) {
         return false;
     }
-    let writes = doings.writes.as_slice();
+    let writes = buffers.writes.as_slice();
     let moves = line.starts.as_slice();
-    if !note_starts(&mut doings.starts, writes, places, results, moves) {
+    if !note_starts(&mut buffers.starts, writes, places, results, moves) {
         return false;
     }
-    tells_well(places, results, control.pending.is_some(), line)
+    controls_well(places, results, control.pending.is_some(), line)
 }
 
 /// The fault of a cycle whose line is not ready: 60 where a register is read that was never
@@ -52,10 +52,10 @@ fn is_ready(
 /// operation cannot start, and else 64, since only control is left. It is not in line, and it has
 /// results of its own: by reference, each cycle would store them for a call that it does not make.
 #[inline(never)]
-fn fault_of(doings: &mut Doings, store: &Store, results: Results<'_>, line: &Line) -> u8
+fn fault_of(buffers: &mut CycleBuffers, store: &Store, results: Results<'_>, line: &Line) -> u8
     requires there { IsLineThere results.units line.now }
     requires noted { let shown = shown_by results in
-        AreNoted store.now.places shown line.now doings.old.writes }
+        AreNoted store.now.places shown line.now buffers.old.writes }
     ensures { (is_pending : Bool)
         → is_ready store.now.places results.entry is_pending line.now ≡ false
         → IsFaultOf store.now.places results.entry is_pending line.now (Some result) }
@@ -68,15 +68,15 @@ fn fault_of(doings: &mut Doings, store: &Store, results: Results<'_>, line: &Lin
         return UNSET_PORT;
     }
     // All can be read, so all words to write were collected.
-    let writes = doings.writes.as_slice();
+    let writes = buffers.writes.as_slice();
     if !note_starts(
-        &mut doings.starts,
+        &mut buffers.starts,
         writes,
         places,
         &results,
         line.starts.as_slice(),
     ) {
-        return starts::fault_of(doings.starts.as_slice());
+        return starts::fault_of(buffers.starts.as_slice());
     }
     CONTROL_IN_DELAY
 }
@@ -84,7 +84,7 @@ fn fault_of(doings: &mut Doings, store: &Store, results: Results<'_>, line: &Lin
 /// Collects what a line writes and starts, or answers the fault of its cycle.
 #[inline(always)]
 pub fn find_fault(
-    doings: &mut Doings,
+    buffers: &mut CycleBuffers,
     store: &Store,
     results: &Results<'_>,
     control: &Control,
@@ -93,19 +93,19 @@ pub fn find_fault(
     requires { IsLineThere results.now.units line.now }
     ensures fault { let is_pending = is_some control.now.pending in
         IsFaultOf store.now.places results.now is_pending line.now result }
-    ensures left { result ≡ None → AreLeft store.now results.now line.now doings.new }
+    ensures left { result ≡ None → AreLeft store.now results.now line.now buffers.new }
 {
-    if is_ready(doings, store, results, control, line) {
+    if is_ready(buffers, store, results, control, line) {
         return None;
     }
-    Some(fault_of(doings, store, results.again(), line))
+    Some(fault_of(buffers, store, results.reborrow(), line))
 }
 
 /// Collects what a quiet line writes and which results its operations show, and answers whether all of
 /// its moves can be carried out.
 #[inline(always)]
 fn is_ready_quietly(
-    doings: &mut Doings,
+    buffers: &mut CycleBuffers,
     store: &Store,
     results: &Results<'_>,
     units: &UnitSet,
@@ -116,24 +116,24 @@ fn is_ready_quietly(
     ensures ready { (is_pending : Bool)
         → result ≡ is_ready store.now.places results.now is_pending line.now }
     ensures noted { let shown = shown_by results.now in
-        AreNoted store.now.places shown line.now doings.new.writes }
+        AreNoted store.now.places shown line.now buffers.new.writes }
     ensures left { let U = stated unit_meaning units.now in
-        result ≡ true → AreDue U store.now results.now line.now doings.new }
+        result ≡ true → AreDue U store.now results.now line.now buffers.new }
 {
     let places = &store.places;
-    if !note_writes(&mut doings.writes, places, results, line.writes.as_slice()) {
+    if !note_writes(&mut buffers.writes, places, results, line.writes.as_slice()) {
         return false;
     }
-    let writes = doings.writes.as_slice();
+    let writes = buffers.writes.as_slice();
     let moves = line.starts.as_slice();
-    note_dues(&mut doings.dues, writes, store, results, units, moves)
+    note_dues(&mut buffers.dues, writes, store, results, units, moves)
 }
 
 /// Collects what a quiet line writes and which results its operations show, or answers the fault of
 /// its cycle.
 #[inline(always)]
 pub fn find_fault_quietly(
-    doings: &mut Doings,
+    buffers: &mut CycleBuffers,
     store: &Store,
     results: &Results<'_>,
     units: &UnitSet,
@@ -144,10 +144,10 @@ pub fn find_fault_quietly(
     ensures fault { (is_pending : Bool)
         → IsFaultOf store.now.places results.now is_pending line.now result }
     ensures left { let U = stated unit_meaning units.now in
-        result ≡ None → AreDue U store.now results.now line.now doings.new }
+        result ≡ None → AreDue U store.now results.now line.now buffers.new }
 {
-    if is_ready_quietly(doings, store, results, units, line) {
+    if is_ready_quietly(buffers, store, results, units, line) {
         return None;
     }
-    Some(fault_of(doings, store, results.again(), line))
+    Some(fault_of(buffers, store, results.reborrow(), line))
 }

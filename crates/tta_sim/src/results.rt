@@ -41,7 +41,7 @@ impl<'a> Results<'a> {
 
     /// The same results once more.
     #[inline(always)]
-    pub fn again(&self) -> Results<'a>
+    pub fn reborrow(&self) -> Results<'a>
         ensures { result ≡ self.now }
     {
         Results::of(self.region, self.part)

@@ -2,7 +2,7 @@
 
 use crate::control::Control;
 use crate::results::Part;
-use crate::store::{Doings, Store};
+use crate::store::{CycleBuffers, Store};
 use tta_ops::UnitSet;
 
 /// What a run holds but for its results and its code: its words, its control, and room for what a
@@ -11,7 +11,7 @@ use tta_ops::UnitSet;
 pub struct Run {
     pub store: Store,
     pub control: Control,
-    pub doings: Doings,
+    pub buffers: CycleBuffers,
 }
 
 /// What a cycle needs to know of its machine.

@@ -13,12 +13,12 @@ ghost use Rattle.tta_sim.specs.Results.{due_at, HasUnits, AreResultsOf, units_of
 ghost use Rattle.tta_list.specs.Input.{IsFed};
 ghost use Rattle.tta_list.specs.Iterate.{iterate};
 ghost use Rattle.tta_sim.specs.Held.{Stands, GoesTo, IsAnswer, IsQuiet, IsRunOf, has_taken};
-ghost use Rattle.tta_sim.specs.Held.{cycles_of, goes_quietly, is_halted, fault_number, ending_told};
-ghost use Rattle.tta_sim.specs.declared.answer.CycleStep.TheVariants.{Waiting};
+ghost use Rattle.tta_sim.specs.Held.{cycles_of, goes_quietly, is_halted, fault_number, as_outcome};
+ghost use Rattle.tta_sim.specs.declared.cycle_step.CycleStep.TheVariants.{Waiting};
 
-use crate::answer::CycleStep;
+use crate::cycle_step::CycleStep;
 use crate::state::SimState;
-use crate::told::Ending;
+use crate::ending::Ending;
 use std::alloc::{AllocError, Global};
 use std::marker::Model;
 use tta_arch::Machine;
@@ -232,7 +232,7 @@ impl Sim {
 
     /// How the run stands.
     pub fn ending(&self) -> Ending
-        ensures { ending_told result ≡ self.now.outcome }
+        ensures { as_outcome result ≡ self.now.outcome }
     {
         self.state.ending()
     }

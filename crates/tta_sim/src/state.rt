@@ -11,10 +11,10 @@ ghost use Rattle.tta_sim.specs.Places.{is_place};
 ghost use Rattle.tta_sim.specs.Results.{Results, AreResultsOf, AreKept, HasUnits, units_of};
 ghost use Rattle.tta_list.specs.Input.{IsFed};
 ghost use Rattle.tta_sim.specs.Held.{StandsWith, GoesWith, IsAnswer, IsQuiet, IsStateOf, has_taken};
-ghost use Rattle.tta_sim.specs.Held.{cycles_of, goes_quietly, is_halted, fault_number, ending_told};
-ghost use Rattle.tta_sim.specs.declared.answer.CycleStep.TheVariants.{Waiting};
+ghost use Rattle.tta_sim.specs.Held.{cycles_of, goes_quietly, is_halted, fault_number, as_outcome};
+ghost use Rattle.tta_sim.specs.declared.cycle_step.CycleStep.TheVariants.{Waiting};
 
-use crate::answer::CycleStep;
+use crate::cycle_step::CycleStep;
 use crate::carry::{carry, carry_quietly};
 use crate::control::{Control, Phase};
 use crate::decode::decode;
@@ -23,8 +23,8 @@ use crate::fault::NO_INSTRUCTION;
 use crate::results::Part;
 use crate::run::{Context, Run};
 use crate::spaces::load;
-use crate::store::{Doings, Store};
-use crate::told::Ending;
+use crate::store::{CycleBuffers, Store};
+use crate::ending::Ending;
 use std::alloc::{AllocError, Global};
 use std::marker::Model;
 use tta_arch::Machine;
@@ -88,7 +88,7 @@ impl SimState {
             drop(store);
             return Err(AllocError);
         };
-        let Ok(doings) = Doings::none(alloc) else {
+        let Ok(buffers) = CycleBuffers::none(alloc) else {
             drop(store);
             drop(lines);
             return Err(AllocError);
@@ -97,7 +97,7 @@ impl SimState {
         let run = Run {
             store,
             control,
-            doings,
+            buffers,
         };
         Ok(SimState { run, lines })
     }
@@ -264,7 +264,7 @@ impl SimState {
 
     /// How the run stands.
     pub fn ending(&self) -> Ending
-        ensures { ending_told result ≡ self.now.outcome }
+        ensures { as_outcome result ≡ self.now.outcome }
     {
         match self.run.control.phase {
             Phase::Running => Ending::Running,

@@ -54,14 +54,14 @@ impl Store {
 /// What the moves of a cycle write and start. It is of no use after the cycle, and kept only for
 /// its room.
 #[derive(Drop)]
-pub struct Doings {
+pub struct CycleBuffers {
     pub writes: Short<Write>,
     pub starts: Short<Start>,
     /// The results that the operations show.
     pub dues: Short<Due>,
 }
 
-impl Doings {
+impl CycleBuffers {
     /// Nothing is done yet.
     pub fn none(alloc: Global) -> Result<Self, AllocError> {
         // What was taken so far is dropped by name, so that a way out is left with nothing.
@@ -77,7 +77,7 @@ impl Doings {
             drop(starts);
             return Err(AllocError);
         };
-        Ok(Doings {
+        Ok(CycleBuffers {
             writes,
             starts,
             dues,

@@ -57,12 +57,12 @@ fn starts_lack(what: Missing, places: &Places, results: &Results<'_>, line: &Lin
 }
 
 /// Whether one of a line's control moves lacks such a word.
-fn tells_lack(what: Missing, places: &Places, results: &Results<'_>, line: &Line) -> bool
+fn controls_lack(what: Missing, places: &Places, results: &Results<'_>, line: &Line) -> bool
     requires { IsLineThere results.now.units line.now }
     ensures { let lacks = lacks_word what places.now (shown_by results.now) in
-        result ≡ list_any (λ t. lacks t.reading) line.now.tells }
+        result ≡ list_any (λ t. lacks t.reading) line.now.controls }
 {
-    for t in line.tells.as_slice() {
+    for t in line.controls.as_slice() {
         if lacks(what, places, results, &t.reading) {
             return true;
         }
@@ -80,6 +80,6 @@ pub fn reads_unset(what: Missing, places: &Places, results: &Results<'_>, line: 
 {
     let writes = writes_lack(what, places, results, line);
     let starts = starts_lack(what, places, results, line);
-    let tells = tells_lack(what, places, results, line);
-    either(writes, either(starts, tells))
+    let controls = controls_lack(what, places, results, line);
+    either(writes, either(starts, controls))
 }

@@ -10,7 +10,7 @@ use Rattle.tta_reading.specs.Steps.{◌>>=◌, or_refuse}
 use Rattle.tta_ops.specs.Units.{Units}
 use Rattle.tta_program.specs.Rules.{are_apart}
 use Rattle.tta_program.specs.declared.program.DataLine.{DataLine}
-use Rattle.tta_tac.specs.declared.reading.refusal.Refusal.TheVariants.{Syntax}
+use Rattle.tta_tac.specs.declared.refusal.Refusal.TheVariants.{Syntax}
 use Rattle.tta_tac.specs.Forms.{Form, ProcForm, DataForm, LabelForm, CallForm, ReturnForm, form_of}
 use Rattle.tta_tac.specs.Draft.{Unlinked, ProcDraft, Draft, nothing}
 use Rattle.tta_tac.specs.FirstPass.{vars_after, lacks_op, has_wrong_arity, has_many_args, is_full, step_of, is_end, close_if, with_step, with_fresh, has_address, with_datum, take_step, take_form, take_line}

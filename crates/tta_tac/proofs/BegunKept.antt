@@ -11,7 +11,7 @@ use Rattle.tta_reading.specs.Names.{named_in}
 use Rattle.tta_tac.specs.Draft.{ProcDraft, Draft}
 use Rattle.tta_tac.specs.Kept.{IsOpen, all_procs, IsKept}
 use Rattle.tta_tac.specs.FirstPass.{fresh, with_fresh}
-use Rattle.tta_tac.proofs.Variables.{named_more, numbered_length, numbered_below}
+use Rattle.tta_tac.proofs.VariableLists.{named_more, numbered_length, numbered_below}
 use Rattle.tta_tac.proofs.Taken.{ProcTaken}
 use Rattle.tta_tac.proofs.Growing.{sum_last, get_last}
 

@@ -8,7 +8,7 @@ use Rattle.tta_ops.specs.Units.{Units}
 use Rattle.tta_program.specs.declared.program.Proc.{Proc}
 use Rattle.tta_program.specs.Program.{Program}
 use Rattle.tta_program.specs.Rules.{Reaches}
-use Rattle.tta_tac.specs.declared.reading.refusal.TacError.{TacError}
+use Rattle.tta_tac.specs.declared.refusal.TacError.{TacError}
 use Rattle.tta_tac.specs.Draft.{Draft, nothing}
 use Rattle.tta_tac.specs.SecondPass.{link_procs}
 use Rattle.tta_tac.specs.Text.{Linked, take_lines, linked_text, with_main, ProgramText}

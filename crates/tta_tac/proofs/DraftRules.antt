@@ -7,13 +7,13 @@ use Rattle.std.specs.Result.{OnOk}
 use Rattle.tta_reading.specs.declared.line_error.LineError.{LineError}
 use Rattle.tta_reading.specs.Taken.{Takes}
 use Rattle.tta_ops.specs.Units.{Units}
-use Rattle.tta_tac.specs.declared.reading.draft.DraftProc.{DraftProc}
+use Rattle.tta_tac.specs.declared.draft.DraftProc.{DraftProc}
 use Rattle.tta_tac.specs.Forms.{Form}
 use Rattle.tta_tac.specs.Draft.{ProcDraft, Draft, proc_seen}
 use Rattle.tta_tac.specs.DraftRules.{IsBegun, IsDraft}
 use Rattle.tta_tac.specs.FirstPass.{vars_after, is_end, close_if, with_step, take_step, take_form, with_fresh, with_datum}
-use Rattle.tta_tac.specs.declared.reading.refusal.Refusal.{Refusal}
-use Rattle.tta_tac.proofs.Variables.{numbered_length}
+use Rattle.tta_tac.specs.declared.refusal.Refusal.{Refusal}
+use Rattle.tta_tac.proofs.VariableLists.{numbered_length}
 use Rattle.tta_tac.proofs.Taken.{with_label, StepTaken, step_taken, Taken, ProcBegins, DatumIsLaid, LabelIsPut, StepIsMade, form_taken}
 
 -- a step of a begun procedure, which may have been moved out of the draft

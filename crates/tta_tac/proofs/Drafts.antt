@@ -5,8 +5,8 @@ use Rattle.tta_ops.specs.Units.{Units}
 use Rattle.tta_program.specs.declared.operand.Src.TheVariants.{Var, Word}
 use Rattle.tta_program.specs.declared.operand.Rel.TheVariants.{Eq, Ge}
 use Rattle.tta_program.specs.declared.step.Step.TheVariants as step
-use Rattle.tta_tac.specs.declared.reading.refusal.Refusal.{Refusal}
-use Rattle.tta_tac.specs.declared.reading.refusal.Refusal.TheVariants.{Syntax, UnknownOp, Arity, Twice, TooMany}
+use Rattle.tta_tac.specs.declared.refusal.Refusal.{Refusal}
+use Rattle.tta_tac.specs.declared.refusal.Refusal.TheVariants.{Syntax, UnknownOp, Arity, Twice, TooMany}
 use Rattle.tta_tac.specs.Forms.{Named, Constant, ProcForm, DataForm, LabelForm, CopyForm, ApplyForm, TakeForm, IfForm, WhenForm, CallForm, HaltForm, EndForm}
 use Rattle.tta_tac.specs.Draft.{Unlinked, Plain, CallTo, ProcDraft, Draft, nothing}
 use Rattle.tta_tac.specs.FirstPass.{take_form}

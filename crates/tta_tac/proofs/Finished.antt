@@ -7,17 +7,17 @@ use Rattle.tta_reading.specs.Steps.{◌>>=◌}
 use Rattle.tta_reading.proofs.Steps.{then-ok}
 use Rattle.tta_ops.specs.Units.{Units}
 use Rattle.tta_program.specs.declared.program.Proc.{Proc}
-use Rattle.tta_tac.specs.declared.reading.draft.DraftProc.{DraftProc}
-use Rattle.tta_tac.specs.declared.reading.refusal.Refusal.TheVariants.{Recursive, NoMain}
-use Rattle.tta_tac.specs.declared.reading.refusal.TacError.{TacError}
-use Rattle.tta_tac.specs.declared.reading.refusal.TacError.TheVariants as tac_error
+use Rattle.tta_tac.specs.declared.draft.DraftProc.{DraftProc}
+use Rattle.tta_tac.specs.declared.refusal.Refusal.TheVariants.{Recursive, NoMain}
+use Rattle.tta_tac.specs.declared.refusal.TacError.{TacError}
+use Rattle.tta_tac.specs.declared.refusal.TacError.TheVariants as tac_error
 use Rattle.tta_tac.specs.Refusals.{code_of}
 use Rattle.tta_tac.specs.Draft.{Draft, ProcDraft, procs_seen}
 use Rattle.tta_tac.specs.SecondPass.{Refused, link_proc, link_procs}
 use Rattle.tta_tac.specs.Text.{linked_text, IsFirstRecursive, InPasses, ByRecursion, WithoutMain}
 use Rattle.tta_tac.specs.Cycles.{IsAcyclic}
 use Rattle.tta_tac.specs.Reported.{Reports, IsDraftOf, MakesProgram, ReportsCause, LeadsBack}
-use Rattle.tta_tac.proofs.Calls.{reaches_within}
+use Rattle.tta_tac.proofs.CallLemmas.{reaches_within}
 
 -- ---- the passes, one after the other
 

@@ -14,7 +14,7 @@ use Rattle.tta_reading.specs.Words.{is_keyword, is_mark, value_of, constant_of}
 use Rattle.tta_reading.specs.Steps.{◌>>?◌, only_if}
 use Rattle.tta_reading.proofs.Steps.{then-some}
 use Rattle.tta_tac.specs.Forms.{Operand, Named, Constant, free_name, operand_of, or_constant, operands_alone, names_alone, rel_of, Form, LabelForm, HaltForm, EndForm, proc_form, data_form, store_form, put_form, if_form, goto_form, when_form, call_form, return_form, alone_form, assign_form, named_form, form_of}
-use Rattle.tta_tac.proofs.Variables.{fits}
+use Rattle.tta_tac.proofs.VariableLists.{fits}
 use Rattle.tta_tac.proofs.StepsKept.{fits_form}
 
 -- ---- numbers

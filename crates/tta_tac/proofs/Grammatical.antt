@@ -10,7 +10,7 @@ use Rattle.tta_reading.specs.Steps.{at_line}
 use Rattle.tta_reading.proofs.Steps.{then-ok, some-ok, at_line-ok}
 use Rattle.tta_ops.specs.Units.{Units}
 use Rattle.tta_program.specs.declared.program.DataLine.{DataLine}
-use Rattle.tta_tac.specs.declared.reading.refusal.Refusal.TheVariants.{Syntax}
+use Rattle.tta_tac.specs.declared.refusal.Refusal.TheVariants.{Syntax}
 use Rattle.tta_tac.specs.Forms.{Form, ProcForm, DataForm, LabelForm, form_of}
 use Rattle.tta_tac.specs.Draft.{Unlinked, ProcDraft, Draft, nothing}
 use Rattle.tta_tac.specs.FirstPass.{vars_after, step_of, is_end, close_if, with_step, numbered, with_fresh, with_datum, take_line}

@@ -9,7 +9,7 @@ use Rattle.tta_reading.specs.Names.{Declared, named_in}
 use Rattle.tta_tac.specs.Draft.{Unlinked, ProcDraft, Draft, nothing}
 use Rattle.tta_tac.specs.FirstPass.{with_step}
 use Rattle.tta_tac.specs.Kept.{is_unlinked, IsProcDraft, IsOpen, IsEnded, all_procs, IsKept}
-use Rattle.tta_tac.proofs.Variables.{IsNumbered, Grows}
+use Rattle.tta_tac.proofs.VariableLists.{IsNumbered, Grows}
 use Rattle.tta_tac.proofs.StepsKept.{all_more}
 
 -- how many steps there are with one procedure more

@@ -10,7 +10,7 @@ use Rattle.tta_tac.specs.Forms.{Form}
 use Rattle.tta_tac.specs.Draft.{Unlinked, ProcDraft, Draft}
 use Rattle.tta_tac.specs.FirstPass.{vars_after, is_end, close_if, with_step, take_form}
 use Rattle.tta_tac.specs.Kept.{is_unlinked, is_end_step, IsOpen, IsKept}
-use Rattle.tta_tac.proofs.Variables.{IsNumbered, Grows, named_more}
+use Rattle.tta_tac.proofs.VariableLists.{IsNumbered, Grows, named_more}
 use Rattle.tta_tac.proofs.Taken.{with_label, LabelTaken, StepTaken, Taken, ProcBegins, DatumIsLaid, LabelIsPut, StepIsMade, form_taken}
 use Rattle.tta_tac.proofs.StepsKept.{fits_form, grows_form, step_fits, step_ends, closes_last}
 use Rattle.tta_tac.proofs.Growing.{with_step_kept, open_kept, ended_kept}

@@ -15,7 +15,7 @@ use Rattle.tta_program.specs.declared.operand.Src.{Src}
 use Rattle.tta_program.specs.declared.step.Step.{Step}
 use Rattle.tta_program.specs.declared.program.Proc.{Proc}
 use Rattle.tta_program.specs.declared.program.DataLine.{DataLine}
-use Rattle.tta_tac.specs.declared.reading.refusal.Refusal.TheVariants.{UnknownProc}
+use Rattle.tta_tac.specs.declared.refusal.Refusal.TheVariants.{UnknownProc}
 use Rattle.tta_program.specs.Program.{Program}
 use Rattle.tta_program.specs.Rules.{is_call, IsProc, IsProgram, Reaches, ByCall, ByMore}
 use Rattle.tta_tac.specs.Draft.{Draft, ProcDraft}

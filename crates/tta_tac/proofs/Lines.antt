@@ -7,12 +7,12 @@ use Rattle.tta_reading.specs.Names.{Declared, named_in}
 use Rattle.tta_reading.specs.Steps.{refuse_if}
 use Rattle.tta_reading.proofs.Steps.{refuse_if-ok}
 use Rattle.tta_ops.specs.Units.{Units}
-use Rattle.tta_tac.specs.declared.reading.refusal.Refusal.{Refusal}
-use Rattle.tta_tac.specs.declared.reading.refusal.Refusal.TheVariants.{UnknownOp, Arity, TooMany}
-use Rattle.tta_tac.specs.declared.reading.draft.DraftProc.{DraftProc}
+use Rattle.tta_tac.specs.declared.refusal.Refusal.{Refusal}
+use Rattle.tta_tac.specs.declared.refusal.Refusal.TheVariants.{UnknownOp, Arity, TooMany}
+use Rattle.tta_tac.specs.declared.draft.DraftProc.{DraftProc}
 use Rattle.tta_tac.specs.Forms.{Form}
-use Rattle.tta_tac.specs.declared.reading.draft.NamedStep.{NamedStep}
-use Rattle.tta_tac.specs.declared.reading.draft.Draft.{Draft as CodeDraft}
+use Rattle.tta_tac.specs.declared.draft.NamedStep.{NamedStep}
+use Rattle.tta_tac.specs.declared.draft.Draft.{Draft as CodeDraft}
 use Rattle.tta_tac.specs.Draft.{Unlinked, ProcDraft, Draft, proc_seen, procs_seen, step_seen, draft_seen}
 use Rattle.tta_tac.specs.FirstPass.{vars_after, lacks_op, has_wrong_arity, has_many_args, is_full, step_of, is_end, close_if, with_step, take_step, take_proc, with_fresh, has_twice, stepped}
 use Rattle.tta_tac.proofs.Seen.{steps_seen_append, procs_seen_length}

@@ -12,7 +12,7 @@ use Rattle.tta_program.specs.declared.operand.Src.{Src}
 use Rattle.tta_program.specs.declared.step.Step.{Step}
 use Rattle.tta_program.specs.declared.step.Step.TheVariants as step
 use Rattle.tta_program.specs.declared.program.Proc.{Proc}
-use Rattle.tta_tac.specs.declared.reading.refusal.Refusal.TheVariants.{UnknownLabel, Arity}
+use Rattle.tta_tac.specs.declared.refusal.Refusal.TheVariants.{UnknownLabel, Arity}
 use Rattle.tta_program.specs.Program.{Program}
 use Rattle.tta_program.specs.Rules.{is_src, is_call, is_step, is_end, ends_once}
 use Rattle.tta_tac.specs.Draft.{Draft, Unlinked, Plain, IfTo, GotoTo, CallTo}

@@ -20,8 +20,8 @@ use Rattle.tta_program.specs.declared.step.Step.TheVariants as step
 use Rattle.tta_program.specs.declared.program.Proc.{Proc}
 use Rattle.tta_program.specs.Over.{StandsOver, is_over, has_test, test_name}
 use Rattle.tta_program.specs.Program.{Program}
-use Rattle.tta_tac.specs.declared.reading.refusal.Refusal.TheVariants.{Syntax, UnknownLabel, Arity}
-use Rattle.tta_tac.specs.declared.reading.refusal.TacError.{TacError}
+use Rattle.tta_tac.specs.declared.refusal.Refusal.TheVariants.{Syntax, UnknownLabel, Arity}
+use Rattle.tta_tac.specs.declared.refusal.TacError.{TacError}
 use Rattle.tta_tac.specs.Forms.{Form, ApplyForm, IfForm, WhenForm, CallForm, ReturnForm, form_of}
 use Rattle.tta_tac.specs.Draft.{Unlinked, Plain, IfTo, GotoTo, CallTo, ProcDraft, Draft, nothing}
 use Rattle.tta_tac.specs.FirstPass.{vars_after, lacks_op, has_wrong_arity, arity_of, step_of, is_end, close_if, with_step, take_line}

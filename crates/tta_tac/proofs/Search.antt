@@ -15,7 +15,7 @@ use Rattle.tta_program.specs.declared.program.Proc.{Proc}
 use Rattle.tta_program.specs.Rules.{calls, calls_proc, Reaches, ByCall}
 use Rattle.tta_tac.specs.Text.{with_main}
 use Rattle.tta_tac.specs.Cycles.{is_found, unset, IsMarked, Finds}
-use Rattle.tta_tac.proofs.Calls.{calls_of, all_found, reaches_on}
+use Rattle.tta_tac.proofs.CallLemmas.{calls_of, all_found, reaches_on}
 
 -- ---- one mark
 

@@ -9,13 +9,13 @@ use Rattle.tta_reading.specs.Names.{Declared}
 use Rattle.tta_reading.specs.Steps.{◌>>=◌, at_line}
 use Rattle.tta_program.specs.declared.step.Step.{Step}
 use Rattle.tta_program.specs.declared.program.Proc.{Proc}
-use Rattle.tta_tac.specs.declared.reading.draft.NamedStep.{NamedStep}
-use Rattle.tta_tac.specs.declared.reading.draft.DraftProc.{DraftProc}
-use Rattle.tta_tac.specs.declared.reading.refusal.Refusal.{Refusal}
+use Rattle.tta_tac.specs.declared.draft.NamedStep.{NamedStep}
+use Rattle.tta_tac.specs.declared.draft.DraftProc.{DraftProc}
+use Rattle.tta_tac.specs.declared.refusal.Refusal.{Refusal}
 use Rattle.tta_tac.specs.Draft.{Draft, ProcDraft, step_seen, steps_seen, proc_seen, procs_seen}
 use Rattle.tta_tac.specs.Kept.{IsEnded}
-use Rattle.tta_tac.specs.declared.reading.refusal.TacError.{TacError}
-use Rattle.tta_tac.specs.declared.reading.refusal.TacError.TheVariants as tac_error
+use Rattle.tta_tac.specs.declared.refusal.TacError.{TacError}
+use Rattle.tta_tac.specs.declared.refusal.TacError.TheVariants as tac_error
 use Rattle.tta_tac.specs.Reported.{Reports}
 use Rattle.tta_tac.specs.SecondPass.{Refused, params_of, link_step, link_steps, link_proc, link_procs}
 

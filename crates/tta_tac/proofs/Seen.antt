@@ -2,8 +2,8 @@
 use Rattle.std.proofs.Common.{◌≡◌, suc, List, [], ◌∷◌, ◌++◌, length, refl, ap}
 use Rattle.tta_reading.specs.declared.word.Word.{Word}
 use Rattle.tta_reading.specs.Lines.{texts}
-use Rattle.tta_tac.specs.declared.reading.draft.NamedStep.{NamedStep}
-use Rattle.tta_tac.specs.declared.reading.draft.DraftProc.{DraftProc}
+use Rattle.tta_tac.specs.declared.draft.NamedStep.{NamedStep}
+use Rattle.tta_tac.specs.declared.draft.DraftProc.{DraftProc}
 use Rattle.tta_tac.specs.Draft.{step_seen, steps_seen, proc_seen, procs_seen}
 
 -- one step more, and how many there are

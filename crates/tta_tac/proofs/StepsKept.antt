@@ -18,7 +18,7 @@ use Rattle.tta_tac.specs.Draft.{Unlinked, Plain, IfTo, GotoTo, CallTo}
 use Rattle.tta_tac.specs.FirstPass.{with_var, var_number, with_operand, with_operands, src_of, srcs_of, vars_after, step_of, is_end}
 use Rattle.tta_tac.specs.Kept.{bare, is_unlinked, is_end_step, closes_once}
 use Rattle.tta_tac.proofs.LinkedSteps.{is_nil, closes_cons}
-use Rattle.tta_tac.proofs.Variables.{IsNumbered, Grows, grows_not, grows_on, grows_var, has_var, var_kept, fits, grows_operand, has_operand, has_more, src_kept, grows_operands, has_operands, srcs_kept}
+use Rattle.tta_tac.proofs.VariableLists.{IsNumbered, Grows, grows_not, grows_on, grows_var, has_var, var_kept, fits, grows_operand, has_operand, has_more, src_kept, grows_operands, has_operands, srcs_kept}
 
 -- whether the constants of a line are words
 abbrev pub fits_form : Form → Bool

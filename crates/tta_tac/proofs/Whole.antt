@@ -2,9 +2,9 @@
 use Rattle.std.proofs.Common.{◌≡◌, ℕ, ◌+◌, List, [], ◌∷◌, Some, None, Ok, Err, refl, sym, ◌∙◌}
 use Rattle.tta_reading.specs.Lines.{Line, lines_of}
 use Rattle.tta_ops.specs.Units.{Units}
-use Rattle.tta_tac.specs.declared.reading.refusal.Refusal.{Refusal}
-use Rattle.tta_tac.specs.declared.reading.refusal.Refusal.TheVariants.{Syntax}
-use Rattle.tta_tac.specs.declared.reading.refusal.TacError.TheVariants as tac_error
+use Rattle.tta_tac.specs.declared.refusal.Refusal.{Refusal}
+use Rattle.tta_tac.specs.declared.refusal.Refusal.TheVariants.{Syntax}
+use Rattle.tta_tac.specs.declared.refusal.TacError.TheVariants as tac_error
 use Rattle.tta_tac.specs.Refusals.{code_of}
 use Rattle.tta_tac.specs.Draft.{Draft, ProcDraft, nothing}
 use Rattle.tta_tac.specs.FirstPass.{take_line}

@@ -1,7 +1,7 @@
 -- The numbers of refusals.
 use Rattle.std.specs.Prelude.{ℕ}
-use Rattle.tta_tac.specs.declared.reading.refusal.Refusal.{Refusal}
-use Rattle.tta_tac.specs.declared.reading.refusal.Refusal.TheVariants.{Syntax, UnknownLabel, UnknownOp, UnknownProc, Arity, Twice, Recursive, NoMain, TooMany}
+use Rattle.tta_tac.specs.declared.refusal.Refusal.{Refusal}
+use Rattle.tta_tac.specs.declared.refusal.Refusal.TheVariants.{Syntax, UnknownLabel, UnknownOp, UnknownProc, Arity, Twice, Recursive, NoMain, TooMany}
 
 -- the number of a refusal
 abbrev pub code_of : Refusal → ℕ

@@ -6,10 +6,10 @@ use Rattle.tta_reading.specs.declared.line_error.LineError.{LineError}
 use Rattle.tta_reading.specs.declared.line_error.LineError.TheVariants as line_error
 use Rattle.tta_ops.specs.Units.{Units}
 use Rattle.tta_program.specs.declared.program.Proc.{Proc}
-use Rattle.tta_tac.specs.declared.reading.refusal.Refusal.{Refusal}
-use Rattle.tta_tac.specs.declared.reading.refusal.Refusal.TheVariants.{Recursive}
-use Rattle.tta_tac.specs.declared.reading.refusal.TacError.{TacError}
-use Rattle.tta_tac.specs.declared.reading.refusal.TacError.TheVariants as tac_error
+use Rattle.tta_tac.specs.declared.refusal.Refusal.{Refusal}
+use Rattle.tta_tac.specs.declared.refusal.Refusal.TheVariants.{Recursive}
+use Rattle.tta_tac.specs.declared.refusal.TacError.{TacError}
+use Rattle.tta_tac.specs.declared.refusal.TacError.TheVariants as tac_error
 use Rattle.tta_tac.specs.Refusals.{code_of}
 use Rattle.tta_program.specs.Program.{Program}
 use Rattle.tta_tac.specs.Draft.{Draft, nothing}

@@ -7,8 +7,8 @@ use Rattle.tta_reading.specs.Steps.{◌>>=◌, or_refuse, refuse_if, at_line}
 use Rattle.tta_program.specs.declared.step.Step.{Step}
 use Rattle.tta_program.specs.declared.step.Step.TheVariants as step
 use Rattle.tta_program.specs.declared.program.Proc.{Proc}
-use Rattle.tta_tac.specs.declared.reading.refusal.Refusal.{Refusal}
-use Rattle.tta_tac.specs.declared.reading.refusal.Refusal.TheVariants.{UnknownLabel, UnknownProc, Arity}
+use Rattle.tta_tac.specs.declared.refusal.Refusal.{Refusal}
+use Rattle.tta_tac.specs.declared.refusal.Refusal.TheVariants.{UnknownLabel, UnknownProc, Arity}
 use Rattle.tta_tac.specs.Draft.{Unlinked, Plain, IfTo, GotoTo, CallTo, ProcDraft, Draft}
 
 -- a procedure that a call may name: one that there is, and not main

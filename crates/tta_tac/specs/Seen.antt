@@ -3,12 +3,12 @@ use Rattle.std.specs.Prelude.{List, [], ◌∷◌, option_map}
 use Rattle.std.specs.List.{filter_map}
 use Rattle.tta_reading.specs.declared.word.Word.{Word}
 use Rattle.tta_reading.specs.Lines.{plain, texts}
-use Rattle.tta_tac.specs.declared.reading.forms.Operand.{Operand as OperandWords}
-use Rattle.tta_tac.specs.declared.reading.forms.Operand.TheVariants as operand_words
-use Rattle.tta_tac.specs.declared.reading.forms.Operands.{Operands as OperandsWords}
-use Rattle.tta_tac.specs.declared.reading.forms.Operands.TheVariants as operands_words
-use Rattle.tta_tac.specs.declared.reading.forms.Form.{Form as FormWords}
-use Rattle.tta_tac.specs.declared.reading.forms.Form.TheVariants as form_words
+use Rattle.tta_tac.specs.declared.forms.Operand.{Operand as OperandWords}
+use Rattle.tta_tac.specs.declared.forms.Operand.TheVariants as operand_words
+use Rattle.tta_tac.specs.declared.forms.Operands.{Operands as OperandsWords}
+use Rattle.tta_tac.specs.declared.forms.Operands.TheVariants as operands_words
+use Rattle.tta_tac.specs.declared.forms.Form.{Form as FormWords}
+use Rattle.tta_tac.specs.declared.forms.Form.TheVariants as form_words
 use Rattle.tta_tac.specs.Forms.{Operand, Named, Constant, operand_of, Form, ProcForm, DataForm, LabelForm, CopyForm, ApplyForm, LoadForm, StoreForm, PutForm, TakeForm, IfForm, GotoForm, WhenForm, CallForm, ReturnForm, HaltForm, EndForm}
 
 -- the operands among words

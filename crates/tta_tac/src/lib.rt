@@ -3,10 +3,30 @@
 //! here.
 #![tactic(auto)]
 
+mod assign;
+mod begun;
+mod calls;
+mod cycles;
+mod declarations;
+mod draft;
+mod finish;
+mod first_pass;
+mod forms;
+mod initial;
 mod laws;
-mod reading;
+mod link;
+mod operations;
+mod order;
+mod params;
+mod pieces;
+mod read;
+mod refusal;
+mod steps;
+mod syntax;
+mod variables;
 
 pub use laws::texts_are_programs;
-pub use reading::{Refusal, TacError, read_program};
+pub use read::read_program;
+pub use refusal::{Refusal, TacError};
 pub use tta_program::{Args, DataLine, Proc, Program, Rel, Src, Step, lay_lines};
 pub use tta_sample::sample;

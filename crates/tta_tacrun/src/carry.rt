@@ -127,7 +127,7 @@ fn show(calls: &mut Calls, v: Src) -> u32
 
 /// Carries out a step that outputs or takes a word, or begins or ends a call, where `next` is the
 /// next word of the input. It answers whether the run goes on, and the word that is output, if any.
-fn carry_loudly(calls: &mut Calls, p: &Program, step: &Step, next: u32) -> (Phase, Option<u32>)
+fn carry_any(calls: &mut Calls, p: &Program, step: &Step, next: u32) -> (Phase, Option<u32>)
     requires rules { IsProgram p.now }
     requires loaded { AreCallsOf p.now calls.old }
     requires at { step_at p.now calls.old.top.proc calls.old.top.at ≡ Some step.now }
@@ -185,5 +185,5 @@ pub fn carry(
     if calls.go_quietly(memory, relations, basis.units, step) {
         return (Phase::Running, None);
     }
-    carry_loudly(calls, basis.p, step, next)
+    carry_any(calls, basis.p, step, next)
 }

@@ -9,12 +9,12 @@ use Rattle.tta_sim.specs.Results.{results_at, shown_by}
 use Rattle.tta_sim.specs.Moves.{brought_of}
 use Rattle.tta_sim.specs.Starts.{is_loud}
 use Rattle.tta_sim.specs.Writing.{long_writes}
-use Rattle.tta_sim.specs.Lines.{tell_brought, IsLineThere}
+use Rattle.tta_sim.specs.Lines.{control_brought, IsLineThere}
 use Rattle.tta_sim.specs.Dues.{started_at}
 use Rattle.tta_sim.specs.Ready.{begun_in, AreDue, Begin}
 use Rattle.tta_sim.specs.Unset.{IsFaultOf}
 use Rattle.tta_sim.specs.Kept.{kept_as}
-use Rattle.tta_sim.proofs.Facing.{placed, told_same}
+use Rattle.tta_sim.proofs.Facing.{placed, acting_same}
 use Rattle.tta_sim.proofs.Leaving.{arrivals, starts, is_left, left_can, due_left, with_starts, written_within}
 use Rattle.tta_sim.proofs.Shown.{dues_begun}
 use Rattle.tta_sim.proofs.Cycles.{faulted}
@@ -30,8 +30,8 @@ begin_all-requires-clause-can g c =
     let U = stated (λ v. (goal.OpUnit-dyn g v).unit_meaning v.1) c.args.context.now.units.now in
     let store = c.args.run.now.store in
     let r = results_at c.args.context.now.part c.args.region.now in
-    let due = subst (λ r. AreDue U store r c.args.line.now c.find_fault_quietly.new.doings) c.of-results.ensures (c.find_fault_quietly.ensures.left c.in_default.is) in
-    left_can U 0 store r c.args.line.now (with_starts store r c.args.line.now c.find_fault_quietly.new.doings) _ c.requires.ready.fitting
+    let due = subst (λ r. AreDue U store r c.args.line.now c.find_fault_quietly.new.buffers) c.of-results.ensures (c.find_fault_quietly.ensures.left c.in_default.is) in
+    left_can U 0 store r c.args.line.now (with_starts store r c.args.line.now c.find_fault_quietly.new.buffers) _ c.requires.ready.fitting
     (due_left U store r c.args.line.now _ due) (c.as_slice.ensures ∙ due.dues)
 
 pub go_on-requires-clause-writes : goal.go_on-requires-clause-writes
@@ -58,17 +58,17 @@ returns-clause-cycle g c = λ next. record {
       let begins = starts m i store r in
       let fault = subst (λ r. IsFaultOf store.places r p line c.find_fault_quietly.result) c.of-results.ensures (c.find_fault_quietly.ensures.fault p) in
       let none = sym (fault m back i decoded size) ∙ c.in_default.is in
-      let due = subst (λ r. AreDue U store r line c.find_fault_quietly.new.doings) c.of-results.ensures (c.find_fault_quietly.ensures.left c.in_default.is) in
-      let has = due_left U store r line c.find_fault_quietly.new.doings due in
+      let due = subst (λ r. AreDue U store r line c.find_fault_quietly.new.buffers) c.of-results.ensures (c.find_fault_quietly.ensures.left c.in_default.is) in
+      let has = due_left U store r line c.find_fault_quietly.new.buffers due in
       let left = is_left m i store r back line _ decoded p none has in
       let quiet = quiet_left c.args.context.now.part.count store r line _ c.requires.ready.there has c.requires.quiet in
       let soft : list_any is_loud begins ≡ false = ap (list_any is_loud) (sym left.starts_are) ∙ quiet.0 in
       let new_is = ap (map (started_at store.cycle)) (c.as_slice.ensures ∙ due.dues)
-      ∙ dues_begun U store.memory.items store.frame.items 0 store.cycle (with_starts store r line c.find_fault_quietly.new.doings).starts
+      ∙ dues_begun U store.memory.items store.frame.items 0 store.cycle (with_starts store r line c.find_fault_quietly.new.buffers).starts
       ∙ ap (begun_in U 0 store) left.starts_are ∙ soft_begun U store.cycle store.memory.items store.frame.items 0 (unwrap_or next 0) begins soft in
       let begun = subst (λ new. Begin new store.cycle r (results_at c.args.context.now.part c.begin_all.new.region)) new_is (c.begin_all.ensures.begun store.cycle) in
-      let tells = ap (first_some (tell_brought store.places (shown_by r))) (sym quiet.1)
-      ∙ told_same m decoded.rules i decoded.legal back line decoded.line store.places r p in
+      let controls = ap (first_some (control_brought store.places (shown_by r))) (sym quiet.1)
+      ∙ acting_same m decoded.rules i decoded.legal back line decoded.line store.places r p in
       carried_at U m decoded.rules i decoded.legal lines store r c.args.run.now.control s size same
       none c.requires.ready.running c.go_on.new.store (results_at c.args.context.now.part c.begin_all.new.region) c.advance.new.self brought begins _ _ next false fed (sym (soft_takes begins soft))
       refl refl refl back c.args.context.now.delay _ refl delay_is refl
@@ -79,7 +79,7 @@ returns-clause-cycle g c = λ next. record {
       c.go_on.ensures.cycle
       (c.go_on.ensures.data ∙ sym (soft_memory store.memory.items begins soft)) (c.go_on.ensures.frame ∙ sym (soft_frame store.frame.items begins soft))
       (ap (option_map (λ t. t.word)) (sym (soft_puts begins soft)))
-      tells c.advance.ensures;
+      controls c.advance.ensures;
   takes = refl;
   counted = c.go_on.ensures.cycle;
   memory = ap length c.go_on.ensures.data;

@@ -14,12 +14,12 @@ returns-then-is_ready-clause-fault c = λ m back i decoded size.
 
 pub fault_of-requires-clause-noted : goal.fault_of-requires-clause-noted
 fault_of-requires-clause-noted c =
-    subst (λ r. AreNoted c.args.store.now.places (shown_by r) c.args.line.now c.is_ready.new.doings.writes) (sym c.again.ensures) c.is_ready.ensures.noted
+    subst (λ r. AreNoted c.args.store.now.places (shown_by r) c.args.line.now c.is_ready.new.buffers.writes) (sym c.reborrow.ensures) c.is_ready.ensures.noted
 
 pub returns-clause-fault : goal.returns-clause-fault
 returns-clause-fault c =
     let places = c.args.store.now.places in
     let line = c.args.line.now in
     let p = is_some c.args.control.now.pending in
-    subst (λ r. IsFaultOf places r p line (Some c.fault_of.result)) c.again.ensures
-    (c.fault_of.ensures p (ap (λ r. is_ready places r p line) c.again.ensures ∙ sym c.is_ready.ensures.ready ∙ c.if-is_ready.false))
+    subst (λ r. IsFaultOf places r p line (Some c.fault_of.result)) c.reborrow.ensures
+    (c.fault_of.ensures p (ap (λ r. is_ready places r p line) c.reborrow.ensures ∙ sym c.is_ready.ensures.ready ∙ c.if-is_ready.false))

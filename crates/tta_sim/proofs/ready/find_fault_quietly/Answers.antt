@@ -13,11 +13,11 @@ returns-then-is_ready_quietly-clause-fault g c = λ p m back i decoded size.
 
 pub fault_of-requires-clause-noted : goal.fault_of-requires-clause-noted
 fault_of-requires-clause-noted g c =
-    subst (λ r. AreNoted c.args.store.now.places (shown_by r) c.args.line.now c.is_ready_quietly.new.doings.writes) (sym c.again.ensures) c.is_ready_quietly.ensures.noted
+    subst (λ r. AreNoted c.args.store.now.places (shown_by r) c.args.line.now c.is_ready_quietly.new.buffers.writes) (sym c.reborrow.ensures) c.is_ready_quietly.ensures.noted
 
 pub returns-clause-fault : goal.returns-clause-fault
 returns-clause-fault g c = λ p.
     let places = c.args.store.now.places in
     let line = c.args.line.now in
-    subst (λ r. IsFaultOf places r p line (Some c.fault_of.result)) c.again.ensures
-    (c.fault_of.ensures p (ap (λ r. is_ready places r p line) c.again.ensures ∙ sym (c.is_ready_quietly.ensures.ready p) ∙ c.if-is_ready_quietly.false))
+    subst (λ r. IsFaultOf places r p line (Some c.fault_of.result)) c.reborrow.ensures
+    (c.fault_of.ensures p (ap (λ r. is_ready places r p line) c.reborrow.ensures ∙ sym (c.is_ready_quietly.ensures.ready p) ∙ c.if-is_ready_quietly.false))

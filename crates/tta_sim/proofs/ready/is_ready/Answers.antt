@@ -3,7 +3,7 @@ use Rattle.std.specs.Prelude.{◌&&◌, is_some}
 use Rattle.std.specs.List.{filter_map, list_any}
 use Rattle.tta_sim.specs.Results.{shown_by}
 use Rattle.tta_sim.specs.Starts.{clashes_with}
-use Rattle.tta_sim.specs.Lines.{write_brought, operand_in, tells_well}
+use Rattle.tta_sim.specs.Lines.{write_brought, operand_in, controls_well}
 use Rattle.tta_sim.specs.Ready.{starts_in}
 use Rattle.tta_sim.proofs.Noting.{are_noted, noted_are, ready_with, none_stopped}
 use Rattle.tta_sim.proofs.ready.is_ready.Goals as goal
@@ -15,7 +15,7 @@ returns-then-not-note_starts-clause-ready c =
     let p = is_some c.args.control.now.pending in
     let line = c.args.line.now in
     sym (ready_with places results p line _ _ _ c.as_slice.ensures c.as_slice-writes.ensures _ c.note_writes.ensures.read c.if-not-note_writes.false c.note_writes.ensures.writes
-    _ c.as_slice-moves.ensures _ c.note_starts.ensures.can ∙ ap (λ b. b && tells_well places (shown_by results) p line.tells) c.if-not-note_starts.true)
+    _ c.as_slice-moves.ensures _ c.note_starts.ensures.can ∙ ap (λ b. b && controls_well places (shown_by results) p line.controls) c.if-not-note_starts.true)
 
 pub returns-clause-ready : goal.returns-clause-ready
 returns-clause-ready c =
@@ -23,9 +23,9 @@ returns-clause-ready c =
     let results = c.args.results.now in
     let p = is_some c.args.control.now.pending in
     let line = c.args.line.now in
-    c.tells_well.ensures ∙ ap (λ b. tells_well places (shown_by results) b line.tells) c.is_some.ensures
+    c.controls_well.ensures ∙ ap (λ b. controls_well places (shown_by results) b line.controls) c.is_some.ensures
     ∙ sym (ready_with places results p line _ _ _ c.as_slice.ensures c.as_slice-writes.ensures _ c.note_writes.ensures.read c.if-not-note_writes.false c.note_writes.ensures.writes
-    _ c.as_slice-moves.ensures _ c.note_starts.ensures.can ∙ ap (λ b. b && tells_well places (shown_by results) p line.tells) c.if-not-note_starts.false)
+    _ c.as_slice-moves.ensures _ c.note_starts.ensures.can ∙ ap (λ b. b && controls_well places (shown_by results) p line.controls) c.if-not-note_starts.false)
 
 pub returns-clause-left : goal.returns-clause-left
 returns-clause-left c = λ ready.

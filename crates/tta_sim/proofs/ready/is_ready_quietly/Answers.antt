@@ -8,7 +8,7 @@ use Rattle.tta_sim.specs.Lines.{write_brought, operand_in}
 use Rattle.tta_sim.specs.Dues.{shown_from}
 use Rattle.tta_sim.specs.Ready.{starts_in}
 use Rattle.tta_sim.proofs.Noting.{are_noted, noted_are, ready_with, none_stopped}
-use Rattle.tta_sim.proofs.Quiet.{quiet_told}
+use Rattle.tta_sim.proofs.Quiet.{quiet_acting}
 use Rattle.tta_sim.proofs.ready.is_ready_quietly.Goals as goal
 
 pub returns-clause-ready : goal.returns-clause-ready
@@ -17,7 +17,7 @@ returns-clause-ready g c = λ p.
     let results = c.args.results.now in
     let line = c.args.line.now in
     sym (ready_with places results p line _ _ _ c.as_slice.ensures c.as_slice-writes.ensures _ c.note_writes.ensures.read c.if-not-note_writes.false c.note_writes.ensures.writes
-    _ c.as_slice-moves.ensures _ c.note_dues.ensures.can ∙ ap (λ b. c.note_dues.result && b) (quiet_told _ line places (shown_by results) p c.requires.there c.requires.quiet)
+    _ c.as_slice-moves.ensures _ c.note_dues.ensures.can ∙ ap (λ b. c.note_dues.result && b) (quiet_acting _ line places (shown_by results) p c.requires.there c.requires.quiet)
     ∙ and_true c.note_dues.result)
   where
     and_true : (b : Bool) → (b && true) ≡ b

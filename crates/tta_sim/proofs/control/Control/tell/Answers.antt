@@ -1,9 +1,0 @@
-use Rattle.std.proofs.Common.{◌+◌, Some, option_map, sym, ap, ◌∙◌}
-use Rattle.tta_sim.specs.Starts.{told_of}
-use Rattle.tta_sim.specs.Controls.{underway, pending_with}
-use Rattle.tta_sim.proofs.control.Control.tell.Goals as goal
-
-pub returns-in-Some-clause-pending : goal.returns-in-Some-clause-pending
-returns-in-Some-clause-pending c =
-    ap (λ n. Some (underway (record { time = c.args.now + n; told = c.in-Some.told }))) c.from.ensures
-    ∙ ap (λ o. pending_with c.args.now c.args.delay (option_map underway c.args.self.now.pending) (option_map told_of o)) (sym c.in-Some.is)

@@ -1,0 +1,98 @@
+//! The control moves of a decoded instruction.
+
+ghost use Rattle.std.specs.Prelude.{◌≡◌, option_map, IsTrue};
+ghost use Rattle.std.specs.List.{list_any, AllByRecursion};
+ghost use Rattle.tta_arch.specs.Effects.{first_some};
+ghost use Rattle.tta_sim.specs.Results.{shown_by};
+ghost use Rattle.tta_sim.specs.Starts.{kind_and_word};
+ghost use Rattle.tta_sim.specs.Lines.{is_unread, is_reading_there, is_control_there, control_brought};
+ghost use Rattle.tta_sim.specs.Lines.{controls_well, IsLineThere};
+
+use crate::control::ControlMove;
+use crate::decoded::{DecodedControl, Line, Reading};
+use crate::lines::{Read, read_move};
+use crate::places::Places;
+use crate::results::Results;
+
+/// Whether a move could not be read.
+fn is_unset(places: &Places, results: &Results<'_>, r: &Reading) -> bool
+    requires { IsTrue (is_reading_there results.now.units r.now) }
+    ensures { result ≡ is_unread places.now (shown_by results.now) r.now }
+{
+    matches!(read_move(places, results, r), Read::Unset(_))
+}
+
+/// Whether some of the moves could not be read.
+fn any_unset(places: &Places, results: &Results<'_>, moves: &[DecodedControl]) -> bool
+    requires { AllByRecursion
+        (λ t. IsTrue (is_control_there results.now.units t)) moves.now }
+    ensures { let unread = is_unread places.now (shown_by results.now) in
+        result ≡ list_any (λ t. unread t.reading) moves.now }
+{
+    for t in moves {
+        if is_unset(places, results, &t.reading) {
+            return true;
+        }
+    }
+    false
+}
+
+/// A control move with its word, if it acts.
+fn acting_move(places: &Places, results: &Results<'_>, t: &DecodedControl) -> Option<ControlMove>
+    requires { IsTrue (is_control_there results.now.units t.now) }
+    ensures { option_map kind_and_word result ≡ control_brought places.now (shown_by results.now) t.now }
+{
+    match read_move(places, results, &t.reading) {
+        Read::Word(word) => Some(ControlMove { kind: t.kind, word }),
+        Read::Nothing | Read::Unset(_) => None,
+    }
+}
+
+/// The first of the control moves that acts, if any does.
+fn acting_by(places: &Places, results: &Results<'_>, moves: &[DecodedControl]) -> Option<ControlMove>
+    requires { AllByRecursion
+        (λ t. IsTrue (is_control_there results.now.units t)) moves.now }
+    ensures { let controls = control_brought places.now (shown_by results.now) in
+        option_map kind_and_word result ≡ first_some controls moves.now }
+{
+    for t in moves {
+        if let Some(acting) = acting_move(places, results, t) {
+            return Some(acting);
+        }
+    }
+    None
+}
+
+/// Whether these control moves can act: all of them can be read, and where one acts, no earlier
+/// one is under way.
+fn can_control(places: &Places, results: &Results<'_>, pending: bool, moves: &[DecodedControl]) -> bool
+    requires { AllByRecursion
+        (λ t. IsTrue (is_control_there results.now.units t)) moves.now }
+    ensures { result ≡ controls_well places.now (shown_by results.now) pending moves.now }
+{
+    !any_unset(places, results, moves) && (!pending || acting_by(places, results, moves).is_none())
+}
+
+/// Whether the control moves of a line can act.
+#[inline(always)]
+pub fn controls_well(places: &Places, results: &Results<'_>, pending: bool, line: &Line) -> bool
+    requires { IsLineThere results.now.units line.now }
+    ensures { result ≡ controls_well places.now (shown_by results.now) pending line.now.controls }
+{
+    let moves = line.controls.as_slice();
+    moves.is_empty() || can_control(places, results, pending, moves)
+}
+
+/// The control move of a line that acts, if any does.
+#[inline(always)]
+pub fn acting_in(places: &Places, results: &Results<'_>, line: &Line) -> Option<ControlMove>
+    requires { IsLineThere results.now.units line.now }
+    ensures { let controls = control_brought places.now (shown_by results.now) in
+        option_map kind_and_word result ≡ first_some controls line.now.controls }
+{
+    let moves = line.controls.as_slice();
+    if moves.is_empty() {
+        return None;
+    }
+    acting_by(places, results, moves)
+}
