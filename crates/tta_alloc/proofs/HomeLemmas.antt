@@ -12,7 +12,7 @@ use Rattle.tta_program.specs.Program.{Program}
 use Rattle.tta_program.specs.Rules.{IsProgram}
 use Rattle.tta_flow.specs.declared.flow.Block.{Block}
 use Rattle.tta_flow.specs.declared.live.Live.{Live}
-use Rattle.tta_flow.specs.declared.table.Table.{Table}
+use Rattle.tta_flow.specs.declared.table.PlaceLists.{PlaceLists}
 use Rattle.tta_flow.specs.Paths.{Reached}
 use Rattle.tta_flow.specs.Blocks.{IsFlow, Holds}
 use Rattle.tta_flow.specs.Live.{IsLive}
@@ -45,7 +45,7 @@ steps_few (r ∷ procs) (suc k) q e =
     let rest = steps_few procs k q e in
     let c = sum_by-cons (λ (s : Proc). length s.steps) r procs in omega arith
 
-pub known : (inside p : Program) (procs : List Proc) (owner : ℕ) (q : Proc) (blocks : List Block) (live : Live) (t : Table) (reached : List ℕ)
+pub known : (inside p : Program) (procs : List Proc) (owner : ℕ) (q : Proc) (blocks : List Block) (live : Live) (t : PlaceLists) (reached : List ℕ)
     → inside ≡ p → IsProgram inside → procs ≡ inside.procs → owner < length procs → q ≡ get_or procs owner q
     → IsFlow p blocks → IsLive p live
     → ((o i : ℕ) → o < length procs → is_listed t o i ≡ true → Holds blocks o i)

@@ -18,7 +18,7 @@ use crate::scan::scan_homes;
 use crate::taken::taken_of;
 use crate::turns::turn_homes;
 use std::alloc::{AllocError, Global};
-use tta_flow::{Block, Flow, Live, Table};
+use tta_flow::{Block, Flow, Live, PlaceLists};
 use tta_program::Program;
 
 /// The homes of the variables of each procedure.
@@ -117,14 +117,14 @@ pub fn in_turn(
 }
 
 /// For each procedure the steps that its blocks hold.
-fn steps_of(alloc: Global, blocks: &[Block], procs: usize) -> Result<Table, AllocError>
+fn steps_of(alloc: Global, blocks: &[Block], procs: usize) -> Result<PlaceLists, AllocError>
     ensures size { IfOk result (λ t. length t.lists.items ≡ procs) }
     ensures sound { IfOk result (λ t. (o i : ℕ) → o < procs
         → is_listed t o i ≡ true → Holds blocks.now o i) }
     ensures whole { IfOk result (λ t. (o i : ℕ) → o < procs
         → Holds blocks.now o i → is_listed t o i ≡ true) }
 {
-    let mut table = Table::new(alloc, procs)?;
+    let mut table = PlaceLists::new(alloc, procs)?;
     for block in blocks {
         add_steps(&mut table, *block)?;
     }
@@ -132,7 +132,7 @@ fn steps_of(alloc: Global, blocks: &[Block], procs: usize) -> Result<Table, Allo
 }
 
 /// Puts the steps of a block into the list of its procedure.
-fn add_steps(table: &mut Table, block: Block) -> Result<(), AllocError>
+fn add_steps(table: &mut PlaceLists, block: Block) -> Result<(), AllocError>
     ensures { OnOk result (AddsRange block.owner block.first block.last table.old table.new) }
 {
     for at in block.first as usize..block.last as usize + 1 {

@@ -4,11 +4,11 @@ use Rattle.tta_ops.specs.declared.set.UnitSet.{UnitSet}
 use Rattle.tta_ops.specs.Set.{stated}
 use Rattle.tta_ops.specs.Stated.{stated_by}
 use Rattle.tta_arch.specs.Machine.{Machine}
-use Rattle.tta_asm.specs.declared.table.Table.{Table}
+use Rattle.tta_asm.specs.declared.table.NameTable.{NameTable}
 use Rattle.tta_asm.specs.Parts.{ops_of}
 use Rattle.tta_asm.specs.Table.{IsTableOf, listed, named_at, op_named}
 
-module _ {I : Type 0} {V : I → Type 0} (meaning : (v : I) × V v → ℕ → ℕ → ℕ → ℕ) (s : UnitSet I V) (m : Machine) (t : Table) where
+module _ {I : Type 0} {V : I → Type 0} (meaning : (v : I) × V v → ℕ → ℕ → ℕ → ℕ) (s : UnitSet I V) (m : Machine) (t : NameTable) where
   -- a table of what a set of units lists gives the operations of what it states
   pub op_in_table : IsTableOf (listed s) m t → (unit : ℕ) (name : List ℕ) → named_at t.ops unit name ≡ op_named (stated meaning s) m unit name
   unfolding stated_by ops_of

@@ -10,7 +10,7 @@ use Rattle.tta_asm.specs.declared.parts.Part.{Part}
 use Rattle.tta_asm.specs.declared.parts.Part.TheVariants as part
 use Rattle.tta_asm.specs.declared.naming.Kind.{Kind}
 use Rattle.tta_asm.specs.declared.naming.Kind.TheVariants as kind
-use Rattle.tta_asm.specs.declared.table.Table.{Table}
+use Rattle.tta_asm.specs.declared.table.NameTable.{NameTable}
 use Rattle.tta_asm.specs.Parts.{parts_of, ops_of}
 
 -- the part of a kind at a place
@@ -34,7 +34,7 @@ op_named u m unit name = slice_get m.units unit >>? λ q. named_in (ops_of u q) 
 
 -- A table is a machine's where a name names the part that the machine has of this name, and in the k-th list of
 -- operations the one that the k-th unit has.
-pub record IsTableOf (u : Units) (m : Machine) (t : Table) : Type 0 where
+pub record IsTableOf (u : Units) (m : Machine) (t : NameTable) : Type 0 where
   pub parts : NameTheSame t.parts (parts_of m)
   pub count : length t.ops ≡ length m.units
   pub ops : (unit : ℕ) (name : List ℕ) → named_at t.ops unit name ≡ op_named u m unit name

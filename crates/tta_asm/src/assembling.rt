@@ -16,7 +16,7 @@ use crate::init::take_data;
 use crate::labels::{Label, collect_labels};
 use crate::pieces::{Close, Pieces, PlacedWord};
 use crate::refusal::AsmError;
-use crate::table::Table;
+use crate::table::NameTable;
 use crate::target::Target;
 use std::alloc::Global;
 use tta_arch::Machine;
@@ -142,7 +142,7 @@ pub fn assemble(alloc: Global, text: &[u8], m: &Machine, units: &UnitSet) -> Res
     ensures legal { IfOk result (λ whole. IsLegalWhole m.now whole) }
 {
     let net = Net::of(alloc, m)?;
-    match Table::of(alloc, m, units) {
+    match NameTable::of(alloc, m, units) {
         Ok(table) => {
             let target = Target {
                 units,

@@ -10,25 +10,25 @@ use tta_reading::Names;
 
 /// What the names of a machine stand for, made once, so that no look-up walks over the machine.
 #[derive(Drop)]
-pub struct Table {
+pub struct NameTable {
     parts: Names<Part>,
     /// For each unit its operations, each with its place in the unit.
     ops: Items<Names<u8>>,
 }
 
-impl Table {
+impl NameTable {
     ghost use Rattle.std.specs.Prelude.{◌≡◌, IfOk};
     ghost use Rattle.tta_reading.specs.Names.{named_in};
     ghost use Rattle.tta_ops.specs.Set.{stated};
     ghost use Rattle.tta_asm.specs.Table.{IsTableOf, named_at};
 
     /// The table of a machine. It fails only where there is no memory.
-    pub fn of(alloc: Global, m: &Machine, units: &UnitSet) -> Result<Table, AllocError>
+    pub fn of(alloc: Global, m: &Machine, units: &UnitSet) -> Result<NameTable, AllocError>
         ensures { IfOk result (IsTableOf (stated unit_meaning units.now) m.now) }
     {
         let parts = all_parts(alloc, m)?;
         match all_ops(alloc, m, units) {
-            Ok(ops) => Ok(Table { parts, ops }),
+            Ok(ops) => Ok(NameTable { parts, ops }),
             Err(e) => {
                 drop(parts);
                 Err(e)

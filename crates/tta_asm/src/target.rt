@@ -4,7 +4,7 @@ ghost use Rattle.tta_connect.specs.Net.{IsNetOf};
 ghost use Rattle.tta_asm.specs.Table.{IsTableOf, listed};
 
 use crate::parts::Part;
-use crate::table::Table;
+use crate::table::NameTable;
 use tta_arch::Machine;
 use tta_connect::Net;
 use tta_ops::UnitSet;
@@ -18,7 +18,7 @@ pub struct Target<'a> {
     /// Which buses join which ports.
     pub net: &'a Net,
     /// What names stand for.
-    pub table: &'a Table,
+    pub table: &'a NameTable,
     ghost net_of: { IsNetOf net.now machine.now },
     ghost table_of: { IsTableOf (listed units.now) machine.now table.now },
 }

@@ -17,7 +17,7 @@ use crate::report::push_told;
 use std::alloc::{AllocError, Global};
 use tta_arch::Machine;
 use tta_ops::UnitSet;
-use tta_profile::{Basis, Counts, Told, count_run, cycles_sum, words_of};
+use tta_profile::{Basis, Counts, Profiled, count_run, cycles_sum, words_of};
 use tta_program::Program;
 use tta_sim::Sim;
 use tta_stages::{Stages, block_starts};
@@ -43,7 +43,7 @@ fn tell_from(
     ensures { IfOk result (λ v. IsBlockReport on.now.m.now on.now.p.now on.now.stages.now
         starts.now counts.now v.items) }
 {
-    let told = Told {
+    let profiled = Profiled {
         m: on.m,
         words: words_of(on.m, &on.stages.code),
         counts,
@@ -57,7 +57,7 @@ fn tell_from(
     };
     let order = costliest(alloc, counts, &blocks)?;
     let mut out = Vec::new(alloc);
-    let put = push_told(&mut out, &told, &blocks, order.as_slice());
+    let put = push_told(&mut out, &profiled, &blocks, order.as_slice());
     drop(order);
     match put {
         Ok(()) => Ok(out),

@@ -6,7 +6,7 @@ ghost use Rattle.tta_blocks.specs.Report.{part_at, block_line, blocks_text, told
 use crate::blocks::{Blocks, sum_at};
 use crate::costly::Spent;
 use std::alloc::AllocError;
-use tta_profile::{Told, push_share, push_uses};
+use tta_profile::{Profiled, push_share, push_uses};
 use tta_stages::{push_block, push_part, push_range_at};
 
 /// Puts what the block of a number stands for, if there is one.
@@ -24,13 +24,14 @@ fn push_part_at(out: &mut Vec<u8>, blocks: &Blocks<'_>, k: usize) -> Result<(), 
 #[tactic(auto, unfolding(crate::specs::Report::block_line))]
 fn push_line(
     out: &mut Vec<u8>,
-    told: &Told<'_>,
+    profiled: &Profiled<'_>,
     blocks: &Blocks<'_>,
     k: usize,
 ) -> Result<(), AllocError>
-    requires few { length told.now.counts.now.executed ≤ 65536 }
+    requires few { length profiled.now.counts.now.executed ≤ 65536 }
     ensures { OnOk result (out.new.items ≡ out.old.items
-        ++ block_line told.now.counts.now told.now.whole blocks.now.program.now blocks.now.parts.now
+        ++ block_line profiled.now.counts.now profiled.now.whole blocks.now.program.now
+            blocks.now.parts.now
         blocks.now.starts.now blocks.now.placed.now k) }
 {
     out.extend_from_slice(b"block ")?;
@@ -38,24 +39,24 @@ fn push_line(
     push_part_at(out, blocks, k)?;
     push_range_at(out, blocks.starts, blocks.placed, k)?;
     out.extend_from_slice(b" spent ")?;
-    push_share(out, sum_at(told.counts, blocks, k), told.whole)?;
+    push_share(out, sum_at(profiled.counts, blocks, k), profiled.whole)?;
     out.extend_from_slice(b"\n")
 }
 
 /// Puts blocks in this order.
 fn push_lines(
     out: &mut Vec<u8>,
-    told: &Told<'_>,
+    profiled: &Profiled<'_>,
     blocks: &Blocks<'_>,
     order: &[Spent],
 ) -> Result<(), AllocError>
-    requires few { length told.now.counts.now.executed ≤ 65536 }
+    requires few { length profiled.now.counts.now.executed ≤ 65536 }
     ensures { OnOk result (out.new.items ≡ out.old.items
-        ++ blocks_text told.now.counts.now told.now.whole blocks.now.program.now
+        ++ blocks_text profiled.now.counts.now profiled.now.whole blocks.now.program.now
         blocks.now.parts.now blocks.now.starts.now blocks.now.placed.now order.now) }
 {
     for s in order {
-        push_line(out, told, blocks, s.block)?;
+        push_line(out, profiled, blocks, s.block)?;
     }
     Ok(())
 }
@@ -64,18 +65,18 @@ fn push_lines(
 #[tactic(auto, unfolding(crate::specs::Report::told_text))]
 pub fn push_told(
     out: &mut Vec<u8>,
-    told: &Told<'_>,
+    profiled: &Profiled<'_>,
     blocks: &Blocks<'_>,
     order: &[Spent],
 ) -> Result<(), AllocError>
-    requires few { length told.now.words.now ≤ 65536 }
-    requires size { length told.now.counts.now.executed ≡ length told.now.words.now }
-    requires low { All (λ i. length i.moves ≤ 16) told.now.words.now }
+    requires few { length profiled.now.words.now ≤ 65536 }
+    requires size { length profiled.now.counts.now.executed ≡ length profiled.now.words.now }
+    requires low { All (λ i. length i.moves ≤ 16) profiled.now.words.now }
     ensures { OnOk result (out.new.items ≡ out.old.items ++ told_text
-        told.now.m.now told.now.words.now told.now.counts.now told.now.whole
+        profiled.now.m.now profiled.now.words.now profiled.now.counts.now profiled.now.whole
         blocks.now.program.now blocks.now.parts.now blocks.now.starts.now blocks.now.placed.now
         order.now) }
 {
-    push_uses(out, told)?;
-    push_lines(out, told, blocks, order)
+    push_uses(out, profiled)?;
+    push_lines(out, profiled, blocks, order)
 }

@@ -4,7 +4,7 @@ use Rattle.std.specs.Prelude.{replicate}
 use Rattle.tta_arch.specs.Machine.{Machine}
 use Rattle.tta_code.specs.declared.code.Code.{Code}
 use Rattle.tta_check.specs.declared.row.Row.{Row}
-use Rattle.tta_check.specs.declared.entries.Table.{Table}
+use Rattle.tta_check.specs.declared.entries.EntryTable.{EntryTable}
 use Rattle.tta_check.specs.declared.spot.Spot.{Spot}
 use Rattle.tta_check.specs.declared.verdict.Verdict.{Verdict}
 use Rattle.tta_check.specs.declared.verdict.Verdict.TheVariants.{Safe, Unsafe}
@@ -39,7 +39,7 @@ first_entry m code spots n row units first = record {
 }
 
 -- the first row, and a table without entries
-pub record IsStart (m : Machine) (code : Code) (spots : List Spot) (delay len units : ℕ) (row : Row) (t : Table) : Type 0 where
+pub record IsStart (m : Machine) (code : Code) (spots : List Spot) (delay len units : ℕ) (row : Row) (t : EntryTable) : Type 0 where
   pub given : IsGiven m code spots
   pub delay_is : delay ≡ m.control.delay
   pub len_is : len ≡ length code.words
@@ -48,16 +48,16 @@ pub record IsStart (m : Machine) (code : Code) (spots : List Spot) (delay len un
   pub entries : t.entries.items ≡ replicate (len * (delay + 1)) None
   pub stack : t.stack.items ≡ []
 
-module _ (m : Machine) (code : Code) (spots : List Spot) (delay len units : ℕ) (row : Row) (old : Table) (s : IsStart m code spots delay len units row old) where
+module _ (m : Machine) (code : Code) (spots : List Spot) (delay len units : ℕ) (row : Row) (old : EntryTable) (s : IsStart m code spots delay len units row old) where
   start_entries : old.entries.items ≡ replicate (length code.words * (m.control.delay + 1)) None
   start_entries = s.entries ∙ ap (λ n. replicate (n * (delay + 1)) None) s.len_is ∙ ap (λ n. replicate (length code.words * (n + 1)) None) s.delay_is
 
-  pub start_goes : (new : Table) (v : Option Verdict) → PutTo delay len (first_at row) old new v → v ≡ None → Solving m code spots new
+  pub start_goes : (new : EntryTable) (v : Option Verdict) → PutTo delay len (first_at row) old new v → v ≡ None → Solving m code spots new
   start_goes new v put is =
       solving_first m code spots s.given (first_at row) old new start_entries s.stack refl (first_entry m code spots units row s.units_is s.first) (first_admitted row spots units s.first)
       (subst (λ d. Puts d (first_at row) old new) s.delay_is (subst (PutTo delay len (first_at row) old new) is put))
 
-  pub start_ends : (new : Table) (v : Option Verdict) (w : Verdict) → PutTo delay len (first_at row) old new v → v ≡ Some w → IsVerdict m code w
+  pub start_ends : (new : EntryTable) (v : Option Verdict) (w : Verdict) → PutTo delay len (first_at row) old new v → v ≡ Some w → IsVerdict m code w
   start_ends new v w put is =
       put_ends m code spots (first_at row) old w (empty_sound m code spots s.given old start_entries s.stack)
       (record { entry = first_entry m code spots units row s.units_is s.first; came = tt })

@@ -6,7 +6,7 @@ use Rattle.std.proofs.lemmas.Bool.{and_parts, eq-eqb, eqb-true}
 use Rattle.std.proofs.lemmas.List.Folds.{list_any-append}
 use Rattle.tta_arch.specs.Effects.{Kind, Jumps, Calls, Halts}
 use Rattle.tta_check.specs.declared.row.Row.{Row}
-use Rattle.tta_check.specs.declared.entries.Table.{Table}
+use Rattle.tta_check.specs.declared.entries.EntryTable.{EntryTable}
 use Rattle.tta_check.specs.declared.visit.Onward.{Onward}
 use Rattle.tta_check.specs.Facts.{Fact}
 use Rattle.tta_check.specs.Keys.{Under, Key}
@@ -136,7 +136,7 @@ lack most [] = 0
 lack most (o ∷ os) = lack_in most o + lack most os
 
 -- how much is ahead: what entries may grow, twice, and what waits
-abbrev pub ahead : (most : ℕ) → Table → ℕ
+abbrev pub ahead : (most : ℕ) → EntryTable → ℕ
 ahead most t = 2 * lack most t.entries.items + length t.stack.items
 
 lack_set : (most : ℕ) (xs : List (Option Onward)) (p : ℕ) (o v : Option Onward) → slice_get xs p ≡ Some o → lack most (slice_set xs p v) + lack_in most o ≡ lack most xs + lack_in most v
@@ -151,20 +151,20 @@ stack_more (q ∷ stack) place = let e = stack_more stack place in omega arith
 -- ---- a table that has moved on
 
 -- rows admit no less, what waits still waits, and each entry is new and waits or is as it was; less is ahead, or as much
-pub record Moved (delay most : ℕ) (old new : Table) : Type 0 where
+pub record Moved (delay most : ℕ) (old new : EntryTable) : Type 0 where
   pub count : length new.entries.items ≡ length old.entries.items
   pub grows : (k : Key) (r : Row) → row_at delay old.entries.items k ≡ Some r → Found delay new.entries.items k r
   pub still : (p : ℕ) → waits old.stack.items p ≡ true → waits new.stack.items p ≡ true
   pub same : (p : ℕ) (e : Onward) → slice_get new.entries.items p ≡ Some (Some e) → (waits new.stack.items p ≡ true) ⊎ (slice_get old.entries.items p ≡ Some (Some e))
   pub less : ahead most new ≤ ahead most old
 
-pub stay : (delay most : ℕ) (t : Table) → Moved delay most t t
+pub stay : (delay most : ℕ) (t : EntryTable) → Moved delay most t t
 stay delay most t = record { count = refl; grows = λ k r h. (r, h, λ f g. g); still = λ p h. h; same = λ p e h. inr h; less = omega arith }
 
-pub found_on : (delay most : ℕ) (old new : Table) → Moved delay most old new → (k : Key) (r : Row) → Found delay old.entries.items k r → Found delay new.entries.items k r
+pub found_on : (delay most : ℕ) (old new : EntryTable) → Moved delay most old new → (k : Key) (r : Row) → Found delay old.entries.items k r → Found delay new.entries.items k r
 found_on delay most old new moved k r found = let g = moved.grows k found.0 found.1 in (g.0, g.1, λ f h. g.2 f (found.2 f h))
 
-pub move_on : (delay most : ℕ) (old mid new : Table) → Moved delay most old mid → Moved delay most mid new → Moved delay most old new
+pub move_on : (delay most : ℕ) (old mid new : EntryTable) → Moved delay most old mid → Moved delay most mid new → Moved delay most old new
 move_on delay most old mid new a b = record {
   count = b.count ∙ a.count;
   grows = λ k r h. found_on delay most mid new b k r (a.grows k r h);
@@ -197,7 +197,7 @@ abbrev pub Keeps : Option Onward → Onward → Type 0
 Keeps o b = (k : Key) (r : Row) → row_in k o ≡ Some r → (row_in k (Some b) ≡ Some b.row) × Within r b.row
 
 -- an entry is set that keeps what was found, and lacks less
-pub set_moved : (delay most place : ℕ) (o : Option Onward) (b : Onward) (old new : Table) → slice_get old.entries.items place ≡ Some o → Sets place b old new → Keeps o b
+pub set_moved : (delay most place : ℕ) (o : Option Onward) (b : Onward) (old new : EntryTable) → slice_get old.entries.items place ≡ Some o → Sets place b old new → Keeps o b
     → lack_in most (Some b) < lack_in most o → Moved delay most old new
 set_moved delay most place o b old new there sets keeps lacks = record {
   count = ap length sets.entries ∙ set_count old.entries.items place (Some b);

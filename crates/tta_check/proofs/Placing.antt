@@ -5,7 +5,7 @@ use Rattle.std.proofs.lemmas.Bool.{ltb-true, ltb-false}
 use Rattle.std.proofs.Math.Nat.{mul-le-mul_right}
 use Rattle.tta_check.specs.declared.row.Port.{Port}
 use Rattle.tta_check.specs.declared.row.Row.{Row}
-use Rattle.tta_check.specs.declared.entries.Table.{Table}
+use Rattle.tta_check.specs.declared.entries.EntryTable.{EntryTable}
 use Rattle.tta_check.specs.declared.verdict.Verdict.TheVariants.{Unsafe}
 use Rattle.tta_check.specs.declared.visit.Onward.{Onward}
 use Rattle.tta_check.specs.Keys.{Under}
@@ -23,7 +23,7 @@ mul_below a n d g h k =
     let f : (a + 1) * (d + 1) ≡ a * (d + 1) + (d + 1) = grind arith in
     omega arith
 
-pub place_below : (delay len : ℕ) (o : Onward) (t : Table) → Fits delay len o t → o.key.address < len → place_at delay (key_as o.key) < length t.entries.items
+pub place_below : (delay len : ℕ) (o : Onward) (t : EntryTable) → Fits delay len o t → o.key.address < len → place_at delay (key_as o.key) < length t.entries.items
 place_below delay len o t fits below =
     subst (λ n. place_at delay (key_as o.key) < n) (sym fits.count) (mul_below o.key.address len delay (ago delay (key_as o.key).under) below (ago_most delay (key_as o.key).under))
 
@@ -55,18 +55,18 @@ joined_count (p ∷ ps) (q ∷ qs) = let e = joined_count ps qs in omega arith
 
 -- ---- what comes of putting
 
-pub put_differs : (delay len : ℕ) (o e : Onward) (t : Table) (p x : ℕ) → p ≡ place_at delay (key_as o.key) → slice_get t.entries.items p ≡ Some (Some e) → same_key (key_as e.key) (key_as o.key) ≡ false
+pub put_differs : (delay len : ℕ) (o e : Onward) (t : EntryTable) (p x : ℕ) → p ≡ place_at delay (key_as o.key) → slice_get t.entries.items p ≡ Some (Some e) → same_key (key_as e.key) (key_as o.key) ≡ false
     → x ≡ o.key.address - ago delay (key_as o.key).under → PutEnds delay len o t (Unsafe 80 x)
 put_differs delay len o e t p x here there differs is =
     subst (λ n. PutEnds delay len o t (Unsafe 80 n)) (sym is) (Differs e (ap (slice_get t.entries.items) (sym here) ∙ there) differs)
 
-pub put_calm : (delay : ℕ) (o e : Onward) (t : Table) (p : ℕ) (g : Option Row) → p ≡ place_at delay (key_as o.key) → slice_get t.entries.items p ≡ Some (Some e) → same_key (key_as e.key) (key_as o.key) ≡ true
+pub put_calm : (delay : ℕ) (o e : Onward) (t : EntryTable) (p : ℕ) (g : Option Row) → p ≡ place_at delay (key_as o.key) → slice_get t.entries.items p ≡ Some (Some e) → same_key (key_as e.key) (key_as o.key) ≡ true
     → Grows e.row o.row g → g ≡ None → Puts delay o t t
 put_calm delay o e t p g here there same grows is =
     let r = subst (Grows e.row o.row) is grows in
     Calm e (record { key = o.key; row = r.0 }) (ap (slice_get t.entries.items) (sym here) ∙ there) (record { same = same; key = refl; joined = r.1; most = r.2 }) r.3 refl
 
-pub put_grown : (delay : ℕ) (o e : Onward) (old new : Table) (p : ℕ) (g : Option Row) (row : Row) → p ≡ place_at delay (key_as o.key) → slice_get old.entries.items p ≡ Some (Some e) → same_key (key_as e.key) (key_as o.key) ≡ true
+pub put_grown : (delay : ℕ) (o e : Onward) (old new : EntryTable) (p : ℕ) (g : Option Row) (row : Row) → p ≡ place_at delay (key_as o.key) → slice_get old.entries.items p ≡ Some (Some e) → same_key (key_as e.key) (key_as o.key) ≡ true
     → Grows e.row o.row g → g ≡ Some row → Sets p (record { key = o.key; row = row }) old new → Puts delay o old new
 put_grown delay o e old new p g row here there same grows is sets =
     let r = subst (Grows e.row o.row) is grows in

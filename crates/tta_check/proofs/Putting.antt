@@ -15,7 +15,7 @@ use Rattle.tta_check.specs.Carries.{CanCarry}
 use Rattle.tta_check.proofs.Visiting.{count_after}
 use Rattle.tta_check.proofs.Ways.{acts_way, stays_way}
 use Rattle.tta_check.specs.declared.row.Kept.{Kept}
-use Rattle.tta_check.specs.declared.entries.Table.{Table}
+use Rattle.tta_check.specs.declared.entries.EntryTable.{EntryTable}
 use Rattle.tta_check.specs.declared.visit.Onward.{Onward}
 use Rattle.tta_check.specs.Joined.{joined_list}
 use Rattle.tta_check.specs.Going.{key_as}
@@ -45,7 +45,7 @@ joined_cells_count (k ∷ ks) [] = refl
 joined_cells_count (k ∷ ks) (l ∷ ls) = let e = joined_cells_count ks ls in omega arith
 
 -- an entry that is set is as long
-fits_set : (delay len p : ℕ) (y b : Onward) (old new : Table) → Fits delay len y old → Sets p b old new → length b.row.cells.items ≡ length y.row.cells.items → length b.row.ports.items ≡ length y.row.ports.items
+fits_set : (delay len p : ℕ) (y b : Onward) (old new : EntryTable) → Fits delay len y old → Sets p b old new → length b.row.cells.items ≡ length y.row.cells.items → length b.row.ports.items ≡ length y.row.ports.items
     → Fits delay len y new
 fits_set delay len p y b old new fits sets cells ports = record {
   count = ap length sets.entries ∙ set_count old.entries.items p (Some b) ∙ fits.count;
@@ -65,7 +65,7 @@ fits_set delay len p y b old new fits sets cells ports = record {
   at q e (inr r) = fits.ports q e r
 
 -- a table into which something as long was put
-pub fits_puts : (delay len : ℕ) (x y : Onward) (old new : Table) → Fits delay len y old → Puts delay x old new → length x.row.cells.items ≡ length y.row.cells.items → length x.row.ports.items ≡ length y.row.ports.items
+pub fits_puts : (delay len : ℕ) (x y : Onward) (old new : EntryTable) → Fits delay len y old → Puts delay x old new → length x.row.cells.items ≡ length y.row.cells.items → length x.row.ports.items ≡ length y.row.ports.items
     → Fits delay len y new
 fits_puts delay len x y old new fits (Fresh none sets) cells ports = fits_set delay len (place_at delay (key_as x.key)) y x old new fits sets cells ports
 fits_puts delay len x y old new fits (Grown e both there joins more sets) cells ports =
@@ -74,7 +74,7 @@ fits_puts delay len x y old new fits (Grown e both there joins more sets) cells 
     (ap length joins.joined.ports ∙ joined_count e.row.ports.items x.row.ports.items ∙ fits.ports (place_at delay (key_as x.key)) e there)
 fits_puts delay len x y old new fits (Calm e both there joins same is) cells ports = subst (Fits delay len y) (sym is) fits
 
-pub fits_mid : (delay len : ℕ) (acts stays : Option Onward) (old mid : Table) → FitsBoth delay len acts stays old → PutSome delay len acts old mid None → FitsSome delay len stays mid
+pub fits_mid : (delay len : ℕ) (acts stays : Option Onward) (old mid : EntryTable) → FitsBoth delay len acts stays old → PutSome delay len acts old mid None → FitsSome delay len stays mid
 fits_mid delay len None stays old mid both put = subst (FitsSome delay len stays) (sym put.0) both.other
 fits_mid delay len (Some x) None old mid both put = tt
 fits_mid delay len (Some x) (Some y) old mid both put = fits_puts delay len x y old mid both.other put (both.cells x y refl refl) (both.ports x y refl refl)
@@ -104,7 +104,7 @@ stays_long m i at x acts stays g is =
     let w = stays_way m i at g.word x (subst (λ o. IsStays m i at (controller (effects_of m i)) o) is g.where_stays) in
     way_long m i at x w.sense (does g.word (controller (effects_of m i)) w.acts) w.way
 
-fits_one : (m : Machine) (code : Code) (place : ℕ) (t : Table) (at x : Onward) → CanCarry m code place t → slice_get t.entries.items place ≡ Some (Some at) → AsLong x at → Fits m.control.delay (length code.words) x t
+fits_one : (m : Machine) (code : Code) (place : ℕ) (t : EntryTable) (at x : Onward) → CanCarry m code place t → slice_get t.entries.items place ≡ Some (Some at) → AsLong x at → Fits m.control.delay (length code.words) x t
 fits_one m code place t at x can there long = record {
   count = can.count;
   few = subst (λ n. n ≤ 256) (sym (long.1 ∙ can.ports place at there)) can.few;
@@ -112,12 +112,12 @@ fits_one m code place t at x can there long = record {
   ports = λ p e h. can.ports p e h ∙ sym (long.1 ∙ can.ports place at there);
 }
 
-fits_some : (m : Machine) (code : Code) (place : ℕ) (t : Table) (at : Onward) (o : Option Onward) → CanCarry m code place t → slice_get t.entries.items place ≡ Some (Some at) → ((x : Onward) → o ≡ Some x → AsLong x at)
+fits_some : (m : Machine) (code : Code) (place : ℕ) (t : EntryTable) (at : Onward) (o : Option Onward) → CanCarry m code place t → slice_get t.entries.items place ≡ Some (Some at) → ((x : Onward) → o ≡ Some x → AsLong x at)
     → FitsSome m.control.delay (length code.words) o t
 fits_some m code place t at None can there long = tt
 fits_some m code place t at (Some x) can there long = fits_one m code place t at x can there (long x refl)
 
-pub goes_fit : (m : Machine) (code : Code) (place : ℕ) (t : Table) (at : Onward) (i : Instruction) (acts stays : Option Onward) → CanCarry m code place t → slice_get t.entries.items place ≡ Some (Some at)
+pub goes_fit : (m : Machine) (code : Code) (place : ℕ) (t : EntryTable) (at : Onward) (i : Instruction) (acts stays : Option Onward) → CanCarry m code place t → slice_get t.entries.items place ≡ Some (Some at)
     → GoesOn m i at acts stays → FitsBoth m.control.delay (length code.words) acts stays t
 goes_fit m code place t at i acts stays can there g = record {
   one = fits_some m code place t at acts can there (λ x is. acts_long m i at x acts stays g is);

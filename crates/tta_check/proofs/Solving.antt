@@ -10,7 +10,7 @@ use Rattle.tta_code.specs.declared.code.Code.{Code}
 use Rattle.tta_code.specs.Cycle.{effects_of}
 use Rattle.tta_code.specs.Legal.{is_legal, IsLegalCode}
 use Rattle.tta_check.specs.declared.row.Row.{Row}
-use Rattle.tta_check.specs.declared.entries.Table.{Table}
+use Rattle.tta_check.specs.declared.entries.EntryTable.{EntryTable}
 use Rattle.tta_check.specs.declared.spot.Spot.{Spot}
 use Rattle.tta_check.specs.declared.verdict.Verdict.{Verdict}
 use Rattle.tta_check.specs.declared.visit.Onward.{Onward}
@@ -42,11 +42,11 @@ pub record IsGiven (m : Machine) (code : Code) (spots : List Spot) : Type 0 wher
   pub has : HasCodes m code.words spots
 
 -- an entry leads on
-abbrev pub Leads : Machine → Code → Table → Onward → Type 0
+abbrev pub Leads : Machine → Code → EntryTable → Onward → Type 0
 Leads m code t e = LeadsOn covers (row_at m.control.delay t.entries.items) m code (key_as e.key) e.row
 
 -- a table whose entries are right, whose first row admits the first walk, and whose entries lead on but for those that wait
-pub record Solving (m : Machine) (code : Code) (spots : List Spot) (t : Table) : Type 0 where
+pub record Solving (m : Machine) (code : Code) (spots : List Spot) (t : EntryTable) : Type 0 where
   pub sound : IsSound m code spots t
   pub calm : (p : ℕ) (e : Onward) → slice_get t.entries.items p ≡ Some (Some e) → (waits t.stack.items p ≡ true) ⊎ Leads m code t e
   pub begins : Row
@@ -73,7 +73,7 @@ replicate_count zero x = refl
 replicate_count (suc n) x = let e = replicate_count n x in omega arith
 
 module _ (m : Machine) (code : Code) (spots : List Spot) (given : IsGiven m code spots) where
-  is_there : (t : Table) (p : ℕ) (at : Onward) (i : Instruction) → slice_get code.words at.key.address ≡ Some i → IsThere m code spots i at
+  is_there : (t : EntryTable) (p : ℕ) (at : Onward) (i : Instruction) → slice_get code.words at.key.address ≡ Some i → IsThere m code spots i at
   is_there t p at i h = record {
     rules = given.rules;
     there = h;
@@ -81,7 +81,7 @@ module _ (m : Machine) (code : Code) (spots : List Spot) (given : IsGiven m code
     has = given.has at.key.address i h;
   }
 
-  leads_still : (old new : Table) → ((k : Key) (r : Row) → row_at m.control.delay old.entries.items k ≡ Some r → Found m.control.delay new.entries.items k r) → (e : Onward) → Leads m code old e → Leads m code new e
+  leads_still : (old new : EntryTable) → ((k : Key) (r : Row) → row_at m.control.delay old.entries.items k ≡ Some r → Found m.control.delay new.entries.items k r) → (e : Onward) → Leads m code old e → Leads m code new e
   leads_still old new grows e l = record {
     by = l.by;
     there = l.there;
@@ -106,7 +106,7 @@ module _ (m : Machine) (code : Code) (spots : List Spot) (given : IsGiven m code
 
   -- ---- a place that waits is taken
 
-  pub popped_sound : (old mid : Table) (place : ℕ) → IsSound m code spots old → mid.entries.items ≡ old.entries.items → old.stack.items ≡ mid.stack.items ++ (place ∷ []) → IsSound m code spots mid
+  pub popped_sound : (old mid : EntryTable) (place : ℕ) → IsSound m code spots old → mid.entries.items ≡ old.entries.items → old.stack.items ≡ mid.stack.items ++ (place ∷ []) → IsSound m code spots mid
   popped_sound old mid place sound entries stack = record {
     count = ap length entries ∙ sound.count;
     each = λ p e h. sound.each p e (ap (λ xs. slice_get xs p) (sym entries) ∙ h);
@@ -116,7 +116,7 @@ module _ (m : Machine) (code : Code) (spots : List Spot) (given : IsGiven m code
     more true b h = refl
     more false b h = absurd cc
 
-  pub can_carry : (old mid : Table) (place : ℕ) → IsSound m code spots old → mid.entries.items ≡ old.entries.items → old.stack.items ≡ mid.stack.items ++ (place ∷ []) → CanCarry m code place mid
+  pub can_carry : (old mid : EntryTable) (place : ℕ) → IsSound m code spots old → mid.entries.items ≡ old.entries.items → old.stack.items ≡ mid.stack.items ++ (place ∷ []) → CanCarry m code place mid
   can_carry old mid place sound entries stack =
       let s = popped_sound old mid place sound entries stack in
       record {
@@ -133,7 +133,7 @@ module _ (m : Machine) (code : Code) (spots : List Spot) (given : IsGiven m code
       }
 
   -- what holds after the entry that was taken is carried on: all leads on but for what waits and for that entry
-  carried_on : (mid new : Table) (place : ℕ) → IsSound m code spots mid → Carried m code place mid new None
+  carried_on : (mid new : EntryTable) (place : ℕ) → IsSound m code spots mid → Carried m code place mid new None
       → Moved m.control.delay (most_weight (length spots)) mid new × IsSound m code spots new
       × ((e : Onward) → slice_get mid.entries.items place ≡ Some (Some e) → Leads m code new e)
   carried_on mid new place sound (Empty none is) = subst (λ t. Moved m.control.delay (most_weight (length spots)) mid t × IsSound m code spots t × ((e : Onward) → slice_get mid.entries.items place ≡ Some (Some e) → Leads m code t e)) (sym is)
@@ -155,7 +155,7 @@ module _ (m : Machine) (code : Code) (spots : List Spot) (given : IsGiven m code
         found x a b (inl h) = found_on m.control.delay (most_weight (length spots)) half new b.moved (key_as x.key) x.row (a.found x h)
         found x a b (inr h) = b.found x h
 
-  pub solving_on : (old mid new : Table) (place : ℕ) → Solving m code spots old → mid.entries.items ≡ old.entries.items → old.stack.items ≡ mid.stack.items ++ (place ∷ []) → Carried m code place mid new None
+  pub solving_on : (old mid new : EntryTable) (place : ℕ) → Solving m code spots old → mid.entries.items ≡ old.entries.items → old.stack.items ≡ mid.stack.items ++ (place ∷ []) → Carried m code place mid new None
       → Solving m code spots new × (ahead (most_weight (length spots)) new < ahead (most_weight (length spots)) old)
   solving_on old mid new place s entries stack carried = on (carried_on mid new place (popped_sound old mid place s.sound entries stack) carried) where
     most : ℕ
@@ -193,7 +193,7 @@ module _ (m : Machine) (code : Code) (spots : List Spot) (given : IsGiven m code
       calm p e h = kept p e (c.0.same p e h)
 
   -- a verdict where an entry is carried on is true of the code
-  pub solving_ends : (old mid new : Table) (place : ℕ) (v : Verdict) → Solving m code spots old → mid.entries.items ≡ old.entries.items → old.stack.items ≡ mid.stack.items ++ (place ∷ []) → Carried m code place mid new (Some v)
+  pub solving_ends : (old mid new : EntryTable) (place : ℕ) (v : Verdict) → Solving m code spots old → mid.entries.items ≡ old.entries.items → old.stack.items ≡ mid.stack.items ++ (place ∷ []) → Carried m code place mid new (Some v)
       → IsVerdict m code v
   solving_ends old mid new place v s entries stack carried = on (popped_sound old mid place s.sound entries stack) carried where
     ended : (at : Onward) (i : Instruction) (acts stays : Option Onward) → IsNext m code spots at → IsThere m code spots i at → IsSound m code spots mid → GoesOn m i at acts stays
@@ -209,21 +209,21 @@ module _ (m : Machine) (code : Code) (spots : List Spot) (given : IsGiven m code
 
   -- ---- the first and the last
 
-  empty_none : (t : Table) → t.entries.items ≡ replicate (length code.words * (m.control.delay + 1)) None → (p : ℕ) (e : Onward) → slice_get t.entries.items p ≡ Some (Some e) → ⊥
+  empty_none : (t : EntryTable) → t.entries.items ≡ replicate (length code.words * (m.control.delay + 1)) None → (p : ℕ) (e : Onward) → slice_get t.entries.items p ≡ Some (Some e) → ⊥
   empty_none t entries p e h = none _ p (ap (λ xs. slice_get xs p) (sym entries) ∙ h) where
     none : (n p : ℕ) → slice_get (replicate n None) p ≡ Some (Some e) → ⊥
     none zero p h = cc
     none (suc n) zero h = cc
     none (suc n) (suc p) h = none n p h
 
-  pub empty_sound : (t : Table) → t.entries.items ≡ replicate (length code.words * (m.control.delay + 1)) None → t.stack.items ≡ [] → IsSound m code spots t
+  pub empty_sound : (t : EntryTable) → t.entries.items ≡ replicate (length code.words * (m.control.delay + 1)) None → t.stack.items ≡ [] → IsSound m code spots t
   empty_sound t entries stack = record {
     count = ap length entries ∙ replicate_count (length code.words * (m.control.delay + 1)) None;
     each = λ p e h. absurd (empty_none t entries p e h);
     stack = λ p h. absurd (let f = ap (λ xs. waits xs p) (sym stack) ∙ h in cc);
   }
 
-  pub solving_first : (x : Onward) (old new : Table) → old.entries.items ≡ replicate (length code.words * (m.control.delay + 1)) None → old.stack.items ≡ [] → key_as x.key ≡ record { address = 0; under = None }
+  pub solving_first : (x : Onward) (old new : EntryTable) → old.entries.items ≡ replicate (length code.words * (m.control.delay + 1)) None → old.stack.items ≡ [] → key_as x.key ≡ record { address = 0; under = None }
       → IsEntry m code spots x → CoveredBy (covers x.row) first → Puts m.control.delay x old new → Solving m code spots new
   solving_first x old new entries stack key entry admits puts = record {
     sound = puts_sound m code spots x old new sound next puts;
@@ -249,7 +249,7 @@ module _ (m : Machine) (code : Code) (spots : List Spot) (given : IsGiven m code
     calm p e (inr h) = absurd (empty_none old entries p e h)
 
   -- where none waits the code is safe
-  pub solved : (t : Table) → Solving m code spots t → t.stack.items ≡ [] → IsSafe m code
+  pub solved : (t : EntryTable) → Solving m code spots t → t.stack.items ≡ [] → IsSafe m code
   solved t s none =
       closed_safe covers (row_at m.control.delay t.entries.items) m code (record { begins = s.begins; there = s.there; admits = s.admits; leads = leads }) where
         on : (e : Onward) (p : ℕ) → (waits t.stack.items p ≡ true) ⊎ Leads m code t e → Leads m code t e

@@ -8,7 +8,7 @@ use Rattle.tta_arch.specs.Machine.{Machine}
 use Rattle.tta_code.specs.declared.code.Code.{Code}
 use Rattle.tta_check.specs.declared.row.Kept.{Kept}
 use Rattle.tta_check.specs.declared.row.Row.{Row}
-use Rattle.tta_check.specs.declared.entries.Table.{Table}
+use Rattle.tta_check.specs.declared.entries.EntryTable.{EntryTable}
 use Rattle.tta_check.specs.declared.spot.Spot.{Spot}
 use Rattle.tta_check.specs.declared.verdict.Verdict.{Verdict}
 use Rattle.tta_check.specs.declared.visit.Onward.{Onward}
@@ -71,7 +71,7 @@ pub record IsPut (m : Machine) (code : Code) (spots : List Spot) (place : ℕ) (
   pub here : place_at m.control.delay (key_as x.key) ≡ place
 
 -- a table whose entries are right
-pub record IsSound (m : Machine) (code : Code) (spots : List Spot) (t : Table) : Type 0 where
+pub record IsSound (m : Machine) (code : Code) (spots : List Spot) (t : EntryTable) : Type 0 where
   pub count : length t.entries.items ≡ length code.words * (m.control.delay + 1)
   pub each : (p : ℕ) (e : Onward) → slice_get t.entries.items p ≡ Some (Some e) → IsPut m code spots p e
   pub stack : (p : ℕ) → waits t.stack.items p ≡ true → p < length t.entries.items
@@ -110,7 +110,7 @@ module _ (m : Machine) (code : Code) (spots : List Spot) where
     on false is h = absurd cc
 
   -- what is put is found, and nothing that was found is lost
-  pub puts_moved : (x : Onward) (old new : Table) → IsSound m code spots old → IsEntry m code spots x → Puts m.control.delay x old new → Moved m.control.delay (most_weight (length spots)) old new
+  pub puts_moved : (x : Onward) (old new : EntryTable) → IsSound m code spots old → IsEntry m code spots x → Puts m.control.delay x old new → Moved m.control.delay (most_weight (length spots)) old new
   puts_moved x old new sound b (Fresh none sets) =
       set_moved m.control.delay (most_weight (length spots)) (place_at m.control.delay (key_as x.key)) None x old new none sets (λ k r h. absurd cc) (omega arith)
   puts_moved x old new sound b (Grown e both there j more sets) =
@@ -124,7 +124,7 @@ module _ (m : Machine) (code : Code) (spots : List Spot) where
           on false h = absurd (differs (let f = ltb-false w v h in omega arith))
   puts_moved x old new sound b (Calm e both there j same is) = subst (Moved m.control.delay (most_weight (length spots)) old) (sym is) (stay m.control.delay (most_weight (length spots)) old)
 
-  pub puts_found : (x : Onward) (old new : Table) → IsSound m code spots old → IsEntry m code spots x → Puts m.control.delay x old new → Found m.control.delay new.entries.items (key_as x.key) x.row
+  pub puts_found : (x : Onward) (old new : EntryTable) → IsSound m code spots old → IsEntry m code spots x → Puts m.control.delay x old new → Found m.control.delay new.entries.items (key_as x.key) x.row
   puts_found x old new sound b (Fresh none sets) =
       let p = place_at m.control.delay (key_as x.key) in
       (x.row, row_there m.control.delay new.entries.items (key_as x.key) x (ap (λ xs. slice_get xs p) sets.entries ∙ set_here old.entries.items p None (Some x) none) refl, λ f h. h)
@@ -140,11 +140,11 @@ module _ (m : Machine) (code : Code) (spots : List Spot) where
       let a = (sound.each p e there).next.entry in
       let w = weighs_more e.row x.row both.row j.joined in (
         e.row,
-        row_there m.control.delay new.entries.items (key_as x.key) e (ap (λ (t : Table). slice_get t.entries.items p) is ∙ there) (key_is _ _ j.same),
+        row_there m.control.delay new.entries.items (key_as x.key) e (ap (λ (t : EntryTable). slice_get t.entries.items p) is ∙ there) (key_is _ _ j.same),
         λ f h. same_admits both.row e.row (w.cells same) (w.ports same) f (joined_admits_other e.row x.row both.row (aligned e x a b) j.joined f h),
       )
 
-  set_sound : (place : ℕ) (o : Option Onward) (b : Onward) (old new : Table) → IsSound m code spots old → slice_get old.entries.items place ≡ Some o → Sets place b old new → IsPut m code spots place b → IsSound m code spots new
+  set_sound : (place : ℕ) (o : Option Onward) (b : Onward) (old new : EntryTable) → IsSound m code spots old → slice_get old.entries.items place ≡ Some o → Sets place b old new → IsPut m code spots place b → IsSound m code spots new
   set_sound place o b old new sound there sets put = record {
     count = count ∙ sound.count;
     each = λ p e h. each p e (set_get old.entries.items place p (Some b) (Some e) (ap (λ xs. slice_get xs p) (sym sets.entries) ∙ h));
@@ -164,7 +164,7 @@ module _ (m : Machine) (code : Code) (spots : List Spot) where
     stack p (inl h) = sound.stack p h
     stack p (inr h) = subst (λ n. n < length old.entries.items) h (slice_get_within old.entries.items place o there)
 
-  pub puts_sound : (x : Onward) (old new : Table) → IsSound m code spots old → IsNext m code spots x → Puts m.control.delay x old new → IsSound m code spots new
+  pub puts_sound : (x : Onward) (old new : EntryTable) → IsSound m code spots old → IsNext m code spots x → Puts m.control.delay x old new → IsSound m code spots new
   puts_sound x old new sound b (Fresh none sets) =
       let p = place_at m.control.delay (key_as x.key) in
       set_sound p None x old new sound none sets (record {
@@ -185,12 +185,12 @@ module _ (m : Machine) (code : Code) (spots : List Spot) where
   puts_sound x old new sound b (Calm e both there j same is) = subst (IsSound m code spots) (sym is) sound
 
   -- what comes of putting where walks go on, if they do
-  pub record IsAfter (o : Option Onward) (old new : Table) : Type 0 where
+  pub record IsAfter (o : Option Onward) (old new : EntryTable) : Type 0 where
     pub moved : Moved m.control.delay (most_weight (length spots)) old new
     pub sound : IsSound m code spots new
     pub found : (x : Onward) → o ≡ Some x → Found m.control.delay new.entries.items (key_as x.key) x.row
 
-  pub some_after : (o : Option Onward) (old new : Table) → IsSound m code spots old → ((x : Onward) → o ≡ Some x → IsNext m code spots x) → PutSome m.control.delay (length code.words) o old new None → IsAfter o old new
+  pub some_after : (o : Option Onward) (old new : EntryTable) → IsSound m code spots old → ((x : Onward) → o ≡ Some x → IsNext m code spots x) → PutSome m.control.delay (length code.words) o old new None → IsAfter o old new
   some_after None old new sound next put =
       subst (IsAfter None old) (sym put.0) (record { moved = stay m.control.delay (most_weight (length spots)) old; sound = sound; found = λ x h. absurd cc })
   some_after (Some y) old new sound next put = record {
@@ -202,12 +202,12 @@ module _ (m : Machine) (code : Code) (spots : List Spot) where
     same x h = cc
 
   -- a verdict where walks go on is true of the code
-  pub put_ends : (x : Onward) (t : Table) (v : Verdict) → IsSound m code spots t → IsNext m code spots x → PutEnds m.control.delay (length code.words) x t v → IsVerdict m code v
+  pub put_ends : (x : Onward) (t : EntryTable) (v : Verdict) → IsSound m code spots t → IsNext m code spots x → PutEnds m.control.delay (length code.words) x t v → IsVerdict m code v
   put_ends x t _ sound b (Leaves out) = inl (outside_code (covers x.row) (tells x.row) m code (key_as x.key) b.entry.witnessed refl (slice_get_past code.words x.key.address out))
   put_ends x t _ sound b (Differs e there differs) =
       let a = sound.each (place_at m.control.delay (key_as x.key)) e there in
       inr (refl, two_made m code (key_as e.key) (key_as x.key) a.next.came b.came a.here differs)
 
-  pub some_ends : (o : Option Onward) (old new : Table) (v : Verdict) → IsSound m code spots old → ((x : Onward) → o ≡ Some x → IsNext m code spots x) → PutSome m.control.delay (length code.words) o old new (Some v) → IsVerdict m code v
+  pub some_ends : (o : Option Onward) (old new : EntryTable) (v : Verdict) → IsSound m code spots old → ((x : Onward) → o ≡ Some x → IsNext m code spots x) → PutSome m.control.delay (length code.words) o old new (Some v) → IsVerdict m code v
   some_ends None old new v sound next put = absurd (let e = put.1 in cc)
   some_ends (Some y) old new v sound next put = put_ends y old v sound (next y refl) put

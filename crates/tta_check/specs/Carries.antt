@@ -3,7 +3,7 @@ use Rattle.std.specs.Prelude.{◌≡◌, ℕ, ◌+◌, ◌*◌, ◌≤◌, ◌<�
 use Rattle.tta_arch.specs.Machine.{Machine}
 use Rattle.tta_code.specs.declared.code.Instruction.{Instruction}
 use Rattle.tta_code.specs.declared.code.Code.{Code}
-use Rattle.tta_check.specs.declared.entries.Table.{Table}
+use Rattle.tta_check.specs.declared.entries.EntryTable.{EntryTable}
 use Rattle.tta_check.specs.declared.verdict.Verdict.{Verdict}
 use Rattle.tta_check.specs.declared.visit.Onward.{Onward}
 use Rattle.tta_check.specs.Turns.{have_latency}
@@ -11,7 +11,7 @@ use Rattle.tta_check.specs.Visits.{end_of, GoesOn}
 use Rattle.tta_check.specs.Tables.{PutBoth}
 
 -- a table for code on a machine, whose rows are as long as each other and stand at its instructions
-pub record CanCarry (m : Machine) (code : Code) (place : ℕ) (t : Table) : Type 0 where
+pub record CanCarry (m : Machine) (code : Code) (place : ℕ) (t : EntryTable) : Type 0 where
   pub there : place < length t.entries.items
   pub count : length t.entries.items ≡ length code.words * (m.control.delay + 1)
   pub room : length code.words ≤ 65536
@@ -24,7 +24,7 @@ pub record CanCarry (m : Machine) (code : Code) (place : ℕ) (t : Table) : Type
   pub times : (k : ℕ) (i : Instruction) → slice_get code.words k ≡ Some i → have_latency m i
 
 -- what comes of carrying the entry of a place on: there is none, or the instruction gives a verdict, or what it leads to is put
-pub data Carried (m : Machine) (code : Code) (place : ℕ) (old new : Table) : Option Verdict → Type 0 where
+pub data Carried (m : Machine) (code : Code) (place : ℕ) (old new : EntryTable) : Option Verdict → Type 0 where
   Empty : slice_get old.entries.items place ≡ Some None → new ≡ old → Carried m code place old new None
   Ended : (at : Onward) (i : Instruction) (v : Verdict) → slice_get old.entries.items place ≡ Some (Some at)
       → slice_get code.words at.key.address ≡ Some i → end_of m i at ≡ Some v → Carried m code place old new (Some v)

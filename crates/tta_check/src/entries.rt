@@ -20,7 +20,7 @@ use tta_code::{Code, Instruction};
 
 /// The entries that are kept, and the places of those that wait: they are new, or have grown.
 #[derive(Drop)]
-pub struct Table {
+pub struct EntryTable {
     pub entries: Vec<Option<Onward>>,
     pub stack: Vec<usize>,
 }
@@ -75,9 +75,9 @@ fn grown(alloc: Global, row: &Row, other: &Row) -> Result<Option<Row>, AllocErro
     }
 }
 
-impl Table {
+impl EntryTable {
     /// A table without entries.
-    pub fn new(alloc: Global, delay: u8, len: usize) -> Result<Table, AllocError>
+    pub fn new(alloc: Global, delay: u8, len: usize) -> Result<EntryTable, AllocError>
         requires { len ≤ 65536 }
         ensures entries { IfOk result (λ t. t.entries.items
             ≡ replicate (len * (delay + 1)) None) }
@@ -88,7 +88,7 @@ impl Table {
         for _ in 0..count {
             entries.push(None)?;
         }
-        Ok(Table {
+        Ok(EntryTable {
             entries,
             stack: Vec::new(alloc),
         })

@@ -5,7 +5,7 @@ ghost use Rattle.tta_code.specs.Legal.{IsLegalCode};
 ghost use Rattle.tta_check.specs.Statement.{Checks};
 
 use crate::begin::first_row;
-use crate::entries::Table;
+use crate::entries::EntryTable;
 use crate::key::Key;
 use crate::spots::spots_of;
 use crate::verdict::Verdict;
@@ -33,7 +33,7 @@ pub fn check(alloc: Global, m: &Machine, code: &Code) -> Result<Verdict, AllocEr
         under: None,
     };
     let len = code.words.len();
-    let mut table = Table::new(alloc, m.control.delay, len)?;
+    let mut table = EntryTable::new(alloc, m.control.delay, len)?;
     if let Some(verdict) = table.put(alloc, m.control.delay, len, Onward { key, row })? {
         return Ok(verdict);
     }

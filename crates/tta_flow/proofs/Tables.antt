@@ -9,7 +9,7 @@ use Rattle.std.proofs.lemmas.List.{length-set}
 use Rattle.std.proofs.lemmas.Option.{slice_get_read}
 use Rattle.tta_flow.proofs.Searches.{found_more}
 use Rattle.std.proofs.Math.Bool.{or-false, and-true}
-use Rattle.tta_flow.specs.declared.table.Table.{Table}
+use Rattle.tta_flow.specs.declared.table.PlaceLists.{PlaceLists}
 use Rattle.std.specs.List.{list_any}
 use Rattle.std.proofs.lemmas.List.{take_all}
 use Rattle.std.proofs.lemmas.List.Folds.{list_any_more}
@@ -18,14 +18,14 @@ use Rattle.tta_flow.specs.Steps.{is_var}
 use Rattle.tta_flow.specs.Search.{is_found}
 use Rattle.tta_flow.specs.Table.{is_listed, Adds}
 
-pub adds_none : (place : ℕ) (t : Table) → Adds place (λ k. false) t t
+pub adds_none : (place : ℕ) (t : PlaceLists) → Adds place (λ k. false) t t
 adds_none place t = record { size = refl; all = λ k p below. sym (none (is_listed t k p) (place == p)) } where
   none : (a w : Bool) → (a || (w && false)) ≡ a
   none true w = refl
   none false true = refl
   none false false = refl
 
-pub adds_then : (place : ℕ) (t u : ℕ → Bool) (a b c : Table) → Adds place t a b → Adds place u b c → Adds place (λ k. t k || u k) a c
+pub adds_then : (place : ℕ) (t u : ℕ → Bool) (a b c : PlaceLists) → Adds place t a b → Adds place u b c → Adds place (λ k. t k || u k) a c
 adds_then place t u a b c one two = record {
   size = two.size ∙ one.size;
   all = λ k p below. two.all k p (let s = one.size in omega arith) ∙ ap (λ r. r || (place == p && u k)) (one.all k p below)
@@ -65,7 +65,7 @@ pub table_push : (lists : List (SmallVec ℕ)) (l : SmallVec ℕ) → l.items �
 table_push lists l empty none k p = all_false_push (λ (m : SmallVec ℕ). is_found m.items p) lists l (λ j. none j p) (ap (λ xs. is_found xs p) empty) k
 
 -- a place that is put into one list
-pub adds_one : (key place : ℕ) (old new : Table) (was now : SmallVec ℕ) → key < length old.lists.items
+pub adds_one : (key place : ℕ) (old new : PlaceLists) (was now : SmallVec ℕ) → key < length old.lists.items
     → was ≡ get_or old.lists.items key was → now.items ≡ was.items ++ place ∷ []
     → new.lists.items ≡ slice_set old.lists.items key now → Adds place (λ k. key == k) old new
 adds_one key place old new was now below is grown set = record {
@@ -97,7 +97,7 @@ adds_one key place old new was now below is grown set = record {
         none false false = refl
 
 -- nothing is put into a list that is not there
-pub adds_past : (key place : ℕ) (t : Table) → length t.lists.items ≤ key → Adds place (λ k. key == k) t t
+pub adds_past : (key place : ℕ) (t : PlaceLists) → length t.lists.items ≤ key → Adds place (λ k. key == k) t t
 adds_past key place t past = record {
   size = refl;
   all = λ k p below. sym (ap (λ b. is_listed t k p || (place == p && b)) (ne_eqb key k (λ e. absurd (omega arith))) ∙ none (is_listed t k p) (place == p));
@@ -107,7 +107,7 @@ adds_past key place t past = record {
   none false true = refl
   none false false = refl
 
-pub adds_same : (place : ℕ) (t u : ℕ → Bool) (a b : Table) → ((k : ℕ) → t k ≡ u k) → Adds place t a b → Adds place u a b
+pub adds_same : (place : ℕ) (t u : ℕ → Bool) (a b : PlaceLists) → ((k : ℕ) → t k ≡ u k) → Adds place t a b → Adds place u a b
 adds_same place t u a b same h = record {
   size = h.size;
   all = λ k p below. h.all k p below ∙ ap (λ r. is_listed a k p || (place == p && r)) (same k);
@@ -116,17 +116,17 @@ adds_same place t u a b same h = record {
 -- ---- all places in turn
 
 -- the lists hold a relation of the places below a number
-pub record Tells (keys : ℕ) (rel : ℕ → ℕ → Bool) (n : ℕ) (t : Table) : Type 0 where
+pub record Tells (keys : ℕ) (rel : ℕ → ℕ → Bool) (n : ℕ) (t : PlaceLists) : Type 0 where
   pub size : length t.lists.items ≡ keys
   pub all : (k p : ℕ) → k < keys → is_listed t k p ≡ (nat_lt p n && rel p k)
 
-pub tells_start : (keys : ℕ) (rel : ℕ → ℕ → Bool) (t : Table) → length t.lists.items ≡ keys → ((k p : ℕ) → is_listed t k p ≡ false) → Tells keys rel 0 t
+pub tells_start : (keys : ℕ) (rel : ℕ → ℕ → Bool) (t : PlaceLists) → length t.lists.items ≡ keys → ((k p : ℕ) → is_listed t k p ≡ false) → Tells keys rel 0 t
 tells_start keys rel t size none = record {
   size = size;
   all = λ k p below. none k p ∙ sym (ap (λ b. b && rel p k) (le-ltb p 0 (omega arith)));
 }
 
-pub tells_more : (keys : ℕ) (rel : ℕ → ℕ → Bool) (n : ℕ) (test : ℕ → Bool) (t new : Table) → Tells keys rel n t → ((k : ℕ) → rel n k ≡ test k)
+pub tells_more : (keys : ℕ) (rel : ℕ → ℕ → Bool) (n : ℕ) (test : ℕ → Bool) (t new : PlaceLists) → Tells keys rel n t → ((k : ℕ) → rel n k ≡ test k)
     → Adds n test t new → Tells keys rel (n + 1) new
 tells_more keys rel n test t new h here adds = record {
   size = adds.size ∙ h.size;
@@ -142,7 +142,7 @@ tells_more keys rel n test t new h here adds = record {
       rw (same, ne_eqb n p other) (or-false (nat_lt p n && rel p k))
 
 -- in the end the relation holds of no other place
-pub tells_all : (keys : ℕ) (rel : ℕ → ℕ → Bool) (n : ℕ) (t : Table) → Tells keys rel n t → ((k p : ℕ) → n ≤ p → rel p k ≡ false)
+pub tells_all : (keys : ℕ) (rel : ℕ → ℕ → Bool) (n : ℕ) (t : PlaceLists) → Tells keys rel n t → ((k p : ℕ) → n ≤ p → rel p k ≡ false)
     → (k p : ℕ) → k < keys → is_listed t k p ≡ rel p k
 tells_all keys rel n t h past k p below = h.all k p below ∙ by (nat_lt p n) refl where
   by : (b : Bool) → nat_lt p n ≡ b → (nat_lt p n && rel p k) ≡ rel p k
@@ -151,7 +151,7 @@ tells_all keys rel n t h past k p below = h.all k p below ∙ by (nat_lt p n) re
 
 -- ---- operands in turn
 
-pub operands_more : (at : ℕ) (operands : List Src) (i : ℕ) (d : Src) (a b c : Table) → i < length operands
+pub operands_more : (at : ℕ) (operands : List Src) (i : ℕ) (d : Src) (a b c : PlaceLists) → i < length operands
     → Adds at (λ x. list_any (λ s. is_var s x) (take i operands)) a b → Adds at (is_var (get_or operands i d)) b c
     → Adds at (λ x. list_any (λ s. is_var s x) (take (i + 1) operands)) a c
 operands_more at operands i d a b c below one two =
@@ -159,7 +159,7 @@ operands_more at operands i d a b c below one two =
     (λ x. sym (list_any_more (λ s. is_var s x) operands i d below))
     (adds_then at (λ x. list_any (λ s. is_var s x) (take i operands)) (is_var (get_or operands i d)) a b c one two)
 
-pub operands_all : (at : ℕ) (operands : List Src) (i : ℕ) (a b : Table) → length operands ≤ i
+pub operands_all : (at : ℕ) (operands : List Src) (i : ℕ) (a b : PlaceLists) → length operands ≤ i
     → Adds at (λ x. list_any (λ s. is_var s x) (take i operands)) a b → Adds at (λ x. list_any (λ s. is_var s x) operands) a b
 operands_all at operands i a b past h =
     adds_same at (λ x. list_any (λ s. is_var s x) (take i operands)) (λ x. list_any (λ s. is_var s x) operands) a b

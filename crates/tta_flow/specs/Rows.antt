@@ -4,7 +4,7 @@ use Rattle.std.specs.Option.{option_map_or}
 use Rattle.tta_program.specs.declared.step.Step.{Step}
 use Rattle.tta_flow.specs.declared.bits.BitRow.{BitRow}
 use Rattle.tta_flow.specs.declared.rows.Work.{Work}
-use Rattle.tta_flow.specs.declared.table.Table.{Table}
+use Rattle.tta_flow.specs.declared.table.PlaceLists.{PlaceLists}
 use Rattle.tta_flow.specs.Bits.{has}
 use Rattle.tta_flow.specs.Paths.{LiveBefore}
 use Rattle.tta_flow.specs.Steps.{reads, assigns, falls, target, leads}
@@ -37,7 +37,7 @@ IsSettled steps vars rows i =
     (x : ℕ) → x < vars → option_map_or (λ step. wanted rows step i x) (slice_get steps i) false ≡ true → has_at rows i x ≡ true
 
 -- the lists of a table say which steps each step can follow
-pub record TellsBefore (steps : List Step) (before : Table) : Type 0 where
+pub record TellsBefore (steps : List Step) (before : PlaceLists) : Type 0 where
   pub size : length before.lists.items ≡ length steps
   pub all : (k p : ℕ) → k < length steps → is_listed before k p ≡ leads steps p k
 

@@ -6,17 +6,17 @@ ghost use Rattle.tta_flow.specs.Table.{is_listed, Adds};
 ghost use Rattle.tta_flow.specs.Steps.{falls, target, follows, leads};
 
 use crate::steps::{falls_on, target_of};
-use crate::table::Table;
+use crate::table::PlaceLists;
 use std::alloc::{AllocError, Global};
 use tta_program::Step;
 
 /// For each step the places of those that it can follow.
-pub fn steps_before(alloc: Global, steps: &[Step]) -> Result<Table, AllocError>
+pub fn steps_before(alloc: Global, steps: &[Step]) -> Result<PlaceLists, AllocError>
     ensures size { IfOk result (λ t. length t.lists.items ≡ length steps.now) }
     ensures all { IfOk result (λ t. (k p : ℕ) → k < length steps.now
         → is_listed t k p ≡ leads steps.now p k) }
 {
-    let mut table = Table::new(alloc, steps.len())?;
+    let mut table = PlaceLists::new(alloc, steps.len())?;
     for at in 0..steps.len() {
         add_next(&mut table, &steps[at], at)?;
     }
@@ -24,7 +24,7 @@ pub fn steps_before(alloc: Global, steps: &[Step]) -> Result<Table, AllocError>
 }
 
 /// Puts a step into the lists of those that can follow it.
-fn add_next(table: &mut Table, step: &Step, at: usize) -> Result<(), AllocError>
+fn add_next(table: &mut PlaceLists, step: &Step, at: usize) -> Result<(), AllocError>
     requires { at + 1 < 2 ^ 64 }
     ensures { OnOk result (Adds at (follows step.now at) table.old table.new) }
 {
@@ -34,7 +34,7 @@ fn add_next(table: &mut Table, step: &Step, at: usize) -> Result<(), AllocError>
 }
 
 /// Adds the edge from a step to the next one, if the step goes on to it.
-fn add_fall(table: &mut Table, step: &Step, at: usize) -> Result<(), AllocError>
+fn add_fall(table: &mut PlaceLists, step: &Step, at: usize) -> Result<(), AllocError>
     requires { at + 1 < 2 ^ 64 }
     ensures { OnOk result (Adds at (λ k. falls step.now && at + 1 == k) table.old table.new) }
 {
@@ -45,7 +45,7 @@ fn add_fall(table: &mut Table, step: &Step, at: usize) -> Result<(), AllocError>
 }
 
 /// Adds the edge from a step to the one that it jumps to, if it jumps.
-fn add_target(table: &mut Table, step: &Step, at: usize) -> Result<(), AllocError>
+fn add_target(table: &mut PlaceLists, step: &Step, at: usize) -> Result<(), AllocError>
     ensures { OnOk result (Adds at (λ k. option_map_or (λ to. to == k) (target step.now) false)
         table.old table.new) }
 {

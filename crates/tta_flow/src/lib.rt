@@ -21,4 +21,4 @@ pub use bits::BitRow;
 pub use flow::{Block, Flow, flows_keep_laws};
 pub use live::Live;
 pub use steps::{assigned_by, ends_block, falls_on, is_assigned, target_of};
-pub use table::Table;
+pub use table::PlaceLists;

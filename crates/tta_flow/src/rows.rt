@@ -12,7 +12,7 @@ use crate::edges::steps_before;
 use crate::gather::gather;
 use crate::order::postorder;
 use crate::settle::Settling;
-use crate::table::Table;
+use crate::table::PlaceLists;
 use std::alloc::{AllocError, Global};
 use tta_program::Step;
 
@@ -70,7 +70,7 @@ impl Work {
     /// Ullman, Global data flow analysis and iterative algorithms, J. ACM 23, 1976). Loops inside one
     /// another seldom make it more than two or three, but a procedure can be written in which it
     /// grows as its steps do. So no more than `ROUNDS` are made, and then the rest is settled.
-    fn round(&mut self, steps: &[Step], vars: u32, before: &Table, order: &[usize]) -> bool
+    fn round(&mut self, steps: &[Step], vars: u32, before: &PlaceLists, order: &[usize]) -> bool
         requires work { IsWork steps.now vars self.old }
         requires before { TellsBefore steps.now before.now }
         requires places { ArePlaces (length steps.now) order.now }
@@ -85,7 +85,13 @@ impl Work {
     }
 
     /// Looks at the steps of an order, and says whether any row has grown.
-    fn look_along(&mut self, steps: &[Step], vars: u32, before: &Table, order: &[usize]) -> bool
+    fn look_along(
+        &mut self,
+        steps: &[Step],
+        vars: u32,
+        before: &PlaceLists,
+        order: &[usize],
+    ) -> bool
         requires work { IsWork steps.now vars self.old }
         requires before { TellsBefore steps.now before.now }
         requires places { ArePlaces (length steps.now) order.now }
@@ -100,7 +106,7 @@ impl Work {
     }
 
     /// Looks at each step, the last one first, and says whether any row has grown.
-    fn look_upward(&mut self, steps: &[Step], vars: u32, before: &Table) -> bool
+    fn look_upward(&mut self, steps: &[Step], vars: u32, before: &PlaceLists) -> bool
         requires work { IsWork steps.now vars self.old }
         requires before { TellsBefore steps.now before.now }
         ensures { Rounds steps.now vars result self.new }
@@ -118,7 +124,7 @@ impl Work {
 
     /// Looks at a step if it has to be looked at, and says whether its row has grown. Then those
     /// that it can follow have to be looked at.
-    fn visit(&mut self, steps: &[Step], vars: u32, before: &Table, at: usize) -> bool
+    fn visit(&mut self, steps: &[Step], vars: u32, before: &PlaceLists, at: usize) -> bool
         requires there { at < length steps.now }
         requires work { IsWork steps.now vars self.old }
         requires before { TellsBefore steps.now before.now }
@@ -144,7 +150,7 @@ impl Work {
         alloc: Global,
         steps: &[Step],
         vars: u32,
-        before: &Table,
+        before: &PlaceLists,
     ) -> Result<Vec<BitRow>, AllocError>
         requires work { IsWork steps.now vars self }
         requires before { TellsBefore steps.now before.now }

@@ -9,7 +9,7 @@ ghost use Rattle.tta_flow.specs.Steps.{assigns, assigns_at};
 
 use crate::bits::BitRow;
 use crate::steps::assigned_by;
-use crate::table::Table;
+use crate::table::PlaceLists;
 use std::alloc::AllocError;
 use tta_program::Step;
 
@@ -28,7 +28,7 @@ impl Settling {
         &mut self,
         steps: &[Step],
         vars: u32,
-        before: &Table,
+        before: &PlaceLists,
         room: &BitRow,
         at: usize,
     ) -> Result<(), AllocError>
@@ -53,7 +53,7 @@ impl Settling {
     fn take_var(
         &mut self,
         steps: &[Step],
-        before: &Table,
+        before: &PlaceLists,
         room: &BitRow,
         at: usize,
         var: usize,
@@ -78,7 +78,7 @@ impl Settling {
     fn carry(
         &mut self,
         steps: &[Step],
-        before: &Table,
+        before: &PlaceLists,
         from: usize,
         var: usize,
     ) -> Result<(), AllocError>
@@ -101,7 +101,7 @@ impl Settling {
     fn carry_to(
         &mut self,
         steps: &[Step],
-        before: &Table,
+        before: &PlaceLists,
         at: usize,
         var: usize,
     ) -> Result<(), AllocError>

@@ -14,7 +14,7 @@ use crate::bits::number_at;
 use crate::header::{read_header, section_length};
 use crate::pairs::read_data;
 use crate::refusal::{ImageError, ImageRefusal};
-use crate::target::Target;
+use crate::target::ImageTarget;
 use crate::words::read_instruction;
 use std::alloc::Global;
 use tta_arch::{Layout, Machine};
@@ -26,7 +26,7 @@ use tta_list::Items;
 #[tactic(auto, using(crate::proofs::DecodedRules::is_decoded))]
 fn read_word(
     alloc: Global,
-    target: &Target,
+    target: &ImageTarget,
     bytes: &[u8],
     at: usize,
     word: u32,
@@ -62,7 +62,7 @@ fn has_set_bit(bytes: &[u8], at: usize) -> bool
 /// The instructions of so many words.
 fn read_words(
     alloc: Global,
-    target: &Target,
+    target: &ImageTarget,
     bytes: &[u8],
     count: u32,
 ) -> Result<Items<Instruction>, ImageError>
@@ -109,7 +109,7 @@ fn body_of(bytes: &[u8]) -> &[u8]
 fn read_whole(
     alloc: Global,
     bytes: &[u8],
-    target: &Target,
+    target: &ImageTarget,
     digest: &[u8; 32],
 ) -> Result<Whole, ImageError>
     ensures decoded { Answers result
@@ -164,7 +164,7 @@ pub fn read_image(
         drop(layout);
         return Err(ImageError::NoMemory);
     };
-    let target = Target {
+    let target = ImageTarget {
         machine: m,
         layout: &layout,
         net: &net,

@@ -10,7 +10,7 @@ use tta_connect::Net;
 /// What an image is read for: a machine, with what is prepared of it once, so that no word walks
 /// over the machine.
 #[derive(Drop)]
-pub struct Target<'a> {
+pub struct ImageTarget<'a> {
     pub machine: &'a Machine,
     /// Where the fields of an instruction stand.
     pub layout: &'a Layout,

@@ -10,7 +10,7 @@ ghost use Rattle.tta_ops.specs.Set.{meant_boxed, stated_boxed};
 
 use crate::OpId;
 use crate::error::OpsError;
-use crate::table::Table;
+use crate::table::OperationTable;
 use crate::unit::{OpUnit, offer_at_most};
 use crate::value::apply_at;
 use std::alloc::Global;
@@ -19,7 +19,7 @@ use std::alloc::Global;
 #[derive(Drop)]
 pub struct UnitSet {
     units: Vec<Box<dyn OpUnit>>,
-    table: Table,
+    table: OperationTable,
 }
 
 impl UnitSet {
@@ -38,7 +38,7 @@ impl UnitSet {
             (λ b. unit_size b) (λ b. unit_name b) (λ b. unit_arity b) (λ b. unit_meaning b)
             units.items (stated_boxed unit_meaning s)) }
     {
-        let table = Table::of(alloc, units.as_slice())?;
+        let table = OperationTable::of(alloc, units.as_slice())?;
         Ok(UnitSet { units, table })
     }
 

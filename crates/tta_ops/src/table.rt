@@ -16,7 +16,7 @@ use std::alloc::{AllocError, Global};
 
 /// The operations of some units, with different names, each of which takes 1 or 2 words.
 #[derive(Drop)]
-pub struct Table {
+pub struct OperationTable {
     pub operations: Operations,
     ghost few: { length (names_of operations) < 65537 },
     ghost distinct: { AreDistinct (names_of operations) },
@@ -24,7 +24,7 @@ pub struct Table {
     ghost one_or_two: { AreArities (arities_of operations) },
 }
 
-impl Table {
+impl OperationTable {
     ghost use Rattle.tta_ops.specs.Offers.{row_of, unit_rows, rows_from};
     ghost use Rattle.tta_ops.specs.Refusal.{refusal_of, first_refusal, IsWalkResult};
 
@@ -32,7 +32,7 @@ impl Table {
     fn new(alloc: Global) -> Self
         ensures { result.operations ≡ [] }
     {
-        Table {
+        OperationTable {
             operations: Operations::new(alloc),
         }
     }
@@ -106,7 +106,7 @@ impl Table {
         ensures ok { let rows = rows_from U.unit_size U.unit_name U.unit_arity 0 units.now in
             IfOk result (λ table. table.operations ≡ rows) }
     {
-        let mut table = Table::new(alloc);
+        let mut table = OperationTable::new(alloc);
         let mut unit = 0;
         for offered in units {
             table.add_unit(alloc, offered, unit)?;

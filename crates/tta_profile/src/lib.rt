@@ -17,4 +17,4 @@ pub use hot::Hot;
 pub use profiling::{count_run, profile};
 pub use report::words_of;
 pub use sums::{Test, cycles_sum};
-pub use uses::{Told, push_share, push_uses};
+pub use uses::{Profiled, push_share, push_uses};

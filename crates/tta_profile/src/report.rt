@@ -12,7 +12,7 @@ ghost use Rattle.tta_profile.specs.Report.{is_guarded, count_text, times_text};
 use crate::counts::Counts;
 use crate::hot::{Hot, hottest};
 use crate::sums::cycles_sum;
-use crate::uses::{Told, push_number, push_share, push_uses};
+use crate::uses::{Profiled, push_number, push_share, push_uses};
 use std::alloc::{AllocError, Global};
 use tta_arch::Machine;
 use tta_asm::push_instruction;
@@ -53,7 +53,7 @@ fn push_count(out: &mut Vec<u8>, name: &[u8], n: u64) -> Result<(), AllocError>
 /// The same, if it has a guard.
 fn push_passed(
     out: &mut Vec<u8>,
-    told: &Told<'_>,
+    profiled: &Profiled<'_>,
     address: u32,
     bus: usize,
     slot: Option<Move>,
@@ -61,11 +61,11 @@ fn push_passed(
     requires low { bus < 16 }
     requires few { address < 65536 }
     ensures { OnOk result (out.new.items ≡ out.old.items
-        ++ passed_text told.now.m.now told.now.counts.now address bus slot) }
+        ++ passed_text profiled.now.m.now profiled.now.counts.now address bus slot) }
 {
     if is_guarded(slot) {
-        let passed = told.counts.passed(address as usize, bus);
-        push_count(out, bus_name(told.m, bus), passed)
+        let passed = profiled.counts.passed(address as usize, bus);
+        push_count(out, bus_name(profiled.m, bus), passed)
     } else {
         Ok(())
     }
@@ -74,31 +74,35 @@ fn push_passed(
 /// Puts how often each move of an instruction was passed over that has a guard.
 fn push_all_passed(
     out: &mut Vec<u8>,
-    told: &Told<'_>,
+    profiled: &Profiled<'_>,
     address: u32,
     slots: &[Option<Move>],
 ) -> Result<(), AllocError>
     requires low { length slots.now ≤ 16 }
     requires few { address < 65536 }
     ensures { OnOk result (out.new.items ≡ out.old.items
-        ++ all_passed_text told.now.m.now told.now.counts.now address slots.now) }
+        ++ all_passed_text profiled.now.m.now profiled.now.counts.now address slots.now) }
 {
     for (bus, slot) in slots.iter().enumerate() {
-        push_passed(out, told, address, bus, *slot)?;
+        push_passed(out, profiled, address, bus, *slot)?;
     }
     Ok(())
 }
 
 /// Puts how often an instruction was carried out.
 #[tactic(auto, unfolding(crate::specs::Report::times_text))]
-fn push_times(out: &mut Vec<u8>, told: &Told<'_>, address: u32) -> Result<(), AllocError>
+fn push_times(out: &mut Vec<u8>, profiled: &Profiled<'_>, address: u32) -> Result<(), AllocError>
     ensures { OnOk result (out.new.items ≡ out.old.items
-        ++ times_text told.now.counts.now told.now.whole address) }
+        ++ times_text profiled.now.counts.now profiled.now.whole address) }
 {
     out.extend_from_slice(b"at ")?;
     push_number(out, u128::from(address))?;
     out.extend_from_slice(b" times ")?;
-    push_share(out, u128::from(told.counts.times(address)), told.whole)
+    push_share(
+        out,
+        u128::from(profiled.counts.times(address)),
+        profiled.whole,
+    )
 }
 
 /// Puts an instruction: its address, how often it was carried out, what was passed over, and its
@@ -107,7 +111,7 @@ fn push_times(out: &mut Vec<u8>, told: &Told<'_>, address: u32) -> Result<(), Al
 fn push_hot(
     out: &mut Vec<u8>,
     units: &UnitSet,
-    told: &Told<'_>,
+    profiled: &Profiled<'_>,
     address: u32,
     i: &Instruction,
 ) -> Result<(), AllocError>
@@ -115,12 +119,12 @@ fn push_hot(
     requires few { address < 65536 }
     ensures { let U = stated unit_meaning units.now in
         OnOk result (out.new.items ≡ out.old.items
-        ++ hot_text U told.now.m.now told.now.counts.now told.now.whole address i.now) }
+        ++ hot_text U profiled.now.m.now profiled.now.counts.now profiled.now.whole address i.now) }
 {
-    push_times(out, told, address)?;
-    push_all_passed(out, told, address, i.moves.as_slice())?;
+    push_times(out, profiled, address)?;
+    push_all_passed(out, profiled, address, i.moves.as_slice())?;
     out.extend_from_slice(b" : ")?;
-    push_instruction(out, units, told.m, i)
+    push_instruction(out, units, profiled.m, i)
 }
 
 /// The instruction of an address, if there is one.
@@ -137,17 +141,18 @@ fn instruction_at(words: &[Instruction], address: u32) -> Option<&Instruction>
 fn push_hot_at(
     out: &mut Vec<u8>,
     units: &UnitSet,
-    told: &Told<'_>,
+    profiled: &Profiled<'_>,
     h: Hot,
 ) -> Result<(), AllocError>
-    requires few { length told.now.words.now ≤ 65536 }
-    requires low { All (λ i. length i.moves ≤ 16) told.now.words.now }
+    requires few { length profiled.now.words.now ≤ 65536 }
+    requires low { All (λ i. length i.moves ≤ 16) profiled.now.words.now }
     ensures { let U = stated unit_meaning units.now in
         OnOk result (out.new.items ≡ out.old.items
-        ++ hot_at_text U told.now.m.now told.now.counts.now told.now.words.now told.now.whole h) }
+        ++ hot_at_text U profiled.now.m.now profiled.now.counts.now profiled.now.words.now
+            profiled.now.whole h) }
 {
-    match instruction_at(told.words, h.address) {
-        Some(i) => push_hot(out, units, told, h.address, i),
+    match instruction_at(profiled.words, h.address) {
+        Some(i) => push_hot(out, units, profiled, h.address, i),
         None => Ok(()),
     }
 }
@@ -156,17 +161,18 @@ fn push_hot_at(
 fn push_hottest(
     out: &mut Vec<u8>,
     units: &UnitSet,
-    told: &Told<'_>,
+    profiled: &Profiled<'_>,
     order: &[Hot],
 ) -> Result<(), AllocError>
-    requires few { length told.now.words.now ≤ 65536 }
-    requires low { All (λ i. length i.moves ≤ 16) told.now.words.now }
+    requires few { length profiled.now.words.now ≤ 65536 }
+    requires low { All (λ i. length i.moves ≤ 16) profiled.now.words.now }
     ensures { let U = stated unit_meaning units.now in
         OnOk result (out.new.items ≡ out.old.items ++ hottest_text U
-        told.now.m.now told.now.counts.now told.now.words.now told.now.whole order.now) }
+        profiled.now.m.now profiled.now.counts.now profiled.now.words.now
+            profiled.now.whole order.now) }
 {
     for h in order {
-        push_hot_at(out, units, told, *h)?;
+        push_hot_at(out, units, profiled, *h)?;
     }
     Ok(())
 }
@@ -176,17 +182,18 @@ fn push_hottest(
 fn push_told(
     out: &mut Vec<u8>,
     units: &UnitSet,
-    told: &Told<'_>,
+    profiled: &Profiled<'_>,
     order: &[Hot],
 ) -> Result<(), AllocError>
-    requires few { length told.now.words.now ≤ 65536 }
-    requires low { All (λ i. length i.moves ≤ 16) told.now.words.now }
+    requires few { length profiled.now.words.now ≤ 65536 }
+    requires low { All (λ i. length i.moves ≤ 16) profiled.now.words.now }
     ensures { let U = stated unit_meaning units.now in
         OnOk result (out.new.items ≡ out.old.items ++ told_text U
-        told.now.m.now told.now.words.now told.now.counts.now told.now.whole order.now) }
+        profiled.now.m.now profiled.now.words.now profiled.now.counts.now
+            profiled.now.whole order.now) }
 {
-    push_uses(out, told)?;
-    push_hottest(out, units, told, order)
+    push_uses(out, profiled)?;
+    push_hottest(out, units, profiled, order)
 }
 
 /// The instructions of legal code.
@@ -219,14 +226,14 @@ pub fn tell_counts(
 {
     let words = words_of(m, code);
     let order = hottest(alloc, counts)?;
-    let told = Told {
+    let profiled = Profiled {
         m,
         words,
         counts,
         whole: cycles_sum(counts.executed()),
     };
     let mut out = Vec::new(alloc);
-    let put = push_told(&mut out, units, &told, order.as_slice());
+    let put = push_told(&mut out, units, &profiled, order.as_slice());
     drop(order);
     match put {
         Ok(()) => Ok(out),

@@ -61,7 +61,7 @@ fn push_used(
 
 /// What is told of: code for a machine, its counts, and how many cycles were made.
 #[derive(Clone, Copy)]
-pub struct Told<'a> {
+pub struct Profiled<'a> {
     pub m: &'a Machine,
     pub words: &'a [Instruction],
     pub counts: &'a Counts,
@@ -69,91 +69,96 @@ pub struct Told<'a> {
 }
 
 /// How often moves that are asked for were active.
-fn sum_of(told: &Told<'_>, test: Test) -> u128
-    requires few { length told.now.words.now ≤ 65536 }
-    requires low { All (λ i. length i.moves ≤ 16) told.now.words.now }
-    ensures value { result ≡ code_sum told.now.counts.now test told.now.words.now }
+fn sum_of(profiled: &Profiled<'_>, test: Test) -> u128
+    requires few { length profiled.now.words.now ≤ 65536 }
+    requires low { All (λ i. length i.moves ≤ 16) profiled.now.words.now }
+    ensures value { result ≡ code_sum profiled.now.counts.now test profiled.now.words.now }
     ensures small { result ≤ 2 ^ 84 }
 {
-    code_sum(told.counts, test, told.words)
+    code_sum(profiled.counts, test, profiled.words)
 }
 
 /// Puts a bus, and how many moves it carried.
-fn push_bus(out: &mut Vec<u8>, told: &Told<'_>, bus: u8, b: &Bus) -> Result<(), AllocError>
-    requires few { length told.now.words.now ≤ 65536 }
-    requires low { All (λ i. length i.moves ≤ 16) told.now.words.now }
+fn push_bus(out: &mut Vec<u8>, profiled: &Profiled<'_>, bus: u8, b: &Bus) -> Result<(), AllocError>
+    requires few { length profiled.now.words.now ≤ 65536 }
+    requires low { All (λ i. length i.moves ≤ 16) profiled.now.words.now }
     ensures { OnOk result (out.new.items ≡ out.old.items
-        ++ bus_text told.now.counts.now told.now.words.now told.now.whole bus b.now) }
+        ++ bus_text profiled.now.counts.now profiled.now.words.now profiled.now.whole bus b.now) }
 {
-    let moves = sum_of(told, Test::Bus(bus));
+    let moves = sum_of(profiled, Test::Bus(bus));
     push_used(
         out,
         b"bus ",
         b.name.as_bytes(),
         b" moves ",
         moves,
-        told.whole,
+        profiled.whole,
     )
 }
 
 /// Puts buses.
-fn push_buses(out: &mut Vec<u8>, told: &Told<'_>, buses: &[Bus]) -> Result<(), AllocError>
-    requires few { length told.now.words.now ≤ 65536 }
-    requires low { All (λ i. length i.moves ≤ 16) told.now.words.now }
+fn push_buses(out: &mut Vec<u8>, profiled: &Profiled<'_>, buses: &[Bus]) -> Result<(), AllocError>
+    requires few { length profiled.now.words.now ≤ 65536 }
+    requires low { All (λ i. length i.moves ≤ 16) profiled.now.words.now }
     requires buses { length buses.now ≤ 16 }
     ensures { OnOk result (out.new.items ≡ out.old.items
-        ++ buses_text told.now.counts.now told.now.words.now told.now.whole buses.now) }
+        ++ buses_text profiled.now.counts.now profiled.now.words.now profiled.now.whole buses.now) }
 {
     for (bus, b) in buses.iter().enumerate() {
-        push_bus(out, told, bus as u8, b)?;
+        push_bus(out, profiled, bus as u8, b)?;
     }
     Ok(())
 }
 
 /// Puts a unit, and how many of its operations were started.
-fn push_unit(out: &mut Vec<u8>, told: &Told<'_>, unit: u8, q: &Unit) -> Result<(), AllocError>
-    requires few { length told.now.words.now ≤ 65536 }
-    requires low { All (λ i. length i.moves ≤ 16) told.now.words.now }
+fn push_unit(
+    out: &mut Vec<u8>,
+    profiled: &Profiled<'_>,
+    unit: u8,
+    q: &Unit,
+) -> Result<(), AllocError>
+    requires few { length profiled.now.words.now ≤ 65536 }
+    requires low { All (λ i. length i.moves ≤ 16) profiled.now.words.now }
     ensures { OnOk result (out.new.items ≡ out.old.items
-        ++ unit_text told.now.counts.now told.now.words.now told.now.whole unit q.now) }
+        ++ unit_text profiled.now.counts.now profiled.now.words.now profiled.now.whole unit q.now) }
 {
-    let starts = sum_of(told, Test::Unit(unit));
+    let starts = sum_of(profiled, Test::Unit(unit));
     push_used(
         out,
         b"unit ",
         q.name.as_bytes(),
         b" starts ",
         starts,
-        told.whole,
+        profiled.whole,
     )
 }
 
 /// Puts units.
-fn push_units(out: &mut Vec<u8>, told: &Told<'_>, units: &[Unit]) -> Result<(), AllocError>
-    requires few { length told.now.words.now ≤ 65536 }
-    requires low { All (λ i. length i.moves ≤ 16) told.now.words.now }
+fn push_units(out: &mut Vec<u8>, profiled: &Profiled<'_>, units: &[Unit]) -> Result<(), AllocError>
+    requires few { length profiled.now.words.now ≤ 65536 }
+    requires low { All (λ i. length i.moves ≤ 16) profiled.now.words.now }
     requires units { length units.now ≤ 32 }
     ensures { OnOk result (out.new.items ≡ out.old.items
-        ++ units_text told.now.counts.now told.now.words.now told.now.whole units.now) }
+        ++ units_text profiled.now.counts.now profiled.now.words.now profiled.now.whole units.now) }
 {
     for (unit, q) in units.iter().enumerate() {
-        push_unit(out, told, unit as u8, q)?;
+        push_unit(out, profiled, unit as u8, q)?;
     }
     Ok(())
 }
 
 /// Puts how many cycles were made, and what was used.
 #[tactic(auto, unfolding(crate::specs::Report::uses_text))]
-pub fn push_uses(out: &mut Vec<u8>, told: &Told<'_>) -> Result<(), AllocError>
-    requires few { length told.now.words.now ≤ 65536 }
-    requires low { All (λ i. length i.moves ≤ 16) told.now.words.now }
+pub fn push_uses(out: &mut Vec<u8>, profiled: &Profiled<'_>) -> Result<(), AllocError>
+    requires few { length profiled.now.words.now ≤ 65536 }
+    requires low { All (λ i. length i.moves ≤ 16) profiled.now.words.now }
     ensures { OnOk result (out.new.items ≡ out.old.items ++ uses_text
-        told.now.m.now told.now.words.now told.now.counts.now told.now.whole) }
+        profiled.now.m.now profiled.now.words.now profiled.now.counts.now profiled.now.whole) }
 {
     out.extend_from_slice(b"cycles ")?;
-    push_number(out, told.whole)?;
+    push_number(out, profiled.whole)?;
     out.extend_from_slice(b"\n")?;
-    let m = told.m;
-    push_buses(out, told, m.buses.as_slice())?;
-    push_units(out, told, m.units.as_slice())
+    let m = profiled.m;
+    push_buses(out, profiled, m.buses.as_slice())?;
+    push_units(out, profiled, m.units.as_slice())
 }

@@ -11,9 +11,10 @@ ghost use Rattle.tta_sim.specs.Writing.{numbered, ArePlaces};
 ghost use Rattle.tta_sim.specs.declared.cycle_step.CycleStep.TheVariants.{Fault};
 ghost use Rattle.tta_sim.specs.Kept.{kept_as, is_silent, IsAtLine, IsCycle};
 
-use crate::cycle_step::CycleStep;
 use crate::begin::begin_all;
 use crate::control::{Control, Phase};
+use crate::control_moves::acting_in;
+use crate::cycle_step::CycleStep;
 use crate::decoded::Line;
 use crate::dues::note_results;
 use crate::lines::Write;
@@ -23,7 +24,6 @@ use crate::run::{Context, Run};
 use crate::spaces::{put_out, store_all};
 use crate::starts::{Start, any_takes};
 use crate::store::Store;
-use crate::control_moves::acting_in;
 use crate::writing::write_all;
 use tta_flight::Region;
 

@@ -40,7 +40,8 @@ fn any_unset(places: &Places, results: &Results<'_>, moves: &[DecodedControl]) -
 /// A control move with its word, if it acts.
 fn acting_move(places: &Places, results: &Results<'_>, t: &DecodedControl) -> Option<ControlMove>
     requires { IsTrue (is_control_there results.now.units t.now) }
-    ensures { option_map kind_and_word result ≡ control_brought places.now (shown_by results.now) t.now }
+    ensures { let brought = control_brought places.now (shown_by results.now) in
+        option_map kind_and_word result ≡ brought t.now }
 {
     match read_move(places, results, &t.reading) {
         Read::Word(word) => Some(ControlMove { kind: t.kind, word }),
@@ -49,7 +50,11 @@ fn acting_move(places: &Places, results: &Results<'_>, t: &DecodedControl) -> Op
 }
 
 /// The first of the control moves that acts, if any does.
-fn acting_by(places: &Places, results: &Results<'_>, moves: &[DecodedControl]) -> Option<ControlMove>
+fn acting_by(
+    places: &Places,
+    results: &Results<'_>,
+    moves: &[DecodedControl],
+) -> Option<ControlMove>
     requires { AllByRecursion
         (λ t. IsTrue (is_control_there results.now.units t)) moves.now }
     ensures { let controls = control_brought places.now (shown_by results.now) in
@@ -65,7 +70,12 @@ fn acting_by(places: &Places, results: &Results<'_>, moves: &[DecodedControl]) -
 
 /// Whether these control moves can act: all of them can be read, and where one acts, no earlier
 /// one is under way.
-fn can_control(places: &Places, results: &Results<'_>, pending: bool, moves: &[DecodedControl]) -> bool
+fn can_control(
+    places: &Places,
+    results: &Results<'_>,
+    pending: bool,
+    moves: &[DecodedControl],
+) -> bool
     requires { AllByRecursion
         (λ t. IsTrue (is_control_there results.now.units t)) moves.now }
     ensures { result ≡ controls_well places.now (shown_by results.now) pending moves.now }

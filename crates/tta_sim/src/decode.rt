@@ -14,7 +14,7 @@ ghost use Rattle.tta_sim.specs.Decoded.{long_decoded, line_of, lines_from, with_
 
 use crate::control::ControlKind;
 use crate::decoded::{
-    DecodedGuard, DecodedSource, DecodedStart, DecodedControl, DecodedWrite, Line, Reading,
+    DecodedControl, DecodedGuard, DecodedSource, DecodedStart, DecodedWrite, Line, Reading,
 };
 use crate::places::{IMMEDIATE_REGISTERS, IMMEDIATES, OPERANDS, REGISTERS, RETURN_ADDRESS};
 use crate::starts::is_loud;

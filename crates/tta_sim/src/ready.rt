@@ -8,6 +8,7 @@ ghost use Rattle.tta_sim.specs.Ready.{AreNoted, AreLeft, AreDue};
 ghost use Rattle.tta_sim.specs.Unset.{IsFaultOf};
 
 use crate::control::Control;
+use crate::control_moves::controls_well;
 use crate::decoded::Line;
 use crate::dues::note_dues;
 use crate::fault::{CONTROL_IN_DELAY, UNSET_PORT, UNSET_REGISTER};
@@ -15,7 +16,6 @@ use crate::lines::{Missing, note_starts, note_writes};
 use crate::results::Results;
 use crate::starts;
 use crate::store::{CycleBuffers, Store};
-use crate::control_moves::controls_well;
 use crate::unset::reads_unset;
 use tta_ops::UnitSet;
 

@@ -17,8 +17,8 @@ ghost use Rattle.tta_sim.specs.Held.{cycles_of, goes_quietly, is_halted, fault_n
 ghost use Rattle.tta_sim.specs.declared.cycle_step.CycleStep.TheVariants.{Waiting};
 
 use crate::cycle_step::CycleStep;
-use crate::state::SimState;
 use crate::ending::Ending;
+use crate::state::SimState;
 use std::alloc::{AllocError, Global};
 use std::marker::Model;
 use tta_arch::Machine;

@@ -14,17 +14,17 @@ ghost use Rattle.tta_sim.specs.Held.{StandsWith, GoesWith, IsAnswer, IsQuiet, Is
 ghost use Rattle.tta_sim.specs.Held.{cycles_of, goes_quietly, is_halted, fault_number, as_outcome};
 ghost use Rattle.tta_sim.specs.declared.cycle_step.CycleStep.TheVariants.{Waiting};
 
-use crate::cycle_step::CycleStep;
 use crate::carry::{carry, carry_quietly};
 use crate::control::{Control, Phase};
+use crate::cycle_step::CycleStep;
 use crate::decode::decode;
 use crate::decoded::Line;
+use crate::ending::Ending;
 use crate::fault::NO_INSTRUCTION;
 use crate::results::Part;
 use crate::run::{Context, Run};
 use crate::spaces::load;
 use crate::store::{CycleBuffers, Store};
-use crate::ending::Ending;
 use std::alloc::{AllocError, Global};
 use std::marker::Model;
 use tta_arch::Machine;

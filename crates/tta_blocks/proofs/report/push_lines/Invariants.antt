@@ -7,4 +7,4 @@ abbrev pub invariant-loop-s : goal.invariant-loop-s
 invariant-loop-s l =
     l.out.items
     ≡ l.initial.out.items
-    ++ flat_map (λ s. block_line l.told.counts.now l.told.whole l.blocks.program.now l.blocks.parts.now l.blocks.starts.now l.blocks.placed.now s.block) (take l.s-index l.order)
+    ++ flat_map (λ s. block_line l.profiled.counts.now l.profiled.whole l.blocks.program.now l.blocks.parts.now l.blocks.starts.now l.blocks.placed.now s.block) (take l.s-index l.order)

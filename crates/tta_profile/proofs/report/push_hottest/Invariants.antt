@@ -7,4 +7,4 @@ use Rattle.tta_profile.proofs.report.push_hottest.Given as goal
 abbrev pub invariant-loop-h : goal.invariant-loop-h
 invariant-loop-h g l =
     let U = stated (λ v. (goal.OpUnit-dyn g v).unit_meaning v.1) l.units in
-    l.out.items ≡ l.initial.out.items ++ flat_map (hot_at_text U l.told.m.now l.told.counts.now l.told.words.now l.told.whole) (take l.h-index l.order)
+    l.out.items ≡ l.initial.out.items ++ flat_map (hot_at_text U l.profiled.m.now l.profiled.counts.now l.profiled.words.now l.profiled.whole) (take l.h-index l.order)

@@ -4,5 +4,5 @@ use Rattle.tta_profile.proofs.uses.push_buses.Goals as goal
 
 pub loop-bus-preserved : goal.loop-bus-preserved
 loop-bus-preserved c =
-    pieces_more (λ b. bus_text c.args.told.now.counts.now c.args.told.now.words.now c.args.told.now.whole b.0 b.1) _ _ _ c.args.buses.now c.loop-bus.bus c.index-buses-bus.result c.loop-bus-test.true c.index-buses-bus.is
+    pieces_more (λ b. bus_text c.args.profiled.now.counts.now c.args.profiled.now.words.now c.args.profiled.now.whole b.0 b.1) _ _ _ c.args.buses.now c.loop-bus.bus c.index-buses-bus.result c.loop-bus-test.true c.index-buses-bus.is
     c.in_ok-push_bus.ensures c.loop-bus.invariant

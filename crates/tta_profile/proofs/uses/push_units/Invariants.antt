@@ -5,4 +5,4 @@ use Rattle.tta_profile.proofs.uses.push_units.Given as goal
 
 abbrev pub invariant-loop-unit : goal.invariant-loop-unit
 invariant-loop-unit l =
-    l.out.items ++ flat_map (λ q. unit_text l.told.counts.now l.told.words.now l.told.whole q.0 q.1) (enumerate_from l.unit (drop l.unit l.units)) ≡ l.initial.out.items ++ flat_map (λ q. unit_text l.told.counts.now l.told.words.now l.told.whole q.0 q.1) (enumerate_from 0 l.units)
+    l.out.items ++ flat_map (λ q. unit_text l.profiled.counts.now l.profiled.words.now l.profiled.whole q.0 q.1) (enumerate_from l.unit (drop l.unit l.units)) ≡ l.initial.out.items ++ flat_map (λ q. unit_text l.profiled.counts.now l.profiled.words.now l.profiled.whole q.0 q.1) (enumerate_from 0 l.units)

@@ -3,7 +3,7 @@ use Rattle.std.proofs.lemmas.Result.{err_from_is_err_and}
 use Rattle.tta_ops.specs.Offers.{unit_rows, rows_from}
 use Rattle.tta_ops.specs.Refusal.{first_refusal}
 use Rattle.tta_ops.proofs.Walk.{rest_of_units, size_of_rest, length-unit_rows, rows_later, refusal_later, cause_later}
-use Rattle.tta_ops.proofs.table.Table.of.Goals as goal
+use Rattle.tta_ops.proofs.table.OperationTable.of.Goals as goal
 
 pub returns-in_err-add_unit-clause-refusal : goal.returns-in_err-add_unit-clause-refusal
 returns-in_err-add_unit-clause-refusal g c =

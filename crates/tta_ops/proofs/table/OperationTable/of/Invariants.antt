@@ -3,7 +3,7 @@ use Rattle.std.specs.List.{sum_by}
 use Rattle.tta_ops.specs.Row.{names_of}
 use Rattle.tta_ops.specs.Offers.{rows_from}
 use Rattle.tta_ops.specs.Refusal.{first_refusal}
-use Rattle.tta_ops.proofs.table.Table.of.Given as goal
+use Rattle.tta_ops.proofs.table.OperationTable.of.Given as goal
 
 abbrev pub invariant-loop-offered : goal.invariant-loop-offered
 invariant-loop-offered g l =

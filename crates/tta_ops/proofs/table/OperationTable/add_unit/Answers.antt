@@ -5,7 +5,7 @@ use Rattle.tta_ops.specs.Row.{names_of}
 use Rattle.tta_ops.specs.Offers.{row_of, unit_rows}
 use Rattle.tta_ops.specs.Refusal.{first_refusal}
 use Rattle.tta_ops.proofs.Walk.{rest_of_unit, rows_later, refusal_next, cause_next}
-use Rattle.tta_ops.proofs.table.Table.add_unit.Goals as goal
+use Rattle.tta_ops.proofs.table.OperationTable.add_unit.Goals as goal
 
 pub loop-index-init : goal.loop-index-init
 loop-index-init g c = search rules

@@ -6,7 +6,7 @@ use Rattle.tta_check.specs.Visits.{Visits}
 use Rattle.tta_check.specs.Tables.{FitsBoth, PutBoth}
 use Rattle.tta_check.specs.Carries.{Empty, Ended, Went}
 use Rattle.tta_check.proofs.Putting.{goes_fit}
-use Rattle.tta_check.proofs.entries.Table.carry.Goals as goal
+use Rattle.tta_check.proofs.entries.EntryTable.carry.Goals as goal
 
 pub returns-in_default : goal.returns-in_default
 returns-in_default c = Empty (ap (λ xs. slice_get xs c.args.place) (sym c.deref.ensures.value) ∙ c.entry_at.ensures ∙ ap Some c.in_default.is) refl

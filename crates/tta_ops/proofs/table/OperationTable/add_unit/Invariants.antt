@@ -3,7 +3,7 @@ use Rattle.std.specs.List.{range_with_len}
 use Rattle.tta_ops.specs.Row.{names_of}
 use Rattle.tta_ops.specs.Offers.{row_of, unit_rows}
 use Rattle.tta_ops.specs.Refusal.{first_refusal}
-use Rattle.tta_ops.proofs.table.Table.add_unit.Given as goal
+use Rattle.tta_ops.proofs.table.OperationTable.add_unit.Given as goal
 
 abbrev pub invariant-loop-index : goal.invariant-loop-index
 invariant-loop-index g l =

@@ -1,5 +1,5 @@
 use Rattle.tta_ops.proofs.Distinct.{kept_after}
-use Rattle.tta_ops.proofs.table.Table.add.Goals as goal
+use Rattle.tta_ops.proofs.table.OperationTable.add.Goals as goal
 
 pub invariant_of-self : goal.invariant_of-self
 invariant_of-self c =

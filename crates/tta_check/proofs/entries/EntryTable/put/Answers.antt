@@ -1,7 +1,7 @@
 use Rattle.std.proofs.Common.{◌<◌, length, sym, subst, arith}
 use Rattle.tta_check.specs.Tables.{Leaves}
 use Rattle.tta_check.proofs.Placing.{place_below}
-use Rattle.tta_check.proofs.entries.Table.put.Goals as goal
+use Rattle.tta_check.proofs.entries.EntryTable.put.Goals as goal
 
 pub put_at-requires-clause-there : goal.put_at-requires-clause-there
 put_at-requires-clause-there c =

@@ -1,7 +1,7 @@
 use Rattle.std.proofs.Common.{subst}
 use Rattle.tta_check.specs.Tables.{PutSome, First, Then}
 use Rattle.tta_check.proofs.Putting.{fits_mid}
-use Rattle.tta_check.proofs.entries.Table.put_both.Goals as goal
+use Rattle.tta_check.proofs.entries.EntryTable.put_both.Goals as goal
 
 pub returns-in-Some : goal.returns-in-Some
 returns-in-Some c =

@@ -1,7 +1,7 @@
 use Rattle.std.proofs.Common.{Some, ap, sym, ◌∙◌}
 use Rattle.std.specs.Prelude.{◌-◌, slice_get}
 use Rattle.tta_check.proofs.Placing.{put_differs, put_calm, put_grown}
-use Rattle.tta_check.proofs.entries.Table.put_at.Goals as goal
+use Rattle.tta_check.proofs.entries.EntryTable.put_at.Goals as goal
 
 pub returns-then-not-same_key : goal.returns-then-not-same_key
 returns-then-not-same_key c =
