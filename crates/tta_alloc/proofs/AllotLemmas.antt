@@ -12,9 +12,10 @@ use Rattle.tta_alloc.specs.Homes.{IsScanOf}
 use Rattle.tta_alloc.specs.Turns.{TurnsAllot}
 use Rattle.tta_alloc.specs.Allotted.{AreAllottedOf, ScansAllot}
 use Rattle.tta_alloc.proofs.TakenLemmas.{at_place}
-use Rattle.tta_alloc.proofs.ListLemmas.{some_same}
 use Rattle.tta_alloc.proofs.HolderLemmas.{reg_slot}
-use Rattle.tta_alloc.proofs.LawLemmas.{scan_keeps, scan_size}
+use Rattle.tta_alloc.proofs.LawLemmas.{scan_keeps}
+use Rattle.tta_alloc.proofs.HomeLemmas.{scan_given as scan_size}
+use Rattle.tta_flow.proofs.FlowLawLemmas.{some_same}
 
 -- a scan is itself one
 pub scan_allots : (q : Proc) (homes : ℕ) (answer : List Home) → IsScanOf q homes answer → AreAllottedOf q homes answer

@@ -11,13 +11,15 @@ use Rattle.tta_alloc.specs.Scan.{Scan, scan_step, scan_all, slots_from}
 use Rattle.tta_alloc.specs.Law.{IsCrowded, KeepsLaw}
 use Rattle.tta_alloc.specs.Homes.{IsScanOf}
 use Rattle.tta_alloc.specs.Intervals.{Counts, IsInterval, IsKept, IsSettled}
-use Rattle.tta_alloc.proofs.HomeLemmas.{step_length, scan_length, slots_length}
+use Rattle.tta_alloc.proofs.HomeLemmas.{step_length, slots_length, scan_given as scan_size}
 use Rattle.std.specs.List.{Contains}
-use Rattle.tta_alloc.proofs.TakenLemmas.{at_place, three, same_interval}
+use Rattle.tta_alloc.proofs.TakenLemmas.{at_place, same_interval}
 use Rattle.tta_program.specs.declared.program.Proc.{Proc}
-use Rattle.tta_alloc.proofs.ListLemmas.{In, some_same}
+use Rattle.tta_alloc.proofs.ListLemmas.{In}
 use Rattle.tta_alloc.proofs.HolderLemmas.{Kept, reg_slot}
 use Rattle.tta_alloc.proofs.TakeLemmas.{kept_step}
+use Rattle.tta_flow.proofs.FlowLawLemmas.{some_same}
+use Rattle.tta_flow.proofs.RunLemmas.{two as three}
 
 -- ---- all intervals
 
@@ -90,11 +92,6 @@ scan_kept q homes answer h =
             let same = ap (λ (x : Interval). x.start) (same_interval q a b s (h.are.sound j a e) (h.are.sound k b f)) in absurd (omega arith),
       )
       by (inr s) = let m = s.1 in let n = s.0 in (omega arith, λ t. absurd (omega arith))
-
--- each variable has a home
-pub scan_size : (q : Proc) (homes : ℕ) (answer : List Home) → IsScanOf q homes answer → length answer ≡ q.vars
-scan_size q homes answer h =
-    ap length h.is ∙ scan_length homes (record { holders = []; homes = slots_from 0 q.vars }) h.taken ∙ slots_length 0 q.vars
 
 -- a home is the variable's slot, or the variable has an interval that takes part and a home register
 pub scan_fresh : (q : Proc) (homes : ℕ) (answer : List Home) (h : IsScanOf q homes answer) (x : ℕ) (home : Home) → slice_get answer x ≡ Some home

@@ -1,5 +1,5 @@
 -- Lists of intervals and of homes, and how many of them pass a test.
-use Rattle.std.proofs.Common.{◌≡◌, ◌≢◌, ℕ, zero, suc, ◌+◌, ◌<◌, ◌≤◌, Bool, true, false, cond, List, [], ◌∷◌, ◌++◌, length, Some, refl, ap, arith, ◌⊎◌, inl, inr}
+use Rattle.std.proofs.Common.{◌≡◌, ℕ, zero, suc, ◌+◌, ◌≤◌, Bool, true, false, cond, List, [], ◌∷◌, ◌++◌, length, Some, refl, arith, ◌⊎◌, inl, inr}
 use Rattle.std.specs.Prelude.{slice_get, slice_set, count_by}
 use Rattle.tta_list.proofs.Lists.{slice_get-push, slice_get-longer, slice_get-back}
 use Rattle.tta_alloc.specs.declared.interval.Interval.{Interval}
@@ -21,21 +21,6 @@ in_cases xs n a i = elim (slice_get-push xs n i.0 a i.1) [
 ]
 
 -- ---- lists of homes
-
-pub some_same : {A : Type 0} {x y : A} → Some x ≡ Some y → x ≡ y
-some_same e = cc
-
-pub set_same : {A : Type 0} (xs : List A) (i : ℕ) (v : A) → i < length xs → slice_get (slice_set xs i v) i ≡ Some v
-set_same [] i v below = absurd (omega arith)
-set_same (x ∷ xs) zero v below = refl
-set_same (x ∷ xs) (suc i) v below = set_same xs i v (omega arith)
-
-pub set_other : {A : Type 0} (xs : List A) (i k : ℕ) (v : A) → i ≢ k → slice_get (slice_set xs i v) k ≡ slice_get xs k
-set_other [] i k v other = refl
-set_other (x ∷ xs) zero zero v other = absurd (other refl)
-set_other (x ∷ xs) zero (suc k) v other = refl
-set_other (x ∷ xs) (suc i) zero v other = refl
-set_other (x ∷ xs) (suc i) (suc k) v other = set_other xs i k v (λ e. other (ap suc e))
 
 -- ---- counts
 

@@ -23,6 +23,7 @@ use Rattle.tta_alloc.specs.Meetings.{met}
 use Rattle.tta_alloc.specs.declared.met.Met.{Met}
 use Rattle.tta_flow.specs.declared.bits.BitRow.{BitRow}
 use Rattle.tta_flow.specs.Bits.{has}
+use Rattle.tta_flow.proofs.RunLemmas.{two as three}
 
 -- ---- elements by their places
 
@@ -217,16 +218,6 @@ interval_cmp a b = ordering_then (nat_cmp a.start b.start) (ordering_then (nat_c
 
 total : IsTotalOrder interval_cmp
 total = then_total (on_total (λ i. i.start) nat_cmp_total) (then_total (on_total (λ i. i.var) nat_cmp_total) (on_total (λ i. i.end) nat_cmp_total))
-
-pub three : (a b : ℕ) → (a < b) ⊎ ((a ≡ b) ⊎ (b < a))
-three zero zero = inr (inl refl)
-three zero (suc b) = inl (omega arith)
-three (suc a) zero = inr (inr (omega arith))
-three (suc a) (suc b) = elim (three a b) [
-  | inl l ↦ inl (omega arith)
-  | inr (inl e) ↦ inr (inl (ap suc e))
-  | inr (inr g) ↦ inr (inr (omega arith))
-]
 
 less_is : (a b : ℕ) → a < b → nat_cmp a b ≡ Less
 less_is a b l = ap (λ (t : Bool). cond t Less (cond (a == b) Equal Greater)) (lt-ltb a b l)

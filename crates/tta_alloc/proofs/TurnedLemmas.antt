@@ -15,14 +15,15 @@ use Rattle.tta_alloc.specs.Homes.{IsScanOf}
 use Rattle.tta_alloc.specs.Law.{KeepsLaw}
 use Rattle.tta_alloc.specs.Turns.{AreInTurnOf, in_reg, is_reg}
 use Rattle.tta_alloc.specs.Turning.{Takes}
-use Rattle.tta_alloc.proofs.TakenLemmas.{three}
-use Rattle.tta_alloc.proofs.HomeLemmas.{slots_length}
-use Rattle.tta_alloc.proofs.ListLemmas.{In, some_same}
+use Rattle.tta_alloc.proofs.HomeLemmas.{slots_length, scan_given as scan_size}
+use Rattle.tta_alloc.proofs.ListLemmas.{In}
 use Rattle.tta_alloc.proofs.HolderLemmas.{reg_slot}
-use Rattle.tta_alloc.proofs.LawLemmas.{slots_are, scan_keeps, scan_fresh, scan_size}
+use Rattle.tta_alloc.proofs.LawLemmas.{slots_are, scan_keeps, scan_fresh}
 use Rattle.tta_alloc.proofs.AllotLemmas.{allots}
 use Rattle.tta_alloc.proofs.TurnLemmas.{Turned, never_before, reg_in, turned_rest}
 use Rattle.tta_alloc.proofs.TakeTurnLemmas.{turned_take}
+use Rattle.tta_flow.proofs.FlowLawLemmas.{some_same}
+use Rattle.tta_flow.proofs.RunLemmas.{two as three}
 
 -- ---- the intervals before a place
 

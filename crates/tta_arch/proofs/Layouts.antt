@@ -18,10 +18,6 @@ use Rattle.tta_arch.specs.declared.layout.Layout.{Layout}
 use Rattle.tta_arch.specs.Layout.{fields_of, layout_of, width_of_set}
 use Rattle.tta_arch.proofs.Widths.{no_high}
 
-sum_by-map : {X Y : Type 0} (g : Y → ℕ) (f : X → Y) (xs : List X) → sum_by g (map f xs) ≡ sum_by (λ x. g (f x)) xs
-sum_by-map g f [] = refl
-sum_by-map g f (x ∷ xs) = sum_by-cons g (f x) (map f xs) ∙ ap (λ (s : ℕ). g (f x) + s) (sum_by-map g f xs) ∙ sym (sum_by-cons (λ x. g (f x)) x xs)
-
 -- the fields of a bus from their parts
 pub fields_from_parts : (m : Machine) (bus : ℕ) (gs : List Guard) (ss : List Source) (ds : List Dest) (gw sw pw dw : ℕ)
     → gs ≡ guards_on m bus → ss ≡ sources_on m bus → ds ≡ dests_on m bus

@@ -7,3 +7,9 @@ pub mod Sizes
 pub mod BusSources
 pub mod Layouts
 pub mod SetLemmas
+pub mod FirstSome
+pub mod Guards
+pub mod Places
+pub mod Ports
+pub mod Below
+pub mod Takes

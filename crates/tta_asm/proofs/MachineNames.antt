@@ -5,7 +5,7 @@ use Rattle.std.proofs.lemmas.Bool.{ltb-true, ltb-false}
 use Rattle.std.proofs.lemmas.List.{drop_all, get_or_default}
 use Rattle.std.proofs.lemmas.List.Elements.{All-get_or}
 use Rattle.std.proofs.lemmas.Option.{slice_get_past, slice_get_read}
-use Rattle.tta_list.proofs.Lists.{slice_get-front}
+use Rattle.tta_list.proofs.Lists.{slice_get-front, item_behind}
 use Rattle.tta_reading.specs.Names.{Declared, named_in}
 use Rattle.tta_reading.specs.Steps.{◌>>?◌}
 use Rattle.tta_ops.specs.Units.{Units}
@@ -59,10 +59,6 @@ ops_end u q items i old names same past was =
     (ap (map (λ (o : UnitOp). op_name u o.op)) (drop_all i q.ops here)) was
 
 -- ---- units
-
-item_behind : {A : Type 0} (xs : List A) (y : A) → slice_get (xs ++ y ∷ []) (length xs) ≡ Some y
-item_behind [] y = refl
-item_behind (x ∷ xs) y = item_behind xs y
 
 -- a unit that an index gives
 pub unit_there : (m : Machine) (items : List OpUnit) (i : ℕ) (q : OpUnit) → items ≡ m.units → i < length items → q ≡ get_or items i q

@@ -5,11 +5,11 @@ use Rattle.std.specs.Option.{option_map_or}
 use Rattle.std.specs.List.{list_all, starts_with}
 use Rattle.std.specs.Char.{is_digit}
 use Rattle.std.specs.Str.Parse.{digits_value}
-use Rattle.std.proofs.lemmas.Bool.{lt-ltb}
 use Rattle.tta_text.specs.declared.lexeme.Kind.{Kind}
 use Rattle.tta_text.specs.declared.lexeme.Kind.TheVariants.{Number, Negative}
 use Rattle.tta_text.specs.Numbers.{value_below, digits_of, number_of, negated, negative_of}
 use Rattle.tta_reading.specs.Words.{constant_of}
+use Rattle.tta_text.proofs.ShownWords.{negated_under}
 
 -- whether a value is below a limit, where there is one
 abbrev under : ℕ → Option ℕ → Type 0
@@ -37,9 +37,6 @@ number_under word = by (starts_with nat_eq word (codes "0x")) where
   by : (t : Bool) → under (2 ^ 32) (if t then digits_of 16 8 (2 ^ 32) (drop 2 word) else digits_of 10 10 (2 ^ 32) word)
   by true = digits_under 16 8 (2 ^ 32) (drop 2 word)
   by false = digits_under 10 10 (2 ^ 32) word
-
-negated_under : (m : ℕ) → nat_lt (negated m) (2 ^ 32) ≡ true
-negated_under m = lt-ltb (negated m) (2 ^ 32) (omega arith)
 
 negative_under : (word : List ℕ) → under (2 ^ 32) (negative_of word)
 unfolding negative_of

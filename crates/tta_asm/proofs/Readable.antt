@@ -1,10 +1,10 @@
 -- Machines over a set of units: the parts that assembly names have names that a text can hold, and so have their operations.
-use Rattle.std.proofs.Common.{◌≡◌, ℕ, Bool, suc, true, false, List, [], ◌∷◌, ◌++◌, length, map, Some, slice_get, refl}
+use Rattle.std.proofs.Common.{◌≡◌, ℕ, suc, true, false, List, [], ◌∷◌, ◌++◌, length, map, Some, slice_get, refl}
 use Rattle.std.specs.Prelude.{◌&&◌, nat_le, option_and_then}
 use Rattle.std.specs.Str.{bytes_eq}
 use Rattle.std.specs.List.{list_all, AllByRecursion}
 use Rattle.std.proofs.lemmas.Bool.{and_parts, and_from}
-use Rattle.tta_list.proofs.Lists.{list_all_one}
+use Rattle.tta_list.proofs.Lists.{list_all_one, all_from as tests-from}
 use Rattle.tta_text.specs.Words.{is_name}
 use Rattle.tta_ops.specs.Units.{Units}
 use Rattle.tta_arch.specs.declared.parts.Unit.{Unit as OpUnit}
@@ -49,9 +49,6 @@ all-from P [] each = tt
 all-from P (x ∷ xs) each = (each 0 x refl, all-from P xs (λ k y e. each (suc k) y e))
 
 -- the same of a test
-tests-from : {A : Type 0} (p : A → Bool) (xs : List A) → ((k : ℕ) (x : A) → slice_get xs k ≡ Some x → p x ≡ true) → list_all p xs ≡ true
-tests-from p [] each = refl
-tests-from p (x ∷ xs) each = and_from (p x) (list_all p xs) (each 0 x refl) (tests-from p xs (λ k y e. each (suc k) y e))
 
 module _ (u : Units) (m : Machine) (rules : IsMachine m) (over : StandsOver u m) where
   -- the operations of a unit are called by names

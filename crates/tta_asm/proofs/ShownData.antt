@@ -22,9 +22,10 @@ use Rattle.tta_asm.specs.Pieces.{Placed, Piece}
 use Rattle.tta_asm.specs.Init.{begins_datum, is_declaration, datum_form, datum_of, data_from, behind_data}
 use Rattle.tta_asm.proofs.ShownItems.{Item, Blank, Word, placed_at, behind}
 use Rattle.tta_asm.proofs.ShownPieces.{PieceText, pieces_text, ArePieces, pieces_shown}
-use Rattle.tta_asm.proofs.ShownWords.{number_of-decimal, name_scanned, number_scanned}
+use Rattle.tta_asm.proofs.ShownWords.{name_scanned, number_scanned}
 use Rattle.tta_asm.proofs.ShownMoves.{sense_text, guard_items, source_items, toward_items, slot_items, long_items, slot_pieces, code_pieces}
 use Rattle.tta_asm.proofs.ShownForms.{shown_piece}
+use Rattle.tta_text.proofs.ShownWords.{number_of-decimal}
 
 -- ---- the pieces of data
 

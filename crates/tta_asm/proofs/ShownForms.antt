@@ -22,9 +22,9 @@ use Rattle.tta_asm.specs.Syntax.{read, line_of, begins_with, sense_of, source_fo
 use Rattle.tta_asm.proofs.ShownItems.{Item, Blank, placed_at, behind}
 use Rattle.tta_asm.proofs.ShownScan.{close_of}
 use Rattle.tta_asm.proofs.ShownPieces.{PieceText}
-use Rattle.tta_asm.proofs.ShownWords.{number_of-decimal}
 use Rattle.tta_asm.proofs.ShownMoves.{sense_text, guard_items, source_items, dest_items, toward_items, slot_items, long_items, last_piece, inner_piece}
 use Rattle.tta_asm.proofs.ShownScanned.{GuardFits, SourceFits, DestFits, SlotFits, LongFits}
+use Rattle.tta_text.proofs.ShownWords.{number_of-decimal}
 
 -- ---- what slots say
 

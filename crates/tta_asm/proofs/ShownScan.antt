@@ -1,17 +1,17 @@
 -- The pieces of a printed text: word by word, up to what closes a piece.
 use Rattle.std.proofs.Common.{◌≡◌, ℕ, ◌+◌, Bool, true, false, not, List, [], ◌∷◌, ◌++◌, length, length-append, refl, ap, ◌∙◌, arith}
-use Rattle.std.specs.Prelude.{Option, Some, None, codes}
-use Rattle.std.proofs.lemmas.List.{append_assoc, drop_at}
+use Rattle.std.specs.Prelude.{Some, None, codes}
+use Rattle.std.proofs.lemmas.List.{append_assoc}
 use Rattle.tta_text.specs.declared.lexeme.Kind.{Kind}
 use Rattle.tta_text.specs.declared.lexeme.Kind.TheVariants.{Mark, Eol}
 use Rattle.tta_text.specs.Bytes.{is_newline}
-use Rattle.tta_text.specs.Tokens.{token, piece_at, mark_piece, with_token, line_after, tokens_from}
-use Rattle.tta_text.proofs.Turns.{tokens_from-piece-cons}
+use Rattle.tta_text.specs.Tokens.{token, piece_at, mark_piece, tokens_from}
 use Rattle.tta_reading.specs.Lines.{is_line_end}
 use Rattle.tta_reading.proofs.TextNames.{slice-between}
 use Rattle.tta_asm.specs.declared.pieces.Close.{Close}
 use Rattle.tta_asm.specs.declared.pieces.Close.TheVariants.{Comma, Semicolon}
 use Rattle.tta_asm.specs.Pieces.{Placed, Piece, closing, pieces_from}
+use Rattle.tta_text.proofs.ShownWords.{tokens-front}
 
 -- the pieces of what is left of a text after these bytes, the first of them with these words
 abbrev pub pieces_at : (before : List ℕ) (is_open : Bool) (line : ℕ) → List Placed → (rest : List ℕ) → List Piece
@@ -27,17 +27,6 @@ pub record IsScanned (kind : Kind) (text after : List ℕ) : Type 0 where
   pub piece : piece_at byte (others ++ after) ≡ token kind (length (byte ∷ others))
   pub stays : closing (record { kind = kind; text = byte ∷ others }) ≡ None
   pub inside : is_line_end kind ≡ false
-
--- the tokens of bytes whose first piece is known
-tokens-front : (byte : ℕ) (others rest : List ℕ) (is_open : Bool) (line at : ℕ) (kind : Option Kind)
-    → piece_at byte (others ++ rest) ≡ record { kind = kind; len = length (byte ∷ others) }
-    → tokens_from 0 is_open line at (byte ∷ (others ++ rest))
-    ≡ with_token kind line at (at + length (byte ∷ others))
-    (tokens_from 0 (not (is_newline byte)) (line_after byte line) (at + length (byte ∷ others)) rest)
-tokens-front byte others rest is_open line at kind piece =
-    let long : length (byte ∷ (others ++ rest)) ≡ length (byte ∷ others) + length rest = length-append (byte ∷ others) rest in
-    let cut = tokens_from-piece-cons byte (others ++ rest) is_open line at (rw piece (omega arith)) (rw piece (omega (arith, long))) in
-    rw (piece, drop_at (byte ∷ others) rest (length (byte ∷ others)) refl) at cut
 
 -- the text stays the same, and so does the place
 shift : (before word after : List ℕ) (is_open : Bool) (line : ℕ) (words : List Placed)

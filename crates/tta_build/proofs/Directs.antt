@@ -23,8 +23,7 @@ use Rattle.tta_lower.specs.Known.{spans, home_by, first_by, after_by}
 use Rattle.tta_moves.specs.declared.items.BlockList.{BlockList}
 use Rattle.tta_moves.specs.declared.items.Placed.{Placed}
 use Rattle.tta_moves.specs.Slots.{is_list}
-use Rattle.tta_connect.specs.declared.calls.Call.{Call}
-use Rattle.tta_select.specs.Direct.{out_of, constants_out, direct_list}
+use Rattle.tta_select.specs.Direct.{out_of, direct_list}
 use Rattle.tta_link.specs.Blocks.{AreBlocks, total_length}
 use Rattle.tta_link.proofs.Whole.{linked_length}
 use Rattle.tta_sched.specs.Room.{longest, HasRoom}
@@ -40,6 +39,7 @@ use Rattle.tta_build.specs.declared.error.BuildError.TheVariants as cause
 use Rattle.tta_build.specs.Statement.{Direct, LacksRoom, HasCause}
 use Rattle.tta_build.specs.Parts.{IsLowered, AreDirect, IsCodeFor}
 use Rattle.tta_build.proofs.Placements.{IsCodeOf, IsTooLong, IsListsCause}
+use Rattle.tta_select.proofs.DirectLists.{size as length-constants_out}
 
 -- ---- frames
 
@@ -99,11 +99,6 @@ fewer_constants (End ∷ []) only = omega arith
 fewer_constants (End ∷ s ∷ steps) only = absurd cc
 fewer_constants [] only = absurd cc
 fewer_constants (s ∷ steps) only = absurd cc
-
--- an item for each constant, and one for the exit
-length-constants_out : (f : Call) (words : List ℕ) → length (constants_out f words) ≡ length words + 1
-length-constants_out f [] = refl
-length-constants_out f (w ∷ words) = let e = length-constants_out f words in omega (arith, e)
 
 -- the placement of the list has the program's room
 one_fits : (m : Machine) (p : Program) (ps : List Placed) → IsProgram p → is_direct m p ≡ true → AreRoomy m (list_of_direct m p ∷ []) ps → total_length ps ≤ room_on m p

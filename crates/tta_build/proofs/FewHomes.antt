@@ -3,7 +3,6 @@ use Rattle.std.proofs.Common.{◌≡◌, ◌<◌, ◌≤◌, ◌+◌, ◌*◌, �
 use Rattle.std.specs.Prelude.{◌-◌, ◌^◌, if◌then◌else◌, slice_get}
 use Rattle.std.specs.Option.{option_map_or}
 use Rattle.std.specs.List.{list_all}
-use Rattle.std.proofs.lemmas.List.FromFn.{length-map-range_with_len}
 use Rattle.std.proofs.lemmas.Bool.{and_parts}
 use Rattle.tta_list.proofs.Lists.{list_all_one}
 use Rattle.tta_arch.specs.declared.parts.File.{File}
@@ -13,10 +12,7 @@ use Rattle.tta_arch.specs.Rules.{IsMachine, is_file}
 use Rattle.tta_arch.proofs.Sizes.{small_file}
 use Rattle.tta_connect.specs.declared.choice.Choice.{Choice}
 use Rattle.tta_connect.specs.Coverage.{IsChoice, registers_from, is_home_file, homes_from}
-
--- so many registers are so many
-registers : (file index count : ℕ) → length (registers_from file index count) ≡ count
-registers file index count = length-map-range_with_len (λ (k : ℕ). (file, k)) index count
+use Rattle.tta_select.proofs.HomeLists.{registers_size as registers}
 
 -- at most 64 in each file
 in_file : (test : Bool) (file : ℕ) (f : File) → f.size ≤ 64 → length (if test then registers_from file 0 f.size else []) ≤ 64

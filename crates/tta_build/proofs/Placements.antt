@@ -1,5 +1,5 @@
 -- Placements of lists in a row, and the code that is linked from them.
-use Rattle.std.proofs.Common.{◌≡◌, ◌+◌, ℕ, zero, suc, ◌++◌, List, [], ◌∷◌, Some, refl, ap, subst, ◌∙◌, arith, length, slice_get}
+use Rattle.std.proofs.Common.{◌≡◌, ◌+◌, ℕ, zero, suc, ◌++◌, List, [], ◌∷◌, Some, ap, subst, ◌∙◌, arith, length, slice_get}
 use Rattle.std.specs.Prelude.{◌<◌, ◌^◌, IfOk, IfErr, Result, Ok, Err}
 use Rattle.tta_arch.specs.Machine.{Machine}
 use Rattle.tta_code.specs.declared.code.Code.{Code}
@@ -13,6 +13,7 @@ use Rattle.tta_compose.specs.Room.{AreRoomy}
 use Rattle.tta_build.specs.declared.error.BuildError.{BuildError}
 use Rattle.tta_build.specs.declared.error.BuildError.TheVariants.{CodeFull, NoMemory}
 use Rattle.tta_build.specs.Parts.{IsLinkCause}
+use Rattle.tta_list.proofs.Lists.{length_more as push_length}
 
 -- so far the lists have placements for which a relation holds
 abbrev pub SoFar : (BlockList → Placed → Type 0) → List BlockList → List Placed → Type 0
@@ -30,10 +31,6 @@ one_more R [] (x ∷ ps) b p so here r k c q at is = absurd cc
 one_more R (l ∷ lists) (x ∷ ps) b p so here r zero c q at is = so zero c q at is
 one_more R (l ∷ lists) (x ∷ ps) b p so here r (suc k) c q at is =
     one_more R lists ps b p (λ j d s e f. so (suc j) d s e f) here r k c q at is
-
-pub push_length : {A : Type 0} (xs : List A) (x : A) → length (xs ++ x ∷ []) ≡ length xs + 1
-push_length [] x = refl
-push_length (y ∷ xs) x = let e = push_length xs x in omega (arith, e)
 
 -- one placement more
 pub more_count : {A : Type 0} (xs ys : List A) (x : A) (n : ℕ) → ys ≡ xs ++ x ∷ [] → length xs ≡ n → length ys ≡ n + 1

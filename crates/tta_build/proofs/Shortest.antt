@@ -10,7 +10,7 @@ use Rattle.tta_moves.specs.declared.items.BlockList.{BlockList}
 use Rattle.tta_moves.specs.declared.items.Placed.{Placed}
 use Rattle.tta_moves.specs.Bounds.{Respects}
 use Rattle.tta_moves.specs.FirstFit.{IsFirstFit}
-use Rattle.tta_list.proofs.Lists.{slice_get-push, slice_get-longer}
+use Rattle.tta_list.proofs.Lists.{slice_get-push, slice_get-longer, element, item_behind as last_there, length_more as push_length}
 use Rattle.tta_sched.specs.Room.{HasRoom}
 use Rattle.tta_compose.specs.Compiler.{AreStandIns}
 use Rattle.tta_compose.specs.Planned.{HasForms}
@@ -21,7 +21,7 @@ use Rattle.tta_build.specs.declared.candidates.Way.{Way}
 use Rattle.tta_build.specs.declared.candidates.Candidate.{Candidate}
 use Rattle.tta_build.specs.declared.choosing.Chosen.{Chosen}
 use Rattle.tta_build.specs.Ways.{CameBy, lists_of, AreOfBlock, IsFitOf, IsKept, IsChosenBy}
-use Rattle.tta_build.proofs.Placements.{SoFar, push_length}
+use Rattle.tta_build.proofs.Placements.{SoFar}
 
 -- a list with its placement
 pub record IsPlacedBy (m : Machine) (l : BlockList) (p : Placed) : Type 0 where
@@ -39,10 +39,6 @@ both_more R lists ps b p same so r k c q at is = by (slice_get-push lists b k c 
   by (inl e) (inr f) = let l = slice_get_within lists k c e in let n = f.0 in absurd (omega arith)
   by (inr e) (inl f) = let l = slice_get_within ps k q f in let n = e.0 in absurd (omega arith)
   by (inr e) (inr f) = subst (λ (x : Placed). R c x) f.1 (subst (λ (x : BlockList). R x p) e.1 r)
-
-last_there : {A : Type 0} (xs : List A) (x : A) → slice_get (xs ++ x ∷ []) (length xs) ≡ Some x
-last_there [] x = refl
-last_there (y ∷ xs) x = last_there xs x
 
 fits_more : (m : Machine) (lists : List BlockList) (ps : List Placed) (b : BlockList) (p : Placed) → AreFirstFits m lists ps → IsPlacedBy m b p
     → AreFirstFits m (lists ++ b ∷ []) (ps ++ p ∷ [])
@@ -207,11 +203,6 @@ pub record HasList (m : Machine) (b : BlockList) (p : Placed) : Type 0 where
   pub list : BlockList
   pub is : IsCandidate m b list
   pub placed : IsPlacedBy m list p
-
-element : {A : Type 0} (xs : List A) (k : ℕ) → k < length xs → (x : A) × (slice_get xs k ≡ Some x)
-element [] k low = absurd (omega arith)
-element (x ∷ xs) zero low = (x, refl)
-element (x ∷ xs) (suc k) low = element xs k (omega arith)
 
 has_list : (m : Machine) (b : BlockList) (p : Placed) → IsChosen m b p → HasList m b p
 has_list m b p c =

@@ -4,7 +4,6 @@ use Rattle.std.specs.Prelude.{◌⊎◌, false, IfSome, option_map, option_to_li
 use Rattle.std.proofs.Common.{inl, inr}
 use Rattle.std.proofs.lemmas.Option.{slice_get-map}
 use Rattle.std.specs.List.{list_all}
-use Rattle.std.proofs.lemmas.Bool.{and_from}
 use Rattle.std.proofs.lemmas.List.{append_assoc}
 use Rattle.tta_arch.specs.Machine.{Machine}
 use Rattle.tta_moves.specs.declared.items.BlockList.{BlockList}
@@ -20,6 +19,7 @@ use Rattle.tta_build.specs.declared.candidates.Order.{Order}
 use Rattle.tta_build.specs.declared.candidates.Order.TheVariants.{Plain, Items, Groups}
 use Rattle.tta_build.specs.declared.candidates.Candidate.{Candidate}
 use Rattle.tta_build.specs.Ways.{IsReordered, IsGrouped, Comes, Begins, CameBy, lists_of, candidates_by, IsMadeOf, AddsCandidates, AreOfBlock}
+use Rattle.tta_list.proofs.Lists.{all_from as all_of}
 
 -- what the passes make of a list that may be placed for the block's is a candidate
 pub candidate : (m : Machine) (b other : BlockList) → IsStandIn m b other → IsCandidate m b (optimised m other)
@@ -220,10 +220,6 @@ more_candidates m b other old one new c stands none own made more =
 
 list_here : (cs : List Candidate) (k : ℕ) (c : Candidate) → slice_get cs k ≡ Some c → slice_get (lists_of cs) k ≡ Some c.list
 list_here cs k c e = slice_get-map (λ (x : Candidate). x.list) cs k ∙ ap (option_map (λ (x : Candidate). x.list)) e
-
-all_of : {A : Type 0} (test : A → Bool) (xs : List A) → ((k : ℕ) (x : A) → slice_get xs k ≡ Some x → test x ≡ true) → list_all test xs ≡ true
-all_of test [] each = refl
-all_of test (x ∷ xs) each = and_from (test x) (list_all test xs) (each 0 x refl) (all_of test xs (λ k y e. each (suc k) y e))
 
 -- candidates are lists of the machine where the block's list is one
 pub candidates_lists : (m : Machine) (b : BlockList) (cs : List Candidate) → AreOfBlock m b cs → is_list m b.items ≡ true

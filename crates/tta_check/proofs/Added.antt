@@ -14,8 +14,8 @@ use Rattle.tta_code.specs.Cycle.{effect_of, moves_of, long_effects, effects_of}
 use Rattle.tta_check.specs.declared.spot.Spot.{Spot}
 use Rattle.tta_check.specs.Facts.{goes_into}
 use Rattle.tta_check.specs.Spots.{has_spot, Keeps, HasWritten, HasAll, Adds}
-use Rattle.tta_check.proofs.Places.{same_is}
 use Rattle.tta_check.proofs.Slots.{any_slots}
+use Rattle.tta_arch.proofs.Places.{same_is}
 
 pub none_kept : (spots : List Spot) → Keeps spots spots
 none_kept spots p h = h
@@ -59,7 +59,7 @@ all_stays m i old new kept has p h = kept p (has p h)
 
 -- ---- an instruction
 
-either : (a b : Bool) → (a || b) ≡ true → (a ≡ true) ⊎ (b ≡ true)
+pub either : (a b : Bool) → (a || b) ≡ true → (a ≡ true) ⊎ (b ≡ true)
 either true b h = inl refl
 either false b h = inr h
 

@@ -26,13 +26,14 @@ use Rattle.tta_check.specs.Aims.{only_word, aim_of}
 use Rattle.tta_check.specs.Going.{key_as}
 use Rattle.tta_check.specs.Visits.{IsWay, GoesOn}
 use Rattle.tta_check.specs.Tables.{same_kind, same_under, same_key, ago, place_at}
-use Rattle.tta_check.proofs.Gives.{none_in, both}
+use Rattle.tta_check.proofs.Gives.{none_in}
 use Rattle.tta_check.proofs.Table.{Single, none_of}
 use Rattle.tta_check.proofs.Lone.{once_address}
 use Rattle.tta_check.proofs.Going.{single_goes, two_goes}
 use Rattle.tta_check.proofs.Aims.{only_single}
 use Rattle.tta_check.proofs.Visiting.{IsEntry, IsThere, controller_in, told_code, no_code_in, only_of, free_of}
 use Rattle.tta_check.proofs.Placing.{place_parts}
+use Rattle.tta_list.proofs.Tests.{and_both as both}
 
 -- an instruction that makes control do this, where a jump or call goes to its word
 pub record Mover (m : Machine) (code : Code) (from : ℕ) (c : Kind × ℕ) : Type 0 where
@@ -143,7 +144,7 @@ way_came m code spots i at x acts stays sense does_act entry t g way came =
 
 -- ---- two at one place
 
-same_kind_self : (d : Kind) → same_kind d d ≡ true
+pub same_kind_self : (d : Kind) → same_kind d d ≡ true
 same_kind_self Jumps = refl
 same_kind_self Calls = refl
 same_kind_self Halts = refl

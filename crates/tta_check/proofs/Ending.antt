@@ -33,10 +33,7 @@ use Rattle.tta_check.proofs.Disagreeing.{words_disagree}
 use Rattle.tta_check.proofs.Lone.{once_operand, once_address}
 use Rattle.tta_check.proofs.Proper.{cell_proper, two_differ}
 use Rattle.tta_check.proofs.Visiting.{IsEntry, IsThere, controller_in, told_code}
-
-or_true : (a b : Bool) → b ≡ true → (a || b) ≡ true
-or_true true b h = refl
-or_true false b h = h
+use Rattle.tta_list.proofs.Tests.{or_true}
 
 one_told : (a b : Word) → tells_word (Two a b) a ≡ true
 one_told a b = ap (λ c. c || same_word a b) (same_self a)

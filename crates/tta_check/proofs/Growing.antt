@@ -14,8 +14,10 @@ use Rattle.tta_check.specs.Rows.{covers}
 use Rattle.tta_check.specs.Going.{key_as}
 use Rattle.tta_check.specs.Weights.{weight}
 use Rattle.tta_check.specs.Tables.{same_kind, same_under, same_key, place_at, row_in, row_at, Sets}
-use Rattle.tta_check.proofs.Gives.{both}
-use Rattle.tta_check.proofs.Putting.{set_get, set_count}
+use Rattle.tta_check.proofs.Putting.{set_get}
+use Rattle.tta_check.proofs.Coming.{same_kind_self as kind_self}
+use Rattle.tta_list.proofs.Tests.{or_left, and_both as both}
+use Rattle.tta_list.proofs.Sets.{set_count}
 
 -- ---- keys
 
@@ -29,11 +31,6 @@ kind_is Calls Jumps h = absurd cc
 kind_is Calls Halts h = absurd cc
 kind_is Halts Jumps h = absurd cc
 kind_is Halts Calls h = absurd cc
-
-kind_self : (d : Kind) → same_kind d d ≡ true
-kind_self Jumps = refl
-kind_self Calls = refl
-kind_self Halts = refl
 
 under_is : (u v : Option Under) → same_under u v ≡ true → u ≡ v
 under_is None None h = refl
@@ -101,10 +98,6 @@ waits stack p = list_any (λ q. q == p) stack
 
 pub waits_more : (stack : List ℕ) (place p : ℕ) → waits (stack ++ (place ∷ [])) p ≡ (waits stack p || (place == p || false))
 waits_more stack place p = list_any-append (λ q. q == p) stack (place ∷ [])
-
-or_left : (a b : Bool) → a ≡ true → (a || b) ≡ true
-or_left true b h = refl
-or_left false b h = absurd cc
 
 or_right : (a b : Bool) → b ≡ true → (a || (b || false)) ≡ true
 or_right true b h = refl

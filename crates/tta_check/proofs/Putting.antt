@@ -21,6 +21,7 @@ use Rattle.tta_check.specs.Joined.{joined_list}
 use Rattle.tta_check.specs.Going.{key_as}
 use Rattle.tta_check.specs.Tables.{place_at, Fits, FitsSome, FitsBoth, Sets, Puts, Fresh, Grown, Calm, PutSome}
 use Rattle.tta_check.proofs.Placing.{joined_count}
+use Rattle.tta_list.proofs.Sets.{set_count}
 
 pub set_get : {A : Type 0} (xs : List A) (p q : ℕ) (v e : A) → slice_get (slice_set xs p v) q ≡ Some e → ((p ≡ q) × (e ≡ v)) ⊎ (slice_get xs q ≡ Some e)
 set_get [] p q v e h = absurd cc
@@ -33,11 +34,6 @@ set_get {A} (x ∷ xs) (suc p) (suc q) v e h = on (set_get xs p q v e h) where
   on : ((p ≡ q) × (e ≡ v)) ⊎ (slice_get xs q ≡ Some e) → ((suc p ≡ suc q) × (e ≡ v)) ⊎ (slice_get xs q ≡ Some e)
   on (inl r) = inl (ap suc r.0, r.1)
   on (inr r) = inr r
-
-pub set_count : {A : Type 0} (xs : List A) (p : ℕ) (v : A) → length (slice_set xs p v) ≡ length xs
-set_count [] p v = refl
-set_count (x ∷ xs) zero v = refl
-set_count (x ∷ xs) (suc p) v = let e = set_count xs p v in omega arith
 
 joined_cells_count : (ks ls : List Kept) → length (joined_list ks ls) ≡ length ks
 joined_cells_count [] ls = refl

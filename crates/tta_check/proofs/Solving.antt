@@ -1,8 +1,7 @@
 -- The loop: an entry that waits is carried on, until none waits, and then the table is closed.
 use Rattle.std.proofs.Common.{◌≡◌, ℕ, zero, suc, ◌+◌, ◌*◌, ◌≤◌, ◌<◌, Bool, true, false, List, [], ◌∷◌, ◌++◌, length, Option, Some, None, refl, ap, sym, subst, ◌∙◌, ◌⊎◌, inl, inr, arith}
-use Rattle.std.specs.Prelude.{◌||◌, ◌&&◌, ◌^◌, nat_le, replicate, slice_get}
-use Rattle.std.proofs.lemmas.Bool.{and_parts, leb-true}
-use Rattle.std.proofs.Math.Nat.{pow-le-pow_right}
+use Rattle.std.specs.Prelude.{◌||◌, replicate, slice_get}
+use Rattle.std.proofs.lemmas.Bool.{leb-true}
 use Rattle.tta_arch.specs.Machine.{Machine}
 use Rattle.tta_arch.specs.Rules.{IsMachine}
 use Rattle.tta_code.specs.declared.code.Instruction.{Instruction}
@@ -33,7 +32,10 @@ use Rattle.tta_check.proofs.Ways.{OneOf, acts_way, stays_way, acts_entry, stays_
 use Rattle.tta_check.proofs.Ending.{ends_right}
 use Rattle.tta_check.proofs.Coming.{Came, way_came}
 use Rattle.tta_check.proofs.Growing.{Found, entry_of, waits, waits_more, waits_new, waits_one, lack, ahead, stack_more, Moved, stay, move_on, found_on}
-use Rattle.tta_check.proofs.Sound.{IsNext, IsSound, IsAfter, all_at, some_after, some_ends, puts_moved, puts_sound, puts_found, map_count}
+use Rattle.tta_check.proofs.Sound.{IsNext, IsSound, IsAfter, all_at, some_after, some_ends, puts_moved, puts_sound, puts_found}
+use Rattle.tta_list.proofs.Tests.{and_left as and_one}
+use Rattle.tta_code.proofs.Rooms.{room_few}
+use Rattle.tta_list.proofs.Lists.{map_count}
 
 -- what code is asked for: it is legal, and these are the places that it writes
 pub record IsGiven (m : Machine) (code : Code) (spots : List Spot) : Type 0 where
@@ -55,18 +57,8 @@ pub record Solving (m : Machine) (code : Code) (spots : List Spot) (t : EntryTab
 
 -- ---- limits
 
-and_one : (a b : Bool) → (a && b) ≡ true → a ≡ true
-and_one true b h = refl
-and_one false b h = absurd cc
-
 delay_few : (m : Machine) → IsMachine m → m.control.delay ≤ 4
 delay_few m rules = leb-true m.control.delay 4 (and_one _ _ (and_one _ _ (and_one _ _ rules.control)))
-
-address_few : (m : Machine) → IsMachine m → m.control.address ≤ 16
-address_few m rules = leb-true m.control.address 16 (and_parts _ _ (and_parts (nat_le m.control.delay 4) _ (and_one _ _ (and_one _ _ rules.control))).1).1
-
-room_few : (m : Machine) (code : Code) → IsMachine m → IsLegalCode m code → length code.words ≤ 65536
-room_few m code rules legal = let e : 2 ^ m.control.address ≤ 2 ^ 16 = pow-le-pow_right {n = 2} (omega arith) {i = m.control.address} {j = 16} (address_few m rules) in let f = legal.room in omega arith
 
 pub replicate_count : {A : Type 0} (n : ℕ) (x : A) → length (replicate n x) ≡ n
 replicate_count zero x = refl

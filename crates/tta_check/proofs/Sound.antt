@@ -26,16 +26,14 @@ use Rattle.tta_check.proofs.Joining.{joined_admits_one, joined_admits_other, bot
 use Rattle.tta_check.proofs.Proper.{AreProper, both_proper}
 use Rattle.tta_check.proofs.Weighing.{weighs_more}
 use Rattle.tta_check.proofs.Placing.{joined_count, place_within}
-use Rattle.tta_check.proofs.Putting.{set_get, set_count}
+use Rattle.tta_check.proofs.Putting.{set_get}
 use Rattle.tta_check.proofs.Visiting.{IsEntry}
 use Rattle.tta_check.proofs.Coming.{Came, two_made}
 use Rattle.tta_check.proofs.Growing.{key_is, key_self, Within, Found, row_there, waits, waits_one, Moved, stay, set_here, Keeps, set_moved}
+use Rattle.tta_list.proofs.Sets.{set_count}
+use Rattle.tta_list.proofs.Lists.{map_count}
 
 -- ---- lists
-
-pub map_count : {A B : Type 0} (f : A → B) (xs : List A) → length (map f xs) ≡ length xs
-map_count f [] = refl
-map_count f (x ∷ xs) = let e = map_count f xs in omega arith
 
 joined_places : (ks ls : List Kept) → map (λ k. k.at) (joined_list ks ls) ≡ map (λ k. k.at) ks
 joined_places [] ls = refl

@@ -1,8 +1,7 @@
 -- The ways that control goes from an instruction, and the verdict that it gives.
 use Rattle.std.proofs.Common.{◌≡◌, ◌+◌, Bool, true, false, List, Option, Some, None, refl, ap, sym, subst, ◌∙◌, ◌⊎◌, inl, inr, arith}
-use Rattle.std.specs.Prelude.{◌==◌, ◌&&◌}
+use Rattle.std.specs.Prelude.{◌&&◌}
 use Rattle.std.proofs.lemmas.Bool.{and_parts}
-use Rattle.std.proofs.lemmas.Bool.Decides.{nat_tests}
 use Rattle.tta_arch.specs.declared.ends.GuardRef.{GuardRef}
 use Rattle.tta_arch.specs.Machine.{Machine}
 use Rattle.tta_arch.specs.Joins.{is_same, is_same_guard}
@@ -23,12 +22,12 @@ use Rattle.tta_check.specs.Turns.{IsAfter}
 use Rattle.tta_check.specs.Controls.{controller, does, settles, is_settled}
 use Rattle.tta_check.specs.Going.{key_as}
 use Rattle.tta_check.specs.Visits.{turn_at, IsWay, settled, IsActs, StaysBy, IsStays, GoesOn}
-use Rattle.tta_check.proofs.Gives.{both}
-use Rattle.tta_check.proofs.NoCodes.{same_guard}
 use Rattle.tta_check.proofs.Table.{LeadsOn}
 use Rattle.tta_check.proofs.Turning.{leads_on}
 use Rattle.tta_check.proofs.Aims.{only_single}
 use Rattle.tta_check.proofs.Visiting.{IsEntry, IsThere, only_of, free_of, after_of, way_entry}
+use Rattle.tta_arch.proofs.Guards.{same_guard as guard_is, same_guard_itself as guard_self}
+use Rattle.tta_list.proofs.Tests.{and_both as both}
 
 -- a way with the guard that is settled by it
 pub record WayOf (m : Machine) (i : Instruction) (at : Onward) (word : Word) (o : Option Onward) : Type 0 where
@@ -36,14 +35,6 @@ pub record WayOf (m : Machine) (i : Instruction) (at : Onward) (word : Word) (o 
   pub acts : Bool
   pub settled : is_settled (controller (effects_of m i)) sense acts ≡ true
   pub way : IsWay m i at sense (does word (controller (effects_of m i)) acts) o
-
-same_true : (b : Bool) → is_same b b ≡ true
-same_true true = refl
-same_true false = refl
-
-guard_self : (g : GuardRef) → is_same_guard g g ≡ true
-guard_self g = let a : (g.file == g.file) ≡ true = grind (arith, nat_tests) in let b : (g.index == g.index) ≡ true = grind (arith, nat_tests) in
-    both _ _ (both _ _ a b) (same_true g.inverted)
 
 settles_self : (g : Option GuardRef) → settles g (settled g true) true ≡ true
 settles_self None = refl
@@ -98,9 +89,6 @@ stays_entry m code spots i at x acts stays entry t g is =
 -- one of two is had
 abbrev pub OneOf : Option Onward → Option Onward → Option Onward → Type 0
 OneOf acts stays o = (acts ≡ o) ⊎ (stays ≡ o)
-
-guard_is : (g h : GuardRef) → is_same_guard g h ≡ true → g ≡ h
-guard_is g h e = same_guard g h e
 
 sense_is : (g : GuardRef) (s : Sense) (acts : Bool) → (is_same_guard g s.guard && is_same s.acts acts) ≡ true → Some s ≡ settled (Some g) acts
 sense_is g s acts h =

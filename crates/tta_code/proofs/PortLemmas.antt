@@ -1,47 +1,25 @@
 -- The reads and writes of a cycle's moves, with one move more.
-use Rattle.std.proofs.Common.{◌≡◌, ◌<◌, ◌+◌, ℕ, Bool, true, false, cond, List, [], ◌∷◌, ◌++◌, length, map, Option, Some, None, refl, sym, ap, ◌∙◌, arith}
-use Rattle.std.specs.Prelude.{◌==◌, ◌&&◌, ◌||◌, nat_le, nat_lt, slice_get, count_by, option_and_then}
+use Rattle.std.proofs.Common.{◌≡◌, ◌+◌, ℕ, Bool, true, false, cond, List, [], ◌∷◌, ◌++◌, length, map, Option, Some, None, refl, sym, ap, ◌∙◌, arith}
+use Rattle.std.specs.Prelude.{◌&&◌, ◌||◌, nat_le, nat_lt, slice_get, count_by}
 use Rattle.std.specs.Option.{option_map, option_map_or}
 use Rattle.std.specs.List.{list_any}
-use Rattle.std.proofs.lemmas.Bool.{and_from, eq-eqb, ne_eqb, false≢true}
-use Rattle.std.proofs.lemmas.Option.{slice_get_within}
+use Rattle.std.proofs.lemmas.Bool.{and_from, ne_eqb}
 use Rattle.std.proofs.lemmas.List.Sums.{sum_by-cons}
 use Rattle.tta_arch.specs.declared.ends.Source.{Source}
 use Rattle.tta_arch.specs.declared.ends.Source.TheVariants as source
 use Rattle.tta_arch.specs.declared.ends.Dest.{Dest}
 use Rattle.tta_arch.specs.declared.ends.Dest.TheVariants as dest
-use Rattle.tta_arch.specs.declared.parts.File.{File}
-use Rattle.tta_arch.specs.declared.parts.ImmUnit.{ImmUnit}
 use Rattle.tta_arch.specs.Machine.{Machine}
-use Rattle.tta_arch.specs.Joins.{is_source_on, is_dest_on, has_socket, within}
+use Rattle.tta_arch.specs.Joins.{is_source_on, is_dest_on}
 use Rattle.tta_arch.specs.Legal.{Ends, Slots, ends_of, all_below, reads_file, reads_imm, writes_file}
 use Rattle.tta_code.specs.declared.code.Move.{Move}
 use Rattle.tta_code.specs.Legal.{ends_of as move_ends}
 use Rattle.tta_code.specs.Illegal.{moves_where, has_read_left, has_write_left}
 use Rattle.tta_code.proofs.SlotLemmas.{count-same, count-one, one-le, all_below-same, all_below-one, and_true}
+use Rattle.tta_list.proofs.Tests.{eq_same}
+use Rattle.tta_arch.proofs.Ports.{source_file, source_imm, dest_file}
 
 -- ---- the parts that joined moves have
-
--- a joined source in a register has a file
-source_file : (m : Machine) (bus file index : ℕ) → is_source_on m bus (source.Reg file index) ≡ true → file < length m.files
-source_file m bus file index on = by (slice_get m.files file) refl on where
-  by : (o : Option File) → slice_get m.files file ≡ o → has_socket m false (option_and_then (λ f. within index f.size f.out) o) bus ≡ true → file < length m.files
-  by None at h = absurd (false≢true h)
-  by (Some f) at h = slice_get_within m.files file f at
-
--- a joined source in an immediate register has a unit
-source_imm : (m : Machine) (bus unit index : ℕ) → is_source_on m bus (source.Imm unit index) ≡ true → unit < length m.imms
-source_imm m bus unit index on = by (slice_get m.imms unit) refl on where
-  by : (o : Option ImmUnit) → slice_get m.imms unit ≡ o → has_socket m false (option_and_then (λ i. within index i.size i.out) o) bus ≡ true → unit < length m.imms
-  by None at h = absurd (false≢true h)
-  by (Some i) at h = slice_get_within m.imms unit i at
-
--- a joined destination in a register has a file
-dest_file : (m : Machine) (bus file index : ℕ) → is_dest_on m bus (dest.Reg file index) ≡ true → file < length m.files
-dest_file m bus file index on = by (slice_get m.files file) refl on where
-  by : (o : Option File) → slice_get m.files file ≡ o → has_socket m true (option_and_then (λ f. within index f.size f.into) o) bus ≡ true → file < length m.files
-  by None at h = absurd (false≢true h)
-  by (Some f) at h = slice_get_within m.files file f at
 
 -- how many of some moves read a register of this file
 abbrev pub reads_of : List Ends → ℕ → ℕ
@@ -85,9 +63,6 @@ read_left m vs src = true
 abbrev pub write_left : Machine → List Ends → Dest → Bool
 write_left m vs (dest.Reg file index) = nat_lt (writes_of vs file) (most_writes m file)
 write_left m vs dst = true
-
-eq_same : (n : ℕ) → (n == n) ≡ true
-eq_same n = eq-eqb n n refl
 
 file_reads-same : (m : Machine) (vs : List Ends) (v : Ends) → ((k : ℕ) → reads_file k v.src ≡ false) → has_file_reads m vs ≡ true → has_file_reads m (vs ++ v ∷ []) ≡ true
 file_reads-same m vs v none all =

@@ -1,5 +1,5 @@
 -- The first rule that is broken, as buses are walked one by one.
-use Rattle.std.proofs.Common.{◌≡◌, ◌<◌, ◌≤◌, ◌+◌, ℕ, zero, suc, Bool, true, false, List, [], ◌∷◌, ◌++◌, length, take, drop, get_or, append-nil, Option, Some, None, refl, sym, ap, subst, ◌∙◌, arith}
+use Rattle.std.proofs.Common.{◌≡◌, ◌<◌, ◌≤◌, ◌+◌, ℕ, true, false, List, [], ◌∷◌, ◌++◌, length, take, drop, get_or, append-nil, Option, Some, None, refl, sym, ap, subst, ◌∙◌, arith}
 use Rattle.std.specs.Prelude.{◌==◌, nat_le}
 use Rattle.std.specs.Option.{option_map, option_or}
 use Rattle.std.proofs.lemmas.Bool.{and_parts, and_from, le-leb, eqb-true, false_from_ne_true}
@@ -8,7 +8,7 @@ use Rattle.tta_list.proofs.Tests.{option_or-none}
 use Rattle.tta_arch.specs.declared.parts.Template.{Template}
 use Rattle.tta_arch.specs.Machine.{Machine}
 use Rattle.tta_arch.specs.Rules.{IsMachine}
-use Rattle.tta_arch.specs.Legal.{Slots, ends_of, all_below, keeps_taken, is_joined, has_reads, has_writes, are_apart, can_move}
+use Rattle.tta_arch.specs.Legal.{Slots, ends_of, keeps_taken, is_joined, has_reads, has_writes, are_apart, can_move}
 use Rattle.tta_code.specs.declared.legality.Illegal.{Illegal}
 use Rattle.tta_code.specs.declared.code.Move.{Move}
 use Rattle.tta_code.specs.declared.code.Instruction.{Instruction}
@@ -16,6 +16,7 @@ use Rattle.tta_code.specs.Legal.{ends_of as move_ends, slots_of, taken, is_instr
 use Rattle.tta_code.specs.Illegal.{taken_by, broken, broken_by, first_broken, first_illegal, TellsLegal}
 use Rattle.tta_code.proofs.PortLemmas.{most_reads, most_writes, has_file_reads, has_imm_reads, slots_from}
 use Rattle.tta_code.proofs.KeptRules.{KeepsAll, keeps_from_broken, broken_from_keeps, some_none, broken-more, keeps-none, keeps-prefix}
+use Rattle.tta_arch.proofs.Below.{all_below-true}
 
 -- ---- the walk
 
@@ -35,10 +36,6 @@ first-from_keeps m taken walked (o ∷ os) keeps =
     let whole = subst (KeepsAll m taken) (sym (append_assoc walked (o ∷ []) os)) keeps in
     let here = broken_from_keeps m taken (walked ++ o ∷ []) (keeps-prefix m taken (walked ++ o ∷ []) os whole) in
     ap (λ b. option_or b (first_broken m taken (walked ++ o ∷ []) os)) here ∙ first-from_keeps m taken (walked ++ o ∷ []) os whole
-
-all_below-true : (test : ℕ → Bool) (n : ℕ) → ((k : ℕ) → test k ≡ true) → all_below test n ≡ true
-all_below-true test zero all = refl
-all_below-true test (suc n) all = and_from (test n) (all_below test n) (all n) (all_below-true test n all)
 
 -- no bus breaks nothing
 pub keeps-empty : (m : Machine) (taken : ℕ) → KeepsAll m taken []

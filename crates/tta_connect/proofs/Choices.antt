@@ -10,16 +10,16 @@ use Rattle.tta_connect.specs.Ways.{way}
 
 -- ---- three buses
 
-covered : failed_rule three_buses ≡ None
+pub covered : failed_rule three_buses ≡ None
 covered = refl
 
-covered-hub : hub_of three_buses ≡ Some 0
+pub covered-hub : hub_of three_buses ≡ Some 0
 covered-hub = refl
 
-covered-guard : guard_register three_buses 0 ≡ Some (2, 0)
+pub covered-guard : guard_register three_buses 0 ≡ Some (2, 0)
 covered-guard = refl
 
-covered-homes : homes_of three_buses 0 ≡ registers_from 0 3 5 ++ registers_from 1 0 8
+pub covered-homes : homes_of three_buses 0 ≡ registers_from 0 3 5 ++ registers_from 1 0 8
 covered-homes = refl
 
 covered-output_unit : is_usable_at three_buses 0 3 ≡ true
@@ -67,7 +67,7 @@ homeless-homes = refl
 -- ---- refused machines
 
 -- without a register file there is no hub
-hubless : failed_rule one_bus ≡ Some 1
+pub hubless : failed_rule one_bus ≡ Some 1
 hubless = refl
 
 -- with the second condition plain in place of the first one inverted, no register has both senses

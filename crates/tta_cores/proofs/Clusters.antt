@@ -9,7 +9,7 @@ use Rattle.tta_cores.specs.Network.{Network, Joined, output_of, feeder_of, fed_t
 use Rattle.tta_cores.specs.Queues.{UsesQueues}
 use Rattle.tta_cores.proofs.Prefixes.{prefix_same, prefix_chain}
 use Rattle.tta_cores.proofs.Turns.{IsPast, past_longer, past_next}
-use Rattle.tta_cores.proofs.Sets.{get_set_same, get_set_other}
+use Rattle.tta_list.proofs.Sets.{set_same as get_set_same, set_other as get_set_other}
 
 module _ {S : Type 0} (net : Network S) where
   -- what a core of a cluster has output

@@ -28,12 +28,12 @@ use Rattle.tta_cores.proofs.Orders.{both_compare, cores_fresh, programs_fresh}
 -- ---- lists
 
 -- an element of a list that was made of another
-made_at : {A B : Type 0} (f : A → B) (xs : List A) (k : ℕ) (x : A) → slice_get xs k ≡ Some x → slice_get (map f xs) k ≡ Some (f x)
+pub made_at : {A B : Type 0} (f : A → B) (xs : List A) (k : ℕ) (x : A) → slice_get xs k ≡ Some x → slice_get (map f xs) k ≡ Some (f x)
 made_at f [] k x at = absurd cc
 made_at f (y ∷ xs) zero x at = let same : y ≡ x = cc in ap (λ z. Some (f z)) same
 made_at f (y ∷ xs) (suc k) x at = made_at f xs k x at
 
-made_from : {A B : Type 0} (f : A → B) (xs : List A) (k : ℕ) (y : B) → slice_get (map f xs) k ≡ Some y → (x : A) × (slice_get xs k ≡ Some x) × (f x ≡ y)
+pub made_from : {A B : Type 0} (f : A → B) (xs : List A) (k : ℕ) (y : B) → slice_get (map f xs) k ≡ Some y → (x : A) × (slice_get xs k ≡ Some x) × (f x ≡ y)
 made_from f [] k y at = absurd cc
 made_from f (x ∷ xs) zero y at = (x, refl, cc)
 made_from f (x ∷ xs) (suc k) y at = made_from f xs k y at

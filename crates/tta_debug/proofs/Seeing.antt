@@ -1,6 +1,6 @@
 -- What there is to see, where its place is known.
-use Rattle.std.proofs.Common.{◌≡◌, ◌<◌, ◌≤◌, arith, true, false, ℕ, Bool, nat_lt, if◌then◌else◌, List, Some, None, is_some, option_and_then, slice_get, get_or, length, refl, sym, ap, ◌∙◌}
-use Rattle.std.proofs.lemmas.Bool.{lt-ltb, ltb-true}
+use Rattle.std.proofs.Common.{◌≡◌, ◌≤◌, arith, true, false, ℕ, Bool, nat_lt, if◌then◌else◌, List, Some, None, is_some, option_and_then, slice_get, get_or, length, refl, sym, ap, ◌∙◌}
+use Rattle.std.proofs.lemmas.Bool.{ltb-true}
 use Rattle.std.proofs.lemmas.Option.{slice_get_read}
 use Rattle.std.proofs.lemmas.List.Quantifiers.{position-Some}
 use Rattle.std.specs.List.{position}
@@ -33,10 +33,6 @@ shown_is m s unit k units u b are place is has =
     ∙ ap (option_and_then (λ k. shown_at s k (slice_get units k))) place
     ∙ ap (shown_at s k) there
     ∙ ap (λ b. if b then Some (value (port_of s k)) else None) has
-
--- a number that is below another passes the test
-pub is_below : (a b : ℕ) → a < b → nat_lt a b ≡ true
-is_below a b below = lt-ltb a b below
 
 -- a number that is not does not
 pub is_not_below : (a b : ℕ) → b ≤ a → nat_lt a b ≡ false

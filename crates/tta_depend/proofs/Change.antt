@@ -30,9 +30,6 @@ against_is f round rows T h (t ∷ ts) all =
 
 -- ---- changing
 
-self : (n : ℕ) → (n == n) ≡ true
-self n = grind (arith, nat_tests)
-
 -- a row of this round is read as it is
 pub as_written : (round : ℕ) (r : Row) → r.round ≡ round → current round r ≡ r
 as_written round r e = let same : (r.round == round) ≡ true = grind (arith, nat_tests) in rw same refl

@@ -9,11 +9,11 @@ use Rattle.tta_arch.specs.Effects.{same_place}
 use Rattle.tta_moves.specs.declared.items.Item.{Item}
 use Rattle.tta_moves.specs.Numbers.{place_number}
 use Rattle.tta_moves.specs.Bounds.{Spot, At, Started, same_spot, Touch, reads_by, writes_by}
-use Rattle.tta_moves.proofs.Places.{same_is}
 use Rattle.tta_moves.proofs.InRange.{one_place, number_below}
 use Rattle.tta_depend.specs.declared.touches.Touched.{Touched}
 use Rattle.tta_depend.specs.Touched.{spot_number, touched, spot_below}
 use Rattle.tta_depend.specs.Stands.{is_spot, is_within}
+use Rattle.tta_arch.proofs.Places.{same_is}
 
 pub spot_most : (s : Spot) → is_spot s ≡ true → spot_number s < 673
 spot_most (At p) h = let lt = number_below p h in omega arith

@@ -8,16 +8,11 @@ use Rattle.tta_arch.specs.Fields.{word_width}
 use Rattle.tta_code.specs.declared.whole.Datum.{Datum}
 use Rattle.tta_code.specs.Whole.{Whole}
 use Rattle.tta_image.specs.Bits.{instruction_bits}
-use Rattle.tta_image.specs.Image.{Image, data_section, datum_bytes}
+use Rattle.tta_image.specs.Image.{Image, data_section}
 use Rattle.tta_image.proofs.Unique.{length-bytes}
 use Rattle.tta_image.proofs.ImageDecoded.{length-words_bits}
 use Rattle.tta_info.specs.ImageInfo.{data_bytes, image_bytes}
-
--- a datum takes eight bytes
-length-data : (ds : List Datum) → length (flat_map datum_bytes ds) ≡ 8 * length ds
-length-data [] = refl
-length-data (d ∷ ds) =
-    let rest = length-data ds in let both = length-append (datum_bytes d) (flat_map datum_bytes ds) in omega arith
+use Rattle.tta_image.proofs.PairsDecoded.{length-pairs as length-data}
 
 -- how many bytes data take
 length-section : (ds : List Datum) → length (data_section ds) ≡ data_bytes (length ds)

@@ -7,6 +7,8 @@ use Rattle.std.proofs.lemmas.List.Folds.{list_all-append}
 use Rattle.tta_draw.specs.declared.lanes.Arrow.{Arrow}
 use Rattle.tta_draw.specs.declared.targets.Jump.{Jump}
 use Rattle.tta_draw.specs.Arrows.{bottom_row, top_row, is_free, first_lane, lane_of, with_arrows}
+use Rattle.tta_code.proofs.SlotLemmas.{and_true}
+use Rattle.tta_list.proofs.Lists.{zeros as zero-in}
 
 -- a lane that is free is the first of the lanes from it on
 pub first_lane-here : (free : ℕ → Bool) (all lane : ℕ) → lane < all → free lane ≡ true → first_lane free (all - lane) lane ≡ lane
@@ -36,11 +38,6 @@ lane-free arrows free j are =
     first_lane-same (λ lane. nat_le (slice_index free lane) (top_row j)) (λ lane. is_free arrows lane (top_row j)) 7 0
     (λ k h. sym (are.each k (top_row j) (omega (arith, h))))
 
-zero-in : (n k : ℕ) → slice_index (replicate n 0) k ≡ 0
-zero-in zero k = refl
-zero-in (suc n) zero = refl
-zero-in (suc n) (suc k) = zero-in n k
-
 -- at first all lanes are free
 pub none-taken : (free : List ℕ) → free ≡ replicate 8 0 → AreFree [] free
 none-taken free is = record { each = λ lane row h. rw (is, zero-in 8 lane) (sym (le-leb 0 row (omega arith))) }
@@ -50,10 +47,6 @@ past-both : (a b row : ℕ) → (nat_le a row && nat_lt b row) ≡ nat_le (max a
 past-both a b row = by (nat_le a row) (nat_lt b row) refl refl where
   by : (s t : Bool) → nat_le a row ≡ s → nat_lt b row ≡ t → (nat_le a row && nat_lt b row) ≡ nat_le (max a (b + 1)) row
   by s t is at = grind arith
-
-and_true : (b : Bool) → (b && true) ≡ b
-and_true true = refl
-and_true false = refl
 
 -- and after one arrow more the rows are these
 pub lane-taken : (arrows more : List Arrow) (free new : List ℕ) (a : Arrow) (bottom : ℕ) → more ≡ arrows ++ a ∷ [] → bottom ≡ bottom_row a.jump → a.lane < 8

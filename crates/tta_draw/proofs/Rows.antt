@@ -1,12 +1,10 @@
 -- Texts that a loop makes piece by piece, and what legal code says of its instructions.
-use Rattle.std.proofs.Common.{◌≡◌, ◌≤◌, ◌<◌, ℕ, Bool, false, refl, if◌then◌else◌, zero, suc, ◌+◌, List, [], ◌∷◌, ◌++◌, length, sym, ap, ◌∙◌, arith}
+use Rattle.std.proofs.Common.{◌≡◌, ◌≤◌, ◌<◌, ℕ, Bool, false, refl, if◌then◌else◌, zero, suc, ◌+◌, List, [], ◌∷◌, length, ap, ◌∙◌, arith}
 use Rattle.std.specs.List.{flat_map, range_with_len}
 use Rattle.std.specs.Prelude.{IsTrue, slice_index_or}
 use Rattle.std.specs.List.{All, AllByRecursion}
 use Rattle.std.proofs.lemmas.Bool.{eqb-true}
-use Rattle.std.proofs.lemmas.List.{append-nil, append_assoc}
 use Rattle.std.proofs.lemmas.List.Elements.{All-nil, All-cons}
-use Rattle.std.proofs.lemmas.Grind.{flat_map-append}
 use Rattle.tta_arch.specs.Machine.{Machine}
 use Rattle.tta_arch.specs.Fields.{numbers}
 use Rattle.tta_code.specs.declared.code.Instruction.{Instruction}
@@ -15,24 +13,6 @@ use Rattle.tta_draw.specs.declared.targets.Jump.{Jump}
 use Rattle.tta_draw.specs.Arrows.{has_label}
 use Rattle.tta_draw.specs.CodePicture.{label_row_text, labels_text}
 use Rattle.tta_code.proofs.LegalParts.{legal_parts}
-
--- one number more at the end of others
-range_more : (a n j : ℕ) → a + n ≡ j → range_with_len a (n + 1) ≡ range_with_len a n ++ j ∷ []
-range_more a zero j is = let e : a ≡ j = omega arith in ap (λ (x : ℕ). x ∷ []) e
-range_more a (suc n) j is =
-    let e : a + 1 + n ≡ j = omega arith in
-    let s : suc n + 1 ≡ suc (n + 1) = omega arith in
-    ap (range_with_len a) s ∙ ap (λ (xs : List ℕ). a ∷ xs) (range_more (a + 1) n j e)
-
--- the text of one number more
-pub number_more : (text : ℕ → List ℕ) (old new start : List ℕ) (n : ℕ) → new ≡ old ++ text n
-    → old ≡ start ++ flat_map text (range_with_len 0 n) → new ≡ start ++ flat_map text (range_with_len 0 (n + 1))
-number_more text old new start n more was =
-    let before : List ℕ = flat_map text (range_with_len 0 n) in
-    let end : flat_map text (range_with_len 0 (n + 1)) ≡ before ++ text n =
-    ap (flat_map text) (range_more 0 n n (omega arith)) ∙ flat_map-append text (range_with_len 0 n) (n ∷ [])
-    ∙ ap (λ (t : List ℕ). before ++ t) (append-nil (text n)) in
-    more ∙ ap (λ (t : List ℕ). t ++ text n) was ∙ append_assoc start before (text n) ∙ ap (λ (t : List ℕ). start ++ t) (sym end)
 
 -- texts that are the same for each number
 range_same : (f g : ℕ → List ℕ) (a n : ℕ) → ((k : ℕ) → k < a + n → f k ≡ g k) → flat_map f (range_with_len a n) ≡ flat_map g (range_with_len a n)

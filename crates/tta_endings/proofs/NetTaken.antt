@@ -1,9 +1,8 @@
 -- Where files hold a net that comes to rest at no fault, and no call fails, `net` is done, unless memory lacks.
-use Rattle.std.proofs.Common.{◌≡◌, ◌⊎◌, ℕ, suc, ◌+◌, ◌<◌, Bool, true, false, List, [], ◌∷◌, length, map, Option, Some, None, refl, sym, ap, subst, ◌∙◌, inl, inr, arith}
-use Rattle.std.specs.Prelude.{slice_get}
+use Rattle.std.proofs.Common.{◌≡◌, ◌⊎◌, ℕ, ◌+◌, Bool, true, false, List, length, map, Option, Some, None, refl, sym, ap, subst, ◌∙◌, inl, inr, arith}
 use Rattle.std.proofs.lemmas.Bool.{cases_lt}
 use Rattle.std.proofs.lemmas.List.{length-map}
-use Rattle.std.proofs.lemmas.Option.{slice_get_cases, slice_get_within}
+use Rattle.std.proofs.lemmas.Option.{slice_get_within}
 use Rattle.tta_ports.specs.declared.fault.Fault.{Fault}
 use Rattle.tta_ports.specs.Store.{Store}
 use Rattle.tta_ports.specs.Faults.{Rose}
@@ -37,26 +36,10 @@ use Rattle.tta_endings.specs.PutCompletes.{IsUndisturbed}
 use Rattle.tta_endings.proofs.FilesTaken.{same_read, machine_only, file_only}
 use Rattle.tta_endings.proofs.PairsTaken.{image_only, one_whole, same_held, same_file}
 use Rattle.tta_endings.proofs.RunsTaken.{input_only}
+use Rattle.tta_net.proofs.FirstCluster.{same_lists as same_elements}
+use Rattle.tta_list.proofs.Lists.{element}
 
 -- ---- lists
-
--- there is an element at each place of a list
-element : {A : Type 0} (xs : List A) (k : ℕ) → k < length xs → (x : A) × (slice_get xs k ≡ Some x)
-element xs k within = elim (slice_get_cases xs k).1 [
-  | inl at ↦ (at.0, at.2)
-  | inr past ↦ let far = past.0 in absurd (omega arith)
-]
-
--- lists with the same elements are one
-same_elements : {A : Type 0} (xs ys : List A) → length xs ≡ length ys
-    → ((k : ℕ) (x y : A) → slice_get xs k ≡ Some x → slice_get ys k ≡ Some y → x ≡ y) → xs ≡ ys
-same_elements [] [] e f = refl
-same_elements [] (y ∷ ys) e f = absurd (omega arith)
-same_elements (x ∷ xs) [] e f = absurd (omega arith)
-same_elements (x ∷ xs) (y ∷ ys) e f =
-    let first = f 0 x y refl refl in
-    let rest = same_elements xs ys (omega arith) (λ k a b p q. f (suc k) a b p q) in
-    rw (first, rest) refl
 
 -- ---- the cores
 

@@ -3,7 +3,7 @@ use Rattle.std.proofs.Common.{◌≡◌, ◌<◌, ℕ, Bool, true, false, List, 
 use Rattle.std.specs.Prelude.{◌==◌, ◌||◌, ◌&&◌, not}
 use Rattle.std.proofs.lemmas.Bool.{eq-eqb, or_cases, eqb-true}
 use Rattle.std.proofs.Math.Bool.{or-true}
-use Rattle.tta_list.proofs.Tests.{and_left, and_right}
+use Rattle.tta_list.proofs.Tests.{and_left, and_right, not_true}
 use Rattle.tta_program.specs.declared.step.Step.{Step}
 use Rattle.tta_flow.specs.declared.bits.BitRow.{BitRow}
 use Rattle.tta_flow.specs.declared.settle.Settling.{Settling}
@@ -16,10 +16,6 @@ use Rattle.tta_flow.proofs.PutLemmas.{alike_then}
 use Rattle.tta_flow.proofs.Reaching.{test_within}
 use Rattle.tta_flow.proofs.RowLemmas.{no}
 use Rattle.tta_flow.proofs.Searches.{found_more}
-
-not_true : (b : Bool) → not b ≡ true → b ≡ false
-not_true true e = cc
-not_true false e = refl
 
 -- a variable is live only before a step that is there
 pub live_within : (steps : List Step) (x k : ℕ) → LiveBefore steps x k → k < length steps

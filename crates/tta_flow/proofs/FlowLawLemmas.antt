@@ -17,7 +17,7 @@ use Rattle.tta_flow.specs.Laws.{BeginsWith, FlowLaws}
 use Rattle.tta_flow.proofs.BlockLemmas.{leads_cases}
 use Rattle.tta_flow.proofs.RunLemmas.{two}
 
-some_same : {A : Type 0} {x y : A} → Some x ≡ Some y → x ≡ y
+pub some_same : {A : Type 0} {x y : A} → Some x ≡ Some y → x ≡ y
 some_same e = cc
 
 -- a branch ends its block

@@ -1,6 +1,6 @@
 -- Words of a row that are replaced, and rows that grow.
 use Rattle.std.proofs.Common.{◌≡◌, ◌≢◌, ◌<◌, ◌≤◌, ◌/◌, ◌%◌, ◌+◌, ◌-◌, ◌^◌, ℕ, zero, suc, Bool, true, false, List, [], ◌∷◌, length, get_or, set, take, refl, sym, ap, subst, ◌∙◌, ◌⊎◌, inl, inr, arith}
-use Rattle.std.specs.Prelude.{◌==◌, ◌||◌, ◌&&◌, not, nat_lt, bit_or, bit_and, min}
+use Rattle.std.specs.Prelude.{◌==◌, ◌||◌, ◌&&◌, not, nat_lt, bit_or, bit_and}
 use Rattle.std.proofs.Common.{w64}
 use Rattle.std.specs.Int.{bit_at}
 use Rattle.std.specs.List.{list_any}
@@ -16,6 +16,8 @@ use Rattle.tta_flow.specs.declared.bits.BitRow.{BitRow}
 use Rattle.tta_flow.specs.Bits.{has}
 use Rattle.tta_flow.specs.Growth.{spare_words, Grows, Sets}
 use Rattle.tta_flow.proofs.BitLemmas.{is_bit-or}
+use Rattle.tta_list.proofs.Tests.{both_bits}
+use Rattle.tta_list.proofs.Lists.{past_end}
 
 -- ---- a word is replaced
 
@@ -69,14 +71,6 @@ spare_less words at word new below is small other =
 
 -- ---- a bit is unset
 
-both_bits : (x y : ℕ) → x < 2 → y < 2 → (min x y == 1) ≡ (x == 1 && y == 1)
-both_bits zero zero hx hy = refl
-both_bits zero (suc zero) hx hy = refl
-both_bits (suc zero) zero hx hy = refl
-both_bits (suc zero) (suc zero) hx hy = refl
-both_bits (suc (suc x)) y hx hy = absurd (omega arith)
-both_bits x (suc (suc y)) hx hy = absurd (omega arith)
-
 module _ (words : List ℕ) (bit k word one : ℕ) (below : bit / 64 < length words) (is : word ≡ get_or words (bit / 64) 0)
     (single : one ≡ 2 ^ (bit % 64)) (small : one < 2 ^ 64) where
   rest : ℕ
@@ -121,11 +115,6 @@ zero_more words at k below none small =
     ]
 
 -- ---- bits past the end
-
-past_end : (words : List ℕ) (i : ℕ) → length words ≤ i → get_or words i 0 ≡ 0
-past_end [] i past = refl
-past_end (w ∷ ws) zero past = absurd (omega arith)
-past_end (w ∷ ws) (suc i) past = past_end ws i (omega arith)
 
 pub has_past : (row : BitRow) (k : ℕ) → length row.words.items ≤ k / 64 → has row k ≡ false
 has_past row k past =

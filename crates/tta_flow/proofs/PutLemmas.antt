@@ -17,8 +17,9 @@ use Rattle.tta_flow.specs.Search.{is_found, count_below}
 use Rattle.tta_flow.specs.Settle.{words_at, Fits, AreAlike, ahead, Puts}
 use Rattle.tta_flow.specs.Steps.{follows, leads, assigns, assigns_at}
 use Rattle.tta_flow.proofs.Reaching.{test_there, test_within}
-use Rattle.tta_flow.proofs.RowLemmas.{no, get_set_same, get_set_other}
+use Rattle.tta_flow.proofs.RowLemmas.{no}
 use Rattle.tta_flow.proofs.Searches.{count_le, count_one, found_more}
+use Rattle.tta_list.proofs.Sets.{set_same as get_set_same, set_other as get_set_other}
 
 -- ---- the room of rows
 

@@ -1,6 +1,6 @@
 -- Rows of live variables, and what a step wants by them.
-use Rattle.std.proofs.Common.{◌≡◌, ◌≢◌, ◌<◌, ◌+◌, ℕ, zero, suc, Bool, true, false, List, [], ◌∷◌, length, Option, Some, None, refl, sym, ap, ◌∙◌, inl, inr, arith}
-use Rattle.std.specs.Prelude.{◌==◌, ◌||◌, ◌&&◌, not, slice_get, slice_set}
+use Rattle.std.proofs.Common.{◌≡◌, ◌+◌, ℕ, Bool, true, false, List, Option, Some, None, refl, sym, ap, ◌∙◌, inl, inr, arith}
+use Rattle.std.specs.Prelude.{◌==◌, ◌||◌, ◌&&◌, not, slice_get}
 use Rattle.std.specs.Option.{option_map_or}
 use Rattle.std.proofs.lemmas.Bool.{eq-eqb, or_cases, eqb-true}
 use Rattle.std.proofs.Math.Bool.{or-true}
@@ -15,18 +15,6 @@ pub no : {A : Type 0} → true ≡ false → A
 no e = absurd cc
 
 -- ---- a row is replaced
-
-pub get_set_same : {A : Type 0} (xs : List A) (i : ℕ) (v : A) → i < length xs → slice_get (slice_set xs i v) i ≡ Some v
-get_set_same [] i v below = absurd (omega arith)
-get_set_same (x ∷ xs) zero v below = refl
-get_set_same (x ∷ xs) (suc i) v below = get_set_same xs i v (omega arith)
-
-pub get_set_other : {A : Type 0} (xs : List A) (i k : ℕ) (v : A) → i ≢ k → slice_get (slice_set xs i v) k ≡ slice_get xs k
-get_set_other [] i k v other = refl
-get_set_other (x ∷ xs) zero zero v other = absurd (other refl)
-get_set_other (x ∷ xs) zero (suc k) v other = refl
-get_set_other (x ∷ xs) (suc i) zero v other = refl
-get_set_other (x ∷ xs) (suc i) (suc k) v other = get_set_other xs i k v (λ e. other (ap suc e))
 
 -- ---- what a step wants, by the rows of those that can follow it
 

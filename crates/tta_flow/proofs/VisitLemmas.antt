@@ -16,7 +16,8 @@ use Rattle.tta_flow.specs.Paths.{LiveBefore}
 use Rattle.tta_flow.specs.Rows.{has_at, wanted, AreWide, IsSettled, IsWork, Visits}
 use Rattle.tta_flow.specs.Steps.{leads}
 use Rattle.tta_flow.proofs.GrowthLemmas.{bit_in, has_within}
-use Rattle.tta_flow.proofs.RowLemmas.{no, get_set_same, get_set_other, wanted_from, wanted_live}
+use Rattle.tta_flow.proofs.RowLemmas.{no, wanted_from, wanted_live}
+use Rattle.tta_list.proofs.Sets.{set_same as get_set_same, set_other as get_set_other}
 
 -- a step's row takes what the step wants; the others stay
 pub record Takes (steps : List Step) (vars at : ℕ) (step : Step) (grown : Bool) (old new : Work) : Type 0 where

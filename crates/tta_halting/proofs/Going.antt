@@ -16,13 +16,9 @@ use Rattle.tta_program.specs.declared.step.Step.{Step}
 use Rattle.tta_program.specs.declared.step.Step.TheVariants.{Copy, Apply, Load, Store, Put, Take, If, Goto, When, Invoke, Return, Halt, End}
 use Rattle.tta_program.specs.declared.program.DataLine.{DataLine}
 use Rattle.tta_program.specs.Program.{Program}
-use Rattle.tta_program.specs.Sequential.{State, Frame, Running, Halted, Waiting, next, next_of, goes_through, carry_out, takes, operand, holds, step_at, seq, start}
+use Rattle.tta_program.specs.Sequential.{State, Frame, Running, Halted, Waiting, next, goes_through, carry_out, takes, operand, holds, step_at, seq, start}
 use Rattle.tta_halting.proofs.Shape.{before, counting, shaped, IsMild, AreMild, mild_at}
-
--- a state that has halted stays
-halted_stays : (u : Units) (p : Program) (s : State) → s.outcome ≡ Halted → next u p s ≡ s
-unfolding next
-halted_stays u p s is = ap (next_of u p s) is
+use Rattle.tta_program.proofs.Going.{halted_stays}
 
 -- so a run that has halted has halted later too
 pub halts_later : (u : Units) (p : Program) (k m : ℕ) (s : State) → k ≤ m → (iterate k (next u p) s).outcome ≡ Halted → (iterate m (next u p) s).outcome ≡ Halted

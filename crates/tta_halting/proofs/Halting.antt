@@ -5,7 +5,7 @@ use Rattle.std.specs.Option.{option_map_or}
 use Rattle.std.specs.List.{flat_map, list_all, AllByRecursion}
 use Rattle.std.proofs.lemmas.Bool.{not-true}
 use Rattle.std.proofs.lemmas.List.Folds.{list_all-append}
-use Rattle.tta_list.proofs.Tests.{and_left, and_right}
+use Rattle.tta_list.proofs.Tests.{and_left, and_right, offered}
 use Rattle.tta_list.proofs.Lists.{all_append}
 use Rattle.tta_reading.specs.Lines.{lines_of}
 use Rattle.tta_reading.specs.Names.{Declared, named_in}
@@ -120,10 +120,6 @@ last_fits u ls fits =
     let split = ap (list_all (is_fit u)) (numbered_append 12 (flat_map forms_of ls) after_forms) in
     and_right (list_all (is_fit u) (numbered_from 12 (flat_map forms_of ls))) (list_all (is_fit u) (numbered_from (12 + length (flat_map forms_of ls)) after_forms))
     (sym (list_all-append (is_fit u) (numbered_from 12 (flat_map forms_of ls)) (numbered_from (12 + length (flat_map forms_of ls)) after_forms)) ∙ sym split ∙ later)
-
-offered : (o : Option ℕ) → is_none o ≡ false → (op : ℕ) × (o ≡ Some op)
-offered None e = cc
-offered (Some op) e = (op, refl)
 
 -- the operations that count
 record Offers (u : Units) : Type 0 where

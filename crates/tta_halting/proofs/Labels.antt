@@ -1,6 +1,6 @@
 -- A label of a procedure is found where it stands.
-use Rattle.std.proofs.Common.{◌≡◌, ℕ, suc, ◌+◌, Bool, true, false, List, [], ◌∷◌, ◌++◌, refl, ap, ◌∙◌, arith}
-use Rattle.std.specs.Prelude.{Option, Some, None, ◌||◌, if◌then◌else◌}
+use Rattle.std.proofs.Common.{◌≡◌, ℕ, suc, ◌+◌, Bool, true, false, List, [], ◌∷◌, ◌++◌, ap, ◌∙◌, arith}
+use Rattle.std.specs.Prelude.{Option, Some, None, if◌then◌else◌}
 use Rattle.std.specs.Option.{option_map_or}
 use Rattle.std.specs.List.{list_any}
 use Rattle.std.specs.Str.{bytes_eq}
@@ -8,7 +8,9 @@ use Rattle.tta_reading.specs.Names.{named_in}
 use Rattle.tta_tac.specs.Forms.{LabelForm}
 use Rattle.tta_tac.specs.FirstPass.{has_twice}
 use Rattle.tta_tac.specs.Grammar.{Said, label_in, labels_said, label_names}
-use Rattle.tta_printed.proofs.Names.{bytes_self, bytes_apart}
+use Rattle.tta_printed.proofs.Names.{bytes_apart}
+use Rattle.tta_list.proofs.Tests.{or_false as none_of_both}
+use Rattle.tta_list.proofs.Lists.{same_bytes as bytes_self}
 
 -- how many steps stand among lines
 abbrev pub steps_in : List Said → ℕ
@@ -23,10 +25,6 @@ steps_of_both (x ∷ xs) ys = by (label_in x.1) (steps_of_both xs ys) where
       → option_map_or (λ name. steps_in (xs ++ ys)) o (suc (steps_in (xs ++ ys))) ≡ option_map_or (λ name. steps_in xs) o (suc (steps_in xs)) + steps_in ys
   by None rest = omega arith
   by (Some name) rest = rest
-
-none_of_both : (a b : Bool) → (a || b) ≡ false → (a ≡ false) × (b ≡ false)
-none_of_both true b e = cc
-none_of_both false b e = (refl, e)
 
 -- what no label passes, one label does not pass
 not_one : (test : List ℕ → Bool) (line : ℕ) (name : List ℕ) (front back : List Said) → list_any test (label_names (front ++ (line, LabelForm name) ∷ back)) ≡ false

@@ -1,9 +1,7 @@
 -- Lists by what stands at their places.
 use Rattle.std.proofs.Common.{◌≡◌, ◌<◌, ℕ, zero, suc, Bool, List, [], ◌∷◌, Some, true, false, length, refl, sym, ap, ◌∙◌, arith}
 use Rattle.std.specs.Prelude.{◌||◌, slice_get}
-use Rattle.std.specs.List.{list_all, list_any}
-use Rattle.std.proofs.lemmas.Bool.{and_from}
-use Rattle.std.proofs.Math.Bool.{or-true}
+use Rattle.std.specs.List.{list_any}
 
 -- an element of a list, by its place
 pub record Stands {A : Type 0} (xs : List A) (k : ℕ) : Type 0 where
@@ -24,19 +22,6 @@ same_items (x ∷ xs) (y ∷ ys) count each =
     let first : x ≡ y = let e = each zero x refl in cc in
     let rest = same_items xs ys (omega arith) (λ k z there. each (suc k) z there) in
     ap (λ z. z ∷ xs) first ∙ ap (λ zs. y ∷ zs) rest
-
--- a test holds of all elements where it holds of each by its place
-pub all_from_each : {A : Type 0} (test : A → Bool) (xs : List A) → ((k : ℕ) (x : A) → slice_get xs k ≡ Some x → test x ≡ true) → list_all test xs ≡ true
-all_from_each test [] each = refl
-all_from_each test (x ∷ xs) each = and_from (test x) (list_all test xs) (each zero x refl) (all_from_each test xs (λ k y there. each (suc k) y there))
-
--- a test holds of some element where it holds of one at a place
-pub any_from_one : {A : Type 0} (test : A → Bool) (xs : List A) (k : ℕ) (x : A) → slice_get xs k ≡ Some x → test x ≡ true → list_any test xs ≡ true
-any_from_one test [] k x there holds = absurd cc
-any_from_one test (y ∷ ys) zero x there holds =
-    let same : y ≡ x = cc in
-    ap (λ b. b || list_any test ys) (ap test same ∙ holds)
-any_from_one test (y ∷ ys) (suc k) x there holds = ap (λ b. test y || b) (any_from_one test ys k x there holds) ∙ or-true (test y)
 
 -- and where it holds of some, one stands at a place
 pub record Passes {A : Type 0} (test : A → Bool) (xs : List A) : Type 0 where

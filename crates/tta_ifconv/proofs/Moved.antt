@@ -10,9 +10,9 @@ use Rattle.tta_program.specs.Program.{Program}
 use Rattle.tta_program.specs.Sequential.{State, Frame, step_at, holds, operand, enter, carry_out, takes, returns, take_value, assigns, goes_to}
 use Rattle.tta_ifconv.specs.Triangles.{names, is_triangle, is_dropped, place, joined, renumbered}
 use Rattle.tta_ifconv.specs.Converted.{Converted}
-use Rattle.tta_ifconv.proofs.Lists.{any_from_one}
 use Rattle.tta_ifconv.proofs.Places.{target_stays, next_stays, no_triangle, place_next}
 use Rattle.tta_ifconv.proofs.Pairs.{steps_in, step_there, vars_there, step_of_proc}
+use Rattle.tta_list.proofs.Lists.{any_there as any_from_one}
 
 module _ (p : Program) where
   -- a call at the number of its step

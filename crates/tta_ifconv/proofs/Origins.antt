@@ -11,8 +11,9 @@ use Rattle.tta_program.specs.declared.step.Step.TheVariants.{Copy, Apply, Load, 
 use Rattle.tta_program.specs.declared.program.Proc.{Proc}
 use Rattle.tta_ifconv.specs.Triangles.{names, is_target, skips, is_copy, is_triangle, is_dropped, place, joined, renumbered, becomes, opposite}
 use Rattle.tta_ifconv.specs.Converted.{IsConverted}
-use Rattle.tta_ifconv.proofs.Lists.{stands_within, any_from_one, one_from_any}
+use Rattle.tta_ifconv.proofs.Lists.{stands_within, one_from_any}
 use Rattle.tta_ifconv.proofs.Places.{triangle_of, target_stays, other_stays, next_stays, no_triangle, place_next, place_once, numbered, triangle_drops}
+use Rattle.tta_list.proofs.Lists.{any_there as any_from_one}
 
 -- the branch of a triangle becomes a copy under the opposite condition, and each other step the same with a new target
 pub data Kind (steps : List Step) (i : ℕ) (step : Step) : Type 0 where

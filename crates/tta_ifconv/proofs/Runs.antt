@@ -5,9 +5,10 @@ use Rattle.tta_program.specs.Program.{Program}
 use Rattle.tta_program.specs.Sequential.{seq, start, next, enter}
 use Rattle.tta_ifconv.specs.Converted.{Converted}
 use Rattle.tta_ifconv.specs.Statement.{IsPrefixOf, has_ended, RunAlike}
-use Rattle.tta_ifconv.proofs.Growing.{iterate-add, later-output, later-end}
+use Rattle.tta_ifconv.proofs.Growing.{later-output, later-end}
 use Rattle.tta_ifconv.proofs.Moved.{moved, Stands, enter_moved}
 use Rattle.tta_ifconv.proofs.Follows.{follows}
+use Rattle.tta_list.proofs.Iterated.{iterate-add}
 
 module _ (u : Units) (p q : Program) (is : Converted p q) (memory input : List ℕ) where
   -- the converted program after n steps is where the program is after n to 2 n

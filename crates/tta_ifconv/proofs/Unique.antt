@@ -5,7 +5,7 @@ use Rattle.std.specs.List.{list_all, AllByRecursion}
 use Rattle.std.proofs.lemmas.Bool.{and_from}
 use Rattle.std.proofs.lemmas.Option.{slice_get_within}
 use Rattle.tta_list.specs.Legs.{AllPairs}
-use Rattle.tta_list.proofs.Lists.{list_all_one}
+use Rattle.tta_list.proofs.Lists.{list_all_one, all_from as all_from_each}
 use Rattle.tta_list.proofs.Tests.{and_left, and_right}
 use Rattle.tta_ops.specs.Units.{Units}
 use Rattle.tta_program.specs.declared.operand.Rel.{Rel}
@@ -18,7 +18,7 @@ use Rattle.tta_program.specs.Rules.{IsProgram, IsProc}
 use Rattle.tta_program.specs.Over.{StandsOver, is_over, has_test}
 use Rattle.tta_ifconv.specs.Triangles.{opposite, is_triangle, place, renumbered, becomes}
 use Rattle.tta_ifconv.specs.Converted.{IsConverted, Converted, HasNoTriangle}
-use Rattle.tta_ifconv.proofs.Lists.{stands_within, same_items, all_from_each}
+use Rattle.tta_ifconv.proofs.Lists.{stands_within, same_items}
 use Rattle.tta_ifconv.proofs.Places.{numbered}
 use Rattle.tta_ifconv.proofs.Pairs.{BothAt, Neither, Both, both_at}
 use Rattle.tta_ifconv.proofs.Origins.{Kind, Joined, Renumbered, kind_of, origin_of, none_left}

@@ -1,5 +1,5 @@
 -- What a code decodes to is what has the code.
-use Rattle.std.proofs.Common.{◌≡◌, ℕ, zero, suc, ◌+◌, ◌-◌, ◌==◌, Bool, true, false, not, ◌&&◌, if◌then◌else◌, List, [], ◌∷◌, filter, get_or, slice_get, Option, Some, None, option_map, refl, sym, ap, ◌∙◌, arith}
+use Rattle.std.proofs.Common.{◌≡◌, ℕ, zero, suc, ◌+◌, ◌-◌, ◌==◌, Bool, true, false, not, if◌then◌else◌, List, [], ◌∷◌, filter, get_or, slice_get, Option, Some, None, option_map, refl, sym, ap, ◌∙◌, arith}
 use Rattle.std.specs.List.{list_any, position_or_len}
 use Rattle.std.proofs.lemmas.Bool.{and_parts, and_from, or_left, or_right, eqb-true, eq-eqb, not-true, both_ways, false_from_ne_true}
 use Rattle.std.proofs.lemmas.Option.{none-some, same_Some, slice_get-get_or}
@@ -10,7 +10,7 @@ use Rattle.tta_arch.specs.declared.ends.Source.{Source}
 use Rattle.tta_arch.specs.declared.ends.Source.TheVariants as source
 use Rattle.tta_arch.specs.declared.ends.Dest.{Dest}
 use Rattle.tta_arch.specs.Machine.{Machine}
-use Rattle.tta_arch.specs.Joins.{is_same, is_same_guard, is_dest_on, has_guard}
+use Rattle.tta_arch.specs.Joins.{is_same_guard, is_dest_on, has_guard}
 use Rattle.tta_arch.specs.Fields.{guards_on, sources_on, dests_on, same_source, same_dest, source_code, dest_code, guard_code}
 use Rattle.tta_arch.specs.Layout.{fields_of, has_source_socket}
 use Rattle.tta_arch.specs.Rules.{IsMachine, same_guard, are_different}
@@ -19,7 +19,8 @@ use Rattle.tta_image.specs.Ranks.{source_rank, dest_rank}
 use Rattle.tta_image.proofs.Places.{place_inside}
 use Rattle.tta_image.proofs.Rising.{rising-position, rising-rank}
 use Rattle.tta_image.proofs.EndRanks.{sources_on-rise, dests_on-rise}
-use Rattle.tta_image.proofs.EndsLemmas.{same_source_true, same_source_itself, same_dest_true, same_dest_itself, same_guard_true, source_kept, dest_kept, guard_kept}
+use Rattle.tta_image.proofs.EndsLemmas.{same_source_true, same_source_itself, same_dest_true, same_dest_itself, source_kept, dest_kept, guard_kept}
+use Rattle.tta_arch.proofs.Guards.{same_guard as same_guard_true, same_guard_itself}
 
 -- ---- sources and destinations
 
@@ -84,14 +85,6 @@ kept_any p q (y ∷ ys) k x at pass = by (p y) refl k at (λ j e. kept_any p q y
   by true is zero e later = or_left (q y) (list_any q ys) (ap q (same_Some y x (rw is at e)) ∙ pass)
   by true is (suc j) e later = or_right (q y) (list_any q ys) (later j (rw is at e))
   by false is j e later = or_right (q y) (list_any q ys) (later j (rw is at e))
-
-same_guard_itself : (a : GuardRef) → is_same_guard a a ≡ true
-same_guard_itself a =
-    and_from (a.file == a.file && a.index == a.index) (is_same a.inverted a.inverted)
-    (and_from (a.file == a.file) (a.index == a.index) (eq-eqb a.file a.file refl) (eq-eqb a.index a.index refl)) (alike a.inverted) where
-      alike : (b : Bool) → is_same b b ≡ true
-      alike true = refl
-      alike false = refl
 
 -- whether a guard is written for this bus
 abbrev of_bus : ℕ → Guard → Bool

@@ -10,10 +10,11 @@ use Rattle.tta_arch.specs.declared.ends.Source.TheVariants as source
 use Rattle.tta_arch.specs.declared.ends.Dest.{Dest}
 use Rattle.tta_arch.specs.declared.ends.Dest.TheVariants as dest
 use Rattle.tta_arch.specs.Machine.{Machine}
-use Rattle.tta_arch.specs.Joins.{within, has_socket, is_same, is_same_guard, is_source_on, is_dest_on, has_guard}
+use Rattle.tta_arch.specs.Joins.{within, has_socket, is_same_guard, is_source_on, is_dest_on, has_guard}
 use Rattle.tta_arch.specs.Fields.{numbers, all_sources, all_dests, sources_on, dests_on, guards_on, same_source, same_dest, source_code, dest_code, guard_code}
 use Rattle.tta_arch.specs.Layout.{has_source_socket}
 use Rattle.tta_image.proofs.Places.{place_inside, one_item, any_left, any_right, any_kept, any_both, any_pieces, any_numbered}
+use Rattle.tta_arch.proofs.Guards.{same_guard as same_guard_true}
 
 both_eq : (a b c d : ℕ) → (a == b && c == d) ≡ true → (a ≡ b) × (c ≡ d)
 both_eq a b c d h = let p = and_parts (a == b) (c == d) h in (eqb-true a b p.0, eqb-true c d p.1)
@@ -51,22 +52,6 @@ same_dest_itself (dest.Trigger f i) = and_from (f == f) (i == i) (eq-eqb f f ref
 same_dest_itself dest.Jump = refl
 same_dest_itself dest.Call = refl
 same_dest_itself dest.Halt = refl
-
-same_sense : (a b : Bool) → is_same a b ≡ true → a ≡ b
-same_sense true true h = refl
-same_sense true false h = absurd (false≢true h)
-same_sense false true h = absurd (false≢true h)
-same_sense false false h = refl
-
-pub same_guard_true : (a b : GuardRef) → is_same_guard a b ≡ true → a ≡ b
-same_guard_true a b h =
-    let outer = and_parts (a.file == b.file && a.index == b.index) (is_same a.inverted b.inverted) h in
-    let inner = both_eq a.file b.file a.index b.index outer.0 in
-    let sense = same_sense a.inverted b.inverted outer.1 in
-    let file = inner.0 in let index = inner.1 in
-    ap (λ (f : ℕ). let g : GuardRef = record { file = f; index = a.index; inverted = a.inverted } in g) file
-    ∙ ap (λ (i : ℕ). let g : GuardRef = record { file = b.file; index = i; inverted = a.inverted } in g) index
-    ∙ ap (λ (s : Bool). let g : GuardRef = record { file = b.file; index = b.index; inverted = s } in g) sense
 
 -- ---- an end that a bus joins is on the machine's list
 

@@ -6,6 +6,7 @@ use Rattle.std.proofs.lemmas.Option.{none-some, same_Some}
 use Rattle.std.proofs.lemmas.Bool.{false_from_ne_true, le-ltb, lt-ltb, ltb-true, ltb-false}
 use Rattle.tta_image.specs.Ranks.{Rising, IsPlaceOf}
 use Rattle.tta_image.proofs.Rising.{rising-position}
+use Rattle.tta_list.proofs.Lists.{item_at}
 
 ranks_above : {X : Type 0} (rank : X → ℕ) (low high : ℕ) (xs : List X) → Rising rank low xs high → (j : ℕ) (d : X) → j < length xs → low ≤ rank (get_or xs j d)
 ranks_above rank low high [] r j d lt = absurd (omega arith)
@@ -47,11 +48,6 @@ none_sought rank q r low high (suc k) (x ∷ xs) rising only before after not_he
     rw is (omega arith)
 
 -- ---- what a search gives
-
-item_at : {X : Type 0} (xs : List X) (k : ℕ) (x : X) → k < length xs → x ≡ get_or xs k x → slice_get xs k ≡ Some x
-item_at {X = X} [] k x h is = absurd (omega arith)
-item_at {X = X} (y ∷ xs) zero x h is = ap (λ (z : X). Some z) (sym is)
-item_at {X = X} (y ∷ xs) (suc k) x h is = item_at xs k x (omega arith) is
 
 -- the item at the place passes
 pub found : {X : Type 0} (rank : X → ℕ) (q : X → Bool) (r high k : ℕ) (x : X) (xs : List X) → Rising rank 0 xs high → ((y : X) → q y ≡ true → rank y ≡ r)

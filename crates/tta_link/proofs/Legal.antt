@@ -6,19 +6,15 @@ use Rattle.std.specs.Option.{option_map_or}
 use Rattle.std.specs.List.{list_all, range_with_len}
 use Rattle.std.proofs.lemmas.Bool.{cases_lt, and_parts, and_from}
 use Rattle.std.proofs.lemmas.Nat.{pow_pos, pow-add, div_below, le-div}
-use Rattle.std.proofs.Math.Pow.{pow_mono}
-use Rattle.tta_list.proofs.Lists.{list_all_one}
-use Rattle.tta_arch.proofs.Facts.{from_to-least, from_to-greatest, address_most}
 use Rattle.std.proofs.Math.Nat.{div-mul-le_self, mul-le-mul_right}
 use Rattle.std.proofs.lemmas.Bool.Decides.{nat_tests}
 use Rattle.tta_arch.specs.declared.ends.GuardRef.{GuardRef}
 use Rattle.tta_arch.specs.declared.ends.Source.TheVariants as source
 use Rattle.tta_arch.specs.declared.ends.Dest.{Dest}
-use Rattle.tta_arch.specs.declared.parts.Bus.{Bus as MachineBus}
 use Rattle.tta_arch.specs.declared.parts.Template.{Template as Field}
 use Rattle.tta_arch.specs.Machine.{Machine}
-use Rattle.tta_arch.specs.Rules.{IsMachine, are_different, is_bus}
-use Rattle.tta_arch.specs.Joins.{joins, is_source_on, is_dest_on, has_guard, holds_word}
+use Rattle.tta_arch.specs.Rules.{IsMachine, are_different}
+use Rattle.tta_arch.specs.Joins.{joins, is_source_on, is_dest_on, has_guard}
 use Rattle.tta_arch.specs.Legal.{Ends, Slots, ends_of, are_apart, can_move, keeps_taken, is_joined, has_reads, has_writes, all_slots}
 use Rattle.tta_arch.specs.Effects.{first_some, or_else}
 use Rattle.tta_code.specs.declared.code.Long.{Long}
@@ -38,6 +34,7 @@ use Rattle.tta_link.specs.Blocks.{source_within, is_within}
 use Rattle.tta_link.specs.Put.{is_word_in}
 use Rattle.std.proofs.lemmas.List.{length-map}
 use Rattle.tta_link.proofs.Shapes.{shape, shapes, blank_linked, reads_shapes, writes_shapes, apart_shapes, taken_shapes}
+use Rattle.tta_moves.proofs.Addresses.{address_held as smaller_word}
 
 -- ---- a smaller word
 
@@ -79,15 +76,6 @@ smaller_held true short top w least most few le h = elim (cases_lt top p) [
 -- the blocks have addresses of the machine
 pub record AreLow (m : Machine) (blocks : ℕ) (addr : List ℕ) : Type 0 where
   pub low : (k : ℕ) → k < blocks → slice_index addr k < 2 ^ m.control.address
-
-smaller_word : (m : Machine) → IsMachine m → (bus w : ℕ) → w < 2 ^ m.control.address → is_source_on m bus (source.Value (2 ^ m.control.address - 1)) ≡ true → is_source_on m bus (source.Value w) ≡ true
-smaller_word m rules bus w lt h = on (slice_get m.buses bus) refl h where
-  on : (o : Option MachineBus) → slice_get m.buses bus ≡ o → option_map_or (λ b. holds_word b (2 ^ m.control.address - 1)) o false ≡ true → option_map_or (λ b. holds_word b w) o false ≡ true
-  on None e h = absurd cc
-  on (Some b) e h =
-      let is = list_all_one is_bus m.buses bus b rules.buses e in
-      let most : 2 ^ m.control.address ≤ 2 ^ 16 = pow_mono (address_most m rules) in
-      smaller_held b.signed b.short (2 ^ m.control.address - 1) w (from_to-least 1 32 b.short is) (from_to-greatest 1 32 b.short is) (omega arith) (omega arith) h
 
 linked_joins : (m : Machine) → IsMachine m → (blocks : ℕ) (addr : List ℕ) → AreLow m blocks addr → (bus : ℕ) (s : ItemSource) (dst : Dest) (guard : Option GuardRef)
     → source_within blocks s ≡ true → joins m bus (carried m s) dst guard ≡ true → joins m bus (linked addr s) dst guard ≡ true

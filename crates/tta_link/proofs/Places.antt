@@ -3,9 +3,9 @@ use Rattle.std.proofs.Common.{◌≡◌, ℕ, zero, suc, ◌+◌, ◌-◌, ◌<�
 use Rattle.std.specs.Prelude.{slice_get, ◌==◌, ◌&&◌, nat_lt, if◌then◌else◌}
 use Rattle.std.specs.List.{range_with_len, list_all}
 use Rattle.std.proofs.lemmas.List.{drop_more, drop_all, get_or-append-add, length-map}
-use Rattle.std.proofs.lemmas.Bool.{and_parts, and_from}
+use Rattle.std.proofs.lemmas.Bool.{and_parts}
 use Rattle.std.proofs.lemmas.Bool.Decides.{nat_tests}
-use Rattle.tta_list.proofs.Lists.{list_all_one, list_all_changed}
+use Rattle.tta_list.proofs.Lists.{list_all_one, list_all_changed, all_from, item_at as get_some}
 use Rattle.tta_arch.specs.Machine.{Machine}
 use Rattle.tta_arch.specs.Rules.{IsMachine, are_different}
 use Rattle.tta_arch.specs.Legal.{can_move}
@@ -34,10 +34,6 @@ all_get p [] k d all lt = absurd (omega arith)
 all_get p (x ∷ xs) zero d all lt = (and_parts (p x) (list_all p xs) all).0
 all_get p (x ∷ xs) (suc k) d all lt = all_get p xs k d (and_parts (p x) (list_all p xs) all).1 (omega arith)
 
-pub all_from : {A : Type 0} (p : A → Bool) (xs : List A) → ((k : ℕ) (x : A) → slice_get xs k ≡ Some x → p x ≡ true) → list_all p xs ≡ true
-all_from p [] h = refl
-all_from p (x ∷ xs) h = and_from (p x) (list_all p xs) (h 0 x refl) (all_from p xs (λ k y e. h (suc k) y e))
-
 -- what holds of those that pass a test holds of one that does
 filter_one : {A : Type 0} (p q : A → Bool) (xs : List A) (k : ℕ) (x : A) → list_all p (filter q xs) ≡ true → slice_get xs k ≡ Some x → q x ≡ true → p x ≡ true
 filter_one p q [] k x all e t = absurd cc
@@ -50,11 +46,6 @@ filter_one p q (y ∷ ys) (suc k) x all e t = on (q y) all (λ h. filter_one p q
   on : (b : Bool) → list_all p (if b then y ∷ filter q ys else filter q ys) ≡ true → (list_all p (filter q ys) ≡ true → p x ≡ true) → p x ≡ true
   on true all ih = ih (and_parts (p y) (list_all p (filter q ys)) all).1
   on false all ih = ih all
-
-pub get_some : {A : Type 0} (xs : List A) (k : ℕ) (x : A) → k < length xs → x ≡ get_or xs k x → slice_get xs k ≡ Some x
-get_some [] k x lt e = absurd (omega arith)
-get_some (y ∷ ys) zero x lt e = ap Some (sym e)
-get_some (y ∷ ys) (suc k) x lt e = get_some ys k x (omega arith) e
 
 -- ---- each item has its place
 

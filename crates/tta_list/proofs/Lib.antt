@@ -1,2 +1,4 @@
 pub mod Lists
 pub mod Tests
+pub mod Sets
+pub mod Iterated

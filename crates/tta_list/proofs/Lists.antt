@@ -1,11 +1,18 @@
 -- What holds of the elements of a list by their places, of all of them, and of how many, when the list grows or one
 -- element changes.
-use Rattle.std.proofs.Common.{◌≡◌, ◌<◌, ◌+◌, ◌++◌, ◌∷◌, [], ℕ, Bool, List, Some, None, true, false, zero, suc, length, ltb, get_or, refl, sym, ap, subst, arith, ◌∙◌, ◌⊎◌, inl, inr, ⊎_elim}
-use Rattle.std.specs.Prelude.{◌&&◌, slice_get, slice_set, filter, if◌then◌else◌, is_some, nat_lt}
-use Rattle.std.specs.List.{list_all, AllByRecursion}
+use Rattle.std.proofs.Common.{◌≡◌, ◌<◌, ◌+◌, ◌++◌, ◌∷◌, [], ℕ, Bool, List, Some, None, true, false, zero, suc, length, ltb, get_or, refl, sym, ap, subst, arith, ◌∙◌, ◌⊎◌, inl, inr, ⊎_elim, ◌-◌, map, Option, append_assoc, ◌≤◌, drop, take}
+use Rattle.std.specs.Prelude.{◌&&◌, slice_get, slice_set, filter, if◌then◌else◌, is_some, nat_lt, replicate, slice_index}
+use Rattle.std.specs.List.{list_all, AllByRecursion, list_any, sum_by, filter_map, cons_option, range_with_len, flat_map}
 use Rattle.std.proofs.lemmas.Option.{slice_get_past, slice_get_read}
-use Rattle.std.proofs.lemmas.Bool.{ltb-true, ltb-false, and_parts, and_from}
+use Rattle.std.proofs.lemmas.Bool.{ltb-true, ltb-false, and_parts, and_from, or_parts, or_from}
 use Rattle.std.proofs.lemmas.List.Folds.{list_all-append}
+use Rattle.std.specs.Option.{option_map_or}
+use Rattle.std.proofs.lemmas.List.Sums.{sum_by-cons}
+use Rattle.std.proofs.lemmas.List.{length-append, append-nil}
+use Rattle.tta_list.proofs.Tests.{or_false}
+use Rattle.std.proofs.lemmas.Grind.{flat_map-append}
+use Rattle.std.specs.Str.{bytes_eq}
+use Rattle.std.proofs.lemmas.Slice.Eq.{bytes_eq-Decides}
 
 -- ---- elements by their places
 
@@ -128,3 +135,113 @@ count_changed p (x ∷ xs) (suc i) v old e same = by (count_changed p xs i v old
   by : length (filter p (slice_set xs i v)) ≡ length (filter p xs) → (b : Bool) → length (if b then x ∷ filter p (slice_set xs i v) else filter p (slice_set xs i v)) ≡ length (if b then x ∷ filter p xs else filter p xs)
   by later true = ap suc later
   by later false = later
+
+-- the same of a test
+pub all_from : {A : Type 0} (p : A → Bool) (xs : List A) → ((k : ℕ) (x : A) → slice_get xs k ≡ Some x → p x ≡ true) → list_all p xs ≡ true
+all_from p [] each = refl
+all_from p (x ∷ xs) each = and_from (p x) (list_all p xs) (each 0 x refl) (all_from p xs (λ k y e. each (suc k) y e))
+
+pub zeros : (n k : ℕ) → slice_index (replicate n 0) k ≡ 0
+zeros zero k = refl
+zeros (suc n) zero = refl
+zeros (suc n) (suc k) = zeros n k
+
+pub element : {A : Type 0} (xs : List A) (k : ℕ) → k < length xs → (x : A) × (slice_get xs k ≡ Some x)
+element [] k low = absurd (omega arith)
+element (x ∷ xs) zero low = (x, refl)
+element (x ∷ xs) (suc k) low = element xs k (omega arith)
+
+pub any_there : {A : Type 0} (p : A → Bool) (xs : List A) (k : ℕ) (x : A) → slice_get xs k ≡ Some x → p x ≡ true → list_any p xs ≡ true
+any_there p [] k x at is = cc
+any_there p (y ∷ ys) zero x at is = let here : p y ≡ true = ap (λ o. option_map_or p o false) at ∙ is in rw here refl
+any_there p (y ∷ ys) (suc k) x at is = let rest = any_there p ys k x at is in grind (arith, rest)
+
+pub sum_by-map : {X Y : Type 0} (g : Y → ℕ) (f : X → Y) (xs : List X) → sum_by g (map f xs) ≡ sum_by (λ x. g (f x)) xs
+sum_by-map g f [] = refl
+sum_by-map g f (x ∷ xs) = sum_by-cons g (f x) (map f xs) ∙ ap (λ (s : ℕ). g (f x) + s) (sum_by-map g f xs) ∙ sym (sum_by-cons (λ x. g (f x)) x xs)
+
+pub item_behind : {A : Type 0} (xs : List A) (y : A) → slice_get (xs ++ y ∷ []) (length xs) ≡ Some y
+item_behind [] y = refl
+item_behind (x ∷ xs) y = item_behind xs y
+
+pub length_more : {A : Type 0} (xs : List A) (x : A) → length (xs ++ x ∷ []) ≡ length xs + 1
+length_more xs x = length-append xs (x ∷ [])
+
+pub any_none : {A : Type 0} (q : A → Bool) (xs : List A) → list_any q xs ≡ false → AllByRecursion (λ x. q x ≡ false) xs
+any_none q [] h = tt
+any_none q (x ∷ xs) h = let p = or_false (q x) _ h in (p.0, any_none q xs p.1)
+
+pub map_count : {A B : Type 0} (f : A → B) (xs : List A) → length (map f xs) ≡ length xs
+map_count f [] = refl
+map_count f (x ∷ xs) = let e = map_count f xs in omega arith
+
+pub and_both : {A : Type 0} (t : A → Bool) (xs ys : List A) → list_all t xs ≡ true → list_all t ys ≡ true → list_all t (xs ++ ys) ≡ true
+and_both t xs ys a b = list_all-append t xs ys ∙ (rw (a, b) refl)
+
+-- no element that differs from the one that gives p gives one like p
+pub any_filter_map : {A B : Type 0} (same : A → A → Bool) (same' : B → B → Bool) (f : A → Option B) (x : A) (p : B)
+    → ((y : A) (q : B) → f y ≡ Some q → same x y ≡ false → same' p q ≡ false)
+    → (xs : List A) → list_any (same x) xs ≡ false → list_any (same' p) (filter_map f xs) ≡ false
+any_filter_map same same' f x p tells [] none = refl
+any_filter_map same same' f x p tells (y ∷ xs) none =
+    let both = or_parts (same x y) (list_any (same x) xs) none in
+    let rest = any_filter_map same same' f x p tells xs both.1 in
+    elim (f y) as (λ o. f y ≡ o → list_any (same' p) (cons_option o (filter_map f xs)) ≡ false) [
+      | None ↦ λ is. rest
+      | Some q ↦ λ is. or_from (same' p q) (list_any (same' p) (filter_map f xs)) (tells y q is both.0) rest
+    ] refl
+
+-- a piece was put, and then the rest
+pub then_more : (old mid new a rest : List ℕ) → mid ≡ old ++ a → new ≡ mid ++ rest → new ≡ old ++ (a ++ rest)
+then_more old mid new a rest first second = second ∙ ap (λ (t : List ℕ). t ++ rest) first ∙ append_assoc old a rest
+
+-- one number more at the end of others
+pub range_more : (a n j : ℕ) → a + n ≡ j → range_with_len a (n + 1) ≡ range_with_len a n ++ j ∷ []
+range_more a zero j is = let e : a ≡ j = omega arith in ap (λ (x : ℕ). x ∷ []) e
+range_more a (suc n) j is =
+    let e : a + 1 + n ≡ j = omega arith in
+    let s : suc n + 1 ≡ suc (n + 1) = omega arith in
+    ap (range_with_len a) s ∙ ap (λ (xs : List ℕ). a ∷ xs) (range_more (a + 1) n j e)
+
+-- the text of one number more
+pub number_more : (text : ℕ → List ℕ) (old new start : List ℕ) (n : ℕ) → new ≡ old ++ text n
+    → old ≡ start ++ flat_map text (range_with_len 0 n) → new ≡ start ++ flat_map text (range_with_len 0 (n + 1))
+number_more text old new start n more was =
+    let before : List ℕ = flat_map text (range_with_len 0 n) in
+    let end : flat_map text (range_with_len 0 (n + 1)) ≡ before ++ text n =
+    ap (flat_map text) (range_more 0 n n (omega arith)) ∙ flat_map-append text (range_with_len 0 n) (n ∷ [])
+    ∙ ap (λ (t : List ℕ). before ++ t) (append-nil (text n)) in
+    more ∙ ap (λ (t : List ℕ). t ++ text n) was ∙ append_assoc start before (text n) ∙ ap (λ (t : List ℕ). start ++ t) (sym end)
+
+pub past_end : (words : List ℕ) (i : ℕ) → length words ≤ i → get_or words i 0 ≡ 0
+past_end [] i past = refl
+past_end (w ∷ ws) zero past = absurd (omega arith)
+past_end (w ∷ ws) (suc i) past = past_end ws i (omega arith)
+
+pub item_at : {X : Type 0} (xs : List X) (k : ℕ) (x : X) → k < length xs → x ≡ get_or xs k x → slice_get xs k ≡ Some x
+item_at {X = X} [] k x h is = absurd (omega arith)
+item_at {X = X} (y ∷ xs) zero x h is = ap (λ (z : X). Some z) (sym is)
+item_at {X = X} (y ∷ xs) (suc k) x h is = item_at xs k x (omega arith) is
+
+-- what stands at a place begins the rest of the list
+pub drop-there : {A : Type 0} (xs : List A) (k : ℕ) (x : A) → slice_get xs k ≡ Some x → drop k xs ≡ x ∷ drop (k + 1) xs
+drop-there [] k x is = cc
+drop-there (y ∷ ys) zero x is =
+    let same : y ≡ x = cc in
+    rw same refl
+drop-there (y ∷ ys) (suc k) x is =
+    let e : suc k + 1 ≡ suc (k + 1) = omega arith in
+    rw e (drop-there ys k x is)
+
+pub length_ones : {A : Type 0} (xs : List A) → length xs ≡ sum_by (λ x. 1) xs
+length_ones [] = refl
+length_ones (x ∷ xs) = let ih = length_ones xs in let e : sum_by (λ x. 1) (x ∷ xs) ≡ 1 + sum_by (λ x. 1) xs = sum_by-cons (λ x. 1) x xs in omega (arith, ih, e)
+
+pub same_bytes : (n : List ℕ) → bytes_eq n n ≡ true
+same_bytes n = (bytes_eq-Decides n n).1 refl
+
+-- a prefix with one item more
+pub take_one_more : {A : Type 0} (xs : List A) (k : ℕ) (x : A) → slice_get xs k ≡ Some x → take (suc k) xs ≡ take k xs ++ x ∷ []
+take_one_more [] k x e = cc
+take_one_more (y ∷ ys) zero x e = let same : y ≡ x = cc in rw same refl
+take_one_more (y ∷ ys) (suc k) x e = ap (λ l. y ∷ l) (take_one_more ys k x e)

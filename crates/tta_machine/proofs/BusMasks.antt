@@ -5,7 +5,6 @@ use Rattle.std.specs.Prelude.{◌==◌, ◌&&◌, ◌||◌, if◌then◌else◌,
 use Rattle.std.specs.List.{list_any}
 use Rattle.std.proofs.lemmas.List.Folds.{list_any-append}
 use Rattle.std.proofs.lemmas.Bool.{and_parts, not-true, eqb-true, eqb-false}
-use Rattle.std.proofs.lemmas.Bool.Decides.{nat_tests}
 use Rattle.std.proofs.lemmas.Nat.{or_disjoint, and_or_self, and_or_apart, pow_apart, pow_pos}
 use Rattle.std.proofs.lemmas.List.{map-append, map_more, drop_more, take-append-drop}
 use Rattle.tta_reading.specs.Steps.{◌>>?◌}
@@ -16,6 +15,7 @@ use Rattle.tta_arch.specs.Rules.{are_different}
 use Rattle.tta_machine.specs.Draft.{bus_named}
 use Rattle.tta_machine.specs.Declarations.{bus_set, buses_named}
 use Rattle.tta_machine.specs.BusSets.{set_once}
+use Rattle.tta_list.proofs.Tests.{same_back}
 
 -- ---- sets
 
@@ -61,10 +61,6 @@ has_bus (x ∷ xs) y e =
 bus_set-push : (xs : List ℕ) (y : ℕ) → bus_set (xs ++ y ∷ []) ≡ bus_set xs + 2 ^ y
 bus_set-push [] y = add_comm (2 ^ y) 0
 bus_set-push (x ∷ xs) y = ap (λ n. 2 ^ x + n) (bus_set-push xs y) ∙ sym (add_assoc (2 ^ x) (bus_set xs) (2 ^ y))
-
--- such a test does not depend on the order of the two
-same_back : (x y : ℕ) → (x == y) ≡ (y == x)
-same_back x y = grind (arith, nat_tests)
 
 -- how the tests of one bus more come together
 bools : (among rest same other : Bool)

@@ -22,11 +22,9 @@ use Rattle.tta_machine.specs.Grammar.{place_of}
 use Rattle.tta_machine.proofs.Distinct.{different_parts}
 use Rattle.tta_machine.proofs.LookedUp.{bus_named-some, socket_named-some, file_named-some, imm_named-some}
 use Rattle.tta_machine.proofs.Borne.{AreBorne}
+use Rattle.tta_list.proofs.Lists.{same_bytes}
 
 -- ---- one list
-
-same_bytes : (n : List ℕ) → bytes_eq n n ≡ true
-same_bytes n = (bytes_eq-Decides n n).1 refl
 
 -- among different names, the place of a name is where it stands
 place_at : (names : List (List ℕ)) (n : List ℕ) (k : ℕ) → are_different bytes_eq names ≡ true → slice_get names k ≡ Some n → place_of names n ≡ k

@@ -8,7 +8,8 @@ use Rattle.tta_moves.specs.declared.items.Item.{Item}
 use Rattle.tta_moves.specs.declared.items.PlacedItem.{PlacedItem}
 use Rattle.tta_moves.specs.Touches.{is_control}
 use Rattle.tta_moves.specs.Bounds.{Spot, At, Started, same_spot, Touch, reads_by, writes_by, from_moment, behind, lasts, over_before, bound, least}
-use Rattle.tta_moves.proofs.Places.{same_is, same_self}
+use Rattle.tta_moves.proofs.Places.{same_self}
+use Rattle.tta_arch.proofs.Places.{same_is}
 
 pub spot_is : (p q : Spot) → same_spot p q ≡ true → p ≡ q
 spot_is (At p) (At q) e = ap At (same_is p q e)

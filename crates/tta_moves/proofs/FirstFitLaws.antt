@@ -7,7 +7,7 @@ use Rattle.std.proofs.lemmas.List.{take_all}
 use Rattle.std.proofs.lemmas.List.Elements.{filter-append}
 use Rattle.std.proofs.lemmas.Option.{slice_get-get_or}
 use Rattle.tta_arch.specs.Machine.{Machine}
-use Rattle.tta_arch.specs.Legal.{Ends, Slots, ends_of, all_slots, all_below, keeps_taken, is_joined, has_reads, has_writes, are_apart, can_move, reads_file, reads_imm, writes_file}
+use Rattle.tta_arch.specs.Legal.{Ends, Slots, ends_of, all_slots, keeps_taken, is_joined, has_reads, has_writes, are_apart, can_move, reads_file, reads_imm, writes_file}
 use Rattle.tta_moves.specs.declared.items.Item.{Item}
 use Rattle.tta_moves.specs.declared.items.PlacedItem.{PlacedItem}
 use Rattle.tta_moves.specs.declared.items.Placed.{Placed}
@@ -15,6 +15,7 @@ use Rattle.tta_moves.specs.Slots.{fits_cycle}
 use Rattle.tta_moves.specs.Bounds.{Respects, in_cycle}
 use Rattle.tta_moves.specs.FirstFit.{FitsFirst, IsFirstFit}
 use Rattle.tta_moves.proofs.Places.{either}
+use Rattle.tta_arch.proofs.Below.{all_below-true as below_all}
 
 -- ---- a cycle without items
 
@@ -36,10 +37,6 @@ idle_slots : (test : ℕ → Option Ends → Bool) (bus : ℕ) (ns : List ℕ) �
 unfolding idle
 idle_slots test bus [] h = refl
 idle_slots test bus (n ∷ ns) h = and_from (test bus None) _ (h bus) (idle_slots test (bus + 1) ns h)
-
-below_all : (test : ℕ → Bool) (n : ℕ) → ((k : ℕ) → test k ≡ true) → all_below test n ≡ true
-below_all test zero h = refl
-below_all test (suc n) h = and_from (test n) (all_below test n) (h n) (below_all test n h)
 
 none_counts : (p : Ends → Bool) (vs : List Ends) (limit : ℕ) → vs ≡ [] → nat_le (count_by p vs) limit ≡ true
 none_counts p vs limit e = rw e (le-leb 0 limit (omega arith))

@@ -1,9 +1,9 @@
 -- The places that the items of a list touch are places of the machine, and their numbers differ.
 use Rattle.std.proofs.Common.{◌≡◌, ℕ, zero, suc, ◌+◌, ◌<◌, ◌≤◌, Bool, true, false, List, [], ◌∷◌, length, Option, Some, None, refl, sym, ap, subst, arith, ◌∙◌}
-use Rattle.std.specs.Prelude.{◌&&◌, ◌||◌, ◌==◌, nat_lt, nat_le, slice_get, option_and_then, if◌then◌else◌}
+use Rattle.std.specs.Prelude.{◌&&◌, ◌||◌, ◌==◌, nat_lt, slice_get, option_and_then, if◌then◌else◌}
 use Rattle.std.specs.Option.{option_map_or}
 use Rattle.std.specs.List.{list_any, list_all, range_with_len}
-use Rattle.std.proofs.lemmas.Bool.{and_from, and_parts, ltb-true, leb-true, lt-ltb}
+use Rattle.std.proofs.lemmas.Bool.{and_from, and_parts, ltb-true, lt-ltb}
 use Rattle.std.proofs.lemmas.Bool.Decides.{nat_tests}
 use Rattle.std.proofs.lemmas.Option.{slice_get_within}
 use Rattle.tta_list.proofs.Lists.{list_all_one}
@@ -31,6 +31,7 @@ use Rattle.tta_moves.specs.declared.items.Item.TheVariants.{Move, Long}
 use Rattle.tta_moves.specs.Touches.{guard_of, source_of, target_of_item, place_of, place_of_source, guard_place, place_written}
 use Rattle.tta_moves.specs.Numbers.{place_number, is_place}
 use Rattle.tta_moves.specs.Slots.{carried, fills, has_slot}
+use Rattle.tta_arch.proofs.Facts.{from_to-greatest as from_to}
 
 -- ---- numbers
 
@@ -74,9 +75,6 @@ number_below (KeptPort u) h = grind (arith, nat_tests)
 -- a number below a limit, by one below a lower one
 below : (n k limit : ℕ) → n < k → k ≤ limit → nat_lt n limit ≡ true
 below n k limit h le = lt-ltb n limit (omega arith)
-
-from_to : (low high n : ℕ) → is_from_to low high n ≡ true → n ≤ high
-from_to low high n h = leb-true n high (and_parts (nat_le low n) (nat_le n high) h).1
 
 file_size : (m : Machine) → IsMachine m → (file : ℕ) (f : File) → slice_get m.files file ≡ Some f → f.size ≤ 64
 file_size m rules file f e =
@@ -127,7 +125,7 @@ part_is (Some q) socket k e = (q, refl)
 
 -- ---- the ends of a move that some bus joins
 
-some_bus : (p : ℕ → Bool) (a n : ℕ) → list_any p (range_with_len a n) ≡ true → (k : ℕ) × (p k ≡ true)
+pub some_bus : (p : ℕ → Bool) (a n : ℕ) → list_any p (range_with_len a n) ≡ true → (k : ℕ) × (p k ≡ true)
 some_bus p a zero h = absurd cc
 some_bus p a (suc n) h = on (p a) refl h (λ more. some_bus p (a + 1) n more) where
   on : (b : Bool) → p a ≡ b → (b || list_any p (range_with_len (a + 1) n)) ≡ true → (list_any p (range_with_len (a + 1) n) ≡ true → (k : ℕ) × (p k ≡ true)) → (k : ℕ) × (p k ≡ true)

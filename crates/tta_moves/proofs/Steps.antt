@@ -19,12 +19,12 @@ pub record SameReads (e : Effect) (vs ws : Written) : Type 0 where
   pub source : read_held vs e.src ≡ read_held ws e.src
   pub operand : (unit : ℕ) → kept vs (KeptOperand unit) ≡ kept ws (KeptOperand unit)
 
-active_by : (o : Option GuardRef) (vs ws : Written) → ((g : GuardRef) → o ≡ Some g → kept vs (guard_place g) ≡ kept ws (guard_place g))
+pub active_by : (o : Option GuardRef) (vs ws : Written) → ((g : GuardRef) → o ≡ Some g → kept vs (guard_place g) ≡ kept ws (guard_place g))
     → option_map_or (λ g. option_map_or (passes g) (guard_word (read_held vs) g) false) o true ≡ option_map_or (λ g. option_map_or (passes g) (guard_word (read_held ws) g) false) o true
 active_by None vs ws h = refl
 active_by (Some g) vs ws h = ap (λ q. option_map_or (passes g) q false) (h g refl)
 
-unset_by : (o : Option GuardRef) (vs ws : Written) → ((g : GuardRef) → o ≡ Some g → kept vs (guard_place g) ≡ kept ws (guard_place g))
+pub unset_by : (o : Option GuardRef) (vs ws : Written) → ((g : GuardRef) → o ≡ Some g → kept vs (guard_place g) ≡ kept ws (guard_place g))
     → option_map_or (λ g. is_none (guard_word (read_held vs) g)) o false ≡ option_map_or (λ g. is_none (guard_word (read_held ws) g)) o false
 unset_by None vs ws h = refl
 unset_by (Some g) vs ws h = ap (λ q. is_none q) (h g refl)

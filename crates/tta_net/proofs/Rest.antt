@@ -1,5 +1,5 @@
 -- Rounds that stop by themselves leave the cores at rest, where none is at a fault.
-use Rattle.std.proofs.Common.{◌≡◌, ◌⊎◌, inl, inr, ℕ, zero, suc, ◌+◌, ◌≤◌, ◌<◌, ◌==◌, ◌||◌, Bool, true, false, List, [], ◌∷◌, ◌++◌, length, map, Option, Some, None, refl, sym, ap, subst, ◌∙◌, arith}
+use Rattle.std.proofs.Common.{◌≡◌, ◌⊎◌, inl, inr, ℕ, zero, suc, ◌+◌, ◌≤◌, ◌<◌, ◌==◌, ◌||◌, true, false, List, [], ◌∷◌, ◌++◌, length, map, Option, Some, None, refl, sym, ap, subst, ◌∙◌, arith}
 use Rattle.std.specs.Prelude.{slice_get, slice_set, zip}
 use Rattle.std.specs.Option.{option_map_or}
 use Rattle.std.specs.List.{list_any}
@@ -16,18 +16,13 @@ use Rattle.tta_net.specs.declared.turn.Turn.{Turn}
 use Rattle.tta_net.specs.Clusters.{fault_at}
 use Rattle.tta_net.specs.Rounds.{numbers, steps_in, after_rounds, HasEnded}
 use Rattle.tta_net.specs.Laws.{RoundsRest}
-use Rattle.tta_net.proofs.Rounding.{length_set}
 use Rattle.tta_net.proofs.Running.{round_more}
-use Rattle.tta_net.proofs.FirstCluster.{from_map, from_zip, length_map}
+use Rattle.tta_net.proofs.FirstCluster.{from_zip}
 use Rattle.tta_net.proofs.Resting.{KeepNone, all_keep, rests}
-
-or_right : (a b : Bool) → b ≡ true → (a || b) ≡ true
-or_right true b e = refl
-or_right false b e = e
-
-or_left : (a b : Bool) → a ≡ true → (a || b) ≡ true
-or_left true b e = refl
-or_left false b e = absurd (let odd : false ≡ true = e in cc)
+use Rattle.tta_cores.proofs.Pairs.{made_from as from_map}
+use Rattle.tta_list.proofs.Tests.{or_true as or_right, or_left}
+use Rattle.tta_list.proofs.Sets.{set_count as length_set}
+use Rattle.tta_list.proofs.Lists.{map_count as length_map}
 
 -- the number of each core is among theirs
 numbers_have : (n k : ℕ) → k < n → list_any (λ x. x == k) (numbers n) ≡ true

@@ -1,8 +1,7 @@
 -- What the files of cores give, one core after another.
 use Rattle.std.proofs.Common.{◌≡◌, inl, inr, ⊎_elim, ℕ, zero, suc, ◌+◌, ◌<◌, List, [], ◌∷◌, ◌++◌, length, Some, refl, sym, ap, subst, ◌∙◌, arith}
 use Rattle.std.specs.Prelude.{slice_get}
-use Rattle.std.proofs.lemmas.List.{length-append}
-use Rattle.tta_list.proofs.Lists.{slice_get-push}
+use Rattle.tta_list.proofs.Lists.{slice_get-push, length_more}
 use Rattle.tta_ports.specs.World.{World, IsUntouched}
 use Rattle.tta_ports.proofs.Worlds.{same_world}
 use Rattle.tta_ops.specs.Units.{Units}
@@ -97,9 +96,6 @@ both_more {A} {B} P xs ys same each x y last k p q at there =
     within [] i z is = absurd cc
     within (w ∷ zs) zero z is = omega arith
     within (w ∷ zs) (suc i) z is = omega (arith, within zs i z is)
-
-length_more : {A : Type 0} (xs : List A) (x : A) → length (xs ++ x ∷ []) ≡ length xs + 1
-length_more xs x = length-append xs (x ∷ [])
 
 -- one more is
 pub one_more_taken : (u : Units) (names : List (List ℕ)) (before now after : World) (cores : List Core) (memories : List (List ℕ)) (k : ℕ) (core : Core) (memory : List ℕ)

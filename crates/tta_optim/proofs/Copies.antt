@@ -14,10 +14,12 @@ use Rattle.tta_moves.specs.declared.items.ItemSource.{ItemSource}
 use Rattle.tta_moves.specs.declared.items.ItemSource.TheVariants.{Port, Address}
 use Rattle.tta_moves.specs.declared.items.Item.{Item}
 use Rattle.tta_moves.specs.Touches.{guard_of, source_of, target_of_item, place_of, place_of_source, place_written, is_at, writes}
-use Rattle.tta_moves.specs.Meaning.{Held, is_waiting, linked, effect_of, read_held, does, lacks, does_all, means}
+use Rattle.tta_moves.specs.Meaning.{Held, is_waiting, linked, effect_of, read_held, does, lacks, means}
 use Rattle.tta_moves.specs.Forms.{sure_source, unless_written, copied}
-use Rattle.tta_moves.proofs.Places.{same_is, same_self}
+use Rattle.tta_moves.proofs.Places.{same_self}
 use Rattle.tta_moves.proofs.Steps.{write_at_once, step_write, does_written, kept_other}
+use Rattle.tta_arch.proofs.Places.{same_is}
+use Rattle.tta_list.proofs.Tests.{offered as some_word}
 
 -- a place that keeps a whole word as it was moved: a register that is not of one bit, or an operand port
 abbrev pub is_whole : Machine → Place → Bool
@@ -61,9 +63,6 @@ read_top p v ws (source.Value w) e = e
 -- ---- an effect without a guard that writes a whole place
 
 -- it takes a word, since it lacks none
-some_word : (o : Option ℕ) → is_none o ≡ false → (w : ℕ) × (o ≡ Some w)
-some_word None e = absurd cc
-some_word (Some w) e = (w, refl)
 
 pub sure_word : (m : Machine) (h : Held) (e : Effect) → e.guard ≡ None → lacks m h e ≡ false → (w : ℕ) × (read_held h.written e.src ≡ Some w)
 unfolding lacks
@@ -115,13 +114,13 @@ sure_write u m back h e p w runs sure is whole at = rw (runs, brings h e w sure 
 
 -- ---- one item more
 
-guard_none : (x : Item) (s : ItemSource) → sure_source x ≡ Some s → (guard_of x ≡ None) × (source_of x ≡ s)
+pub guard_none : (x : Item) (s : ItemSource) → sure_source x ≡ Some s → (guard_of x ≡ None) × (source_of x ≡ s)
 guard_none x s e = on (guard_of x) refl e where
   on : (g : Option GuardRef) → guard_of x ≡ g → (if is_none g then Some (source_of x) else None) ≡ Some s → (guard_of x ≡ None) × (source_of x ≡ s)
   on None r e = (r, cc)
   on (Some g) r e = absurd cc
 
-was_copied : (m : Machine) (x : Item) (o : Option ItemSource) (s : ItemSource) → unless_written m x o ≡ Some s
+pub was_copied : (m : Machine) (x : Item) (o : Option ItemSource) (s : ItemSource) → unless_written m x o ≡ Some s
     → (o ≡ Some s) × (option_map_or (λ q. writes m q x) (place_of_source s) false ≡ false)
 was_copied m x None s e = absurd cc
 was_copied m x (Some r) s e = on (option_map_or (λ q. writes m q x) (place_of_source r) false) refl e where
@@ -162,11 +161,6 @@ pub stuck_means : (u : Units) (m : Machine) (back : ℕ) (h : Held) (es : List E
 unfolding does
 stuck_means u m back h [] waits = refl
 stuck_means u m back h (e ∷ es) waits = rw waits (stuck_means u m back h es waits)
-
-pub stuck_all : (u : Units) (m : Machine) (back : ℕ) (h : Held) (es : List Effect) → is_waiting h.exit ≡ true → does_all u m back h es ≡ h
-unfolding does
-stuck_all u m back h [] waits = refl
-stuck_all u m back h (e ∷ es) waits = rw waits (stuck_all u m back h es waits)
 
 -- a list with a meaning that does not wait: its first effect lacks nothing, and the others have a meaning after it
 pub first_means : (u : Units) (m : Machine) (back : ℕ) (h : Held) (e : Effect) (es : List Effect) → is_waiting h.exit ≡ false → means u m back h (e ∷ es) ≡ true

@@ -16,11 +16,13 @@ use Rattle.tta_moves.specs.Touches.{guard_of, source_of, target_of_item, place_o
 use Rattle.tta_moves.specs.Meaning.{Held, is_waiting, linked, effect_of, read_held, does, lacks, does_all, means}
 use Rattle.tta_moves.specs.Runs.{lives}
 use Rattle.tta_moves.specs.Forms.{is_wanted, register_of, is_dead, is_lively}
-use Rattle.tta_moves.proofs.Places.{either, same_is, same_self, kept_on_both, kept_there}
+use Rattle.tta_moves.proofs.Places.{either, same_self, kept_on_both, kept_there}
 use Rattle.tta_moves.proofs.Steps.{SameReads, step_write, write_at_once, does_same, does_written, same_lacks, kept_other}
 use Rattle.tta_optim.specs.Passes.{dead_items}
-use Rattle.tta_optim.proofs.Copies.{stuck_means, stuck_all, first_means, sure_word, brings}
+use Rattle.tta_optim.proofs.Copies.{stuck_means, first_means, sure_word, brings}
 use Rattle.tta_optim.proofs.Alone.{is_quiet, only_writes}
+use Rattle.tta_arch.proofs.Places.{same_is}
+use Rattle.tta_moves.proofs.Copies.{stuck_all}
 
 -- ---- the places that have to agree
 
@@ -100,7 +102,7 @@ sure_top u m back h e p w runs sure is register at =
       on (Control Calls) at = ((KeptRa, back), refl, at)
       on (Control Halts) at = absurd cc
 
-guard_of_sure : (x : Item) → is_unguarded x ≡ true → guard_of x ≡ None
+pub guard_of_sure : (x : Item) → is_unguarded x ≡ true → guard_of x ≡ None
 guard_of_sure x e = on (guard_of x) e where
   on : (g : Option GuardRef) → is_none g ≡ true → g ≡ None
   on None e = refl

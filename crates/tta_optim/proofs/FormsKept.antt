@@ -16,11 +16,13 @@ use Rattle.tta_moves.specs.declared.items.Item.TheVariants.{Move, Long}
 use Rattle.tta_moves.specs.Touches.{source_of, target_of_item, place_of_source, is_at, reads, writes, is_unguarded}
 use Rattle.tta_moves.specs.Slots.{joined}
 use Rattle.tta_moves.specs.Forms.{none_after, sure_source, unless_written, copied, is_port_source, is_wide_file, shown_in_place_of, is_bypassable, same_source, is_redundant, is_wanted, is_dead, is_passing, trail, is_detour, is_straight}
-use Rattle.tta_moves.proofs.Places.{either, same_is, same_self}
+use Rattle.tta_moves.proofs.Places.{either, same_self}
 use Rattle.tta_optim.specs.Passes.{dead_items}
 use Rattle.tta_optim.proofs.Bypassing.{port_is}
 use Rattle.tta_optim.proofs.Sharing.{source_itself, redundant_is}
 use Rattle.tta_optim.proofs.DeadWrites.{is_other, dead_is, quiet_by, written_by}
+use Rattle.tta_optim.proofs.Copies.{was_copied as unless_is}
+use Rattle.tta_arch.proofs.Places.{same_is}
 
 -- ---- the items before, after a pass that drops some
 
@@ -52,15 +54,6 @@ source_lasts m live x behind q e =
 
 away_is : (m : Machine) (x : Item) (s : ItemSource) (q : Place) → option_map_or (λ p. writes m p x) (place_of_source s) false ≡ false → place_of_source s ≡ Some q → writes m q x ≡ false
 away_is m x s q away e = rw e at away
-
-unless_is : (m : Machine) (x : Item) (o : Option ItemSource) (s : ItemSource) → unless_written m x o ≡ Some s
-    → (o ≡ Some s) × (option_map_or (λ q. writes m q x) (place_of_source s) false ≡ false)
-unless_is m x None s e = absurd cc
-unless_is m x (Some r) s e = on (option_map_or (λ q. writes m q x) (place_of_source r) false) refl e where
-  on : (b : Bool) → option_map_or (λ q. writes m q x) (place_of_source r) false ≡ b → (if b then None else Some r) ≡ Some s
-      → (◌≡◌ {A = Option ItemSource} (Some r) (Some s)) × (option_map_or (λ q. writes m q x) (place_of_source s) false ≡ false)
-  on true f e = absurd cc
-  on false f e = let same : r ≡ s = cc in (e, subst (λ t. option_map_or (λ q. writes m q x) (place_of_source t) false ≡ false) same f)
 
 unless_from : (m : Machine) (x : Item) (o : Option ItemSource) (s : ItemSource) → o ≡ Some s → option_map_or (λ q. writes m q x) (place_of_source s) false ≡ false → unless_written m x o ≡ Some s
 unless_from m x o s e away = rw e (rw away refl)

@@ -9,7 +9,7 @@ use Rattle.tta_arch.specs.Machine.{Machine}
 use Rattle.tta_arch.specs.Effects.{Effect, moved, bring, Start, start_of, operand_word, store_frame}
 use Rattle.tta_moves.specs.Meaning.{Waits, is_waiting, Held, read_held, acts, waits_for, arrives, does, does_all}
 
-store_long : (w : List ℕ) (s : Start) (o : Op) → s.does.op ≡ o → length (store_frame w s) ≡ length w
+pub store_long : (w : List ℕ) (s : Start) (o : Op) → s.does.op ≡ o → length (store_frame w s) ≡ length w
 store_long w s Ldw is = rw is refl
 store_long w s Stw is = rw is refl
 store_long w s Ldf is = rw is refl

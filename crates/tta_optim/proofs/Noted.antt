@@ -1,5 +1,5 @@
 -- The notes on the way down a list say which source's word a place still has.
-use Rattle.std.proofs.Common.{◌≡◌, ◌≢◌, ℕ, zero, suc, ◌<◌, ◌≤◌, Bool, true, false, List, [], ◌∷◌, length, replicate, Option, Some, None, refl, sym, ap, arith, ◌∙◌}
+use Rattle.std.proofs.Common.{◌≡◌, ℕ, suc, ◌<◌, ◌≤◌, Bool, true, false, List, [], ◌∷◌, length, replicate, Option, Some, None, refl, sym, ap, arith, ◌∙◌}
 use Rattle.std.specs.Prelude.{if◌then◌else◌, nat_le, is_none, option_map, option_and_then, slice_get, slice_set}
 use Rattle.std.specs.Option.{option_map_or}
 use Rattle.std.proofs.lemmas.Bool.{le-leb, lt-leb}
@@ -13,24 +13,14 @@ use Rattle.tta_moves.specs.declared.items.Item.{Item}
 use Rattle.tta_moves.specs.Touches.{guard_of, source_of, target_of_item, place_of_source, place_written, writes, is_at}
 use Rattle.tta_moves.specs.Numbers.{place_number, is_place}
 use Rattle.tta_moves.specs.Forms.{sure_source, unless_written, copied}
-use Rattle.tta_moves.proofs.Places.{either, same_is}
+use Rattle.tta_moves.proofs.Places.{either}
 use Rattle.tta_moves.proofs.InRange.{one_place, number_below, InRange}
 use Rattle.tta_optim.specs.declared.notes.Note.{Note}
 use Rattle.tta_optim.specs.Notes.{blank, since, still, copied_by, noted}
+use Rattle.tta_list.proofs.Sets.{set_same as get_set_same, set_other as get_set_other}
+use Rattle.tta_arch.proofs.Places.{same_is}
 
 -- ---- one entry of a list
-
-pub get_set_same : {A : Type 0} (xs : List A) (i : ℕ) (v : A) → i < length xs → slice_get (slice_set xs i v) i ≡ Some v
-get_set_same [] i v lt = absurd (omega arith)
-get_set_same (x ∷ xs) zero v lt = refl
-get_set_same (x ∷ xs) (suc i) v lt = get_set_same xs i v (omega arith)
-
-pub get_set_other : {A : Type 0} (xs : List A) (i j : ℕ) (v : A) → i ≢ j → slice_get (slice_set xs i v) j ≡ slice_get xs j
-get_set_other [] i j v ne = refl
-get_set_other (x ∷ xs) zero zero v ne = absurd (ne refl)
-get_set_other (x ∷ xs) zero (suc j) v ne = refl
-get_set_other (x ∷ xs) (suc i) zero v ne = refl
-get_set_other (x ∷ xs) (suc i) (suc j) v ne = get_set_other xs i j v (λ e. ne (ap suc e))
 
 -- ---- the last item that wrote a place
 

@@ -9,11 +9,12 @@ use Rattle.tta_moves.specs.declared.items.BlockList.{BlockList}
 use Rattle.tta_moves.specs.Meaning.{Exit, Next, Leaves, Waits, is_waiting, Held, effect_of, do_items, has_meaning}
 use Rattle.tta_list.specs.Legs.{ToWait, ToNowhere}
 use Rattle.tta_moves.specs.Runs.{lives, restart, leave_of, go_list, begin}
-use Rattle.tta_moves.proofs.Places.{either, same_is}
+use Rattle.tta_moves.proofs.Places.{either}
 use Rattle.tta_moves.proofs.LegsKept.{LeaveAlike, legs_alike}
 use Rattle.tta_optim.specs.Kept.{StandsFor, KeepsRuns}
 use Rattle.tta_optim.proofs.Alone.{Same, same_refl, Ends, same_list}
 use Rattle.tta_optim.proofs.FrameKept.{frame_all}
+use Rattle.tta_arch.proofs.Places.{same_is}
 
 -- ---- what a restart keeps
 

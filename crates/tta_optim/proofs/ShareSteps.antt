@@ -42,7 +42,7 @@ share_begin m items notes e = record { so_far = refl; known = subst (λ (n : Lis
 rest_of : (items : List Item) (at : ℕ) (d : Item) → at < length items → drop at items ≡ get_or items at d ∷ drop (at + 1) items
 rest_of items at d lt = drop-cons items at d lt ∙ ap (λ k. get_or items at d ∷ drop k items) (sym (add-one at))
 
-slot_of : (m : Machine) → IsMachine m → (items : List Item) (at : ℕ) (d : Item) → list_all (has_slot m) items ≡ true → at < length items → InRange m (get_or items at d)
+pub slot_of : (m : Machine) → IsMachine m → (items : List Item) (at : ℕ) (d : Item) → list_all (has_slot m) items ≡ true → at < length items → InRange m (get_or items at d)
 slot_of m rules items at d slots lt =
     in_range m rules (get_or items at d) (list_all_one (has_slot m) items at (get_or items at d) slots (slice_get-get_or items at d lt))
 

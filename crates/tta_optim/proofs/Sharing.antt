@@ -16,11 +16,13 @@ use Rattle.tta_moves.specs.declared.items.Item.{Item}
 use Rattle.tta_moves.specs.declared.items.Item.TheVariants.{Move, Long}
 use Rattle.tta_moves.specs.Meaning.{Held, is_waiting, linked, effect_of, read_held, does, lacks, does_all, means}
 use Rattle.tta_moves.specs.Forms.{copied, same_source, is_redundant, none_after}
-use Rattle.tta_moves.proofs.Places.{either, same_is}
+use Rattle.tta_moves.proofs.Places.{either}
 use Rattle.tta_moves.proofs.Steps.{step_write, write_at_once, does_same, same_lacks}
 use Rattle.tta_optim.specs.Passes.{share_items}
-use Rattle.tta_optim.proofs.Copies.{Copies, one_more, stuck_means, stuck_all, first_means}
+use Rattle.tta_optim.proofs.Copies.{Copies, one_more, stuck_means, first_means}
 use Rattle.tta_optim.proofs.Alone.{only_writes, Same, same_read, same_reads, same_after, Ends}
+use Rattle.tta_arch.proofs.Places.{same_is}
+use Rattle.tta_moves.proofs.Copies.{stuck_all}
 
 pub source_is : (a b : ItemSource) → same_source a b ≡ true → a ≡ b
 source_is (Address a) (Address b) e = let s : a ≡ b = grind (arith, nat_tests) in cc

@@ -35,7 +35,7 @@ none_wanted list (k ∷ ks) all =
 
 -- ---- the stamps
 
-past_set : (list : ℕ) (stamps : List ℕ) (k s : ℕ) → s ≤ list → list_all (λ t. nat_le t list) stamps ≡ true → list_all (λ t. nat_le t list) (slice_set stamps k s) ≡ true
+pub past_set : (list : ℕ) (stamps : List ℕ) (k s : ℕ) → s ≤ list → list_all (λ t. nat_le t list) stamps ≡ true → list_all (λ t. nat_le t list) (slice_set stamps k s) ≡ true
 past_set list [] k s le all = refl
 past_set list (t ∷ ts) zero s le all =
     and_from (nat_le s list) (list_all (λ t. nat_le t list) ts) (grind (arith, nat_tests)) (and_parts (nat_le t list) (list_all (λ t. nat_le t list) ts) all).1
@@ -43,7 +43,7 @@ past_set list (t ∷ ts) (suc k) s le all =
     let parts = and_parts (nat_le t list) (list_all (λ t. nat_le t list) ts) all in
     and_from (nat_le t list) (list_all (λ t. nat_le t list) (slice_set ts k s)) parts.0 (past_set list ts k s le parts.1)
 
-past_next : (list : ℕ) (stamps : List ℕ) → list_all (λ t. nat_le t list) stamps ≡ true → list_all (λ t. nat_le t (list + 1)) stamps ≡ true
+pub past_next : (list : ℕ) (stamps : List ℕ) → list_all (λ t. nat_le t list) stamps ≡ true → list_all (λ t. nat_le t (list + 1)) stamps ≡ true
 past_next list [] all = refl
 past_next list (t ∷ ts) all =
     let parts = and_parts (nat_le t list) (list_all (λ t. nat_le t list) ts) all in

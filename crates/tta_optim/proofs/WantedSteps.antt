@@ -7,7 +7,6 @@ use Rattle.std.proofs.lemmas.Bool.{and_parts}
 use Rattle.std.proofs.lemmas.Bool.Decides.{nat_tests}
 use Rattle.std.proofs.lemmas.List.{reverse-reverse, reverse-append, drop_all, get_or-replicate, length-replicate}
 use Rattle.std.proofs.lemmas.Option.{slice_get-get_or}
-use Rattle.tta_list.proofs.Lists.{list_all_one}
 use Rattle.tta_arch.specs.declared.ends.GuardRef.{GuardRef}
 use Rattle.tta_arch.specs.Machine.{Machine}
 use Rattle.tta_arch.specs.Rules.{IsMachine}
@@ -18,12 +17,14 @@ use Rattle.tta_moves.specs.Numbers.{place_number, is_place}
 use Rattle.tta_moves.specs.Slots.{has_slot}
 use Rattle.tta_moves.specs.Runs.{lives}
 use Rattle.tta_moves.specs.Forms.{register_of, is_wanted, is_dead}
-use Rattle.tta_moves.proofs.Places.{either, same_is}
-use Rattle.tta_moves.proofs.InRange.{one_place, number_below, InRange, in_range}
+use Rattle.tta_moves.proofs.Places.{either}
+use Rattle.tta_moves.proofs.InRange.{one_place, number_below, InRange}
 use Rattle.tta_optim.specs.Notes.{wanted_at, dead_by, set_wanted, wanted_before, wanted_behind}
 use Rattle.tta_optim.specs.Passes.{dead_items}
-use Rattle.tta_optim.proofs.Noted.{get_set_same, get_set_other}
 use Rattle.tta_optim.proofs.DeadWrites.{written_by}
+use Rattle.tta_optim.proofs.ShareSteps.{slot_of as range_from}
+use Rattle.tta_list.proofs.Sets.{set_same as get_set_same, set_other as get_set_other}
+use Rattle.tta_arch.proofs.Places.{same_is}
 
 -- ---- one place
 
@@ -221,10 +222,6 @@ rest_from : (items : List Item) (first : ℕ) (d : Item) → 0 < first → first
 rest_from items first d some le =
     let next : suc (first - 1) ≡ first = omega arith in
     drop-cons items (first - 1) d (omega arith) ∙ ap (λ k. get_or items (first - 1) d ∷ drop k items) next
-
-range_from : (m : Machine) → IsMachine m → (items : List Item) (at : ℕ) (d : Item) → list_all (has_slot m) items ≡ true → at < length items → InRange m (get_or items at d)
-range_from m rules items at d slots lt =
-    in_range m rules (get_or items at d) (list_all_one (has_slot m) items at (get_or items at d) slots (slice_get-get_or items at d lt))
 
 pub dead_goes : (m : Machine) → IsMachine m → (live : List (ℕ × ℕ)) (items : List Item) (wanted : List Bool) (done : List Item) (first : ℕ) (d : Item) → list_all (has_slot m) items ≡ true → 0 < first
     → DroppedTo m live items wanted done first → dead_by wanted (get_or items (first - 1) d) ≡ true → DroppedTo m live items wanted done (first - 1)

@@ -7,10 +7,11 @@ use Rattle.tta_arch.specs.Machine.{Machine}
 use Rattle.tta_moves.specs.declared.items.Item.{Item}
 use Rattle.tta_moves.specs.Meaning.{is_waiting, Held, effect_of, does, lacks, do_items, has_meaning}
 use Rattle.tta_moves.proofs.Places.{either}
-use Rattle.tta_optim.proofs.Copies.{stuck_all, first_means}
+use Rattle.tta_optim.proofs.Copies.{first_means}
 use Rattle.tta_order.specs.Channels.{may_wait}
 use Rattle.tta_order.specs.Orders.{goes_through, settled}
 use Rattle.tta_order.proofs.Carried.{still_runs}
+use Rattle.tta_moves.proofs.Copies.{stuck_all}
 
 module _ (u : Units) (m : Machine) (addr : List ℕ) (back : ℕ) where
   abbrev pub step : Held → Item → Held

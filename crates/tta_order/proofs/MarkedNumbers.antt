@@ -33,6 +33,3 @@ pub unmarked_after : (n : ℕ) (marks : List Bool) (k : ℕ) → AreMarked n mar
 unmarked_after n marks k marked free = either (nat_lt k n)
     (λ less. let lt : k < n = grind (arith, nat_tests, less) in let set = marked k lt in absurd cc)
     (λ more. grind (arith, nat_tests, more))
-
-pub some_same : {a b : ℕ} → Some a ≡ Some b → a ≡ b
-some_same {a} {b} e = cc

@@ -17,6 +17,7 @@ use Rattle.tta_moves.specs.Touches.{source_of, target_of_item, place_written, is
 use Rattle.tta_moves.proofs.Places.{either}
 use Rattle.tta_order.specs.Channels.{starts, uses_frame}
 use Rattle.tta_order.specs.Slots.{constant_of, sure_constant, held_constant, slot_by, slot_at, slot_with, slot_of, held_at, after_target, after_item, AreParts, AreSlots}
+use Rattle.tta_list.proofs.Lists.{zeros as index_zero}
 
 -- numbers that are all below 1024 are so at each place, and past the end
 pub all_few : (parts : List ℕ) → list_all (λ p. nat_lt p 1024) parts ≡ true → (n : ℕ) → slice_index parts n < 1024
@@ -194,12 +195,6 @@ module _ (m : Machine) (items : List Item) where
 -- the parts of a list are its slots, or all its items use part 0
 pub slots_parts : (m : Machine) (items : List Item) (slots : List ℕ) → AreSlots m items slots → AreParts m items slots
 slots_parts m items slots s = record { apart = true; divided = s.divided; few = s.few }
-
-index_zero : (count n : ℕ) → slice_index (replicate count 0) n ≡ 0
-index_zero zero zero = refl
-index_zero zero (suc n) = refl
-index_zero (suc count) zero = refl
-index_zero (suc count) (suc n) = index_zero count n
 
 all_zero : (count : ℕ) → list_all (λ p. nat_lt p 1024) (replicate count 0) ≡ true
 all_zero zero = refl

@@ -1,19 +1,15 @@
 -- Tables that serve one list after another.
-use Rattle.std.proofs.Common.{◌≡◌, ℕ, zero, suc, ◌+◌, ◌≤◌, true, false, List, [], ◌∷◌, length, replicate, refl, sym, ap, subst, arith, ◌∙◌, length-set}
+use Rattle.std.proofs.Common.{◌≡◌, ℕ, suc, ◌+◌, true, false, List, [], ◌∷◌, length, replicate, refl, sym, ap, subst, arith, ◌∙◌, length-set}
 use Rattle.std.specs.Prelude.{◌==◌, if◌then◌else◌, map, nat_le, slice_set}
 use Rattle.std.specs.List.{list_all}
-use Rattle.std.proofs.lemmas.Bool.{and_parts, and_from}
+use Rattle.std.proofs.lemmas.Bool.{and_parts}
 use Rattle.std.proofs.lemmas.Bool.Decides.{nat_tests}
 use Rattle.std.proofs.lemmas.List.{length-map}
 use Rattle.tta_order.specs.declared.rows.Entry.{Entry}
 use Rattle.tta_order.specs.Rows.{none_changed, last_in, AreStamps}
+use Rattle.tta_optim.proofs.Stamps.{map_set, past_set, past_next}
 
 -- ---- what the entries say
-
-map_set : {A B : Type 0} (f : A → B) (xs : List A) (k : ℕ) (x : A) → map f (slice_set xs k x) ≡ slice_set (map f xs) k (f x)
-map_set f [] k x = refl
-map_set f (y ∷ ys) zero x = refl
-map_set f (y ∷ ys) (suc k) x = ap (λ l. f y ∷ l) (map_set f ys k x)
 
 -- where all stamps are of earlier lists, no entry says anything
 none_last : (list : ℕ) (entries : List Entry) → list_all (λ s. nat_le s list) (map (λ (e : Entry). e.list) entries) ≡ true
@@ -25,20 +21,6 @@ none_last list (e ∷ es) all =
     rw (other, none_last list es parts.1) refl
 
 -- ---- the stamps
-
-past_set : (list : ℕ) (stamps : List ℕ) (k s : ℕ) → s ≤ list → list_all (λ t. nat_le t list) stamps ≡ true → list_all (λ t. nat_le t list) (slice_set stamps k s) ≡ true
-past_set list [] k s le all = refl
-past_set list (t ∷ ts) zero s le all =
-    and_from (nat_le s list) (list_all (λ t. nat_le t list) ts) (grind (arith, nat_tests)) (and_parts (nat_le t list) (list_all (λ t. nat_le t list) ts) all).1
-past_set list (t ∷ ts) (suc k) s le all =
-    let parts = and_parts (nat_le t list) (list_all (λ t. nat_le t list) ts) all in
-    and_from (nat_le t list) (list_all (λ t. nat_le t list) (slice_set ts k s)) parts.0 (past_set list ts k s le parts.1)
-
-past_next : (list : ℕ) (stamps : List ℕ) → list_all (λ t. nat_le t list) stamps ≡ true → list_all (λ t. nat_le t (list + 1)) stamps ≡ true
-past_next list [] all = refl
-past_next list (t ∷ ts) all =
-    let parts = and_parts (nat_le t list) (list_all (λ t. nat_le t list) ts) all in
-    and_from (nat_le t (list + 1)) (list_all (λ t. nat_le t (list + 1)) ts) (grind (arith, nat_tests, parts.0)) (past_next list ts parts.1)
 
 pub stamps_next : (list : ℕ) (stamps : List ℕ) → AreStamps list stamps → AreStamps (list + 1) stamps
 stamps_next list stamps t = record { some = omega arith; size = t.size; past = past_next list stamps t.past }

@@ -1,5 +1,4 @@
 -- A block takes its length and leaves what its list leaves, or waits where its list waits.
-use Rattle.tta_overlap.proofs.Tests.{and_split, not_true}
 use Rattle.std.proofs.Common.{◌≡◌, inl, inr, ℕ, zero, suc, ◌+◌, ◌-◌, ◌<◌, ◌≤◌, Bool, true, false, List, [], ◌∷◌, Option, Some, None, refl, sym, ap, subst, ◌∙◌, arith, length, map}
 use Rattle.std.specs.Prelude.{not, ◌==◌, if◌then◌else◌}
 use Rattle.std.specs.Option.{option_map_or}
@@ -22,12 +21,13 @@ use Rattle.tta_overlap.proofs.Steps.{IsPlain}
 use Rattle.tta_overlap.specs.Overlap.{space_by}
 use Rattle.tta_overlap.proofs.Spaces.{HasOwners, wants_space}
 use Rattle.tta_overlap.proofs.Bounds.{Keeps}
-use Rattle.tta_overlap.proofs.Items.{nth}
+use Rattle.tta_overlap.proofs.Items.{nth, and_parts as and_split}
 use Rattle.tta_overlap.proofs.Placing.{Carries, after, Fits}
 use Rattle.tta_overlap.proofs.Zeros.{more}
 use Rattle.tta_overlap.proofs.Listed.{Run, Stands, space_rises}
 use Rattle.tta_overlap.proofs.Onward.{waits_here, streams_here}
 use Rattle.tta_overlap.proofs.InBlock.{Matches, now_at, first_stands, runs, runs_more, runs_out, end_pending, end_kept, end_ports, end_settled, end_memory, end_frame, end_input, end_output}
+use Rattle.tta_list.proofs.Tests.{not_true}
 
 -- a placed list in code, at an address
 pub record Stays (m : Machine) (code : Code) (base len : ℕ) (placed : List Timed) : Type 0 where

@@ -1,5 +1,4 @@
 -- What the bounds of a placed list keep apart.
-use Rattle.tta_overlap.proofs.Tests.{either}
 use Rattle.std.proofs.Common.{◌≡◌, ◌⊎◌, inl, inr, ℕ, zero, suc, ◌+◌, ◌-◌, ◌<◌, ◌≤◌, true, false, List, [], ◌∷◌, Some, None, refl, sym, ap, ◌∙◌, arith, length, take}
 use Rattle.std.specs.Option.{option_map_or}
 use Rattle.std.specs.Prelude.{slice_get, max, not, ◌||◌, map, ◌==◌}
@@ -16,6 +15,7 @@ use Rattle.tta_moves.specs.Bounds.{Spot, At, due_after, lasts, over_before, boun
 use Rattle.tta_overlap.proofs.Total.{Timed, reads_by, writes_by, is_control}
 use Rattle.tta_overlap.proofs.Steps.{offset, offset_of}
 use Rattle.tta_overlap.proofs.Items.{behind_is, nth, and_parts, max_first, lasts_is, idle_item, item_at, timed, nth_timed, length_timed, reads_linked, control_linked, least_is}
+use Rattle.tta_moves.proofs.Places.{either}
 
 -- ---- control, and the length
 

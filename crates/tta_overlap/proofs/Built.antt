@@ -1,10 +1,9 @@
 -- Code that is linked from the placed lists of a program agrees with the program.
-use Rattle.std.proofs.Common.{◌≡◌, ℕ, zero, suc, ◌<◌, ◌≤◌, ◌^◌, true, false, List, [], ◌∷◌, refl, ◌∙◌, arith, lit<, length}
+use Rattle.std.proofs.Common.{ℕ, zero, suc, ◌<◌, ◌≤◌, ◌^◌, true, false, List, [], ◌∷◌, ◌∙◌, arith, lit<}
 use Rattle.std.specs.Prelude.{slice_set, ◌&&◌, nat_le}
 use Rattle.std.specs.List.{AllByRecursion}
 use Rattle.std.proofs.lemmas.Bool.{and_parts}
 use Rattle.std.proofs.lemmas.Bool.Decides.{nat_tests}
-use Rattle.std.proofs.lemmas.List.{length-set}
 use Rattle.std.proofs.Math.Pow.{pow_mono}
 use Rattle.tta_ops.specs.Units.{Units}
 use Rattle.tta_arch.specs.Machine.{Machine}
@@ -19,6 +18,7 @@ use Rattle.tta_link.specs.Linked.{starts_from}
 use Rattle.tta_overlap.specs.Laws.{IsBuilt}
 use Rattle.tta_overlap.proofs.Rowed.{linked_row, linked_addresses}
 use Rattle.tta_overlap.proofs.Agree.{code_agrees}
+use Rattle.tta_list.proofs.Sets.{over-length as size_over}
 
 -- ---- what is laid over a memory
 
@@ -30,10 +30,6 @@ words_set (x ∷ xs) (suc i) v h w = (h.0, words_set xs i v h.1 w)
 words_over : (laid : Laid) (memory : List ℕ) → AreWords memory → AllByRecursion (λ (d : ℕ × ℕ). d.1 < 2 ^ 32) laid → AreWords (over laid memory)
 words_over [] memory h w = h
 words_over (d ∷ laid) memory h w = words_over laid (slice_set memory d.0 d.1) (words_set memory d.0 d.1 h w.0) w.1
-
-size_over : (laid : Laid) (memory : List ℕ) → length (over laid memory) ≡ length memory
-size_over [] memory = refl
-size_over (d ∷ laid) memory = size_over laid (slice_set memory d.0 d.1) ∙ length-set memory d.0 d.1
 
 given_over : (m : Machine) (p : Program) → AllByRecursion (λ (d : ℕ × ℕ). d.1 < 2 ^ 32) (data_of p) → (memory input : List ℕ) → IsGiven m memory input → IsGiven m (over (data_of p) memory) input
 given_over m p w memory input g = record { size = size_over (data_of p) memory ∙ g.size; words = words_over (data_of p) memory g.words w; inputs = g.inputs }

@@ -1,5 +1,4 @@
 -- From one list to the next.
-use Rattle.tta_overlap.proofs.Tests.{either}
 use Rattle.std.proofs.Common.{◌≡◌, ℕ, Bool, true, false, List, [], ◌∷◌, Some, None, refl, sym, ap, ◌∙◌, filter}
 use Rattle.std.specs.Prelude.{if◌then◌else◌}
 use Rattle.tta_arch.specs.Effects.{Place, KeptPort, same_place, Written, kept as lookup}
@@ -7,8 +6,9 @@ use Rattle.tta_code.specs.Cycle.{State}
 use Rattle.tta_moves.specs.Meaning.{Held}
 use Rattle.tta_moves.specs.Runs.{lives, restart}
 use Rattle.tta_overlap.proofs.Starts.{Covers}
-use Rattle.tta_overlap.proofs.Items.{same_is}
 use Rattle.tta_overlap.proofs.InBlock.{Matches}
+use Rattle.tta_moves.proofs.Places.{either}
+use Rattle.tta_arch.proofs.Places.{same_is}
 
 -- what stays written
 abbrev keep : (Place → Bool) → Written → Written

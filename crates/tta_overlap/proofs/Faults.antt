@@ -1,5 +1,5 @@
 -- A cycle has no fault, and what control is under way after it.
-use Rattle.tta_overlap.proofs.Tests.{either, and_false}
+use Rattle.tta_overlap.proofs.Tests.{and_false}
 use Rattle.std.proofs.Common.{◌≡◌, ◌≢◌, inl, inr, ℕ, suc, ◌+◌, ◌<◌, true, false, Option, Some, None, refl, sym, ap, subst, ◌∙◌, arith}
 use Rattle.std.specs.Prelude.{slice_get, ◌&&◌, ◌||◌, is_none, is_some}
 use Rattle.std.proofs.lemmas.Bool.Decides.{nat_tests}
@@ -20,6 +20,7 @@ use Rattle.tta_overlap.proofs.Listed.{n, move_at, cycle_at, held_at, slot, slot_
 use Rattle.tta_overlap.proofs.InCycle.{Now, vs, bs, new, ts, item_of, has_item, reads_same, taken}
 use Rattle.tta_overlap.proofs.Places.{starts_same}
 use Rattle.tta_overlap.proofs.Results.{start_from, no_slot}
+use Rattle.tta_moves.proofs.Places.{either}
 
 module _ (moment : Now) where
   open moment use {run, c, s, lt, st}

@@ -1,5 +1,4 @@
 -- A block of code runs as its list was placed.
-use Rattle.tta_overlap.proofs.Tests.{either}
 use Rattle.std.proofs.Common.{◌≡◌, ℕ, zero, suc, ◌+◌, ◌<◌, ◌≤◌, true, false, None, refl, sym, ap, subst, ◌∙◌, arith}
 use Rattle.std.specs.Prelude.{◌==◌}
 use Rattle.std.proofs.lemmas.Bool.Decides.{nat_tests}
@@ -17,6 +16,7 @@ use Rattle.tta_overlap.proofs.Zeros.{more}
 use Rattle.tta_overlap.proofs.Listed.{Run, n, move_at, held_at, write_at, writes, shows, value, slot, slot_shows, coming, coming_other, coming_none, show_rises, kept_same, port_same, touches, space_rises, space_same, out_same, slot_writes, slot_rises, ctl, ctl_rises, exit_same, as_pending, as_result, Stands}
 use Rattle.tta_overlap.proofs.InCycle.{Now, word}
 use Rattle.tta_overlap.proofs.Onward.{onward, next_is, stands_next, next_more}
+use Rattle.tta_moves.proofs.Places.{either}
 
 module _ (run : Run) where
   open run use {u, m, back, placed, h, len, f, code, base, begin, carries, back_is}

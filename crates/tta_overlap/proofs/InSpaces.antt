@@ -1,5 +1,4 @@
 -- The spaces after a cycle.
-use Rattle.tta_overlap.proofs.Tests.{either}
 use Rattle.std.proofs.Common.{◌≡◌, ◌≢◌, inl, inr, ℕ, suc, ◌<◌, true, false, List, sym, ap, subst, ◌∙◌, arith}
 use Rattle.std.specs.Prelude.{fold}
 use Rattle.std.proofs.lemmas.Bool.Decides.{nat_tests}
@@ -12,6 +11,7 @@ use Rattle.tta_overlap.proofs.Spaces.{Space, once_started, fold_none, fold_one, 
 use Rattle.tta_overlap.proofs.Listed.{n, move_at, cycle_at, held_at, slot_shows, after_suc, touches, space_rises, one_toucher, space_same}
 use Rattle.tta_overlap.proofs.InCycle.{Now, vs, new, ts, item_of, has_item}
 use Rattle.tta_overlap.proofs.Places.{starts_same}
+use Rattle.tta_moves.proofs.Places.{either}
 
 module _ (moment : Now) where
   open moment use {run, c, s, lt, st}

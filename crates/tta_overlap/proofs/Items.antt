@@ -2,11 +2,10 @@
 use Rattle.std.proofs.Common.{◌≡◌, ℕ, zero, suc, ◌+◌, ◌<◌, ◌≤◌, Bool, true, false, List, [], ◌∷◌, ◌++◌, Option, Some, None, refl, ap, arith, length, take, get_or}
 use Rattle.std.specs.Option.{option_map_or}
 use Rattle.std.specs.Prelude.{max, map, ◌&&◌, if◌then◌else◌}
-use Rattle.std.proofs.lemmas.Bool.Decides.{nat_tests}
 use Rattle.tta_arch.specs.declared.ends.GuardRef.{GuardRef}
 use Rattle.tta_arch.specs.declared.ends.Source.TheVariants as source
 use Rattle.tta_arch.specs.Machine.{Machine}
-use Rattle.tta_arch.specs.Effects.{Jumps, Calls, Halts, Target, Reg, Imm, Operand, Trigger, Control, Place, KeptReg, KeptImm, KeptOperand, KeptRa, KeptPort, same_place, or_else}
+use Rattle.tta_arch.specs.Effects.{Jumps, Calls, Halts, Target, Reg, Imm, Operand, Trigger, Control, KeptReg, KeptImm, KeptOperand, KeptRa, KeptPort, or_else}
 use Rattle.tta_moves.specs.Meaning.{linked, effect_of}
 use Rattle.tta_moves.specs.declared.items.Item.{Item}
 use Rattle.tta_moves.specs.declared.items.Item.TheVariants.{Move}
@@ -19,25 +18,8 @@ use Rattle.tta_moves.specs.Touches.{place_of, place_of_source, source_of, target
 use Rattle.tta_moves.specs.Bounds.{Spot, At, Started, same_spot, Touch, due_after, operand_read, written_at, from_moment, behind, bound, least, reads_by as item_reads}
 use Rattle.tta_overlap.proofs.Total.{Timed, reads_by, is_control}
 use Rattle.tta_overlap.proofs.Steps.{offset_of}
-use Rattle.tta_overlap.proofs.Touches.{same_self}
 use Rattle.tta_overlap.proofs.Placing.{idle}
-
-pub same_is : (p q : Place) → same_place p q ≡ true → p ≡ q
-same_is (KeptReg f i) (KeptReg g j) e = let a : f ≡ g = grind (arith, nat_tests) in let b : i ≡ j = grind (arith, nat_tests) in cc
-same_is (KeptImm f i) (KeptImm g j) e = let a : f ≡ g = grind (arith, nat_tests) in let b : i ≡ j = grind (arith, nat_tests) in cc
-same_is (KeptOperand u) (KeptOperand v) e = let a : u ≡ v = grind (arith, nat_tests) in cc
-same_is (KeptPort u) (KeptPort v) e = let a : u ≡ v = grind (arith, nat_tests) in cc
-same_is KeptRa KeptRa e = refl
-same_is p q e = absurd cc
-
-pub spot_is : (p q : Spot) → same_spot p q ≡ true → p ≡ q
-spot_is (At p) (At q) e = ap At (same_is p q e)
-spot_is (Started u) (Started v) e = let a : u ≡ v = grind (arith, nat_tests) in cc
-spot_is p q e = absurd cc
-
-pub spot_self : (x : Spot) → same_spot x x ≡ true
-spot_self (At p) = same_self p
-spot_self (Started u) = grind (arith, nat_tests)
+use Rattle.tta_moves.proofs.BoundLaws.{spot_is, spot_self}
 
 pub from_is : (x : Spot) (moment b : ℕ) (own : List Touch) → offset_of x own ≡ Some b → moment ≤ from_moment x moment own + b
 from_is x moment b [] e = absurd cc

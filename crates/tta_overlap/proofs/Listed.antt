@@ -1,5 +1,4 @@
 -- What a placed list keeps apart, item by item.
-use Rattle.tta_overlap.proofs.Tests.{either}
 use Rattle.std.proofs.Common.{◌≡◌, inl, inr, ℕ, zero, suc, ◌+◌, ◌<◌, ◌≤◌, Bool, true, false, List, [], ◌∷◌, Option, Some, None, refl, sym, ap, ◌∙◌, arith, length, take, get_or, map}
 use Rattle.std.specs.Prelude.{slice_index, ◌==◌, is_some, if◌then◌else◌}
 use Rattle.std.specs.Option.{option_map_or}
@@ -26,6 +25,7 @@ use Rattle.tta_overlap.proofs.Spaces.{Space, once_noop, triggers_of, trigger_wri
 use Rattle.tta_overlap.proofs.Touches.{own_later}
 use Rattle.tta_overlap.proofs.Placing as placing
 use Rattle.tta_overlap.proofs.Placing.{Carries, idle, after, or_zero, some_is, none_is, Fits}
+use Rattle.tta_moves.proofs.Places.{either}
 
 -- a placed list with what it begins with, and code that carries it
 pub record Run : Type 0 where

@@ -1,5 +1,5 @@
 -- The state after a cycle.
-use Rattle.tta_overlap.proofs.Tests.{either, and_split, and_false, first_false}
+use Rattle.tta_overlap.proofs.Tests.{and_false, first_false}
 use Rattle.std.proofs.Common.{◌≡◌, ◌⊎◌, inl, inr, ℕ, suc, ◌+◌, ◌<◌, true, false, List, ◌++◌, Some, None, refl, sym, ap, subst, ◌∙◌, arith, replicate}
 use Rattle.std.specs.Prelude.{slice_get, ◌==◌, ◌&&◌, is_none, fold}
 use Rattle.std.specs.List.{list_any}
@@ -20,6 +20,8 @@ use Rattle.tta_overlap.proofs.Places.{kept_next, starts_same}
 use Rattle.tta_overlap.proofs.InSpaces.{space_next}
 use Rattle.tta_overlap.proofs.Results.{news, flights_next, shown, ports_next}
 use Rattle.tta_overlap.proofs.Faults.{start_of_item, wants_is, chooses, control_is, pending_next, faults_none}
+use Rattle.tta_moves.proofs.Places.{either}
+use Rattle.tta_overlap.proofs.Items.{and_parts as and_split}
 
 module _ (moment : Now) where
   open moment use {run, c, s, lt, st}

@@ -1,5 +1,4 @@
 -- A list that waits does up to there what it does where a word that is not there is 0.
-use Rattle.tta_overlap.proofs.Tests.{and_split}
 use Rattle.std.proofs.Common.{◌≡◌, ◌⊎◌, inl, inr, ℕ, zero, suc, ◌≤◌, Bool, true, false, List, [], ◌∷◌, ◌++◌, Option, Some, None, refl, sym, ap, ◌∙◌, arith, length, take, drop, replicate}
 use Rattle.std.specs.Prelude.{slice_get, slice_index, is_none, not, ◌&&◌, ◌||◌, if◌then◌else◌}
 use Rattle.std.specs.Option.{option_map_or, option_to_list}
@@ -9,6 +8,8 @@ use Rattle.tta_arch.specs.Effects.{Kind, Effect, Brought, bring, Start, start_of
 use Rattle.tta_ops.specs.Units.{Units}
 use Rattle.tta_moves.specs.Meaning.{Exit, Waits as Stops, is_waiting, Held, read_held, exit_after, acts, waits_for, arrives, does, does_all, means, lacks}
 use Rattle.tta_overlap.proofs.Total.{started_by, total, do_move, do_moves, has_meaning, wants, waits_at}
+use Rattle.tta_overlap.proofs.Items.{and_parts as and_split}
+use Rattle.tta_moves.proofs.Copies.{stuck_all as does_stay}
 
 -- ---- one effect
 
@@ -36,10 +37,6 @@ does_wait u m back h e runs w = rw runs (on (bring (read_held h.written) e) w) w
   on (Some b) w = let g : waits_for h (option_to_list (start_of m h.written b)) ≡ true = ap (λ (c : Bool). c && is_none (slice_get h.rest 0)) (any_of (start_of m h.written b)) ∙ w in rw g refl
 
 -- a list that waits stays as it is
-pub does_stay : (u : Units) (m : Machine) (back : ℕ) (h : Held) (es : List Effect) → is_waiting h.exit ≡ true → does_all u m back h es ≡ h
-unfolding does
-does_stay u m back h [] w = refl
-does_stay u m back h (e ∷ es) w = rw w (does_stay u m back h es w)
 
 exit_runs : (exit : Exit) (o : Option (Kind × ℕ)) → is_waiting exit ≡ false → is_waiting (exit_after exit o) ≡ false
 exit_runs exit None r = r

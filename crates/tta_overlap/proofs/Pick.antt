@@ -7,10 +7,6 @@ use Rattle.tta_arch.specs.Effects.{or_else, first_some as pick}
 abbrev pub Has : {A : Type 0} → List A → A → Type 0
 Has xs x = (k : ℕ) × (slice_get xs k ≡ Some x)
 
-pub or_none : {A : Type 0} (o : Option A) → or_else o None ≡ o
-or_none None = refl
-or_none (Some x) = refl
-
 or_assoc : {A : Type 0} (a b c : Option A) → or_else (or_else a b) c ≡ or_else a (or_else b c)
 or_assoc None b c = refl
 or_assoc (Some x) b c = refl

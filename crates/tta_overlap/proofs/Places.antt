@@ -1,5 +1,4 @@
 -- What places hold after a cycle, and what operations start in it.
-use Rattle.tta_overlap.proofs.Tests.{either}
 use Rattle.std.proofs.Common.{◌≡◌, ◌≢◌, inl, inr, ℕ, suc, ◌+◌, ◌<◌, true, false, Option, Some, None, refl, sym, ap, subst, ◌∙◌, arith}
 use Rattle.std.specs.Prelude.{slice_index}
 use Rattle.std.proofs.lemmas.Bool.Decides.{nat_tests}
@@ -18,6 +17,7 @@ use Rattle.tta_overlap.proofs.Touches.{reads_operand, has_operand}
 use Rattle.tta_overlap.proofs.Placing.{some_is, none_is}
 use Rattle.tta_overlap.proofs.Listed.{n, move_at, cycle_at, held_at, write_at, writes, shows, value, after_suc, show_rises, kept_same, touches, space_cut, cut_at_read, one_writer}
 use Rattle.tta_overlap.proofs.InCycle.{Now, vs, ret, new, item_of, has_item, taken, back_same}
+use Rattle.tta_moves.proofs.Places.{either}
 
 module _ (moment : Now) where
   open moment use {run, c, s, lt, st}

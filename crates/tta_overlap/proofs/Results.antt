@@ -1,5 +1,4 @@
 -- The results under way and the result ports after a cycle.
-use Rattle.tta_overlap.proofs.Tests.{either}
 use Rattle.std.proofs.Common.{◌≡◌, ◌≢◌, inl, inr, ℕ, suc, ◌+◌, ◌<◌, ◌≤◌, true, false, List, ◌++◌, Option, Some, None, refl, sym, ap, subst, ◌∙◌, arith}
 use Rattle.std.specs.Prelude.{slice_index, option_and_then, if◌then◌else◌, fold}
 use Rattle.std.specs.Option.{option_map_or}
@@ -8,7 +7,7 @@ use Rattle.tta_arch.specs.Effects.{Effect, KeptPort, kept as lookup, moved, brin
 use Rattle.tta_code.specs.Cycle.{Result', later, port, result_of, read_source}
 use Rattle.tta_moves.specs.Meaning.{Held}
 use Rattle.tta_overlap.proofs.Cut.{IsCut, Right, goes_on}
-use Rattle.tta_overlap.proofs.Pick.{Has, or_none, pick_none, pick_one, has_filter_map}
+use Rattle.tta_overlap.proofs.Pick.{Has, pick_none, pick_one, has_filter_map}
 use Rattle.tta_overlap.proofs.Ports.{due_then, port_next, port_early, past_none}
 use Rattle.tta_overlap.proofs.Steps.{IsPlain, port_after, starting, shown_of}
 use Rattle.tta_overlap.proofs.Starts.{due_cycle, coming_of, coming_is, starts_later, write_later, Covers, covers_or}
@@ -16,6 +15,8 @@ use Rattle.tta_overlap.proofs.Placing.{some_is}
 use Rattle.tta_overlap.proofs.Listed.{n, move_at, cycle_at, held_at, write_at, writes, shows, value, slot, slot_shows, result_at, coming, after_suc, coming_other, coming_none, show_rises, port_same, slot_writes, writes_slot, one_slot, slot_rises, as_result}
 use Rattle.tta_overlap.proofs.InCycle.{Now, vs, bs, new, ts, item_of, has_item}
 use Rattle.tta_overlap.proofs.Places.{starts_same, value_same}
+use Rattle.tta_moves.proofs.Places.{either}
+use Rattle.tta_arch.proofs.FirstSome.{or_none}
 
 module _ (moment : Now) where
   open moment use {run, c, s, lt, st}

@@ -1,10 +1,10 @@
 -- What a machine's rules say of the operations that its moves start.
 use Rattle.std.proofs.Common.{◌≡◌, ◌⊎◌, inl, inr, ℕ, zero, suc, ◌<◌, ◌≤◌, Bool, true, false, List, [], ◌∷◌, Option, Some, None, refl, sym, ap, ◌∙◌, arith, length, filter}
 use Rattle.std.specs.Prelude.{slice_get, not, ◌&&◌, ◌||◌, ◌==◌, nat_le, nat_lt, if◌then◌else◌, option_and_then}
-use Rattle.std.specs.List.{list_all, list_any}
+use Rattle.std.specs.List.{list_any}
 use Rattle.std.proofs.lemmas.Bool.{cases_lt, and_parts}
 use Rattle.std.proofs.lemmas.Bool.Decides.{nat_tests}
-use Rattle.tta_list.proofs.Lists.{list_all_one, some_within}
+use Rattle.tta_list.proofs.Lists.{some_within}
 use Rattle.tta_arch.specs.declared.ends.Dest.{Dest}
 use Rattle.tta_arch.specs.declared.ends.Dest.TheVariants as dest
 use Rattle.tta_arch.specs.declared.parts.Op.{Op}
@@ -13,7 +13,7 @@ use Rattle.tta_arch.specs.declared.parts.UnitOp.{UnitOp}
 use Rattle.tta_arch.specs.declared.parts.Unit.{Unit as OpUnit}
 use Rattle.tta_arch.specs.Machine.{Machine}
 use Rattle.tta_arch.specs.Joins.{is_source_on, is_dest_on, has_guard, has_socket, within}
-use Rattle.tta_arch.specs.Rules.{IsMachine, is_from_to, fits_kind, is_unit_op, is_unit, is_socket, is_port_socket, are_different, same_op, is_data_op, is_frame_op, is_stream_op, has_one_owner}
+use Rattle.tta_arch.specs.Rules.{IsMachine, is_from_to, fits_kind, is_data_op, is_frame_op, is_stream_op, has_one_owner}
 use Rattle.tta_arch.specs.Effects.{target_of, op_at, has_result}
 use Rattle.tta_moves.specs.declared.items.Item.{Item}
 use Rattle.tta_moves.specs.declared.items.Item.TheVariants as item
@@ -24,6 +24,7 @@ use Rattle.tta_moves.specs.Slots.{carried, carries}
 use Rattle.tta_overlap.proofs.Steps.{IsPlain, to_register, to_imm, to_operand, to_trigger, to_jump, to_call, to_halt}
 use Rattle.tta_overlap.specs.Overlap.{space_of}
 use Rattle.tta_overlap.proofs.Spaces.{HasOwners}
+use Rattle.tta_arch.proofs.Sizes.{unit_fits as unit_op}
 
 -- ---- operations
 
@@ -52,20 +53,6 @@ late o f r = on o.op refl f r where
 
 op_there : (m : Machine) (unit k : ℕ) (q : OpUnit) (o : UnitOp) → slice_get m.units unit ≡ Some q → slice_get q.ops k ≡ Some o → op_at m unit k ≡ Some o
 op_there m unit k q o a b = rw (a, b) refl
-
-unit_op : (m : Machine) → IsMachine m → (unit k : ℕ) (o : UnitOp) → op_at m unit k ≡ Some o → fits_kind o ≡ true
-unit_op m rules unit k o at = on (slice_get m.units unit) refl at where
-  on : (u : Option OpUnit) → slice_get m.units unit ≡ u → option_and_then (λ (q : OpUnit). slice_get q.ops k) u ≡ Some o → fits_kind o ≡ true
-  on None e g = absurd cc
-  on (Some q) e g =
-      let a = list_all_one (is_unit m.sockets) m.units unit q rules.units e in
-      let b = and_parts (is_socket m.sockets true q.trigger && is_port_socket m.sockets true q.operand && is_port_socket m.sockets false q.result && nat_le (length q.ops) 32 && list_all (is_unit_op q) q.ops)
-      (are_different (λ (o p : UnitOp). same_op o.op p.op) q.ops) a in
-      let c = and_parts (is_socket m.sockets true q.trigger && is_port_socket m.sockets true q.operand && is_port_socket m.sockets false q.result && nat_le (length q.ops) 32) (list_all (is_unit_op q) q.ops) b.0 in
-      let d = list_all_one (is_unit_op q) q.ops k o c.1 g in
-      first d where
-        first : is_unit_op q o ≡ true → fits_kind o ≡ true
-        first d = (and_parts (fits_kind o) _ (and_parts (fits_kind o && _) _ d).0).0
 
 -- what an item that a slot carries starts is there
 pub plain_item : (m : Machine) → IsMachine m → (s : Slot) (i : Item) → carries m s i ≡ true → IsPlain m (target_of_item i)

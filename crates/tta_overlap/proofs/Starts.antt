@@ -1,5 +1,4 @@
 -- What the moves of a cycle write and start.
-use Rattle.tta_overlap.proofs.Tests.{either}
 use Rattle.std.proofs.Common.{◌≡◌, ℕ, ◌+◌, ◌<◌, Bool, true, false, List, [], ◌∷◌, ◌++◌, Option, Some, None, refl, sym, ap, ◌∙◌, arith}
 use Rattle.std.specs.Prelude.{slice_index, option_and_then, ◌==◌, is_none, if◌then◌else◌}
 use Rattle.std.specs.Option.{option_map_or}
@@ -15,6 +14,7 @@ use Rattle.tta_overlap.proofs.Total.{writes_by}
 use Rattle.tta_overlap.proofs.Pick.{pick_same, and_then_assoc, pick-append, pick-filter_map}
 use Rattle.tta_overlap.proofs.Ports.{due_then}
 use Rattle.tta_overlap.proofs.Steps.{word_at, lookup_pick, into, offset, IsPlain, to_register, to_imm, to_operand, to_trigger, to_jump, to_call, to_halt, is_kept, port_not_kept, starting, shown_of}
+use Rattle.tta_moves.proofs.Places.{either}
 
 -- ---- the moves of one cycle
 

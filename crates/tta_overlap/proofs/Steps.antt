@@ -1,5 +1,4 @@
 -- What one move does, and what the moves of one cycle do.
-use Rattle.tta_overlap.proofs.Tests.{either}
 use Rattle.std.proofs.Common.{◌≡◌, ℕ, ◌<◌, Bool, true, false, List, [], ◌∷◌, Option, Some, None, refl, arith}
 use Rattle.std.specs.Prelude.{slice_index, option_and_then, ◌==◌, ◌&&◌, if◌then◌else◌}
 use Rattle.std.specs.Option.{option_map_or}
@@ -11,6 +10,7 @@ use Rattle.tta_ops.specs.Units.{Units}
 use Rattle.tta_moves.specs.Meaning.{Held, read_held, exit_after}
 use Rattle.tta_moves.specs.Bounds.{Spot, At, same_spot, Touch}
 use Rattle.tta_overlap.proofs.Total.{do_move, total, writes_by, is_control}
+use Rattle.tta_moves.proofs.Places.{either}
 
 -- ---- places
 

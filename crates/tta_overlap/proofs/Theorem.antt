@@ -1,5 +1,4 @@
 -- A block of code does in its cycles what its list does.
-use Rattle.tta_overlap.proofs.Tests.{either}
 use Rattle.std.proofs.Common.{◌≡◌, ◌⊎◌, inl, inr, ℕ, suc, ◌+◌, ◌<◌, ◌≤◌, true, false, List, Option, Some, None, refl, sym, ap, subst, ◌∙◌, arith, length, take, map, replicate}
 use Rattle.std.specs.Prelude.{is_some, option_map, slice_get}
 use Rattle.std.proofs.lemmas.Bool.Decides.{nat_tests}
@@ -36,6 +35,7 @@ use Rattle.tta_overlap.proofs.InBlock.{Matches}
 use Rattle.tta_overlap.proofs.Block.{effects, leaves, InCycle}
 use Rattle.tta_overlap.proofs.Placed.{items_of, effects_timed, effects_are, effects_take, stays_placed}
 use Rattle.tta_overlap.proofs.Sides.{kept_word, matches_of, holds_left, left_is, count_left, waits_take, waits_before, waits_there}
+use Rattle.tta_moves.proofs.Places.{either}
 
 -- ---- a block
 

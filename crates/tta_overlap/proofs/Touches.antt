@@ -1,9 +1,7 @@
 -- What a move reads and writes, and when.
-use Rattle.tta_overlap.proofs.Tests.{either}
 use Rattle.std.proofs.Common.{◌≡◌, ◌⊎◌, inl, inr, ℕ, ◌<◌, Bool, true, false, List, [], ◌∷◌, ◌++◌, Option, Some, None, refl, ap, ◌∙◌, arith}
 use Rattle.std.specs.Prelude.{option_and_then, ◌&&◌, ◌||◌, is_none, if◌then◌else◌}
 use Rattle.std.specs.Option.{option_map_or}
-use Rattle.std.proofs.lemmas.Bool.Decides.{nat_tests}
 use Rattle.tta_arch.specs.declared.ends.GuardRef.{GuardRef}
 use Rattle.tta_arch.specs.declared.ends.Source.{Source}
 use Rattle.tta_arch.specs.declared.ends.Source.TheVariants as source
@@ -14,13 +12,8 @@ use Rattle.tta_moves.specs.Touches.{place_of}
 use Rattle.tta_moves.specs.Bounds.{At, Started, Touch, operand_read}
 use Rattle.tta_overlap.proofs.Total.{started_by, reads_by, writes_by}
 use Rattle.tta_overlap.proofs.Steps.{offset, IsPlain, to_register, to_imm, to_operand, to_trigger, to_jump, to_call, to_halt, starting}
-
-pub same_self : (x : Place) → same_place x x ≡ true
-same_self (KeptReg f i) = grind (arith, nat_tests)
-same_self (KeptImm f i) = grind (arith, nat_tests)
-same_self (KeptOperand u) = grind (arith, nat_tests)
-same_self KeptRa = refl
-same_self (KeptPort u) = grind (arith, nat_tests)
+use Rattle.tta_moves.proofs.Places.{same_self, either}
+use Rattle.tta_list.proofs.Tests.{or_false as both_false}
 
 zero_first : (b : Bool) (rest : Option ℕ) → (rest ≡ Some 0) ⊎ (rest ≡ None) → let o = or_else (if b then Some 0 else None) rest in (o ≡ Some 0) ⊎ (o ≡ None)
 zero_first true rest h = inl refl
@@ -117,10 +110,6 @@ own_later m v x a b p w r = on v.target p w r where
       either (has_result o.op)
       (λ t. trigger_later x u a b o.latency (place_of v.src) v.guard (lat t) (rw t at w') r)
       (λ t. trigger_alone x u a b (place_of v.src) v.guard (rw t at w') r)
-
-both_false : (a b : Bool) → (a || b) ≡ false → (a ≡ false) × (b ≡ false)
-both_false true b e = cc
-both_false false b e = (refl, e)
 
 less_false : (a k c : Bool) → (a && true && c) ≡ false → (a && k && c) ≡ false
 less_false false k c e = refl

@@ -1,5 +1,4 @@
 -- What more input makes of a cycle.
-use Rattle.tta_overlap.proofs.Tests.{either}
 use Rattle.std.proofs.Common.{◌≡◌, ◌⊎◌, inl, inr, ℕ, zero, suc, ◌+◌, ◌<◌, Bool, true, false, List, ◌++◌, Option, Some, None, refl, sym, ap, ◌∙◌, arith, replicate}
 use Rattle.std.specs.Prelude.{slice_get, ◌==◌, ◌&&◌, is_none, if◌then◌else◌, fold}
 use Rattle.std.specs.List.{filter_map, list_any}
@@ -12,6 +11,7 @@ use Rattle.tta_code.specs.Cycle as machine
 use Rattle.tta_overlap.proofs.Padded.{first_pad, left_pad}
 use Rattle.tta_overlap.proofs.Pick.{Has, any_has}
 use Rattle.tta_overlap.proofs.Spaces.{once_started}
+use Rattle.tta_moves.proofs.Places.{either}
 
 -- ---- more input
 

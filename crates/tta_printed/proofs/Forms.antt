@@ -18,8 +18,8 @@ use Rattle.tta_program.specs.declared.operand.Rel.{Rel}
 use Rattle.tta_program.specs.declared.operand.Rel.TheVariants.{Eq, Ne, Lt, Ge, Ltu, Geu}
 use Rattle.tta_tac.specs.Forms.{Operand, Named, Constant, Form, ProcForm, DataForm, LabelForm, CopyForm, ApplyForm, LoadForm, StoreForm, PutForm, TakeForm, IfForm, GotoForm, WhenForm, CallForm, ReturnForm, HaltForm, EndForm, free_name, or_constant, constant_operand, operand_of, operands_alone, names_alone, rel_of, form_of, proc_form, data_form, store_form, put_form, if_form, goto_form, when_form, call_form, return_form, assign_form, named_form}
 use Rattle.tta_printed.specs.Printed.{word, number, equals, var_name, label_name, proc_name, src_word, src_words, rel_name, var_names, words}
-use Rattle.tta_printed.proofs.ScannedWords.{number_of-decimal, digits_of_values}
-use Rattle.tta_ifconv.proofs.Lists.{any_from_one}
+use Rattle.tta_list.proofs.Lists.{any_there as any_from_one}
+use Rattle.tta_text.proofs.ShownWords.{digits_of_values, number_of-decimal}
 
 -- ---- words
 

@@ -21,7 +21,7 @@ use Rattle.tta_reading.proofs.Steps.{same_ok, refuse_if-ok, then-ok, some-ok, at
 use Rattle.tta_program.specs.declared.program.Proc.{Proc}
 use Rattle.tta_printed.proofs.Nesting.{is_inner}
 use Rattle.tta_printed.specs.Readable.{in_src, mentions, are_in_order, is_in_order}
-use Rattle.tta_printed.proofs.Names.{bytes_self}
+use Rattle.tta_list.proofs.Lists.{same_bytes as bytes_self}
 
 -- ---- variables that are counted
 

@@ -23,14 +23,14 @@ use Rattle.tta_tac.specs.FirstPass.{numbered, has_twice}
 use Rattle.tta_tac.specs.SecondPass.{params_of, link_step, link_steps, link_proc, link_procs}
 use Rattle.tta_tac.specs.Grammar.{step_lines, proc_said, vars_said}
 use Rattle.tta_ifconv.specs.Triangles.{names}
-use Rattle.tta_ifconv.proofs.Lists.{any_from_one}
 use Rattle.tta_printed.specs.Printed.{var_name, label_name, proc_name, var_names}
 use Rattle.tta_printed.specs.Readable.{is_in_order}
-use Rattle.tta_printed.proofs.Names.{bytes_self, procs_apart, main_named, vars_apart}
+use Rattle.tta_printed.proofs.Names.{procs_apart, main_named, vars_apart}
 use Rattle.tta_printed.proofs.Said.{steps_form, numbered_from}
 use Rattle.tta_printed.proofs.Nesting.{blocks_form}
 use Rattle.tta_printed.proofs.Variables.{vars, vars_length}
 use Rattle.tta_printed.proofs.Unlinking.{unlinked, labels_of, label_found, vars_in, steps_in, labels_in, lines_in}
+use Rattle.tta_list.proofs.Lists.{any_there as any_from_one, same_bytes as bytes_self}
 
 -- ---- names of procedures
 

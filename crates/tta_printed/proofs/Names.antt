@@ -11,9 +11,6 @@ use Rattle.tta_printed.specs.Printed.{var_name, label_name, proc_name}
 pub bytes_same : (xs ys : List ℕ) → bytes_eq xs ys ≡ true → xs ≡ ys
 bytes_same xs ys e = (bytes_eq-Decides xs ys).0 e
 
-pub bytes_self : (xs : List ℕ) → bytes_eq xs xs ≡ true
-bytes_self xs = (bytes_eq-Decides xs xs).1 refl
-
 pub bytes_apart : (xs ys : List ℕ) → (xs ≡ ys → ⊥) → bytes_eq xs ys ≡ false
 bytes_apart xs ys apart = by (bytes_eq xs ys) refl where
   by : (b : Bool) → bytes_eq xs ys ≡ b → b ≡ false

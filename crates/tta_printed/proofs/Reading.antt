@@ -27,11 +27,11 @@ use Rattle.tta_tac.specs.Forms.{LabelForm}
 use Rattle.tta_ifconv.specs.Triangles.{is_target}
 use Rattle.tta_printed.specs.Printed.{Words, Label, word, var_name, label_name, proc_name, var_names, words, src_word, src_words, rel_name, operand_words, lines_printed, data_lines, proc_lines, step_lines, label_before, step_line, printed}
 use Rattle.tta_printed.specs.Readable.{is_named, IsReadable}
-use Rattle.tta_printed.proofs.ScannedWords.{digits_of_values, digits-run}
 use Rattle.tta_printed.proofs.ScannedLines.{IsWord, AreWords, CanBePrinted, words_of, lines_of_printed}
 use Rattle.tta_printed.proofs.Forms.{IsShort, Reads, proc_read, data_read, label_read, store_read, put_read, if_read, goto_read, when_read, call_read, return_read, return_none_read, halt_read, end_read, assign_read, copy_read, take_read, load_read, called_read}
 use Rattle.tta_printed.proofs.Said.{step_said, label_said, steps_form, procs_form, data_form, program_form, AreRead, read_append}
 use Rattle.tta_printed.proofs.Operations.{operation_of, apply_read}
+use Rattle.tta_text.proofs.ShownWords.{digits_of_values, digits-run}
 
 -- ---- names
 

@@ -1,33 +1,22 @@
 -- The lines of a printed text are those that it was printed from.
-use Rattle.std.proofs.Common.{◌≡◌, ℕ, ◌+◌, ◌<◌, ◌^◌, Bool, true, false, not, List, [], ◌∷◌, ◌++◌, length, length-append, refl, sym, ap, ◌∙◌, arith}
-use Rattle.std.specs.Prelude.{Option, Some, None, codes, decimal, map}
+use Rattle.std.proofs.Common.{◌≡◌, ℕ, ◌+◌, ◌<◌, ◌^◌, Bool, true, false, List, [], ◌∷◌, ◌++◌, length, length-append, refl, sym, ap, ◌∙◌, arith}
+use Rattle.std.specs.Prelude.{Some, None, codes, decimal, map}
 use Rattle.std.specs.List.{flat_map, AllByRecursion}
-use Rattle.std.proofs.lemmas.List.{append_assoc, append-nil, drop_at}
+use Rattle.std.proofs.lemmas.List.{append_assoc, append-nil}
 use Rattle.tta_text.specs.declared.lexeme.Kind.{Kind}
 use Rattle.tta_text.specs.declared.lexeme.Kind.TheVariants.{Name, Number, Negative, Mark, Eol, Bad}
 use Rattle.tta_text.specs.Bytes.{is_newline, is_word_byte}
 use Rattle.tta_text.specs.Words.{first_is, is_name}
-use Rattle.tta_text.specs.Tokens.{token, piece_at, with_token, line_after, tokens_from, tokens_of}
-use Rattle.tta_text.proofs.Turns.{tokens_from-piece-cons}
+use Rattle.tta_text.specs.Tokens.{token, piece_at, tokens_from, tokens_of}
 use Rattle.tta_reading.specs.Lines.{Lexeme, Line, is_line_end, lines_from, lines_of}
 use Rattle.tta_reading.proofs.TextNames.{slice-between}
 use Rattle.tta_printed.specs.Printed.{Printed, Words, Label, spaced, line_text, word}
 use Rattle.tta_printed.proofs.ScannedWords.{IsScanned, name_scanned, number_scanned, equals_scanned, colon_scanned}
+use Rattle.tta_text.proofs.ShownWords.{tokens-front}
 
 -- the lines of what is left of a text after these bytes, the first of them with these words
 abbrev pub lines_at : (before : List ℕ) (is_open : Bool) (line : ℕ) → Line → (rest : List ℕ) → List Line
 lines_at before is_open line words rest = lines_from (before ++ rest) words (tokens_from 0 is_open line (length before) rest)
-
--- the tokens of bytes whose first piece is known
-tokens-front : (byte : ℕ) (others rest : List ℕ) (is_open : Bool) (line at : ℕ) (kind : Option Kind)
-    → piece_at byte (others ++ rest) ≡ record { kind = kind; len = length (byte ∷ others) }
-    → tokens_from 0 is_open line at (byte ∷ (others ++ rest))
-    ≡ with_token kind line at (at + length (byte ∷ others))
-    (tokens_from 0 (not (is_newline byte)) (line_after byte line) (at + length (byte ∷ others)) rest)
-tokens-front byte others rest is_open line at kind piece =
-    let long : length (byte ∷ (others ++ rest)) ≡ length (byte ∷ others) + length rest = length-append (byte ∷ others) rest in
-    let cut = tokens_from-piece-cons byte (others ++ rest) is_open line at (rw piece (omega arith)) (rw piece (omega (arith, long))) in
-    rw (piece, drop_at (byte ∷ others) rest (length (byte ∷ others)) refl) at cut
 
 -- the text stays the same, and so does the place
 shift : (before word after : List ℕ) (is_open : Bool) (line : ℕ) (words : Line)

@@ -22,11 +22,12 @@ use Rattle.tta_tac.specs.Grammar.{Said, label_in, vars_said, labels_said, steps_
 use Rattle.tta_ifconv.specs.Triangles.{is_target}
 use Rattle.tta_printed.specs.Printed.{var_name, label_name, proc_name, op_name}
 use Rattle.tta_printed.specs.Readable.{in_src, mentions, are_in_order}
-use Rattle.tta_printed.proofs.Names.{bytes_self, bytes_apart, labels_apart}
+use Rattle.tta_printed.proofs.Names.{bytes_apart, labels_apart}
 use Rattle.tta_printed.proofs.Forms.{said, all_said}
 use Rattle.tta_printed.proofs.Said.{step_said, steps_form, numbered_from}
 use Rattle.tta_printed.proofs.Operations.{IsOperation, operation_of}
 use Rattle.tta_printed.proofs.Variables.{vars, named_var, order_rises, between, all_known, step_appears}
+use Rattle.tta_list.proofs.Lists.{same_bytes as bytes_self}
 
 -- a step with its label and callee as names
 abbrev pub unlinked : (main : ℕ) → Step → Unlinked

@@ -15,10 +15,11 @@ use Rattle.tta_program.specs.Over.{is_over}
 use Rattle.tta_tac.specs.FirstPass.{numbered, with_var, with_operand, with_operands, vars_after}
 use Rattle.tta_printed.specs.Printed.{var_name, var_names}
 use Rattle.tta_printed.specs.Readable.{in_src, mentions, are_in_order}
-use Rattle.tta_printed.proofs.Names.{bytes_self, vars_apart}
+use Rattle.tta_printed.proofs.Names.{vars_apart}
 use Rattle.tta_printed.proofs.Forms.{said, all_said}
 use Rattle.tta_printed.proofs.Said.{step_said}
 use Rattle.tta_printed.proofs.Operations.{IsOperation, operation_of}
+use Rattle.tta_list.proofs.Lists.{same_bytes as bytes_self}
 
 -- ---- declared variables
 

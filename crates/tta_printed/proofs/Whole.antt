@@ -1,12 +1,11 @@
 -- A printed text is a text of the printed program.
 use Rattle.std.proofs.Common.{◌≡◌, ◌≤◌, ℕ, zero, suc, ◌+◌, ◌<◌, ◌^◌, ◌==◌, Bool, true, false, List, [], ◌∷◌, ◌++◌, length, map, refl, sym, ap, ◌∙◌, subst, arith, append-nil}
-use Rattle.std.specs.Prelude.{Option, Some, None, codes, not, nat_lt, ◌&&◌, ◌||◌, slice_get, Ok}
+use Rattle.std.specs.Prelude.{Some, codes, not, nat_lt, ◌&&◌, ◌||◌, slice_get, Ok}
 use Rattle.std.specs.Option.{option_map_or}
 use Rattle.std.specs.List.{list_any, list_all, AllByRecursion}
 use Rattle.std.specs.Str.{bytes_eq}
 use Rattle.std.proofs.lemmas.Bool.{eqb-true, and_from}
 use Rattle.std.proofs.lemmas.List.Folds.{list_all-append}
-use Rattle.std.proofs.lemmas.Option.{slice_get_within}
 use Rattle.tta_list.specs.Legs.{AllPairs}
 use Rattle.tta_list.proofs.Tests.{and_left, and_right}
 use Rattle.tta_list.proofs.Lists.{all_weaker}
@@ -35,6 +34,7 @@ use Rattle.tta_printed.proofs.Variables.{vars, vars_length}
 use Rattle.tta_printed.proofs.Unlinking.{vars_in, names_in, labels_once}
 use Rattle.tta_printed.proofs.Linked.{proc_names, proc_found, main_found, procs_once, vars_once, names_length, block_names, block_params, proc_again, procs_again, procs_linked}
 use Rattle.tta_printed.proofs.FitLines.{data_fit, procs_fit}
+use Rattle.tta_program.proofs.Mains.{main-below as main_within}
 
 -- ---- the rules of procedures
 
@@ -108,12 +108,6 @@ main_params : (p : Program) → IsProgram p → (i : ℕ) (q : Proc) → slice_g
 main_params p rules i q there same =
     let at : slice_get p.procs p.main ≡ Some q = ap (slice_get p.procs) (let e : p.main ≡ i = omega (arith, same) in e) ∙ there in
     eqb-true q.params 0 (sym (ap (λ o. option_map_or (λ x. x.params == 0) o false) at) ∙ rules.main)
-
-main_within : (p : Program) → IsProgram p → p.main < length p.procs
-main_within p rules = by (slice_get p.procs p.main) refl rules.main where
-  by : (o : Option Proc) → slice_get p.procs p.main ≡ o → option_map_or (λ x. x.params == 0) o false ≡ true → p.main < length p.procs
-  by None there e = absurd cc
-  by (Some x) there e = slice_get_within p.procs p.main x there
 
 module _ (u : Units) (p : Program) (rules : IsProgram p) (over : StandsOver u p) (readable : IsReadable u p) where
   xs : List Said

@@ -13,6 +13,7 @@ use Rattle.tta_code.specs.declared.code.Instruction.{Instruction}
 use Rattle.tta_code.specs.Cycle.{State}
 use Rattle.tta_profile.specs.Steps.{AreSmall, Adds, IsOver}
 use Rattle.tta_profile.specs.Counts.{states, is_made, slot_at, is_stopped, carries, stops, executed, passed, Counts, AreCounts}
+use Rattle.tta_list.proofs.Lists.{zeros}
 
 -- a count over one item more at the end
 count_last : {X : Type 0} (p : X → Bool) (xs : List X) (x : X) → count_by p (xs ++ x ∷ []) ≡ count_by p xs + (if p x then 1 else 0)
@@ -109,10 +110,6 @@ module _ (step : State → State) (s : State) where
         at_most false = omega arith
 
 -- a row of zeros
-zeros : (n k : ℕ) → slice_index (replicate n 0) k ≡ 0
-zeros zero k = refl
-zeros (suc n) zero = refl
-zeros (suc n) (suc k) = zeros n k
 
 module _ (step : State → State) (words : List Instruction) (s : State) where
   abbrev now : ℕ → State

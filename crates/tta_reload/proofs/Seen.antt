@@ -18,18 +18,12 @@ use Rattle.tta_moves.specs.Touches.{guard_of, source_of, target_of_item, place_o
 use Rattle.tta_moves.specs.Meaning.{read_held}
 use Rattle.tta_moves.specs.Forms.{sure_source, copied, same_source}
 use Rattle.tta_moves.proofs.Places.{either}
-use Rattle.tta_optim.proofs.Copies.{is_whole, Copies}
+use Rattle.tta_optim.proofs.Copies.{is_whole, Copies, guard_none as sure_is}
 use Rattle.tta_order.specs.Channels.{starts, stores_frame, operand_place}
 use Rattle.tta_reload.specs.Known.{is_load, word_of, port_of, loaded, stored, register_in, twin}
 use Rattle.tta_reload.proofs.Holding.{end_is}
 
 -- ---- what an item does, by what is said of it
-
-pub sure_is : (x : Item) (s : ItemSource) → sure_source x ≡ Some s → (guard_of x ≡ None) × (source_of x ≡ s)
-sure_is x s e = on (guard_of x) refl e where
-  on : (g : Option GuardRef) → guard_of x ≡ g → (if is_none g then Some (source_of x) else None) ≡ Some s → (guard_of x ≡ None) × (source_of x ≡ s)
-  on None r e = (r, cc)
-  on (Some g) r e = absurd cc
 
 pub word_is : (s : ItemSource) (v : ℕ) → word_of s ≡ Some v → s ≡ Port (source.Value v)
 word_is (Port (source.Value w)) v e = let same : w ≡ v = cc in ap (λ n. Port (source.Value n)) same

@@ -16,11 +16,12 @@ use Rattle.tta_moves.specs.Touches.{source_of, target_of_item, place_of_source, 
 use Rattle.tta_moves.specs.Numbers.{place_number, is_place}
 use Rattle.tta_moves.specs.Slots.{joined, has_slot}
 use Rattle.tta_moves.specs.Forms.{sure_source, is_port_source, is_passing, trail, is_detour, none_after, is_straight}
-use Rattle.tta_moves.proofs.Places.{either, same_is}
+use Rattle.tta_moves.proofs.Places.{either}
 use Rattle.tta_moves.proofs.InRange.{one_place, number_below, InRange, in_range}
-use Rattle.tta_optim.proofs.Noted.{get_set_same, get_set_other}
 use Rattle.tta_reload.specs.declared.straight.Trail.{Trail}
 use Rattle.tta_reload.specs.Trails.{empty, longer, trail_in, next_trail, trails_after, could_take, may_detour, no_detours}
+use Rattle.tta_list.proofs.Sets.{set_same as get_set_same, set_other as get_set_other}
+use Rattle.tta_arch.proofs.Places.{same_is}
 
 -- a trail that is not long has all sources
 abbrev pub Covers : Trail → List ItemSource → Type 0

@@ -1,6 +1,6 @@
 -- The walk that leaves out stores, item by item.
 use Rattle.std.proofs.Common.{◌≡◌, ℕ, ◌+◌, ◌<◌, ◌≤◌, Bool, true, false, List, [], ◌∷◌, ◌++◌, length, drop, get_or, Option, Some, None, refl, sym, ap, subst, arith, ◌∙◌, append_assoc, append-nil}
-use Rattle.std.specs.Prelude.{if◌then◌else◌, ◌==◌, ◌&&◌, ◌||◌, not, filter, IfSome}
+use Rattle.std.specs.Prelude.{if◌then◌else◌, ◌==◌, ◌||◌, not, filter, IfSome}
 use Rattle.std.specs.Option.{option_map_or}
 use Rattle.std.proofs.lemmas.Bool.Decides.{nat_tests}
 use Rattle.std.proofs.lemmas.List.{drop_all}
@@ -19,6 +19,7 @@ use Rattle.tta_reload.proofs.Opened.{load_keeps, store_dry}
 use Rattle.tta_reload.proofs.Seen.{stores_is}
 use Rattle.tta_reload.proofs.Nearness.{if_first, if_second}
 use Rattle.tta_reload.proofs.Walks.{split_at}
+use Rattle.tta_list.proofs.Tests.{and_both as both}
 
 -- ---- slots that are stored over, one item more
 
@@ -38,10 +39,6 @@ if_yes false x y e h = absurd cc
 if_no : (b x y : Bool) → b ≡ false → y ≡ true → (if b then x else y) ≡ true
 if_no true x y e h = absurd cc
 if_no false x y e h = h
-
-both : (a b : Bool) → a ≡ true → b ≡ true → (a && b) ≡ true
-both true b e h = h
-both false b e h = absurd cc
 
 load_stores : (m : Machine) (before : List Item) (x : Item) (v : ℕ) → starts m is_load (target_of_item x) ≡ true → is_here (stored m before x) v ≡ false
 load_stores m before x v load = on (stored m before x) refl where

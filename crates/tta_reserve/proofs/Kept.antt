@@ -1,11 +1,11 @@
 -- A table without cycles stands for no items, and one with more cycles for the same items.
 use Rattle.std.proofs.Common.{◌≡◌, inl, inr, ℕ, zero, suc, ◌+◌, ◌-◌, ◌≤◌, Bool, true, false, List, [], ◌∷◌, ◌++◌, Some, None, refl, sym, ap, subst, ◌∙◌, arith, length, map, take, replicate, length-append}
-use Rattle.std.specs.Prelude.{slice_get, slice_index, count_by, not, ◌==◌, nat_lt}
+use Rattle.std.specs.Prelude.{slice_get, count_by, not, ◌==◌, nat_lt}
 use Rattle.std.specs.List.{list_all, range_with_len}
 use Rattle.std.proofs.lemmas.List.{take_all}
 use Rattle.std.proofs.lemmas.Bool.{and_parts, cases_lt}
 use Rattle.std.proofs.lemmas.Bool.Decides.{nat_tests}
-use Rattle.tta_list.proofs.Lists.{slice_get-front, slice_get-back, list_all_weaker}
+use Rattle.tta_list.proofs.Lists.{slice_get-front, slice_get-back, list_all_weaker, zeros}
 use Rattle.tta_arch.specs.Machine.{Machine}
 use Rattle.tta_arch.specs.Legal.{Ends, ends_of, reads_file, reads_imm, writes_file}
 use Rattle.tta_arch.proofs.SetLemmas.{has_bit-empty}
@@ -27,17 +27,12 @@ nothing_booked m table none = subst (λ t. StandsFor t m []) (sym none) (record 
 
 -- ---- a row of no items
 
-no_ends : (a n : ℕ) → ends_of (map (λ (bus : ℕ). None) (range_with_len a n)) ≡ []
+pub no_ends : (a n : ℕ) → ends_of (map (λ (bus : ℕ). None) (range_with_len a n)) ≡ []
 no_ends a zero = refl
 no_ends a (suc n) = no_ends (a + 1) n
 
 no_count : (m : Machine) (p : Ends → Bool) → count_by p (ends_of (slots_of m [])) ≡ 0
 no_count m p = ap (count_by p) (no_ends 0 (length m.buses))
-
-zeros : (n k : ℕ) → slice_index (replicate n 0) k ≡ 0
-zeros zero k = refl
-zeros (suc n) zero = refl
-zeros (suc n) (suc k) = zeros n k
 
 row_of_none : (m : Machine) → IsRow m [] empty_row
 row_of_none m = record {

@@ -7,12 +7,9 @@ use Rattle.std.proofs.lemmas.Bool.{and_parts, or_parts, not-true}
 use Rattle.std.proofs.lemmas.List.Folds.{list_all-append, list_any-append}
 use Rattle.tta_arch.specs.Rules.{are_different}
 use Rattle.tta_arch.specs.Effects.{first_some, or_else}
+use Rattle.tta_arch.proofs.FirstSome.{or_none}
 
 -- ---- one more
-
-pub or_none : {A : Type 0} (o : Option A) → or_else o None ≡ o
-or_none None = refl
-or_none (Some x) = refl
 
 -- the first answer along a list with one element more
 pub first_push : {A B : Type 0} (f : A → Option B) (xs : List A) (x : A) → first_some f (xs ++ x ∷ []) ≡ or_else (first_some f xs) (f x)

@@ -4,7 +4,7 @@ use Rattle.std.specs.Prelude.{slice_get, not, ◌&&◌, ◌||◌, ◌==◌, nat_
 use Rattle.std.specs.Option.{option_map_or}
 use Rattle.std.specs.List.{list_any}
 use Rattle.std.proofs.lemmas.List.{map_push}
-use Rattle.std.proofs.lemmas.Bool.{and_parts, eq-eqb}
+use Rattle.std.proofs.lemmas.Bool.{and_parts}
 use Rattle.std.proofs.lemmas.Bool.Decides.{nat_tests}
 use Rattle.tta_arch.specs.declared.ends.GuardRef.{GuardRef}
 use Rattle.tta_arch.specs.declared.ends.Source.{Source}
@@ -26,6 +26,8 @@ use Rattle.tta_reserve.proofs.Lists.{all_last, different_last}
 use Rattle.tta_reserve.proofs.Slots.{slot_test, below_one}
 use Rattle.tta_reserve.proofs.Pushed.{Fits, move_on, ends_from, moves_here, no_move, slot_at, taken_push, counts_push}
 use Rattle.tta_reserve.proofs.MoveFits.{Leave, may_read, may_write}
+use Rattle.tta_list.proofs.Tests.{eq_same as self_is}
+use Rattle.tta_arch.proofs.Ports.{source_file as read_file_there, source_imm as read_imm_there, dest_file as written_file_there}
 
 -- ---- parts of the machine
 
@@ -39,14 +41,6 @@ part_there m input bus None k h = absurd cc
 part_there m input bus (Some f) k h = refl
 
 -- the file or immediate unit of an end that a bus has
-pub read_file_there : (m : Machine) (bus f i : ℕ) → is_source_on m bus (source.Reg f i) ≡ true → f < length m.files
-read_file_there m bus f i on = within_some m.files f (part_there m false bus (slice_get m.files f) (λ q. within i q.size q.out) on)
-
-pub read_imm_there : (m : Machine) (bus u i : ℕ) → is_source_on m bus (source.Imm u i) ≡ true → u < length m.imms
-read_imm_there m bus u i on = within_some m.imms u (part_there m false bus (slice_get m.imms u) (λ q. within i q.size q.out) on)
-
-pub written_file_there : (m : Machine) (bus f i : ℕ) → is_dest_on m bus (dest.Reg f i) ≡ true → f < length m.files
-written_file_there m bus f i on = within_some m.files f (part_there m true bus (slice_get m.files f) (λ q. within i q.size q.into) on)
 
 -- the ends of a move that a bus joins are on it
 pub source_on : (m : Machine) (bus : ℕ) (s : Source) (d : Dest) (g : Option GuardRef) → joins m bus s d g ≡ true → is_source_on m bus s ≡ true
@@ -63,9 +57,6 @@ one_less n k most e h = grind (arith, nat_tests)
 
 one_none : (n k : ℕ) → n ≡ k + 1 → nat_le n 1 ≡ true → (k == 0) ≡ true
 one_none n k e h = grind (arith, nat_tests)
-
-pub self_is : (n : ℕ) → (n == n) ≡ true
-self_is n = eq-eqb n n refl
 
 read_left : (m : Machine) (xs ys : List PlacedItem) (bus : ℕ) (s : Source) → is_source_on m bus s ≡ true
     → ((f : ℕ) → file_reads m ys f ≡ file_reads m xs f + cond (reads_file f s) 1 0)

@@ -30,9 +30,10 @@ use Rattle.tta_reserve.proofs.Lists.{any_here, any_not_here}
 use Rattle.tta_reserve.proofs.Slots.{count_most}
 use Rattle.tta_reserve.proofs.Pushed.{fits_parts, carried_there, move_on, others_stay, moves_here, taken_push, counts_push, long_on, same_moves, same_slots, takes_buses}
 use Rattle.tta_reserve.proofs.MoveFits.{is_nothing}
-use Rattle.tta_reserve.proofs.MoveOnly.{fits_only_there, source_on, dest_on, read_file_there, read_imm_there, written_file_there}
+use Rattle.tta_reserve.proofs.MoveOnly.{fits_only_there, source_on, dest_on}
 use Rattle.tta_reserve.proofs.LongFits.{long_fits_only_there}
 use Rattle.tta_reserve.proofs.Counts.{with_bit_at, with_move_is, reads_at, reads_long, writes_at, writes_long, imms_at}
+use Rattle.tta_arch.proofs.Ports.{source_file as read_file_there, source_imm as read_imm_there, dest_file as written_file_there}
 
 row_long : (m : Machine) (xs : List PlacedItem) (t c unit index : ℕ) (value : LongValue) (r : Row) → IsRow m xs r
     → fits_cycle m (xs ++ long_on t c unit index value ∷ []) ≡ true → IsRow m (xs ++ long_on t c unit index value ∷ []) (with_template (buses_of m.templates t) r)

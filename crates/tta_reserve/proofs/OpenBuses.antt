@@ -1,12 +1,12 @@
 -- Which of some buses are not among others.
-use Rattle.std.proofs.Common.{◌≡◌, ℕ, zero, suc, false, ◌<◌, ◌≤◌, ◌^◌, ◌-◌, ◌%◌, refl, sym, ap, ◌∙◌, inl, inr, arith}
+use Rattle.std.proofs.Common.{◌≡◌, ℕ, zero, suc, ◌<◌, ◌^◌, ◌-◌, refl, sym, ap, ◌∙◌, inl, inr, arith}
 use Rattle.std.specs.Prelude.{◌==◌, ◌&&◌, not, bit_and}
 use Rattle.std.specs.Int.{bit_at, w16}
 use Rattle.std.proofs.lemmas.Bool.{cases_lt}
 use Rattle.std.proofs.lemmas.Nat.Bits.{bit_at_not, bit_at-lt}
 use Rattle.tta_arch.specs.Joins.{has_bit}
-use Rattle.tta_arch.proofs.Widths.{no_high}
 use Rattle.tta_arch.proofs.SetLemmas.{has_bit-and}
+use Rattle.tta_arch.proofs.BusSources.{no_bus}
 
 other_bit : (x : ℕ) → x < 2 → (1 - x == 1) ≡ not (x == 1)
 other_bit zero small = refl
@@ -16,9 +16,6 @@ other_bit (suc (suc x)) small = absurd (omega arith)
 is_other : (others bus : ℕ) → others < 2 ^ 16 → bus < 16 → has_bit (65535 - others) bus ≡ not (has_bit others bus)
 is_other others bus small below =
     ap (λ n. n == 1) (bit_at_not w16 others bus small below) ∙ other_bit (bit_at others bus) (bit_at-lt others bus)
-
-no_bus : (buses bus : ℕ) → buses < 2 ^ 16 → 16 ≤ bus → has_bit buses bus ≡ false
-no_bus buses bus small past = ap (λ n. n % 2 == 1) (no_high buses 16 bus small past)
 
 -- those of some buses that are not among others
 pub without_others : (buses others bus : ℕ) → buses < 2 ^ 16 → others < 2 ^ 16

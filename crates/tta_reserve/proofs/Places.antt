@@ -1,13 +1,9 @@
 -- Whether two destinations are one place does not depend on their order.
-use Rattle.std.proofs.Common.{◌≡◌, ℕ, refl, arith}
-use Rattle.std.specs.Prelude.{◌==◌}
-use Rattle.std.proofs.lemmas.Bool.Decides.{nat_tests}
+use Rattle.std.proofs.Common.{◌≡◌, refl, arith}
 use Rattle.tta_arch.specs.declared.ends.Dest.{Dest}
 use Rattle.tta_arch.specs.declared.ends.Dest.TheVariants as dest
 use Rattle.tta_arch.specs.Legal.{same_place}
-
-pub eq_sym : (a b : ℕ) → (a == b) ≡ (b == a)
-eq_sym a b = grind (arith, nat_tests)
+use Rattle.tta_list.proofs.Tests.{same_back as eq_sym}
 
 pub same_sym : (a b : Dest) → same_place a b ≡ same_place b a
 same_sym (dest.Reg f i) (dest.Reg g j) = rw (eq_sym f g, eq_sym i j) refl

@@ -21,9 +21,10 @@ use Rattle.tta_moves.specs.declared.items.PlacedItem.{PlacedItem}
 use Rattle.tta_moves.specs.Slots.{carried, carries, clash, fits_cycle, slots_of, taken_of, taken_by, ends_on}
 use Rattle.tta_reserve.specs.Taken.{is_template, buses_of, meets, is_apart}
 use Rattle.tta_moves.proofs.Numbered.{map_alike, set_alike}
-use Rattle.tta_reserve.proofs.Lists.{or_none, first_push, all_last, get_alike}
+use Rattle.tta_reserve.proofs.Lists.{first_push, all_last, get_alike}
 use Rattle.tta_reserve.proofs.Places.{same_sym}
 use Rattle.tta_reserve.proofs.Slots.{count_set, is_elsewhere}
+use Rattle.tta_arch.proofs.FirstSome.{or_none}
 
 -- ---- what it is that items can be carried out in one cycle
 

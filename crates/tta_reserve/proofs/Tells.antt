@@ -34,11 +34,7 @@ use Rattle.tta_reserve.proofs.Pushed.{fits_parts, fits_from, move_on, long_on, s
 use Rattle.tta_reserve.proofs.MoveFits.{may_read, may_write, is_free, fits_one_more}
 use Rattle.tta_reserve.proofs.MoveOnly.{fits_only_there}
 use Rattle.tta_reserve.proofs.LongFits.{long_fits_one_more, long_fits_only_there}
-
-both : (a b : Bool) → (a ≡ true → b ≡ true) → (b ≡ true → a ≡ true) → a ≡ b
-both true b f g = sym (f refl)
-both false true f g = g refl
-both false false f g = refl
+use Rattle.tta_list.proofs.Tests.{same_bool as both}
 
 none_some : (o : Option Ends) → is_none o ≡ not (is_some o)
 none_some None = refl

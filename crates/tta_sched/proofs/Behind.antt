@@ -1,18 +1,16 @@
 -- No item is held back past the cycle in which all items before it are over.
-use Rattle.std.proofs.Common.{◌≡◌, ℕ, ◌+◌, ◌-◌, ◌≤◌, Bool, true, false, List, [], ◌∷◌, ◌++◌, Option, Some, None, refl, subst, arith, length}
-use Rattle.std.specs.Prelude.{slice_get, max, ◌&&◌, ◌==◌, nat_le, if◌then◌else◌, option_and_then}
+use Rattle.std.proofs.Common.{◌≡◌, ℕ, ◌+◌, ◌-◌, ◌≤◌, Bool, true, false, List, [], ◌∷◌, ◌++◌, Option, Some, None, refl, subst, arith}
+use Rattle.std.specs.Prelude.{max, ◌&&◌, ◌==◌, nat_le, if◌then◌else◌}
 use Rattle.std.specs.Option.{option_map_or}
 use Rattle.std.specs.List.{list_all}
 use Rattle.std.proofs.lemmas.Bool.{and_parts}
 use Rattle.std.proofs.lemmas.Bool.Decides.{nat_tests}
-use Rattle.tta_list.proofs.Lists.{list_all_one}
 use Rattle.tta_arch.specs.declared.ends.GuardRef.{GuardRef}
 use Rattle.tta_arch.specs.declared.parts.UnitOp.{UnitOp}
 use Rattle.tta_arch.specs.declared.parts.Op.{Op}
 use Rattle.tta_arch.specs.declared.parts.Op.TheVariants.{Ldw, Stw, Ldf, Stf, Out, Take, Set}
-use Rattle.tta_arch.specs.declared.parts.Unit.{Unit as OpUnit}
 use Rattle.tta_arch.specs.Machine.{Machine}
-use Rattle.tta_arch.specs.Rules.{IsMachine, is_unit, is_unit_op, fits_kind, is_from_to, is_socket, is_port_socket, are_different, same_op}
+use Rattle.tta_arch.specs.Rules.{IsMachine, fits_kind, is_from_to}
 use Rattle.tta_arch.specs.Effects.{Place, KeptPort, Target, Reg, Imm, Operand, Trigger, Control, Jumps, Calls, Halts, op_at, has_result}
 use Rattle.tta_arch.proofs.Facts.{from_to-least, from_to-greatest}
 use Rattle.tta_moves.specs.declared.items.Item.{Item}
@@ -20,6 +18,7 @@ use Rattle.tta_moves.specs.declared.items.PlacedItem.{PlacedItem}
 use Rattle.tta_moves.specs.Touches.{guard_of, source_of, target_of_item, is_control, place_of_source, guard_place}
 use Rattle.tta_moves.specs.Bounds.{Spot, At, Started, same_spot, Touch, due_after, operand_read, reads_by, written_at, writes_by, from_moment, behind, lasts, over_before, bound, least}
 use Rattle.tta_depend.specs.Stands.{end_of}
+use Rattle.tta_arch.proofs.Sizes.{unit_fits as unit_op}
 
 -- ---- touches
 
@@ -70,20 +69,6 @@ op_due o f r = on o.op refl f r where
   on Out e g h = absurd cc
   on Take e g h = from (some (o.arity == 1) _ g)
   on (Set id) e g h = from (some (is_from_to 1 2 o.arity) _ g)
-
-unit_op : (m : Machine) → IsMachine m → (unit k : ℕ) (o : UnitOp) → op_at m unit k ≡ Some o → fits_kind o ≡ true
-unit_op m rules unit k o at = on (slice_get m.units unit) refl at where
-  on : (u : Option OpUnit) → slice_get m.units unit ≡ u → option_and_then (λ (q : OpUnit). slice_get q.ops k) u ≡ Some o → fits_kind o ≡ true
-  on None e g = absurd cc
-  on (Some q) e g =
-      let a = list_all_one (is_unit m.sockets) m.units unit q rules.units e in
-      let b = and_parts (is_socket m.sockets true q.trigger && is_port_socket m.sockets true q.operand && is_port_socket m.sockets false q.result && nat_le (length q.ops) 32 && list_all (is_unit_op q) q.ops)
-      (are_different (λ (o p : UnitOp). same_op o.op p.op) q.ops) a in
-      let c = and_parts (is_socket m.sockets true q.trigger && is_port_socket m.sockets true q.operand && is_port_socket m.sockets false q.result && nat_le (length q.ops) 32) (list_all (is_unit_op q) q.ops) b.0 in
-      let d = list_all_one (is_unit_op q) q.ops k o c.1 g in
-      first d where
-        first : is_unit_op q o ≡ true → fits_kind o ≡ true
-        first d = (and_parts (fits_kind o) _ (and_parts (fits_kind o && _) _ d).0).0
 
 pub due_least : (m : Machine) → IsMachine m → (unit op due : ℕ) → due_after m (Trigger unit op) ≡ Some due → (1 ≤ due) × (due ≤ 16)
 due_least m rules unit op due e = on (op_at m unit op) refl e where

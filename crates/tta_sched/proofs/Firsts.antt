@@ -2,12 +2,12 @@
 use Rattle.std.proofs.Common.{◌≡◌, ◌⊎◌, inl, inr, ℕ, zero, suc, ◌+◌, ◌*◌, ◌<◌, ◌≤◌, Bool, true, false, List, [], ◌∷◌, ◌++◌, Option, Some, None, refl, sym, ap, subst, ◌∙◌, arith, length, map, take}
 use Rattle.std.specs.Prelude.{slice_get, max, ◌&&◌, ◌||◌, ◌==◌, nat_le, if◌then◌else◌, option_and_then, option_map}
 use Rattle.std.specs.Option.{option_map_or}
-use Rattle.std.specs.List.{list_all, list_any, range_with_len}
+use Rattle.std.specs.List.{list_all, list_any}
 use Rattle.std.proofs.lemmas.List.{take_all, length-map}
 use Rattle.std.proofs.lemmas.Bool.{and_parts, cases_lt}
 use Rattle.std.proofs.lemmas.Bool.Decides.{nat_tests}
 use Rattle.std.proofs.lemmas.Option.{slice_get-map}
-use Rattle.tta_list.proofs.Lists.{list_all_one}
+use Rattle.tta_list.proofs.Lists.{list_all_one, take_one_more}
 use Rattle.tta_arch.specs.declared.parts.UnitOp.{UnitOp}
 use Rattle.tta_arch.specs.declared.parts.Unit.{Unit as OpUnit}
 use Rattle.tta_arch.specs.declared.parts.Template.{Template as Field}
@@ -32,14 +32,10 @@ use Rattle.tta_sched.specs.Room.{longest_of, longest_in, longest, HasRoom}
 use Rattle.tta_sched.proofs.Behind.{least_over, lasts_some}
 use Rattle.tta_sched.proofs.Lone.{alone_fits}
 use Rattle.tta_sched.proofs.Ones.{Each, over_by_end}
+use Rattle.tta_moves.proofs.InRange.{some_bus}
+use Rattle.tta_list.proofs.Tests.{false_true}
 
 -- ---- prefixes
-
--- a prefix with one item more
-take_one_more : {A : Type 0} (xs : List A) (k : ℕ) (x : A) → slice_get xs k ≡ Some x → take (suc k) xs ≡ take k xs ++ x ∷ []
-take_one_more [] k x e = cc
-take_one_more (y ∷ ys) zero x e = let same : y ≡ x = cc in rw same refl
-take_one_more (y ∷ ys) (suc k) x e = ap (λ l. y ∷ l) (take_one_more ys k x e)
 
 -- a list has an item in a place, or ends before it
 here_or_past : {A : Type 0} (xs : List A) (k : ℕ) → ((x : A) × (slice_get xs k ≡ Some x)) ⊎ (take (suc k) xs ≡ take k xs)
@@ -52,13 +48,6 @@ here_or_past (x ∷ xs) (suc k) = elim (here_or_past xs k) [
 ]
 
 -- ---- a cycle after all items
-
-some_bus : (p : ℕ → Bool) (a n : ℕ) → list_any p (range_with_len a n) ≡ true → (k : ℕ) × (p k ≡ true)
-some_bus p a zero h = absurd cc
-some_bus p a (suc n) h = on (p a) refl h (some_bus p (a + 1) n) where
-  on : (b : Bool) → p a ≡ b → (b || list_any p (range_with_len (a + 1) n)) ≡ true → (list_any p (range_with_len (a + 1) n) ≡ true → (k : ℕ) × (p k ≡ true)) → (k : ℕ) × (p k ≡ true)
-  on true e h ih = (a, e)
-  on false e h ih = ih h
 
 some_template : (p : Field → Bool) (ts : List Field) → list_any p ts ≡ true → (k : ℕ) × (option_map_or p (slice_get ts k) false ≡ true)
 some_template p [] h = absurd cc
@@ -86,9 +75,6 @@ fits_after m rules placed v cycle has before =
     (q.0, ap (λ l. fits_cycle m (l ++ record { item = v; cycle = cycle; slot = q.0 } ∷ [])) none ∙ alone_fits m rules (record { item = v; cycle = cycle; slot = q.0 }) q.1)
 
 -- ---- room
-
-false_true : (b : Bool) → b ≡ true → b ≡ false → ⊥
-false_true b e f = cc
 
 -- an item of a first fit stands no later than where all items before it are over
 early : (m : Machine) → IsMachine m → (placed : List PlacedItem) (x : PlacedItem) → has_slot m x.item ≡ true → FitsFirst m placed x → x.cycle ≤ end_of m placed

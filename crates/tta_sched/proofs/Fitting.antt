@@ -24,6 +24,7 @@ use Rattle.tta_sched.specs.First.{no_control, Keeps, Asks, StandsFirst, FindsFir
 use Rattle.tta_sched.proofs.Behind.{least_over, lasts_some, due_least}
 use Rattle.tta_sched.proofs.Ones.{over_by_end}
 use Rattle.tta_sched.proofs.Firsts.{fits_after}
+use Rattle.tta_list.proofs.Tests.{false_true}
 
 -- ---- the search
 
@@ -63,9 +64,6 @@ pub not_found : (m : Machine) (placed : List PlacedItem) (v : Item) (from cycle 
 not_found m placed v from cycle end is le tried = λ c slot low lt. tried c slot (omega arith) (omega arith)
 
 -- ---- one item
-
-false_true : (b : Bool) → b ≡ true → b ≡ false → ⊥
-false_true b e f = cc
 
 -- an item is always found up to the cycle after all items before it
 pub is_found : (m : Machine) → IsMachine m → (placed : List PlacedItem) (v : Item) (end : ℕ) → has_slot m v ≡ true → end ≡ end_of m placed + 1 → FindsFirst m placed v end None → ⊥

@@ -1,11 +1,10 @@
 -- An item alone in its cycle fits there, on a slot that carries it.
-use Rattle.std.proofs.Common.{◌≡◌, ℕ, zero, suc, ◌+◌, ◌/◌, ◌^◌, ◌<◌, ◌≤◌, Bool, true, false, List, [], ◌∷◌, Option, Some, None, refl, ap, subst, arith, length, map}
+use Rattle.std.proofs.Common.{◌≡◌, ℕ, zero, suc, ◌+◌, ◌<◌, ◌≤◌, Bool, true, false, List, [], ◌∷◌, Option, Some, None, refl, ap, subst, arith, length, map}
 use Rattle.std.specs.Prelude.{slice_get, count_by, not, ◌||◌, ◌==◌, nat_le, if◌then◌else◌, is_none, is_some}
 use Rattle.std.specs.Option.{option_map_or}
 use Rattle.std.specs.List.{range_with_len}
 use Rattle.std.proofs.lemmas.Bool.{and_parts, and_from, le-leb}
 use Rattle.std.proofs.lemmas.Bool.Decides.{nat_tests}
-use Rattle.std.proofs.lemmas.Nat.{pow_pos, div_below}
 use Rattle.std.proofs.lemmas.List.Sums.{count_by-le-length}
 use Rattle.tta_list.proofs.Lists.{list_all_one, some_within}
 use Rattle.tta_arch.specs.declared.parts.File.{File}
@@ -21,6 +20,8 @@ use Rattle.tta_moves.specs.declared.items.Slot.{Slot}
 use Rattle.tta_moves.specs.declared.items.Slot.TheVariants.{Bus, Template}
 use Rattle.tta_moves.specs.declared.items.PlacedItem.{PlacedItem}
 use Rattle.tta_moves.specs.Slots.{carried, carries, fits_cycle, slots_of, taken_of, ends_on}
+use Rattle.tta_arch.proofs.SetLemmas.{has_bit-empty as no_bits}
+use Rattle.tta_reserve.proofs.Kept.{no_ends}
 
 -- ---- at most one move
 
@@ -63,9 +64,6 @@ apart_one (v ∷ w ∷ vs) h = absurd (omega arith)
 
 -- ---- the slots of one item
 
-no_bits : (k : ℕ) → has_bit 0 k ≡ false
-no_bits k = let z : 0 / 2 ^ k ≡ 0 = let h = div_below 0 (2 ^ k) 1 (pow_pos k) (let p = pow_pos k in omega arith) in omega arith in rw z refl
-
 -- a move on one bus
 abbrev only : (b : ℕ) → Ends → ℕ → Option Ends
 only b v bus = or_else (if b == bus then Some v else None) None
@@ -91,10 +89,6 @@ all_only test b v none here a (suc n) = and_from _ _ (on (b == a) refl) (all_onl
 
 nothing : ℕ → Option Ends
 nothing bus = None
-
-no_ends : (a n : ℕ) → ends_of (map (λ (bus : ℕ). None) (range_with_len a n)) ≡ []
-no_ends a zero = refl
-no_ends a (suc n) = no_ends (a + 1) n
 
 all_none : (test : ℕ → Option Ends → Bool) → ((k : ℕ) → test k None ≡ true) → (a n : ℕ) → all_slots test a (map (λ (bus : ℕ). None) (range_with_len a n)) ≡ true
 all_none test none a zero = refl

@@ -1,8 +1,8 @@
 -- What an item that has a slot touches is within the limits of machines.
-use Rattle.std.proofs.Common.{◌≡◌, ℕ, zero, suc, ◌+◌, Bool, true, false, List, [], ◌∷◌, ◌++◌, Option, Some, None, refl, sym, ap, ◌∙◌, arith, length}
-use Rattle.std.specs.Prelude.{◌&&◌, ◌||◌, nat_lt, slice_get, option_and_then}
+use Rattle.std.proofs.Common.{◌≡◌, ℕ, ◌+◌, Bool, true, List, [], ◌∷◌, ◌++◌, Option, Some, None, refl, sym, ap, ◌∙◌, arith, length}
+use Rattle.std.specs.Prelude.{◌&&◌, nat_lt, slice_get, option_and_then}
 use Rattle.std.specs.Option.{option_map_or}
-use Rattle.std.specs.List.{list_all, list_any, range_with_len}
+use Rattle.std.specs.List.{list_all}
 use Rattle.std.proofs.lemmas.Bool.{and_parts, and_from, lt-ltb}
 use Rattle.std.proofs.lemmas.Option.{slice_get_within}
 use Rattle.tta_arch.specs.declared.ends.GuardRef.{GuardRef}
@@ -19,17 +19,10 @@ use Rattle.tta_moves.specs.Touches.{guard_of, source_of, target_of_item, place_o
 use Rattle.tta_moves.specs.Numbers.{is_place}
 use Rattle.tta_moves.specs.Slots.{carried, has_slot}
 use Rattle.tta_moves.specs.Bounds.{At, Started, Touch, due_after, operand_read, reads_by, written_at, writes_by}
-use Rattle.tta_moves.proofs.InRange.{InRange, in_range}
+use Rattle.tta_moves.proofs.InRange.{InRange, in_range, some_bus}
 use Rattle.tta_depend.specs.Stands.{is_spot, is_within}
 
 -- ---- the unit of a trigger
-
-some_bus : (p : ℕ → Bool) (a n : ℕ) → list_any p (range_with_len a n) ≡ true → (k : ℕ) × (p k ≡ true)
-some_bus p a zero h = absurd cc
-some_bus p a (suc n) h = on (p a) refl h (λ more. some_bus p (a + 1) n more) where
-  on : (b : Bool) → p a ≡ b → (b || list_any p (range_with_len (a + 1) n)) ≡ true → (list_any p (range_with_len (a + 1) n) ≡ true → (k : ℕ) × (p k ≡ true)) → (k : ℕ) × (p k ≡ true)
-  on true e h more = (a, e)
-  on false e h more = more h
 
 unit_on : (m : Machine) → IsMachine m → (unit op bus : ℕ) → is_dest_on m bus (dest.Trigger unit op) ≡ true → nat_lt unit 32 ≡ true
 unit_on m rules unit op bus h = on (slice_get m.units unit) refl h where

@@ -1,6 +1,6 @@
 -- The list of a block: for the machine, straight, and within the block's counts.
 use Rattle.std.proofs.Common.{◌≡◌, ◌<◌, ◌≤◌, ◌+◌, ◌-◌, ◌^◌, ℕ, Bool, true, false, List, [], ◌∷◌, ◌++◌, Option, Some, None, refl, sym, ap, subst, arith, ◌∙◌, length, is_some}
-use Rattle.std.specs.Prelude.{if◌then◌else◌, ◌==◌, ◌&&◌, nat_le}
+use Rattle.std.specs.Prelude.{if◌then◌else◌, ◌==◌, nat_le}
 use Rattle.std.specs.List.{flat_map, list_all}
 use Rattle.std.proofs.lemmas.Bool.{and_parts}
 use Rattle.std.proofs.lemmas.Bool.Decides.{nat_tests}
@@ -38,15 +38,16 @@ use Rattle.tta_select.specs.Counts.{targets, is_frame_trigger, is_home}
 use Rattle.tta_select.specs.Lists.{is_closed}
 use Rattle.tta_select.specs.Statement.{TriggersNoMore}
 use Rattle.tta_select.specs.Reaches.{guard_by, HasJoins}
-use Rattle.tta_select.proofs.Offers.{serves}
+use Rattle.tta_select.proofs.Offers.{serves, three as parts}
 use Rattle.tta_select.proofs.Covering.{grounds}
 use Rattle.tta_select.proofs.Joins.{has_joins}
-use Rattle.tta_select.proofs.Everywhere.{IsValue, IsCarried, IsWays, Merging, fetch_all, value_to, address_all, or_second, steps_all, exit_all}
+use Rattle.tta_select.proofs.Everywhere.{IsValue, IsCarried, IsWays, Merging, fetch_all, value_to, address_all, steps_all, exit_all}
 use Rattle.tta_select.proofs.Slotted.{Route, At_once, By_hub, By_long, By_long_hub, route, Slotted, slotted_ways, slotted_merging}
 use Rattle.tta_select.proofs.Straight.{Neat, neat_ways, neat_merging}
 use Rattle.tta_select.proofs.Control.{block_last, block_short}
 use Rattle.tta_select.proofs.Counted.{homes_counted}
 use Rattle.tta_select.proofs.Triggers.{frame_counted, op_counted}
+use Rattle.tta_list.proofs.Tests.{or_true as or_second}
 
 -- ---- addresses
 
@@ -103,12 +104,6 @@ module _ (m : Machine) (c : Choice) (j : HasJoins m c) (address : 2 ^ m.control.
               closed_row (address_slot m c f) _ (address_all u m c j blocks small loads store storing (Closed blocks) closed_ways f low) refl
 
 -- ---- a block
-
-parts : (a b d : Bool) → (a && b && d) ≡ true → (a ≡ true) × (b ≡ true) × (d ≡ true)
-parts true true true e = (refl, refl, refl)
-parts true true false e = absurd cc
-parts true false d e = absurd cc
-parts false b d e = absurd cc
 
 module _ (u : Units) (m : Machine) (c : Choice) (rules : IsMachine m) (over : StandsOver u m) (choice : IsChoice m c) where
   joins : HasJoins m c

@@ -16,6 +16,7 @@ use Rattle.tta_select.specs.Ground.{IsGround}
 use Rattle.tta_select.proofs.Firsts.{first_there}
 use Rattle.tta_select.proofs.Offers.{three, if_true}
 use Rattle.tta_select.proofs.HomeLists.{Each, Once, each_append, once_append, registers_each, registers_once, Other, wide, width_at, each_weaker, files_from}
+use Rattle.tta_list.proofs.Tests.{some_same as some_nat}
 
 differ : (f i h j : ℕ) → (f ≡ h → i ≡ j → ⊥) → same_place (KeptReg f i) (KeptReg h j) ≡ false
 differ f i h j no_way = either (same_place (KeptReg f i) (KeptReg h j)) (λ e. absurd (both e)) (λ e. e) where
@@ -26,9 +27,6 @@ first_of : (a b d : Bool) → (a && b && d) ≡ true → (a ≡ true) × (b ≡ 
 first_of true true d e = (refl, refl)
 first_of true false d e = absurd cc
 first_of false b d e = absurd cc
-
-some_nat : {i j : ℕ} → Some i ≡ Some j → i ≡ j
-some_nat e = cc
 
 pub some_pair : {i j f g : ℕ} → ◌≡◌ {A = Option (ℕ × ℕ)} (Some (i, f)) (Some (j, g)) → i ≡ j
 some_pair {i} {j} {f} {g} e = let pair : ◌≡◌ {A = ℕ × ℕ} (i, f) (j, g) = cc in ap (λ p. p.0) pair

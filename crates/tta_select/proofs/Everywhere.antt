@@ -41,6 +41,7 @@ use Rattle.tta_select.specs.Select.{goes, call_of, operand_at, trigger_at, shown
 use Rattle.tta_select.specs.Relation.{is_place_of, is_src_of}
 use Rattle.tta_select.specs.Needs.{op_of_step, op_of_exit, is_offered, is_step_of, is_exit_of, fits_step, fits_exit, word_src, word_step, word_exit}
 use Rattle.tta_select.specs.Reaches.{guard_by, HasJoins}
+use Rattle.tta_list.proofs.Tests.{or_true as or_second}
 
 -- a constant is a word or the number of a block
 abbrev pub IsValue : (blocks : ℕ) → LongValue → Type 0
@@ -73,10 +74,6 @@ abbrev pub Merging : Machine → Choice → (List Item → Type 0) → Type 0
 Merging m c P =
     (i : Bool) (s : RSrc) (d : RPlace) → is_src_of m c s ≡ true → word_src s ≡ true → is_place_of m c d ≡ true
     → P (brings_old m c d ++ (value m c (Some (guard_by c i)) s (hub_at m c 1) ++ merged m c d))
-
-pub or_second : (a b : Bool) → b ≡ true → (a || b) ≡ true
-or_second true b e = refl
-or_second false b e = e
 
 pub or_middle : (a b d : Bool) → b ≡ true → (a || b || d) ≡ true
 or_middle true b d e = refl

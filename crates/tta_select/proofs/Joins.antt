@@ -30,10 +30,10 @@ use Rattle.tta_moves.specs.Forms.{is_passing}
 use Rattle.tta_moves.proofs.Places.{either}
 use Rattle.tta_select.specs.Select.{filled, call_of, operand_at, trigger_at, shown_at, hub_at, from_hub, home_pair, home_at, from_home, guard_at, long_for}
 use Rattle.tta_select.specs.Reaches.{guard_by, HasJoins}
-use Rattle.tta_select.proofs.Everywhere.{or_second}
 use Rattle.tta_select.proofs.Offers.{Offered, offered_there, three}
 use Rattle.tta_select.proofs.HomeLists.{Each, each_append, register_at, registers_size}
 use Rattle.tta_select.proofs.Covering.{Hub, hub_there, Guarding, guard_there}
+use Rattle.tta_list.proofs.Tests.{or_true as or_second}
 
 any_weaker : (p q : ℕ → Bool) (xs : List ℕ) → ((x : ℕ) → p x ≡ true → q x ≡ true) → list_any p xs ≡ true → list_any q xs ≡ true
 any_weaker p q [] weaker e = absurd cc

@@ -6,13 +6,14 @@ use Rattle.tta_arch.specs.Machine.{Machine}
 use Rattle.tta_arch.specs.Effects.{Place, KeptReg, KeptImm, KeptOperand, KeptRa, KeptPort, kept, same_place, width_of}
 use Rattle.tta_connect.specs.declared.choice.Choice.{Choice}
 use Rattle.tta_moves.specs.Meaning.{Exit, Next, Held}
-use Rattle.tta_moves.proofs.Places.{either, same_is, same_self, kept_there, kept_elsewhere}
+use Rattle.tta_moves.proofs.Places.{either, same_self, kept_there, kept_elsewhere}
 use Rattle.tta_rcode.specs.declared.code.Place.TheVariants.{Reg, Frame}
 use Rattle.tta_rcode.specs.Meaning.{State, Kept, Plain, Return, found, puts_at}
 use Rattle.tta_select.specs.Select.{home_pair}
 use Rattle.tta_select.specs.Ground.{IsGround, home_place}
 use Rattle.tta_select.specs.Relation.{slot_word, Matches}
 use Rattle.tta_select.proofs.Moves.{wrote, is_free, Calm}
+use Rattle.tta_arch.proofs.Places.{same_is}
 
 module _ (m : Machine) (c : Choice) (addr : List ℕ) (g : IsGround m c) where
   -- a way keeps the states matched

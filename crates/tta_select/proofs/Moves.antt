@@ -19,8 +19,9 @@ use Rattle.tta_moves.specs.declared.items.Item.{Item}
 use Rattle.tta_moves.specs.declared.items.Item.TheVariants.{Move, Long}
 use Rattle.tta_moves.specs.Touches.{guard_place, source_of_long}
 use Rattle.tta_moves.specs.Meaning.{Exit, Next, Leaves, Waits, is_waiting, Held, read_held, linked, effect_of, acts, waits_for, does, lacks}
-use Rattle.tta_moves.proofs.Places.{either, same_is, kept_elsewhere}
+use Rattle.tta_moves.proofs.Places.{either, kept_elsewhere}
 use Rattle.tta_select.proofs.Goes.{Goes, stays, chain, one, Guarded, Brings, brings, Rests, rests, rests_does, rests_lacks, brings_does, brings_lacks, starts_does, starts_lacks}
+use Rattle.tta_arch.proofs.Places.{same_is}
 
 -- ---- states
 

@@ -28,6 +28,7 @@ use Rattle.tta_select.specs.Select.{trigger_at, no_call}
 use Rattle.tta_select.specs.Direct.{out_of, brings}
 use Rattle.tta_select.proofs.Firsts.{first_there}
 use Rattle.tta_select.proofs.Offers.{if_true, three}
+use Rattle.tta_moves.proofs.Buses.{any_below as any_at}
 
 -- ---- a bus leads to control
 
@@ -80,21 +81,6 @@ to_control m rules = on (slice_get m.sockets m.control.trigger) refl there where
       let set = all_one (λ (s : Socket). IsBusSet (length m.buses) s.buses) m.sockets m.control.trigger s rules.sockets e in
       let k = some_bit (length m.buses) s.buses set.0 set.1 in
       (k.0, k.1, ap (λ (o : Option Socket). option_map_or (λ s. is_same true s.input && has_bit s.buses k.0) o false) e ∙ and_from (is_same true s.input) (has_bit s.buses k.0) h k.2)
-
-any_at : (test : ℕ → Bool) (a n k : ℕ) → a ≤ k → k < a + n → test k ≡ true → list_any test (range_with_len a n) ≡ true
-any_at test a zero k from to h = absurd (omega (arith, from, to))
-any_at test a (suc n) k from to h = elim (cases_lt a k) [
-  | inl more ↦
-      let rest = any_at test (a + 1) n k (omega (arith, more)) (omega (arith, to)) h in
-      on (test a) rest
-  | inr first ↦
-      let same : k ≡ a = omega (arith, from, first) in
-      let here : test a ≡ true = subst (λ (j : ℕ). test j ≡ true) same h in
-      rw here refl
-] where
-  on : (b : Bool) → list_any test (range_with_len (a + 1) n) ≡ true → (b || list_any test (range_with_len (a + 1) n)) ≡ true
-  on true h = refl
-  on false h = h
 
 -- the word 0 can be moved to control
 pub halt_joined : (m : Machine) → IsMachine m → joined m (Port (source.Value 0)) dest.Halt None ≡ true

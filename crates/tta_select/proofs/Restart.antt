@@ -1,5 +1,5 @@
 -- What stays from block to block.
-use Rattle.std.proofs.Common.{◌≡◌, ◌<◌, ◌≤◌, ◌+◌, ℕ, zero, suc, Bool, true, false, List, [], ◌∷◌, ◌++◌, Option, Some, None, refl, sym, ap, subst, arith, ◌∙◌, length, map}
+use Rattle.std.proofs.Common.{◌≡◌, ◌<◌, ◌≤◌, ◌+◌, ℕ, zero, suc, Bool, true, false, List, [], ◌∷◌, ◌++◌, Option, Some, None, refl, ap, subst, arith, ◌∙◌, length, map}
 use Rattle.std.specs.Prelude.{if◌then◌else◌, ◌==◌, ◌&&◌, ◌||◌, filter}
 use Rattle.std.specs.List.{list_any}
 use Rattle.std.proofs.lemmas.Bool.Decides.{nat_tests}
@@ -8,15 +8,14 @@ use Rattle.tta_arch.specs.Effects.{Place, KeptReg, KeptRa, Written, kept, same_p
 use Rattle.tta_connect.specs.declared.choice.Choice.{Choice}
 use Rattle.tta_moves.specs.Meaning.{Exit, Next, Held}
 use Rattle.tta_moves.specs.Runs.{lives, restart}
-use Rattle.tta_moves.proofs.Places.{either, same_is}
+use Rattle.tta_moves.proofs.Places.{either}
 use Rattle.tta_rcode.specs.declared.code.RBlock.{RBlock}
 use Rattle.tta_rcode.specs.Meaning.{State, found, stay, unset}
 use Rattle.tta_select.specs.Select.{home_pair}
 use Rattle.tta_select.specs.Ground.{home_place}
 use Rattle.tta_select.specs.Relation.{Matches}
-
-clash : (b : Bool) → b ≡ true → b ≡ false → ⊥
-clash b p q = let e : true ≡ false = sym p ∙ q in cc
+use Rattle.tta_arch.proofs.Places.{same_is}
+use Rattle.tta_list.proofs.Tests.{false_true as clash}
 
 -- whether a home register is among those that stay
 abbrev pub stays_in : List ℕ → ℕ → Bool

@@ -5,31 +5,15 @@ use Rattle.tta_arch.specs.declared.parts.Guard.{Guard}
 use Rattle.tta_arch.specs.declared.parts.Op.TheVariants.{Ldf, Stf, Out, Take}
 use Rattle.tta_arch.specs.declared.ends.Source.TheVariants as source
 use Rattle.tta_arch.specs.declared.ends.Dest.TheVariants as dest
-use Rattle.tta_arch.proofs.Samples.{one_bus, three_buses}
+use Rattle.tta_arch.proofs.Samples.{three_buses}
 use Rattle.tta_connect.specs.declared.choice.Choice.{Choice}
-use Rattle.tta_connect.specs.Coverage.{hub_of, guard_register, homes_of, failed_rule, registers_from}
+use Rattle.tta_connect.specs.Coverage.{failed_rule, registers_from}
 use Rattle.tta_moves.specs.declared.items.ItemSource.TheVariants.{Port, Address}
 use Rattle.tta_moves.specs.declared.items.LongValue.TheVariants as long
 use Rattle.tta_moves.specs.declared.items.Item.TheVariants.{Move, Long}
 use Rattle.tta_rcode.specs.declared.code.Place.TheVariants.{Reg, Frame}
 use Rattle.tta_rcode.specs.declared.code.RSrc.TheVariants as rsrc
 use Rattle.tta_select.specs.Select.{constant, value, merged, brings_old}
-
-covered : failed_rule three_buses ≡ None
-covered = refl
-
-the_hub : hub_of three_buses ≡ Some 0
-the_hub = refl
-
-the_guard : guard_register three_buses 0 ≡ Some (2, 0)
-the_guard = refl
-
-the_homes : homes_of three_buses 0 ≡ registers_from 0 3 5 ++ registers_from 1 0 8
-the_homes = refl
-
--- without a register file there is no hub
-one_bus-fails : failed_rule one_bus ≡ Some 1
-one_bus-fails = refl
 
 -- with the second condition's guards in place of the first one's inverted
 abbrev other_guards : Machine

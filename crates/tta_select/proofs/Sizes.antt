@@ -29,14 +29,11 @@ use Rattle.tta_rcode.specs.Counts.{weight_step, weight_exit, weight_block, weigh
 use Rattle.tta_select.specs.Select.{goes, hub_at, from_hub, long_for, through_hub, long_hub, long_way, constant, carry, items_of_block, list_of, selected}
 use Rattle.tta_select.specs.Counts.{items_in}
 use Rattle.tta_select.proofs.Counting.{step_cost, exit_cost, src_cost, result_cost, block_counts}
+use Rattle.tta_list.proofs.Lists.{length_ones}
 
 -- each item counts for one
 abbrev one : Item → ℕ
 one x = 1
-
-pub length_ones : {A : Type 0} (xs : List A) → length xs ≡ sum_by (λ x. 1) xs
-length_ones [] = refl
-length_ones (x ∷ xs) = let ih = length_ones xs in let e : sum_by (λ x. 1) (x ∷ xs) ≡ 1 + sum_by (λ x. 1) xs = sum_by-cons (λ x. 1) x xs in omega (arith, ih, e)
 
 module _ (m : Machine) (c : Choice) where
   long_hub_size : (guard : Option GuardRef) (v : LongValue) (dst : Dest) (o : Option Field) → sum_by one (long_hub m c guard v dst o) ≤ 3 + 0

@@ -29,10 +29,8 @@ use Rattle.tta_select.specs.Select.{goes, filled, call_of, trigger_at, hub_at, f
 use Rattle.tta_select.specs.Relation.{is_place_of, is_src_of}
 use Rattle.tta_select.specs.Needs.{word_src}
 use Rattle.tta_select.specs.Reaches.{guard_by, HasJoins}
-use Rattle.tta_select.proofs.Everywhere.{IsValue, IsCarried, has_constant, has_carry, IsWays, Merging, fetch_all, value_to, address_all, or_second}
-
-self_nat : (n : ℕ) → (n == n) ≡ true
-self_nat n = grind (arith, nat_tests)
+use Rattle.tta_select.proofs.Everywhere.{IsValue, IsCarried, has_constant, has_carry, IsWays, Merging, fetch_all, value_to, address_all}
+use Rattle.tta_list.proofs.Tests.{eq_same as self_nat, or_true as or_second}
 
 -- ---- a template that is found
 

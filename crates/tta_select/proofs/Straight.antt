@@ -34,8 +34,9 @@ use Rattle.tta_select.specs.Select.{goes, filled, call_of, operand_at, trigger_a
 use Rattle.tta_select.specs.Relation.{is_place_of, is_src_of}
 use Rattle.tta_select.specs.Needs.{word_src}
 use Rattle.tta_select.specs.Reaches.{guard_by, HasJoins}
-use Rattle.tta_select.proofs.Everywhere.{IsValue, IsCarried, has_constant, has_carry, IsWays, Merging, fetch_all, value_to, address_all, reaches_all, or_second, or_middle}
+use Rattle.tta_select.proofs.Everywhere.{IsValue, IsCarried, has_constant, has_carry, IsWays, Merging, fetch_all, value_to, address_all, reaches_all, or_middle}
 use Rattle.tta_select.proofs.Slotted.{Template, Route, At_once, By_hub, By_long, By_long_hub, route}
+use Rattle.tta_list.proofs.Tests.{or_true as or_second}
 
 -- ---- lists in a row
 

@@ -29,9 +29,10 @@ use Rattle.tta_sim.specs.Kept.{held_of, IsCarried}
 use Rattle.tta_sim.proofs.Possible.{possible}
 use Rattle.tta_sim.proofs.Agreeing.{long_brought, brings_all}
 use Rattle.tta_sim.proofs.Starting.{reachable, outputs_apart, inputs_apart, put_once, all_there}
-use Rattle.tta_sim.proofs.Taking.{take_once, next_word}
+use Rattle.tta_sim.proofs.Taking.{next_word}
 use Rattle.tta_sim.proofs.Wrote.{writes_all, starts_all}
 use Rattle.tta_sim.proofs.Faulting.{fault_same, acting_all}
+use Rattle.tta_arch.proofs.Takes.{take_once}
 
 -- ---- control
 

@@ -15,7 +15,9 @@ use Rattle.tta_sim.specs.declared.dues.Due.{Due}
 use Rattle.tta_sim.specs.Results.{Results, AreThere, AreKept, results_at, due_by, due_at, is_due, word_due}
 use Rattle.tta_sim.specs.Dues.{started_at, IsFittingDue, CanAllBegin, CanBegin, HasBegun}
 use Rattle.tta_sim.specs.Ready.{Begin, KeepsOthers}
-use Rattle.tta_sim.proofs.Showing.{among_units, results_more}
+use Rattle.tta_sim.proofs.Showing.{results_more}
+use Rattle.tta_flight.proofs.Parts.{among as among_units}
+use Rattle.tta_list.proofs.Tests.{equal_is as equal}
 
 -- ---- lists
 
@@ -86,9 +88,6 @@ not_among base count u n less beside = λ same.
     let least : nat_le base n ≡ true = grind (arith, same) in
     let most : nat_lt n (base + count) ≡ true = grind (arith, same, less) in
     grind (arith, least, most, beside)
-
-equal : (a b : ℕ) → (a == b) ≡ true → a ≡ b
-equal a b is = grind (arith, is)
 
 -- a result after `latency` cycles is due so long after the next one
 delay_of : (latency delay now : ℕ) → (now + latency == now + 1 + delay) ≡ true → latency - 1 ≡ delay

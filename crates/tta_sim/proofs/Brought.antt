@@ -28,10 +28,6 @@ use Rattle.tta_sim.proofs.Lining.{filter_map-twice, filter_map-map, map-filter_m
 
 -- ---- tests of lists
 
-pub all_false : {A : Type 0} (p : A → Bool) (xs : List A) → list_any p xs ≡ false → AllByRecursion (λ x. p x ≡ false) xs
-all_false p [] none = tt
-all_false p (x ∷ xs) none = (grind arith, all_false p xs (grind arith))
-
 swap_three : (a b c x y z : Bool) → ((a || (b || c)) || (x || (y || z))) ≡ ((a || x) || ((b || y) || (c || z)))
 swap_three true b c x y z = refl
 swap_three false true c true y z = refl

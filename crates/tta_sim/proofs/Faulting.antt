@@ -15,16 +15,9 @@ use Rattle.tta_sim.specs.Results.{Results, AreResultsOf, shown_by, is_due}
 use Rattle.tta_sim.specs.Moves.{is_possible_slot, reads_of, effects_in, arrivals_of, brought_of}
 use Rattle.tta_sim.specs.Starts.{is_stopped, clashes_with, starts_of, fault_in, acting_in}
 use Rattle.tta_sim.proofs.Agreeing.{long_brought, lacks_all, ports_all}
+use Rattle.tta_arch.proofs.FirstSome.{or_none as or_else_none, first_append as first_some-append}
 
 -- ---- control
-
-first_some-append : {A B : Type 0} (f : A → Option B) (xs ys : List A) → first_some f (xs ++ ys) ≡ or_else (first_some f xs) (first_some f ys)
-first_some-append f [] ys = refl
-first_some-append f (x ∷ xs) ys =
-    elim (f x) as (λ o. or_else o (first_some f (xs ++ ys)) ≡ or_else (or_else o (first_some f xs)) (first_some f ys)) [
-      | None ↦ first_some-append f xs ys
-      | Some y ↦ refl
-    ]
 
 long_controls : (m : Machine) (long : Option Long) → first_some control_of (long_brought m long) ≡ None
 long_controls m None = refl
@@ -32,10 +25,6 @@ long_controls m (Some l) = by (slice_get m.templates l.template) where
   by : (o : Option Template) → first_some control_of (option_map_or (λ t. (Imm t.imm t.reg, l.value) ∷ []) o []) ≡ None
   by None = refl
   by (Some t) = refl
-
-or_else_none : {B : Type 0} (o : Option B) → or_else o None ≡ o
-or_else_none None = refl
-or_else_none (Some x) = refl
 
 -- the control move of the moves and the long immediate is that of the moves
 pub acting_all : (m : Machine) (bs : List Brought) (long : Option Long) → first_some control_of (bs ++ long_brought m long) ≡ first_some control_of bs

@@ -1,12 +1,10 @@
 -- Runs that begin, go on or are over.
-use Rattle.std.proofs.Common.{◌≡◌, ℕ, zero, suc, ◌+◌, ◌<◌, ◌≤◌, get_or, ◌^◌, true, false, IsTrue, List, [], ◌∷◌, length, replicate, Option, Some, None, refl, sym, ap, ◌∙◌, subst, arith}
+use Rattle.std.proofs.Common.{◌≡◌, ℕ, zero, suc, ◌+◌, ◌<◌, ◌≤◌, get_or, true, false, IsTrue, List, [], ◌∷◌, length, replicate, Option, Some, None, refl, sym, ap, ◌∙◌, subst, arith}
 use Rattle.std.specs.Prelude.{slice_get}
 use Rattle.std.specs.List.{AllByRecursion}
 use Rattle.tta_ops.specs.Units.{Units}
 use Rattle.tta_arch.specs.Machine.{Machine}
 use Rattle.tta_arch.specs.Rules.{IsMachine}
-use Rattle.tta_arch.proofs.Facts.{address_most}
-use Rattle.tta_arch.proofs.Widths.{pow_le}
 use Rattle.std.proofs.lemmas.List.{length-replicate}
 use Rattle.tta_code.specs.declared.code.Instruction.{Instruction}
 use Rattle.tta_code.specs.declared.code.Code.{Code}
@@ -29,6 +27,7 @@ use Rattle.tta_sim.specs.Kept.{held_of, IsCarried}
 use Rattle.tta_sim.proofs.Possible.{Found}
 use Rattle.tta_sim.proofs.Fitting.{line_there}
 use Rattle.tta_sim.proofs.Facing.{fits_line}
+use Rattle.tta_code.proofs.Rooms.{room_few as all_reached}
 
 -- ---- over
 
@@ -168,12 +167,6 @@ line_here m code h rules run k delay lines store r l within is same item has siz
           (subst (λ n. IsLineThere n (line_of m (k + 1 + delay) i.item)) (sym size) (line_there m rules (k + 1 + delay) i.item decoded.legal));
       fits = fits_line m rules i.item decoded.legal (k + 1 + delay) l decoded.line store.places r false has size;
     }
-
--- addresses of 16 bits reach all instructions
-pub all_reached : (m : Machine) (code : Code) → IsMachine m → IsLegalCode m code → length code.words ≤ 65536
-all_reached m code rules legal =
-    let most : 2 ^ m.control.address ≤ 2 ^ 16 = pow_le m.control.address 16 (address_most m rules) in
-    omega (arith, legal.room, most)
 
 -- ---- the start
 

@@ -49,7 +49,7 @@ others_same part r = record {
 
 -- ---- a region of its own
 
-few_cycles : (d : UnitOp) → fits_kind d ≡ true → d.latency ≤ 16
+pub few_cycles : (d : UnitOp) → fits_kind d ≡ true → d.latency ≤ 16
 few_cycles d kind = by d.op kind where
   by : (o : Op) → fits_kind (record d { op = o }) ≡ true → d.latency ≤ 16
   by Ldw kind = grind arith

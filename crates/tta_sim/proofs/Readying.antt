@@ -19,7 +19,8 @@ use Rattle.tta_sim.specs.Writing.{long_writes, is_long_place, numbered, numbered
 use Rattle.tta_sim.specs.Decoded.{reading_of, write_decoded, long_decoded, has_operation, line_of}
 use Rattle.tta_sim.specs.Lines.{is_unread, write_brought, start_brought, control_brought, operand_in, cannot_start, is_ready}
 use Rattle.tta_sim.proofs.Faulting.{stopped_by}
-use Rattle.tta_sim.proofs.Brought.{all_false, unread_moves, unread_writes, unread_starts, unread_controls, unread_parts, writes_in, long_in, long_unread, starts_in, controls_in, cannot_all, operand_same, starts_alike}
+use Rattle.tta_sim.proofs.Brought.{unread_moves, unread_writes, unread_starts, unread_controls, unread_parts, writes_in, long_in, long_unread, starts_in, controls_in, cannot_all, operand_same, starts_alike}
+use Rattle.tta_list.proofs.Lists.{any_none as all_false}
 
 -- ---- a whole instruction
 

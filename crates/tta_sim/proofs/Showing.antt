@@ -1,12 +1,12 @@
 -- Results that become due, and results that begin.
 use Rattle.std.proofs.Common.{◌≡◌, ◌<◌, ◌+◌, ℕ, true, false, List, [], ◌∷◌, ◌++◌, Option, None, Some, refl, ap, sym, ◌∙◌, arith}
-use Rattle.std.specs.Prelude.{fold, nat_le, nat_lt}
+use Rattle.std.specs.Prelude.{fold, nat_le}
 use Rattle.std.specs.Option.{option_map_or, option_or}
 use Rattle.std.specs.List.{AllByRecursion}
 use Rattle.std.proofs.lemmas.List.Folds.{find-append}
 use Rattle.std.proofs.lemmas.List.Sums.{fold-append}
 use Rattle.tta_code.specs.Cycle.{Result', later}
-use Rattle.tta_flight.specs.Rings.{Rings, is_among, shown_in, due_in}
+use Rattle.tta_flight.specs.Rings.{Rings, shown_in, due_in}
 use Rattle.tta_sim.specs.Results.{Results, AreResultsOf, latest, is_due, due_at, word_due}
 
 -- ---- the port
@@ -66,13 +66,6 @@ latest-later unit now best (r ∷ rs) all =
 word_either : (a b : Option Result') → option_or (word_due a) (word_due b) ≡ word_due (option_or a b)
 word_either None b = refl
 word_either (Some r) b = refl
-
--- a unit of these is among them
-pub among_units : (base units unit : ℕ) → unit < units → is_among base units (base + unit) ≡ true
-among_units base units unit less =
-    let least : nat_le base (base + unit) ≡ true = grind arith in
-    let most : nat_lt (base + unit) (base + units) ≡ true = grind (arith, less) in
-    grind (arith, least, most)
 
 -- the first of three
 or_assoc : (a b c : Option Result') → option_or a (option_or b c) ≡ option_or (option_or a b) c

@@ -1,12 +1,11 @@
 -- Which operations a legal instruction starts.
-use Rattle.std.proofs.Common.{◌≡◌, ℕ, zero, suc, ◌<◌, ◌≤◌, ◌==◌, Bool, true, false, not, ◌&&◌, ◌||◌, IsTrue, List, [], ◌∷◌, ◌++◌, length, map, Option, Some, None, refl, sym, ap, ◌∙◌, subst, arith}
+use Rattle.std.proofs.Common.{◌≡◌, ℕ, ◌<◌, ◌≤◌, ◌==◌, Bool, true, false, not, ◌&&◌, ◌||◌, IsTrue, List, [], ◌∷◌, ◌++◌, length, map, Option, Some, None, refl, sym, ap, ◌∙◌, subst, arith}
 use Rattle.std.specs.Prelude.{slice_get, option_map, option_and_then, option_to_list, fold, filter, if◌then◌else◌, nat_lt, nat_le, IfSome}
-use Rattle.std.specs.Option.{option_map_or}
 use Rattle.std.specs.List.{list_any, list_all, filter_map, cons_option, find, AllByRecursion}
-use Rattle.std.proofs.lemmas.Bool.{and_parts, and_from, or_parts, or_from, not-true}
+use Rattle.std.proofs.lemmas.Bool.{and_parts}
 use Rattle.std.proofs.lemmas.Option.{slice_get_within}
 use Rattle.std.proofs.lemmas.List.{append-nil}
-use Rattle.tta_list.proofs.Lists.{list_all_one}
+use Rattle.tta_list.proofs.Lists.{list_all_one, any_there}
 use Rattle.tta_arch.specs.declared.parts.Unit.{Unit as OpUnit}
 use Rattle.tta_arch.specs.declared.parts.UnitOp.{UnitOp}
 use Rattle.tta_arch.specs.declared.parts.Op.{Op}
@@ -25,37 +24,9 @@ use Rattle.tta_code.proofs.LegalParts.{legal_parts}
 use Rattle.tta_sim.specs.Results.{Results, HasUnits, longest_by}
 use Rattle.tta_sim.specs.Moves.{Arrival, is_possible_slot, is_askable, is_readable, is_reachable, arrival_of, arrivals_of}
 use Rattle.tta_sim.specs.Starts.{triggered, start_by, is_fitting, puts, AreFitting, AreReachable}
+use Rattle.tta_arch.proofs.Takes.{apart_filter_map, one_owner, takes_stream}
 
 -- ---- lists whose elements differ
-
--- no element that differs from the one that gives p gives one like p
-any_filter_map : {A B : Type 0} (same : A → A → Bool) (same' : B → B → Bool) (f : A → Option B) (x : A) (p : B)
-    → ((y : A) (q : B) → f y ≡ Some q → same x y ≡ false → same' p q ≡ false)
-    → (xs : List A) → list_any (same x) xs ≡ false → list_any (same' p) (filter_map f xs) ≡ false
-any_filter_map same same' f x p controls [] none = refl
-any_filter_map same same' f x p controls (y ∷ xs) none =
-    let both = or_parts (same x y) (list_any (same x) xs) none in
-    let rest = any_filter_map same same' f x p controls xs both.1 in
-    elim (f y) as (λ o. f y ≡ o → list_any (same' p) (cons_option o (filter_map f xs)) ≡ false) [
-      | None ↦ λ is. rest
-      | Some q ↦ λ is. or_from (same' p q) (list_any (same' p) (filter_map f xs)) (controls y q is both.0) rest
-    ] refl
-
--- where elements differ, what they give differs
-pub apart_filter_map : {A B : Type 0} (same : A → A → Bool) (same' : B → B → Bool) (f : A → Option B)
-    → ((x y : A) (p q : B) → f x ≡ Some p → f y ≡ Some q → same x y ≡ false → same' p q ≡ false)
-    → (xs : List A) → are_different same xs ≡ true → are_different same' (filter_map f xs) ≡ true
-apart_filter_map same same' f controls [] apart = refl
-apart_filter_map same same' f controls (x ∷ xs) apart =
-    let both = and_parts (not (list_any (same x) xs)) (are_different same xs) apart in
-    let rest = apart_filter_map same same' f controls xs both.1 in
-    let alone = not-true (list_any (same x) xs) both.0 in
-    elim (f x) as (λ o. f x ≡ o → are_different same' (cons_option o (filter_map f xs)) ≡ true) [
-      | None ↦ λ is. rest
-      | Some p ↦ λ is.
-          let other = any_filter_map same same' f x p (λ y q gives differ. controls x y p q is gives differ) xs alone in
-          and_from (not (list_any (same' p) (filter_map f xs))) (are_different same' (filter_map f xs)) (ap not other) rest
-    ] refl
 
 -- whether two moves go into one place
 abbrev meet_moves : Move → Move → Bool
@@ -209,40 +180,6 @@ reachable units reads (Some v ∷ slots) all =
 
 -- ---- the output
 
-some_kind : (kind : OpUnit → Bool) (units : List OpUnit) (k : ℕ) (y : OpUnit) → slice_get units k ≡ Some y → kind y ≡ true → 0 < length (filter kind units)
-some_kind kind [] k y at is = cc
-some_kind kind (u ∷ units) zero y at is = let here : kind u ≡ true = ap (λ o. option_map_or kind o false) at ∙ is in rw here (omega arith)
-some_kind kind (u ∷ units) (suc k) y at is =
-    let rest = some_kind kind units k y at is in
-    elim (kind u) as (λ b. 0 < length (if b then u ∷ filter kind units else filter kind units)) [ true ↦ omega arith | false ↦ rest ]
-
--- at most one unit offers what has one owner
-one_owner : (kind : OpUnit → Bool) (units : List OpUnit) (j k : ℕ) (x y : OpUnit) → length (filter kind units) ≤ 1
-    → slice_get units j ≡ Some x → kind x ≡ true → slice_get units k ≡ Some y → kind y ≡ true → j ≡ k
-one_owner kind [] j k x y few at is at' is' = cc
-one_owner kind (u ∷ units) zero zero x y few at is at' is' = refl
-one_owner kind (u ∷ units) zero (suc k) x y few at is at' is' =
-    let some : 0 < length (filter kind units) = some_kind kind units k y at' is' in
-    let here : kind u ≡ true = ap (λ o. option_map_or kind o false) at ∙ is in
-    let two = rw here at few in
-    omega (arith, some, two)
-one_owner kind (u ∷ units) (suc j) zero x y few at is at' is' =
-    let some : 0 < length (filter kind units) = some_kind kind units j x at is in
-    let here : kind u ≡ true = ap (λ o. option_map_or kind o false) at' ∙ is' in
-    let two = rw here at few in
-    omega (arith, some, two)
-one_owner kind (u ∷ units) (suc j) (suc k) x y few at is at' is' =
-    let fewer : length (filter kind units) ≤ 1 = elim (kind u) as (λ b. length (if b then u ∷ filter kind units else filter kind units) ≤ 1 → length (filter kind units) ≤ 1) [
-      | true ↦ λ few. omega (arith, few)
-      | false ↦ λ few. few
-    ] few in
-    ap suc (one_owner kind units j k x y fewer at is at' is')
-
-any_there : {A : Type 0} (p : A → Bool) (xs : List A) (k : ℕ) (x : A) → slice_get xs k ≡ Some x → p x ≡ true → list_any p xs ≡ true
-any_there p [] k x at is = cc
-any_there p (y ∷ ys) zero x at is = let here : p y ≡ true = ap (λ o. option_map_or p o false) at ∙ is in rw here refl
-any_there p (y ∷ ys) (suc k) x at is = let rest = any_there p ys k x at is in grind (arith, rest)
-
 -- two operations of a kind that belongs to the streams are of one unit
 stream_by_one : (m : Machine) → IsMachine m → (kind : Op → Bool) → ((o : Op) → kind o ≡ true → is_stream_op o ≡ true) → (operand : ℕ → Option ℕ) (a b : Arrival) (p q : Start)
     → start_by m operand a ≡ Some p → start_by m operand b ≡ Some q
@@ -264,15 +201,6 @@ stream_by_one m rules kind of operand a b p q is it differ =
 
 puts_stream : (o : Op) → same_op o Out ≡ true → is_stream_op o ≡ true
 puts_stream o is = ap (λ b. b || same_op o Take) is
-
-takes_stream : (o : Op) → takes_in o ≡ true → is_stream_op o ≡ true
-takes_stream Ldw is = cc
-takes_stream Stw is = cc
-takes_stream Ldf is = cc
-takes_stream Stf is = cc
-takes_stream Out is = cc
-takes_stream Take is = refl
-takes_stream (Set id) is = cc
 
 -- at most one of the operations outputs a word
 pub outputs_apart : (m : Machine) → IsMachine m → (i : Instruction) → is_legal m i ≡ true → (reads : Reads) (operand : ℕ → Option ℕ)

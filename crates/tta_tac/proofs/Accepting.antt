@@ -3,7 +3,7 @@ use Rattle.std.proofs.Common.{◌≡◌, ℕ, ◌+◌, ◌≤◌, Bool, true, fa
 use Rattle.std.specs.Prelude.{◌&&◌, ◌==◌, nat_lt, is_some}
 use Rattle.std.specs.List.{list_all, list_any}
 use Rattle.std.proofs.lemmas.Bool.{and_parts, or_parts, or_from, lt-leb, le-ltb, ne_eqb, eqb-false}
-use Rattle.tta_list.proofs.Tests.{none_from_is_some}
+use Rattle.tta_list.proofs.Tests.{none_from_is_some, not_true as not_false}
 use Rattle.tta_reading.specs.Lines.{Lexeme, Line}
 use Rattle.tta_reading.specs.Names.{Declared, named_in}
 use Rattle.tta_reading.specs.Steps.{◌>>=◌, or_refuse}
@@ -20,11 +20,6 @@ use Rattle.tta_tac.proofs.Taken.{with_label}
 use Rattle.tta_tac.proofs.StepsKept.{grows_form}
 use Rattle.tta_tac.proofs.Twice.{is_twice_after, is_twice_more, is_twice_none}
 use Rattle.tta_tac.proofs.Following.{IsBodyOf, Follows}
-
--- what does not hold
-not_false : (b : Bool) → not b ≡ true → b ≡ false
-not_false true e = absurd cc
-not_false false e = refl
 
 -- variables only grow from line to line
 vars_grow : (vars : Declared ℕ) (xs : List Said) → length vars ≤ length (vars_said vars xs)

@@ -1,8 +1,8 @@
 -- A line of data keeps what makes a program keep the rules.
-use Rattle.std.proofs.Common.{◌≡◌, ℕ, Bool, true, false, not, List, [], ◌∷◌, ◌++◌, refl, sym, ◌∙◌, ap, subst, arith, length-append, inl, inr}
+use Rattle.std.proofs.Common.{◌≡◌, ℕ, Bool, true, false, not, List, [], ◌∷◌, ◌++◌, refl, ◌∙◌, ap, subst, arith, length-append}
 use Rattle.std.specs.Prelude.{◌&&◌, ◌||◌, ◌==◌, nat_lt, ◌^◌}
 use Rattle.std.specs.List.{list_all, list_any}
-use Rattle.std.proofs.lemmas.Bool.{and_from, and_parts, or_parts, cases_eq, ne_eqb}
+use Rattle.std.proofs.lemmas.Bool.{and_from, and_parts, or_parts}
 use Rattle.std.proofs.lemmas.List.Folds.{list_all-append, list_any-append}
 use Rattle.tta_program.specs.declared.program.DataLine.{DataLine}
 use Rattle.tta_tac.specs.Draft.{Draft}
@@ -10,10 +10,7 @@ use Rattle.tta_program.specs.Rules.{is_datum, are_apart}
 use Rattle.tta_tac.specs.Kept.{IsKept}
 use Rattle.tta_tac.specs.FirstPass.{has_address, with_datum}
 use Rattle.tta_tac.proofs.Taken.{DatumTaken}
-
--- whether two addresses are one, asked the other way round
-pub same_test : (x y : ℕ) → (x == y) ≡ (y == x)
-same_test x y = elim (cases_eq x y) [ inl same ↦ rw same refl | inr differ ↦ rw (ne_eqb x y differ, ne_eqb y x (λ e. differ (sym e))) refl ]
+use Rattle.tta_list.proofs.Tests.{same_back as same_test}
 
 -- one address more, which none before it is
 apart_more : (ds : List DataLine) (x : DataLine) → are_apart ds ≡ true → has_address ds x.address ≡ false → are_apart (ds ++ x ∷ []) ≡ true

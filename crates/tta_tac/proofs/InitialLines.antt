@@ -1,16 +1,16 @@
 -- What a map from addresses to words knows of the data lines that it stands for.
-use Rattle.std.proofs.Common.{◌≡◌, ◌≤◌, ℕ, zero, suc, ◌+◌, add-one, length, take, slice_get, subst, option_map, Bool, true, false, cond, List, [], ◌∷◌, ◌++◌, map, Some, refl, sym, ap, ◌∙◌}
+use Rattle.std.proofs.Common.{◌≡◌, ◌≤◌, ℕ, ◌+◌, add-one, length, take, slice_get, subst, option_map, Bool, true, false, cond, List, [], ◌∷◌, ◌++◌, map, Some, refl, sym, ap, ◌∙◌}
 use Rattle.std.specs.Prelude.{◌==◌, ◌||◌, nat_eq, is_some}
 use Rattle.std.specs.Map.{lookup}
 use Rattle.std.proofs.lemmas.List.{map-append, take_all, length-map}
 use Rattle.std.proofs.lemmas.Option.{slice_get-map}
 use Rattle.indexmap.specs.IndexMap.{IndexMap, insert_entry}
 use Rattle.indexmap.proofs.CallerLemmas.{insert_entry-new}
-use Rattle.tta_list.proofs.Tests.{none_from_is_some}
+use Rattle.tta_list.proofs.Tests.{none_from_is_some, same_back as same_test}
 use Rattle.tta_program.specs.declared.program.DataLine.{DataLine}
 use Rattle.tta_tac.specs.declared.initial.Datum.{Datum}
 use Rattle.tta_tac.specs.FirstPass.{has_address}
-use Rattle.tta_tac.proofs.DataKept.{same_test}
+use Rattle.tta_list.proofs.Lists.{take_one_more as next_taken}
 
 -- an entry as a data line
 abbrev pub data_line : ℕ × Datum → DataLine
@@ -36,12 +36,6 @@ added m address d es inserted free =
     ∙ map-append data_line m.entries ((address, d) ∷ [])
 
 -- ---- copying in turn
-
--- one element more
-next_taken : {A : Type 0} (xs : List A) (k : ℕ) (x : A) → slice_get xs k ≡ Some x → take (suc k) xs ≡ take k xs ++ x ∷ []
-next_taken [] k x e = cc
-next_taken (y ∷ ys) zero x e = let same : y ≡ x = cc in rw same refl
-next_taken (y ∷ ys) (suc k) x e = ap (λ l. y ∷ l) (next_taken ys k x e)
 
 -- the next data line goes after those that were copied
 pub line_copied : (items ds : List DataLine) (es : List (ℕ × Datum)) (k : ℕ) (e : ℕ × Datum) → map data_line es ≡ ds

@@ -1,10 +1,9 @@
 -- What a run begins with.
-use Rattle.std.proofs.Common.{◌≡◌, ◌<◌, ◌-◌, ◌==◌, ℕ, zero, suc, Bool, true, false, List, [], ◌∷◌, length, map, get_or, replicate, slice_get, refl, arith}
+use Rattle.std.proofs.Common.{◌≡◌, ◌<◌, ◌-◌, ℕ, zero, suc, Bool, true, false, List, [], ◌∷◌, length, map, get_or, replicate, slice_get, refl, arith}
 use Rattle.std.specs.Option.{option_map_or}
 use Rattle.std.proofs.lemmas.List.{length-replicate}
 use Rattle.tta_program.specs.declared.program.Proc.{Proc}
 use Rattle.tta_program.specs.Program.{Program}
-use Rattle.tta_program.specs.Rules.{IsProgram}
 use Rattle.tta_program.specs.Sequential.{enter}
 use Rattle.tta_tacrun.specs.Calls.{calls_of}
 use Rattle.tta_tacrun.specs.declared.entry.Entry.{Entry}
@@ -32,6 +31,3 @@ pub calls_first : (p : Program) (vs : List (List ℕ)) (callers : List Entry) �
     → calls_of vs (record { proc = p.main; at = 0 }) callers
     ≡ record { sizes = map (λ q. q.vars) p.procs; top = enter p p.main []; below = [] }
 calls_first p vs callers zeros none = rw (zeros, none, lengths_zeros p.procs, zeros_at p.procs p.main) refl
-
-pub main_within : (p : Program) → IsProgram p → p.main < length p.procs
-main_within p rules = within_if (λ q. q.params == 0) p.procs p.main rules.main

@@ -11,3 +11,4 @@ pub mod Covering
 pub mod OneKind
 pub mod OneReading
 mod Examples
+pub mod ShownWords

@@ -8,11 +8,6 @@ use Rattle.tta_program.specs.declared.step.Step.TheVariants.{When, Invoke, Retur
 use Rattle.tta_program.specs.Program.{Program}
 use Rattle.tta_program.specs.Sequential.{State, Frame, Outcome, Running, Halted, Waiting, next, next_of, go_on, goes_through, waits, carry_out, returns, take_value, assigns, goes_to, operand, holds, step_at}
 
--- a state that has halted stays
-pub halted_stays : (u : Units) (p : Program) (s : State) → s.outcome ≡ Halted → next u p s ≡ s
-unfolding next
-halted_stays u p s is = ap (next_of u p s) is
-
 -- ---- counting
 
 took : (s : State) (caller : Frame) (rest : List Frame) (v : ℕ) (o : Option Step) → (take_value s caller rest v o).steps ≡ s.steps

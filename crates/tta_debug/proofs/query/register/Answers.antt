@@ -2,8 +2,9 @@ use Rattle.std.proofs.Common.{true, false, nat_lt, Some, sym, ap, ◌∙◌}
 use Rattle.tta_arch.specs.declared.parts.File.{File}
 use Rattle.tta_arch.specs.Machine.{Machine}
 use Rattle.tta_debug.specs.Debugged.{value}
-use Rattle.tta_debug.proofs.Seeing.{register_is, is_below, is_not_below}
+use Rattle.tta_debug.proofs.Seeing.{register_is, is_not_below}
 use Rattle.tta_debug.proofs.query.register.Goals as goal
+use Rattle.tta_list.proofs.Tests.{is_below}
 
 pub returns-then-index-from : goal.returns-then-index-from
 returns-then-index-from c = λ s stands.

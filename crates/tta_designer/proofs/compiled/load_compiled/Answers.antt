@@ -3,9 +3,9 @@ use Rattle.tta_ops.specs.Set.{stated}
 use Rattle.tta_program.specs.Program.{data_of}
 use Rattle.tta_code.specs.Cycle.{start}
 use Rattle.tta_sim.specs.Held.{Stands}
-use Rattle.tta_given.proofs.Laying.{over-length}
 use Rattle.tta_blocks.proofs.Legal.{stages_legal}
 use Rattle.tta_designer.proofs.compiled.load_compiled.Goals as goal
+use Rattle.tta_list.proofs.Sets.{over-length}
 
 pub load-requires-clause-size : goal.load-requires-clause-size
 load-requires-clause-size g c =

@@ -1,8 +1,8 @@
 use Rattle.std.proofs.Common.{[], false, if◌then◌else◌}
 use Rattle.std.specs.Prelude.{slice_index_or}
 use Rattle.tta_draw.specs.CodePicture.{label_row_text}
-use Rattle.tta_draw.proofs.Rows.{number_more}
 use Rattle.tta_draw.proofs.guides.push_all_labels.Goals as goal
+use Rattle.tta_list.proofs.Lists.{number_more}
 
 pub loop-row-preserved : goal.loop-row-preserved
 loop-row-preserved c =

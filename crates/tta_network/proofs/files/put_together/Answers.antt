@@ -2,8 +2,8 @@ use Rattle.std.proofs.Common.{length, sym, ap, ◌∙◌, subst}
 use Rattle.tta_code.specs.Whole.{laid_by}
 use Rattle.tta_code.specs.Legal.{IsLegalCode}
 use Rattle.tta_given.specs.declared.pair.CodePair.{CodePair}
-use Rattle.tta_given.proofs.Laying.{over-length}
 use Rattle.tta_network.proofs.files.put_together.Goals as goal
+use Rattle.tta_list.proofs.Sets.{over-length}
 
 pub returns-clause-load : goal.returns-clause-load
 returns-clause-load c = record {

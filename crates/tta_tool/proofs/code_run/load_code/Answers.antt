@@ -3,8 +3,8 @@ use Rattle.tta_list.specs.Laid.{over}
 use Rattle.tta_code.specs.Whole.{laid_by, data_in}
 use Rattle.tta_code.specs.Cycle.{start}
 use Rattle.tta_sim.specs.Held.{Stands}
-use Rattle.tta_given.proofs.Laying.{over-length}
 use Rattle.tta_tool.proofs.code_run.load_code.Goals as goal
+use Rattle.tta_list.proofs.Sets.{over-length}
 
 pub load-requires-clause-size : goal.load-requires-clause-size
 load-requires-clause-size c =

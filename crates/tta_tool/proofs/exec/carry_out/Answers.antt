@@ -4,9 +4,9 @@ use Rattle.tta_program.specs.Program.{data_of}
 use Rattle.tta_program.specs.Sequential.{start}
 use Rattle.tta_ops.specs.Set.{stated}
 use Rattle.tta_tool.specs.Exec.{Reports}
-use Rattle.tta_given.proofs.Laying.{over-length}
 use Rattle.tta_tool.proofs.Laying.{few_steps, short_memory}
 use Rattle.tta_tool.proofs.exec.carry_out.Goals as goal
+use Rattle.tta_list.proofs.Sets.{over-length}
 
 pub returns-in-Ok : goal.returns-in-Ok
 returns-in-Ok g c =

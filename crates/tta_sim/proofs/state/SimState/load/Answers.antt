@@ -1,7 +1,8 @@
 use Rattle.std.proofs.Common.{length, replicate, ap, ◌∙◌, subst}
 use Rattle.tta_arch.specs.Rules.{IsMachine}
-use Rattle.tta_sim.proofs.Going.{all_reached, first_stands, first_run}
+use Rattle.tta_sim.proofs.Going.{first_stands, first_run}
 use Rattle.tta_sim.proofs.state.SimState.load.Goals as goal
+use Rattle.tta_code.proofs.Rooms.{room_few as all_reached}
 
 pub returns-clause-start : goal.returns-clause-start
 returns-clause-start c = λ r input none.

@@ -1,8 +1,8 @@
 use Rattle.std.proofs.Common.{◌+◌}
 use Rattle.tta_ops.specs.Set.{stated}
 use Rattle.tta_stages.specs.ListText.{row_at}
-use Rattle.tta_stages.proofs.Rows.{number_more}
 use Rattle.tta_stages.proofs.text.placed.push_rows.Goals as goal
+use Rattle.tta_list.proofs.Lists.{number_more}
 
 pub loop-cycle-preserved : goal.loop-cycle-preserved
 loop-cycle-preserved g c =

@@ -1,8 +1,8 @@
 use Rattle.std.proofs.Common.{Bool, ◌++◌, ap, ◌∙◌}
 use Rattle.tta_flow.specs.Live.{live_before}
 use Rattle.tta_stages.specs.Words.{var_if}
-use Rattle.tta_stages.proofs.Rows.{number_more}
 use Rattle.tta_stages.proofs.text.program.push_all_before.Goals as goal
+use Rattle.tta_list.proofs.Lists.{number_more}
 
 pub loop-x-preserved : goal.loop-x-preserved
 loop-x-preserved c =

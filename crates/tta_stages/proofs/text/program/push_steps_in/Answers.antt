@@ -1,8 +1,8 @@
 use Rattle.std.proofs.Common.{◌+◌}
 use Rattle.tta_ops.specs.Set.{stated}
 use Rattle.tta_stages.specs.ProgramText.{step_at_text}
-use Rattle.tta_stages.proofs.Rows.{number_more}
 use Rattle.tta_stages.proofs.text.program.push_steps_in.Goals as goal
+use Rattle.tta_list.proofs.Lists.{number_more}
 
 pub loop-i-preserved : goal.loop-i-preserved
 loop-i-preserved g c =

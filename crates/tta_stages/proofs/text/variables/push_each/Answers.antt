@@ -1,6 +1,6 @@
 use Rattle.tta_stages.specs.ProgramText.{variable_text}
-use Rattle.tta_stages.proofs.Rows.{number_more}
 use Rattle.tta_stages.proofs.text.variables.push_each.Goals as goal
+use Rattle.tta_list.proofs.Lists.{number_more}
 
 pub loop-x-preserved : goal.loop-x-preserved
 loop-x-preserved c =

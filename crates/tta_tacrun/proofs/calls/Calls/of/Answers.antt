@@ -1,9 +1,10 @@
 use Rattle.std.proofs.Common.{◌≡◌, length, ap, ◌∙◌, arith}
 use Rattle.std.proofs.lemmas.List.{length-map}
 use Rattle.tta_program.specs.Program.{Program}
-use Rattle.tta_tacrun.proofs.First.{main_within, calls_first}
+use Rattle.tta_tacrun.proofs.First.{calls_first}
 use Rattle.tta_tacrun.proofs.Kept.{kept_first}
 use Rattle.tta_tacrun.proofs.calls.Calls.of.Goals as goal
+use Rattle.tta_program.proofs.Mains.{main-below as main_within}
 
 pub invariant_of-result : goal.invariant_of-result
 invariant_of-result c =
