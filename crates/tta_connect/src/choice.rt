@@ -11,6 +11,7 @@ use crate::hub::{has_words, hub_of};
 use crate::net::Net;
 use crate::units::{has_frame, usable_units};
 use std::alloc::{AllocError, Global};
+use thiserror::Error;
 use tta_arch::{Machine, Op, Source};
 use tta_list::Items;
 
@@ -26,11 +27,13 @@ pub struct Choice {
 }
 
 /// Why nothing was chosen.
-#[derive(Clone, Copy, Debug, PartialEq, Eq)]
+#[derive(Clone, Copy, Debug, PartialEq, Eq, Error)]
 pub enum CoverError {
     /// The first rule that the machine does not keep.
+    #[error("the machine breaks rule {0} of coverage")]
     Rule(u8),
     /// There is no memory.
+    #[error("no memory")]
     NoMemory,
 }
 

@@ -12,17 +12,20 @@ ghost use Rattle.tta_link.specs.Put.{is_word_in};
 
 use crate::items::put;
 use std::alloc::{AllocError, AllocFailed, Global};
+use thiserror::Error;
 use tta_arch::Machine;
 use tta_code::{Code, Instruction};
 use tta_list::Items;
 use tta_moves::Placed;
 
 /// Why blocks were not linked.
-#[derive(Clone, Copy, Debug, PartialEq, Eq)]
+#[derive(Clone, Copy, Debug, PartialEq, Eq, Error)]
 pub enum LinkError {
     /// The blocks take so many words of code, and the machine has only so many addresses.
+    #[error("the code has {words} instructions, and the machine has {have} addresses")]
     CodeFull { words: u64, have: u32 },
     /// Out of memory.
+    #[error("no memory")]
     NoMemory,
 }
 

@@ -7,21 +7,28 @@ ghost use Rattle.tta_machine.specs.declared.refusal.MachineError.TheVariants.{};
 ghost use Rattle.tta_machine.specs.declared.refusal.MachineError.TheVariants.{NoMemory as no_memory};
 
 use std::alloc::{AllocError, AllocFailed};
+use thiserror::Error;
 
 /// Why a line is refused, in the order in which a line's refusals are reported.
-#[derive(Clone, Copy, Debug, PartialEq, Eq)]
+#[derive(Clone, Copy, Debug, PartialEq, Eq, Error)]
 pub enum Refusal {
     /// The words are none of the forms.
+    #[error("the words are none of the forms")]
     Syntax,
     /// A name is not declared as what its place asks.
+    #[error("a name is not declared as what its place asks")]
     Unknown,
     /// Something stands for the second time.
+    #[error("something stands for the second time")]
     Twice,
     /// A number is outside its range, or there are too many of something.
+    #[error("a number is outside its range, or there are too many of something")]
     Range,
     /// A port or a part is missing.
+    #[error("a port or a part is missing")]
     Missing,
     /// A template's buses have fewer than 32 bits together.
+    #[error("the buses of a template have fewer than 32 bits together")]
     TooNarrow,
 }
 
@@ -42,11 +49,13 @@ impl Refusal {
 }
 
 /// Why no machine was read.
-#[derive(Clone, Copy, Debug, PartialEq, Eq)]
+#[derive(Clone, Copy, Debug, PartialEq, Eq, Error)]
 pub enum MachineError {
     /// The text is refused at this line, counted from 1, with this number; line 0 stands for the
     /// whole text.
+    #[error("line {line} of the machine is refused with code {code}")]
     Refused { line: u32, code: u8 },
+    #[error("no memory")]
     NoMemory,
 }
 

@@ -5,27 +5,37 @@ ghost use Rattle.tta_reading.specs.declared.line_error.LineError.TheVariants.{No
 ghost use Rattle.tta_tac.specs.Refusals.{code_of};
 
 use std::alloc::{AllocError, AllocFailed};
+use thiserror::Error;
 
 /// Why a line is refused.
-#[derive(Clone, Copy, Debug, PartialEq, Eq)]
+#[derive(Clone, Copy, Debug, PartialEq, Eq, Error)]
 pub enum Refusal {
     /// The words are none of the forms, or stand where they cannot.
+    #[error("the words are none of the forms, or stand where they cannot")]
     Syntax,
     /// A branch to a label that its procedure has not.
+    #[error("the procedure has no such label")]
     UnknownLabel,
     /// No unit offers the operation.
+    #[error("no unit offers the operation")]
     UnknownOp,
     /// A call of a procedure that there is not, or of `main`.
+    #[error("there is no such procedure, or it is main")]
     UnknownProc,
     /// The number of operands, arguments or parameters is wrong.
+    #[error("the number of operands, arguments or parameters is wrong")]
     Arity,
     /// A procedure, label or parameter stands for the second time.
+    #[error("a procedure, label or parameter stands for the second time")]
     Twice,
     /// A procedure leads back to itself by calls.
+    #[error("a procedure leads back to itself by calls")]
     Recursive,
     /// There is no procedure `main`.
+    #[error("there is no procedure main")]
     NoMain,
     /// Too many lines, parameters, arguments or variables.
+    #[error("there are too many lines, parameters, arguments or variables")]
     TooMany,
 }
 
@@ -49,11 +59,13 @@ impl Refusal {
 }
 
 /// Why no program was read.
-#[derive(Clone, Copy, Debug, PartialEq, Eq)]
+#[derive(Clone, Copy, Debug, PartialEq, Eq, Error)]
 pub enum TacError {
     /// The text is refused at this line, counted from 1, with this number; line 0 stands for the
     /// whole text.
+    #[error("line {line} of the program is refused with code {code}")]
     Refused { line: u32, code: u8 },
+    #[error("no memory")]
     NoMemory,
 }
 
