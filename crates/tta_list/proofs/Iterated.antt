@@ -1,5 +1,5 @@
 -- Many steps are some and then the others.
-use Rattle.std.proofs.Common.{◌≡◌, ◌+◌, ◌-◌, ℕ, zero, suc, ap, ◌∙◌, arith}
+use Rattle.std.proofs.Common.{◌≡◌, ◌+◌, ℕ, zero, suc, ap, ◌∙◌, arith}
 use Rattle.tta_list.specs.Iterate.{iterate}
 
 -- so many steps and then more

@@ -1,6 +1,6 @@
 -- What holds of the elements of a list by their places, of all of them, and of how many, when the list grows or one
 -- element changes.
-use Rattle.std.proofs.Common.{◌≡◌, ◌<◌, ◌+◌, ◌++◌, ◌∷◌, [], ℕ, Bool, List, Some, None, true, false, zero, suc, length, ltb, get_or, refl, sym, ap, subst, arith, ◌∙◌, ◌⊎◌, inl, inr, ⊎_elim, ◌-◌, map, Option, append_assoc, ◌≤◌, drop, take}
+use Rattle.std.proofs.Common.{◌≡◌, ◌<◌, ◌+◌, ◌++◌, ◌∷◌, [], ℕ, Bool, List, Some, None, true, false, zero, suc, length, ltb, get_or, refl, sym, ap, subst, arith, ◌∙◌, ◌⊎◌, inl, inr, ⊎_elim, map, Option, append_assoc, ◌≤◌, drop, take}
 use Rattle.std.specs.Prelude.{◌&&◌, slice_get, slice_set, filter, if◌then◌else◌, is_some, nat_lt, replicate, slice_index}
 use Rattle.std.specs.List.{list_all, AllByRecursion, list_any, sum_by, filter_map, cons_option, range_with_len, flat_map}
 use Rattle.std.proofs.lemmas.Option.{slice_get_past, slice_get_read}

@@ -3,7 +3,7 @@ use Rattle.std.proofs.Common.{◌≡◌, ◌≢◌, ℕ, suc, false, List, [], �
 use Rattle.std.specs.Prelude.{codes, filter}
 use Rattle.std.specs.Str.{bytes_eq}
 use Rattle.std.specs.List.{list_any}
-use Rattle.std.proofs.lemmas.Bool.{and_right, cases_Bool, cases_eq, eqb-false, ne_eqb}
+use Rattle.std.proofs.lemmas.Bool.{and_right, cases_Bool, eqb-false, ne_eqb}
 use Rattle.std.proofs.Math.Bool.{or-false}
 use Rattle.tta_ops.specs.Reserved.{is_reserved, reserved_words}
 
