@@ -15,3 +15,4 @@ pub mod ConvertedNeeds
 pub mod ConvertedDirect
 pub mod ConvertedAgrees
 pub mod ConvertedBuilt
+pub mod Excluding

@@ -7,3 +7,4 @@ pub mod Completes
 pub mod Converted
 pub mod Ways
 pub mod Sharing
+pub mod Excludes

@@ -2,6 +2,7 @@
 
 ghost use Rattle.tta_build.specs.Completes.{BuildCompletes};
 ghost use Rattle.tta_build.specs.Converted.{ConvertedAgrees, ConvertedCompletes};
+ghost use Rattle.tta_build.specs.Excludes.{CausesExclude, CodeExcludes};
 
 /// A pair that is accepted and has room has code, unless memory runs out.
 pub fn build_completes()
@@ -18,4 +19,15 @@ pub fn converted_agrees()
 /// out.
 pub fn build_converted_completes()
     ensures { ConvertedCompletes }
+{}
+
+/// Two errors that have their cause for one machine and program say the same, but for how many words
+/// the code has, or one of them is about memory.
+pub fn causes_exclude()
+    ensures { CausesExclude }
+{}
+
+/// Where there is code, no error has its cause but that of room for code and that of memory.
+pub fn code_excludes()
+    ensures { CodeExcludes }
 {}
