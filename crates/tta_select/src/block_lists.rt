@@ -7,7 +7,6 @@ ghost use Rattle.tta_connect.specs.Net.{IsNetOf};
 ghost use Rattle.tta_select.specs.Select.{list_of, selected, items_of_block};
 ghost use Rattle.tta_select.specs.Statement.{IsGiven, IsSelection};
 ghost use Rattle.tta_select.specs.Needs.{fits_block};
-ghost use Rattle.tta_select.specs.Target.{IsTarget};
 
 use crate::calling::call_of;
 use crate::dispatch::put_steps;
@@ -54,11 +53,10 @@ fn block_items(
     blocks: usize,
     b: &RBlock,
 ) -> Result<Items<Item>, AllocError>
-    requires given { IsTarget on.now }
-    requires fits { fits_block (stated unit_meaning units.now) on.now.m.now on.now.c.now blocks
-        b.now ≡ true }
-    ensures { IfOk result (λ xs. xs
-        ≡ items_of_block on.now.m.now on.now.c.now (stated unit_meaning units.now) b.now) }
+    requires fits { fits_block (stated unit_meaning units.now) on.now.machine.now
+        on.now.choice.now blocks b.now ≡ true }
+    ensures { IfOk result (λ xs. xs ≡ items_of_block on.now.machine.now on.now.choice.now
+        (stated unit_meaning units.now) b.now) }
 {
     let mut items = Items::new(alloc);
     put_steps(&mut items, on, units, b.steps.as_slice())?;
@@ -74,14 +72,13 @@ fn list_of(
     blocks: usize,
     b: &RBlock,
 ) -> Result<BlockList, AllocError>
-    requires given { IsTarget on.now }
-    requires fits { fits_block (stated unit_meaning units.now) on.now.m.now on.now.c.now blocks
-        b.now ≡ true }
+    requires fits { fits_block (stated unit_meaning units.now) on.now.machine.now
+        on.now.choice.now blocks b.now ≡ true }
     ensures { IfOk result (λ x. x
-        ≡ list_of on.now.m.now on.now.c.now (stated unit_meaning units.now) b.now) }
+        ≡ list_of on.now.machine.now on.now.choice.now (stated unit_meaning units.now) b.now) }
 {
     let items = block_items(alloc, on, units, blocks, b)?;
-    let live_out = live_homes(alloc, on.c, b.live_out.as_slice())?;
+    let live_out = live_homes(alloc, on.choice, b.live_out.as_slice())?;
     Ok(BlockList { items, live_out })
 }
 
@@ -93,11 +90,10 @@ fn select_all(
     on: &Target<'_>,
     units: &UnitSet,
 ) -> Result<Vec<BlockList>, AllocError>
-    requires given { IsTarget on.now }
-    requires fits { list_all (fits_block (stated unit_meaning units.now) on.now.m.now on.now.c.now
-        (length r.now.blocks)) r.now.blocks ≡ true }
+    requires fits { list_all (fits_block (stated unit_meaning units.now) on.now.machine.now
+        on.now.choice.now (length r.now.blocks)) r.now.blocks ≡ true }
     ensures { IfOk result (λ lists. lists.items
-        ≡ selected on.now.m.now on.now.c.now (stated unit_meaning units.now) r.now) }
+        ≡ selected on.now.machine.now on.now.choice.now (stated unit_meaning units.now) r.now) }
 {
     let blocks = r.blocks.len();
     let mut lists = Vec::new(alloc);
@@ -128,9 +124,9 @@ pub fn select(
         ≡ selected m.now c.now (stated unit_meaning units.now) r.now) }
 {
     let on = Target {
-        m,
+        machine: m,
         net,
-        c,
+        choice: c,
         ldf: call_of(m, c, Op::Ldf),
         stf: call_of(m, c, Op::Stf),
     };

@@ -5,7 +5,6 @@ ghost use Rattle.std.specs.List.{flat_map, list_all};
 ghost use Rattle.tta_ops.specs.Set.{stated};
 ghost use Rattle.tta_select.specs.Select.{items_of_step};
 ghost use Rattle.tta_select.specs.Needs.{is_step_of, fits_step};
-ghost use Rattle.tta_select.specs.Target.{IsTarget};
 
 use crate::calling::call_of;
 use crate::merging::choose;
@@ -26,33 +25,40 @@ fn put_step(
     units: &UnitSet,
     step: RStep,
 ) -> Result<(), AllocError>
-    requires given { IsTarget on.now }
-    requires inside { is_step_of on.now.m.now on.now.c.now step ≡ true }
+    requires inside { is_step_of on.now.machine.now on.now.choice.now step ≡ true }
     ensures { IfOk result (λ x. items.new ≡ items.old
-        ++ items_of_step on.now.m.now on.now.c.now (stated unit_meaning units.now) step) }
+        ++ items_of_step on.now.machine.now on.now.choice.now (stated unit_meaning units.now)
+        step) }
 {
     match step {
         RStep::Copy {
             d: Place::Reg(k),
             s,
-        } => value(items, on, None, s, home_at(on.c, k)),
+        } => value(items, on, None, s, home_at(on.choice, k)),
         RStep::Copy {
             d: Place::Frame(slot),
             s,
         } => copy_to_slot(items, on, slot, s),
         RStep::Apply { d, op, a, b } => {
-            apply(items, on, call_of(on.m, on.c, Op::Set(op)), d, a, b)
+            apply(
+                items,
+                on,
+                call_of(on.machine, on.choice, Op::Set(op)),
+                d,
+                a,
+                b,
+            )
         }
-        RStep::Load { d, a } => load(items, on, call_of(on.m, on.c, Op::Ldw), d, a),
-        RStep::Take { d } => take(items, on, call_of(on.m, on.c, Op::Take), d),
-        RStep::Store { a, v } => store(items, on, call_of(on.m, on.c, Op::Stw), a, v),
+        RStep::Load { d, a } => load(items, on, call_of(on.machine, on.choice, Op::Ldw), d, a),
+        RStep::Take { d } => take(items, on, call_of(on.machine, on.choice, Op::Take), d),
+        RStep::Store { a, v } => store(items, on, call_of(on.machine, on.choice, Op::Stw), a, v),
         RStep::Put { v } => {
-            let f = call_of(on.m, on.c, Op::Out);
+            let f = call_of(on.machine, on.choice, Op::Out);
             value(items, on, None, v, trigger_at(f))
         }
         RStep::When { rel, a, b, d, s } => {
             condition(items, on, units, rel, a, b)?;
-            choose(items, on, guard_of(on.c, rel), s, d)
+            choose(items, on, guard_of(on.choice, rel), s, d)
         }
         RStep::SaveRa { slot } => save_ra(items, on, slot),
     }
@@ -66,12 +72,11 @@ pub fn put_steps(
     units: &UnitSet,
     steps: &[RStep],
 ) -> Result<(), AllocError>
-    requires given { IsTarget on.now }
     requires inside { list_all (fits_step (stated unit_meaning units.now)
-        on.now.m.now on.now.c.now) steps.now ≡ true }
+        on.now.machine.now on.now.choice.now) steps.now ≡ true }
     ensures { IfOk result (λ x. items.new ≡ items.old
-        ++ flat_map (items_of_step on.now.m.now on.now.c.now (stated unit_meaning units.now))
-        steps.now) }
+        ++ flat_map (items_of_step on.now.machine.now on.now.choice.now
+        (stated unit_meaning units.now)) steps.now) }
 {
     for step in steps {
         put_step(items, on, units, *step)?;

@@ -4,7 +4,6 @@ ghost use Rattle.std.specs.Prelude.{◌≡◌, true, ◌++◌, IfOk};
 ghost use Rattle.tta_ops.specs.Set.{stated};
 ghost use Rattle.tta_select.specs.Select.{items_of_exit};
 ghost use Rattle.tta_select.specs.Needs.{is_exit_of, has_no_condition};
-ghost use Rattle.tta_select.specs.Target.{IsTarget};
 
 use crate::operands::fetch;
 use crate::putting::constant;
@@ -31,10 +30,9 @@ fn leave(
     units: &UnitSet,
     e: Exit,
 ) -> Result<(), AllocError>
-    requires given { IsTarget on.now }
     requires plain { has_no_condition e ≡ true }
     ensures { IfOk result (λ x. items.new ≡ items.old
-        ++ items_of_exit on.now.m.now on.now.c.now (stated unit_meaning units.now) e) }
+        ++ items_of_exit on.now.machine.now on.now.choice.now (stated unit_meaning units.now) e) }
 {
     match e {
         Exit::Next | Exit::If { .. } => Ok(()),
@@ -53,15 +51,14 @@ pub fn put_exit(
     blocks: usize,
     e: Exit,
 ) -> Result<(), AllocError>
-    requires given { IsTarget on.now }
-    requires inside { is_exit_of on.now.m.now on.now.c.now blocks e ≡ true }
+    requires inside { is_exit_of on.now.machine.now on.now.choice.now blocks e ≡ true }
     ensures { IfOk result (λ x. items.new ≡ items.old
-        ++ items_of_exit on.now.m.now on.now.c.now (stated unit_meaning units.now) e) }
+        ++ items_of_exit on.now.machine.now on.now.choice.now (stated unit_meaning units.now) e) }
 {
     match e {
         Exit::If { rel, a, b, to } => {
             condition(items, on, units, rel, a, b)?;
-            let guard = Some(guard_of(on.c, rel));
+            let guard = Some(guard_of(on.choice, rel));
             constant(items, on, guard, LongValue::Address(to), Dest::Jump)
         }
         _ => leave(items, on, units, e),

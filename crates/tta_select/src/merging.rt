@@ -1,7 +1,6 @@
 //! Values that a guard lets through.
 
 ghost use Rattle.std.specs.Prelude.{◌≡◌, true, None, Some, ◌++◌, IfOk, ◌<◌};
-ghost use Rattle.tta_select.specs.Target.{IsTarget};
 ghost use Rattle.tta_select.specs.Select.{brings_old, merged, value, reaches, choose};
 ghost use Rattle.std.specs.Prelude.{◌||◌};
 ghost use Rattle.tta_moves.specs.Slots.{joined};
@@ -19,44 +18,42 @@ use tta_rcode::{Place, RSrc};
 
 /// Puts the way of a place's own word to the hub's register for merging at the end.
 fn put_old(items: &mut Items<Item>, on: &Target<'_>, d: Place) -> Result<(), AllocError>
-    requires given { IsTarget on.now }
-    requires inside { is_place_of on.now.m.now on.now.c.now d ≡ true }
+    requires inside { is_place_of on.now.machine.now on.now.choice.now d ≡ true }
     ensures { IfOk result (λ x. items.new ≡ items.old
-        ++ brings_old on.now.m.now on.now.c.now d) }
+        ++ brings_old on.now.machine.now on.now.choice.now d) }
 {
     match d {
         Place::Reg(k) => {
-            let (file, index) = home_pair(on.c, k);
+            let (file, index) = home_pair(on.choice, k);
             let src = ItemSource::Port(Source::Reg { file, index });
-            put_move(items, None, src, hub_at(on.c, MERGING))
+            put_move(items, None, src, hub_at(on.choice, MERGING))
         }
-        Place::Frame(slot) => fetch(items, on, None, slot, hub_at(on.c, MERGING)),
+        Place::Frame(slot) => fetch(items, on, None, slot, hub_at(on.choice, MERGING)),
     }
 }
 
 /// Whether a bus joins two ends under a guard, or the second end and the hub's register.
 fn joined_or_hub(on: &Target<'_>, guard: Option<GuardRef>, src: ItemSource, dst: Dest) -> bool
-    requires { IsTarget on.now }
-    ensures { result ≡ (joined on.now.m.now src dst guard
-        || joined on.now.m.now (ItemSource.Port (Source.Reg on.now.c.now.hub 0)) dst guard) }
+    ensures { result ≡ (joined on.now.machine.now src dst guard
+        || joined on.now.machine.now (ItemSource.Port (Source.Reg on.now.choice.now.hub 0))
+        dst guard) }
 {
-    is_joined(on.m, on.net, src, dst, guard)
-        || is_joined(on.m, on.net, from_hub(on.c, PASSING), dst, guard)
+    is_joined(on.machine, on.net, src, dst, guard)
+        || is_joined(on.machine, on.net, from_hub(on.choice, PASSING), dst, guard)
 }
 
 /// Whether an operand has a way to a place.
 fn reaches(on: &Target<'_>, guard: Option<GuardRef>, o: RSrc, dst: Dest) -> bool
-    requires given { IsTarget on.now }
-    requires inside { is_src_of on.now.m.now on.now.c.now o ≡ true }
-    ensures { result ≡ reaches on.now.m.now on.now.c.now guard o dst }
+    requires inside { is_src_of on.now.machine.now on.now.choice.now o ≡ true }
+    ensures { result ≡ reaches on.now.machine.now on.now.choice.now guard o dst }
 {
     match o {
         RSrc::Word(w) => {
             let src = ItemSource::Port(Source::Value(w));
-            joined_or_hub(on, guard, src, dst) || long_for(on.m, on.net, dst, guard).is_some()
+            joined_or_hub(on, guard, src, dst) || long_for(on, dst, guard).is_some()
         }
         RSrc::At(Place::Reg(k)) => {
-            let (file, index) = home_pair(on.c, k);
+            let (file, index) = home_pair(on.choice, k);
             let src = ItemSource::Port(Source::Reg { file, index });
             joined_or_hub(on, guard, src, dst)
         }
@@ -72,15 +69,16 @@ fn put_merging(
     s: RSrc,
     d: Place,
 ) -> Result<(), AllocError>
-    requires given { IsTarget on.now }
-    requires source { is_src_of on.now.m.now on.now.c.now s ≡ true }
-    requires place { is_place_of on.now.m.now on.now.c.now d ≡ true }
-    ensures { IfOk result (λ x. items.new ≡ items.old ++ (brings_old on.now.m.now on.now.c.now d
-        ++ (value on.now.m.now on.now.c.now (Some g) s (Dest.Reg on.now.c.now.hub 1)
-        ++ merged on.now.m.now on.now.c.now d))) }
+    requires source { is_src_of on.now.machine.now on.now.choice.now s ≡ true }
+    requires place { is_place_of on.now.machine.now on.now.choice.now d ≡ true }
+    ensures { IfOk result (λ x. items.new ≡ items.old
+        ++ (brings_old on.now.machine.now on.now.choice.now d
+        ++ (value on.now.machine.now on.now.choice.now (Some g) s
+        (Dest.Reg on.now.choice.now.hub 1)
+        ++ merged on.now.machine.now on.now.choice.now d))) }
 {
     put_old(items, on, d)?;
-    value(items, on, Some(g), s, hub_at(on.c, MERGING))?;
+    value(items, on, Some(g), s, hub_at(on.choice, MERGING))?;
     put_merged(items, on, d)
 }
 
@@ -92,16 +90,15 @@ pub fn choose(
     s: RSrc,
     d: Place,
 ) -> Result<(), AllocError>
-    requires given { IsTarget on.now }
-    requires source { is_src_of on.now.m.now on.now.c.now s ≡ true }
-    requires place { is_place_of on.now.m.now on.now.c.now d ≡ true }
+    requires source { is_src_of on.now.machine.now on.now.choice.now s ≡ true }
+    requires place { is_place_of on.now.machine.now on.now.choice.now d ≡ true }
     ensures { IfOk result (λ x. items.new ≡ items.old
-        ++ choose on.now.m.now on.now.c.now g s d) }
+        ++ choose on.now.machine.now on.now.choice.now g s d) }
 {
     match d {
         Place::Frame(_) => put_merging(items, on, g, s, d),
         Place::Reg(k) => {
-            let dst = home_at(on.c, k);
+            let dst = home_at(on.choice, k);
             if reaches(on, Some(g), s, dst) {
                 value(items, on, Some(g), s, dst)
             } else {

@@ -1,7 +1,6 @@
 //! The ways of operands and results.
 
 ghost use Rattle.std.specs.Prelude.{◌≡◌, ◌<◌, true, None, ◌++◌, IfOk, get_or, length};
-ghost use Rattle.tta_select.specs.Target.{IsTarget};
 ghost use Rattle.tta_select.specs.Select.{home_pair, home_at, operand_at};
 ghost use Rattle.tta_select.specs.Select.{trigger_at, shown_at, fetch, value};
 ghost use Rattle.tta_select.specs.Relation.{is_src_of};
@@ -64,9 +63,8 @@ pub fn fetch(
     slot: u32,
     dst: Dest,
 ) -> Result<(), AllocError>
-    requires given { IsTarget on.now }
     ensures { IfOk result (λ x. items.new ≡ items.old
-        ++ fetch on.now.m.now on.now.c.now guard slot dst) }
+        ++ fetch on.now.machine.now on.now.choice.now guard slot dst) }
 {
     constant(items, on, None, LongValue::Word(slot), trigger_at(on.ldf))?;
     carry(items, on, guard, shown_at(on.ldf), dst)
@@ -80,15 +78,14 @@ pub fn value(
     o: RSrc,
     dst: Dest,
 ) -> Result<(), AllocError>
-    requires given { IsTarget on.now }
-    requires inside { is_src_of on.now.m.now on.now.c.now o ≡ true }
+    requires inside { is_src_of on.now.machine.now on.now.choice.now o ≡ true }
     ensures { IfOk result (λ x. items.new ≡ items.old
-        ++ value on.now.m.now on.now.c.now guard o dst) }
+        ++ value on.now.machine.now on.now.choice.now guard o dst) }
 {
     match o {
         RSrc::Word(w) => constant(items, on, guard, LongValue::Word(w), dst),
         RSrc::At(Place::Reg(k)) => {
-            let (file, index) = home_pair(on.c, k);
+            let (file, index) = home_pair(on.choice, k);
             let src = ItemSource::Port(Source::Reg { file, index });
             carry(items, on, guard, src, dst)
         }

@@ -1,7 +1,6 @@
 //! Operations, and the ways of their results.
 
 ghost use Rattle.std.specs.Prelude.{◌≡◌, ◌==◌, true, None, ◌++◌, IfOk};
-ghost use Rattle.tta_select.specs.Target.{IsTarget};
 ghost use Rattle.tta_select.specs.Select.{from_hub, home_at, operate, address_slot};
 ghost use Rattle.tta_select.specs.Select.{merged};
 ghost use Rattle.tta_select.specs.Select.{result as result_items};
@@ -27,11 +26,10 @@ pub fn operate(
     a: RSrc,
     b: RSrc,
 ) -> Result<(), AllocError>
-    requires given { IsTarget on.now }
-    requires first { is_src_of on.now.m.now on.now.c.now a ≡ true }
-    requires second { is_src_of on.now.m.now on.now.c.now b ≡ true }
+    requires first { is_src_of on.now.machine.now on.now.choice.now a ≡ true }
+    requires second { is_src_of on.now.machine.now on.now.choice.now b ≡ true }
     ensures { IfOk result (λ x. items.new ≡ items.old
-        ++ operate on.now.m.now on.now.c.now f a b) }
+        ++ operate on.now.machine.now on.now.choice.now f a b) }
 {
     if f.does.arity == 2 {
         value(items, on, None, a, operand_at(f))?;
@@ -41,9 +39,8 @@ pub fn operate(
 
 /// Puts the way of a slot's address to the operand port of the store at the end.
 pub fn address_slot(items: &mut Items<Item>, on: &Target<'_>, slot: u32) -> Result<(), AllocError>
-    requires given { IsTarget on.now }
     ensures { IfOk result (λ x. items.new ≡ items.old
-        ++ address_slot on.now.m.now on.now.c.now slot) }
+        ++ address_slot on.now.machine.now on.now.choice.now slot) }
 {
     constant(items, on, None, LongValue::Word(slot), operand_at(on.stf))
 }
@@ -55,13 +52,12 @@ pub fn put_result(
     f: Call,
     d: Place,
 ) -> Result<(), AllocError>
-    requires given { IsTarget on.now }
-    requires inside { is_place_of on.now.m.now on.now.c.now d ≡ true }
+    requires inside { is_place_of on.now.machine.now on.now.choice.now d ≡ true }
     ensures { IfOk result (λ x. items.new ≡ items.old
-        ++ result_items on.now.m.now on.now.c.now f d) }
+        ++ result_items on.now.machine.now on.now.choice.now f d) }
 {
     match d {
-        Place::Reg(k) => carry(items, on, None, shown_at(f), home_at(on.c, k)),
+        Place::Reg(k) => carry(items, on, None, shown_at(f), home_at(on.choice, k)),
         Place::Frame(slot) => {
             address_slot(items, on, slot)?;
             carry(items, on, None, shown_at(f), trigger_at(on.stf))
@@ -71,15 +67,25 @@ pub fn put_result(
 
 /// Puts the way of the word in the hub's register for merging to its place at the end.
 pub fn put_merged(items: &mut Items<Item>, on: &Target<'_>, d: Place) -> Result<(), AllocError>
-    requires given { IsTarget on.now }
-    requires inside { is_place_of on.now.m.now on.now.c.now d ≡ true }
-    ensures { IfOk result (λ x. items.new ≡ items.old ++ merged on.now.m.now on.now.c.now d) }
+    requires inside { is_place_of on.now.machine.now on.now.choice.now d ≡ true }
+    ensures { IfOk result (λ x. items.new ≡ items.old
+        ++ merged on.now.machine.now on.now.choice.now d) }
 {
     match d {
-        Place::Reg(k) => put_move(items, None, from_hub(on.c, MERGING), home_at(on.c, k)),
+        Place::Reg(k) => put_move(
+            items,
+            None,
+            from_hub(on.choice, MERGING),
+            home_at(on.choice, k),
+        ),
         Place::Frame(slot) => {
             address_slot(items, on, slot)?;
-            put_move(items, None, from_hub(on.c, MERGING), trigger_at(on.stf))
+            put_move(
+                items,
+                None,
+                from_hub(on.choice, MERGING),
+                trigger_at(on.stf),
+            )
         }
     }
 }

@@ -1,8 +1,6 @@
 //! Ways: the moves that bring a word to a place.
 
 ghost use Rattle.std.specs.Prelude.{◌≡◌, None, ◌∷◌, ◌++◌, [], IfOk, option_map, find};
-ghost use Rattle.tta_connect.specs.Net.{IsNetOf};
-ghost use Rattle.tta_select.specs.Target.{IsTarget};
 ghost use Rattle.tta_moves.specs.Touches.{source_of_long};
 ghost use Rattle.tta_moves.specs.Slots.{joined};
 ghost use Rattle.tta_select.specs.Select.{filled, through_hub, long_hub, long_way, constant, carry};
@@ -10,8 +8,8 @@ ghost use Rattle.tta_select.specs.Select.{value};
 
 use crate::target::Target;
 use std::alloc::AllocError;
-use tta_arch::{Dest, GuardRef, Machine, Source, Template};
-use tta_connect::{Choice, Net};
+use tta_arch::{Dest, GuardRef, Source, Template};
+use tta_connect::Choice;
 use tta_list::Items;
 use tta_moves::{Item, ItemSource, LongValue, is_joined};
 
@@ -64,10 +62,10 @@ fn put_through_hub(
     dst: Dest,
 ) -> Result<(), AllocError>
     ensures { IfOk result (λ x. items.new ≡ items.old
-        ++ through_hub on.now.m.now on.now.c.now guard src dst) }
+        ++ through_hub on.now.machine.now on.now.choice.now guard src dst) }
 {
-    put_move(items, None, src, hub_at(on.c, PASSING))?;
-    put_move(items, guard, from_hub(on.c, PASSING), dst)
+    put_move(items, None, src, hub_at(on.choice, PASSING))?;
+    put_move(items, guard, from_hub(on.choice, PASSING), dst)
 }
 
 /// Puts the way of a register, a result or the return address at the end.
@@ -78,11 +76,10 @@ pub fn carry(
     src: ItemSource,
     dst: Dest,
 ) -> Result<(), AllocError>
-    requires { IsTarget on.now }
     ensures { IfOk result (λ x. items.new ≡ items.old
-        ++ carry on.now.m.now on.now.c.now guard src dst) }
+        ++ carry on.now.machine.now on.now.choice.now guard src dst) }
 {
-    if is_joined(on.m, on.net, src, dst, guard) {
+    if is_joined(on.machine, on.net, src, dst, guard) {
         return put_move(items, guard, src, dst);
     }
     put_through_hub(items, on, guard, src, dst)
@@ -99,20 +96,16 @@ fn filled(t: &Template) -> ItemSource
 }
 
 /// The first template whose register some bus joins to a place, with a guard.
-pub fn long_for<'a>(
-    m: &'a Machine,
-    net: &Net,
-    dst: Dest,
-    guard: Option<GuardRef>,
-) -> Option<&'a Template>
-    requires { IsNetOf net.now m.now }
+pub fn long_for<'a>(on: &Target<'a>, dst: Dest, guard: Option<GuardRef>) -> Option<&'a Template>
     ensures { option_map (λ t. t.now) result
-        ≡ find (λ t. joined m.now (filled t) dst guard) m.now.templates }
+        ≡ find (λ t. joined on.now.machine.now (filled t) dst guard)
+        on.now.machine.now.templates }
 {
-    let templates = m.templates.as_slice();
-    templates
+    let m = on.machine;
+    m.templates
+        .as_slice()
         .iter()
-        .find(|t| is_joined(m, net, filled(t), dst, guard))
+        .find(|t| is_joined(m, on.net, filled(t), dst, guard))
 }
 
 /// Puts a long immediate at the end.
@@ -136,13 +129,12 @@ fn put_long_hub(
     v: LongValue,
     dst: Dest,
 ) -> Result<(), AllocError>
-    requires { IsTarget on.now }
     ensures { IfOk result (λ x. items.new ≡ items.old
-        ++ long_hub on.now.m.now on.now.c.now guard v dst
-        (find (λ t. joined on.now.m.now (filled t) (Dest.Reg on.now.c.now.hub 0) None)
-        on.now.m.now.templates)) }
+        ++ long_hub on.now.machine.now on.now.choice.now guard v dst
+        (find (λ t. joined on.now.machine.now (filled t) (Dest.Reg on.now.choice.now.hub 0) None)
+        on.now.machine.now.templates)) }
 {
-    match long_for(on.m, on.net, hub_at(on.c, PASSING), None) {
+    match long_for(on, hub_at(on.choice, PASSING), None) {
         None => put_move(items, guard, source_of_long(v), dst),
         Some(t) => {
             put_long(items, t, v)?;
@@ -159,12 +151,12 @@ fn put_long_way(
     v: LongValue,
     dst: Dest,
 ) -> Result<(), AllocError>
-    requires { IsTarget on.now }
     ensures { IfOk result (λ x. items.new ≡ items.old
-        ++ long_way on.now.m.now on.now.c.now guard v dst
-        (find (λ t. joined on.now.m.now (filled t) dst guard) on.now.m.now.templates)) }
+        ++ long_way on.now.machine.now on.now.choice.now guard v dst
+        (find (λ t. joined on.now.machine.now (filled t) dst guard)
+        on.now.machine.now.templates)) }
 {
-    match long_for(on.m, on.net, dst, guard) {
+    match long_for(on, dst, guard) {
         None => put_long_hub(items, on, guard, v, dst),
         Some(t) => {
             put_long(items, t, v)?;
@@ -181,16 +173,15 @@ pub fn constant(
     v: LongValue,
     dst: Dest,
 ) -> Result<(), AllocError>
-    requires { IsTarget on.now }
     ensures { IfOk result (λ x. items.new ≡ items.old
-        ++ constant on.now.m.now on.now.c.now guard v dst) }
+        ++ constant on.now.machine.now on.now.choice.now guard v dst) }
 {
     let src = source_of_long(v);
-    if is_joined(on.m, on.net, src, dst, guard) {
+    if is_joined(on.machine, on.net, src, dst, guard) {
         return put_move(items, guard, src, dst);
     }
-    if is_joined(on.m, on.net, from_hub(on.c, PASSING), dst, guard)
-        && is_joined(on.m, on.net, src, hub_at(on.c, PASSING), None)
+    if is_joined(on.machine, on.net, from_hub(on.choice, PASSING), dst, guard)
+        && is_joined(on.machine, on.net, src, hub_at(on.choice, PASSING), None)
     {
         return put_through_hub(items, on, guard, src, dst);
     }

@@ -7,7 +7,6 @@ ghost use Rattle.tta_select.specs.Select.{call_of, operand_at, trigger_at, is_in
 ghost use Rattle.tta_select.specs.Select.{constant, carry, value, operate, address_slot, condition};
 ghost use Rattle.tta_select.specs.Select.{result as result_items};
 ghost use Rattle.tta_select.specs.Relation.{is_place_of, is_src_of};
-ghost use Rattle.tta_select.specs.Target.{IsTarget};
 
 use crate::calling::{call_of, test_op};
 use crate::operands::{operand_at, shown_at, trigger_at, value};
@@ -57,17 +56,17 @@ pub fn condition(
     a: RSrc,
     b: RSrc,
 ) -> Result<(), AllocError>
-    requires given { IsTarget on.now }
-    requires first { is_src_of on.now.m.now on.now.c.now a ≡ true }
-    requires second { is_src_of on.now.m.now on.now.c.now b ≡ true }
+    requires first { is_src_of on.now.machine.now on.now.choice.now a ≡ true }
+    requires second { is_src_of on.now.machine.now on.now.choice.now b ≡ true }
     ensures { IfOk result (λ x. items.new ≡ items.old
-        ++ condition on.now.m.now on.now.c.now (stated unit_meaning units.now) rel a b) }
+        ++ condition on.now.machine.now on.now.choice.now (stated unit_meaning units.now)
+        rel a b) }
 {
-    let f = call_of(on.m, on.c, test_op(units, rel));
+    let f = call_of(on.machine, on.choice, test_op(units, rel));
     operate(items, on, f, a, b)?;
     let dst = Dest::Reg {
-        file: on.c.guard_file,
-        index: on.c.guard_index,
+        file: on.choice.guard_file,
+        index: on.choice.guard_index,
     };
     carry(items, on, None, shown_at(f), dst)
 }
@@ -79,12 +78,11 @@ pub fn copy_to_slot(
     slot: u32,
     s: RSrc,
 ) -> Result<(), AllocError>
-    requires given { IsTarget on.now }
-    requires source { is_src_of on.now.m.now on.now.c.now s ≡ true }
+    requires source { is_src_of on.now.machine.now on.now.choice.now s ≡ true }
     ensures { IfOk result (λ x. items.new ≡ items.old
-        ++ (address_slot on.now.m.now on.now.c.now slot
-        ++ value on.now.m.now on.now.c.now None s
-        (trigger_at (call_of on.now.m.now on.now.c.now Stf)))) }
+        ++ (address_slot on.now.machine.now on.now.choice.now slot
+        ++ value on.now.machine.now on.now.choice.now None s
+        (trigger_at (call_of on.now.machine.now on.now.choice.now Stf)))) }
 {
     address_slot(items, on, slot)?;
     value(items, on, None, s, trigger_at(on.stf))
@@ -92,11 +90,10 @@ pub fn copy_to_slot(
 
 /// Puts the items of a step that saves the return address at the end.
 pub fn save_ra(items: &mut Items<Item>, on: &Target<'_>, slot: u32) -> Result<(), AllocError>
-    requires given { IsTarget on.now }
     ensures { IfOk result (λ x. items.new ≡ items.old
-        ++ (address_slot on.now.m.now on.now.c.now slot
-        ++ carry on.now.m.now on.now.c.now None (ItemSource.Port Source.Ra)
-        (trigger_at (call_of on.now.m.now on.now.c.now Stf)))) }
+        ++ (address_slot on.now.machine.now on.now.choice.now slot
+        ++ carry on.now.machine.now on.now.choice.now None (ItemSource.Port Source.Ra)
+        (trigger_at (call_of on.now.machine.now on.now.choice.now Stf)))) }
 {
     address_slot(items, on, slot)?;
     let src = ItemSource::Port(Source::Ra);
@@ -112,12 +109,12 @@ pub fn apply(
     a: RSrc,
     b: RSrc,
 ) -> Result<(), AllocError>
-    requires given { IsTarget on.now }
-    requires place { is_place_of on.now.m.now on.now.c.now d ≡ true }
-    requires first { is_src_of on.now.m.now on.now.c.now a ≡ true }
-    requires second { is_src_of on.now.m.now on.now.c.now b ≡ true }
-    ensures { IfOk result (λ x. items.new ≡ items.old ++ (operate on.now.m.now on.now.c.now f a b
-        ++ result_items on.now.m.now on.now.c.now f d)) }
+    requires place { is_place_of on.now.machine.now on.now.choice.now d ≡ true }
+    requires first { is_src_of on.now.machine.now on.now.choice.now a ≡ true }
+    requires second { is_src_of on.now.machine.now on.now.choice.now b ≡ true }
+    ensures { IfOk result (λ x. items.new ≡ items.old
+        ++ (operate on.now.machine.now on.now.choice.now f a b
+        ++ result_items on.now.machine.now on.now.choice.now f d)) }
 {
     operate(items, on, f, a, b)?;
     put_result(items, on, f, d)
@@ -131,12 +128,11 @@ pub fn load(
     d: Place,
     a: RSrc,
 ) -> Result<(), AllocError>
-    requires given { IsTarget on.now }
-    requires place { is_place_of on.now.m.now on.now.c.now d ≡ true }
-    requires address { is_src_of on.now.m.now on.now.c.now a ≡ true }
+    requires place { is_place_of on.now.machine.now on.now.choice.now d ≡ true }
+    requires address { is_src_of on.now.machine.now on.now.choice.now a ≡ true }
     ensures { IfOk result (λ x. items.new ≡ items.old
-        ++ (value on.now.m.now on.now.c.now None a (trigger_at f)
-        ++ result_items on.now.m.now on.now.c.now f d)) }
+        ++ (value on.now.machine.now on.now.choice.now None a (trigger_at f)
+        ++ result_items on.now.machine.now on.now.choice.now f d)) }
 {
     value(items, on, None, a, trigger_at(f))?;
     put_result(items, on, f, d)
@@ -144,11 +140,10 @@ pub fn load(
 
 /// Puts the items of a step that takes a word of the input at the end.
 pub fn take(items: &mut Items<Item>, on: &Target<'_>, f: Call, d: Place) -> Result<(), AllocError>
-    requires given { IsTarget on.now }
-    requires place { is_place_of on.now.m.now on.now.c.now d ≡ true }
+    requires place { is_place_of on.now.machine.now on.now.choice.now d ≡ true }
     ensures { IfOk result (λ x. items.new ≡ items.old
-        ++ (constant on.now.m.now on.now.c.now None (LongValue.Word 0) (trigger_at f)
-        ++ result_items on.now.m.now on.now.c.now f d)) }
+        ++ (constant on.now.machine.now on.now.choice.now None (LongValue.Word 0) (trigger_at f)
+        ++ result_items on.now.machine.now on.now.choice.now f d)) }
 {
     constant(items, on, None, LongValue::Word(0), trigger_at(f))?;
     put_result(items, on, f, d)
@@ -162,12 +157,11 @@ pub fn store(
     a: RSrc,
     v: RSrc,
 ) -> Result<(), AllocError>
-    requires given { IsTarget on.now }
-    requires address { is_src_of on.now.m.now on.now.c.now a ≡ true }
-    requires word { is_src_of on.now.m.now on.now.c.now v ≡ true }
+    requires address { is_src_of on.now.machine.now on.now.choice.now a ≡ true }
+    requires word { is_src_of on.now.machine.now on.now.choice.now v ≡ true }
     ensures { IfOk result (λ x. items.new ≡ items.old
-        ++ (value on.now.m.now on.now.c.now None a (operand_at f)
-        ++ value on.now.m.now on.now.c.now None v (trigger_at f))) }
+        ++ (value on.now.machine.now on.now.choice.now None a (operand_at f)
+        ++ value on.now.machine.now on.now.choice.now None v (trigger_at f))) }
 {
     value(items, on, None, a, operand_at(f))?;
     value(items, on, None, v, trigger_at(f))
