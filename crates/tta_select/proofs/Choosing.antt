@@ -1,16 +1,15 @@
 -- A place gets a word or keeps its own, as a guard says.
-use Rattle.std.proofs.Common.{◌≡◌, ◌<◌, ℕ, Bool, true, false, List, [], ◌∷◌, ◌++◌, Option, Some, None, refl, sym, ap, subst, arith, ◌∙◌, length, slice_get, slice_index, slice_set, append_assoc}
-use Rattle.std.specs.Prelude.{if◌then◌else◌, ◌==◌, ◌%◌, ◌&&◌, nat_lt}
+use Rattle.std.proofs.Common.{◌≡◌, ◌<◌, ℕ, Bool, true, false, List, [], ◌∷◌, ◌++◌, Option, Some, None, refl, sym, subst, arith, ◌∙◌, length}
+use Rattle.std.specs.Prelude.{if◌then◌else◌, ◌==◌, ◌&&◌}
 use Rattle.std.proofs.lemmas.Bool.Decides.{nat_tests}
 use Rattle.tta_ops.specs.Units.{Units}
 use Rattle.tta_arch.specs.declared.ends.GuardRef.{GuardRef}
-use Rattle.tta_arch.specs.declared.ends.Dest.{Dest}
 use Rattle.tta_arch.specs.declared.parts.Op.TheVariants.{Ldf, Stf}
 use Rattle.tta_arch.specs.Machine.{Machine}
-use Rattle.tta_arch.specs.Effects.{Place, KeptReg, KeptOperand, KeptRa, kept, same_place, width_of}
+use Rattle.tta_arch.specs.Effects.{KeptReg, KeptOperand, kept, same_place, width_of}
 use Rattle.tta_connect.specs.declared.choice.Choice.{Choice}
 use Rattle.tta_moves.specs.declared.items.Item.{Item}
-use Rattle.tta_moves.specs.Meaning.{Exit, Next, Held}
+use Rattle.tta_moves.specs.Meaning.{Next, Held}
 use Rattle.tta_moves.proofs.Places.{either, same_self, kept_there, kept_elsewhere}
 use Rattle.tta_rcode.specs.declared.code.Place.{Place as RPlace}
 use Rattle.tta_rcode.specs.declared.code.Place.TheVariants.{Reg, Frame}
@@ -20,9 +19,9 @@ use Rattle.tta_rcode.specs.Meaning.{State, Kept, Plain, Return, found, plain, op
 use Rattle.tta_select.specs.Select.{call_of, trigger_at, hub_at, from_hub, home_at, from_home, value, address_slot, goes, merged, brings_old, choose, reaches}
 use Rattle.tta_select.specs.Ground.{IsGround, IsServed, home_place}
 use Rattle.tta_select.specs.Relation.{slot_word, Matches, is_place_of, is_src_of}
-use Rattle.tta_select.proofs.Goes.{Goes, stays, chain, Guarded}
-use Rattle.tta_select.proofs.Moves.{wrote, is_free, Calm, calm_loads, move_wide, move_idle}
-use Rattle.tta_select.proofs.Ways.{Way, finish, at_once, way_carry}
+use Rattle.tta_select.proofs.Goes.{Goes, Guarded}
+use Rattle.tta_select.proofs.Moves.{wrote, is_free, Calm, move_wide, move_idle}
+use Rattle.tta_select.proofs.Ways.{Way, finish, at_once}
 use Rattle.tta_select.proofs.Matching.{match_calm, match_aside, match_home, match_again, guard_not_free}
 use Rattle.tta_select.proofs.Values.{way_loads, way_value}
 use Rattle.tta_select.proofs.Results.{Landed, landed_behind, addresses, stores, stores_again}

@@ -1,23 +1,21 @@
 -- A condition goes to the guard register.
-use Rattle.std.proofs.Common.{◌≡◌, ◌<◌, ◌≤◌, ℕ, zero, suc, Bool, true, false, List, [], ◌∷◌, ◌++◌, Option, Some, None, refl, sym, ap, subst, arith, ◌∙◌, length, slice_get}
-use Rattle.std.specs.Prelude.{if◌then◌else◌, ◌==◌, ◌%◌, ◌&&◌, nat_lt, not, codes}
+use Rattle.std.proofs.Common.{◌≡◌, ◌<◌, ℕ, zero, suc, Bool, true, false, List, [], ◌∷◌, Option, Some, None, refl, sym, ap, subst, arith, ◌∙◌, length, slice_get}
+use Rattle.std.specs.Prelude.{if◌then◌else◌, ◌==◌, ◌%◌, not}
 use Rattle.std.specs.Option.{option_map_or}
-use Rattle.std.proofs.lemmas.Bool.Decides.{nat_tests}
 use Rattle.std.proofs.lemmas.Nat.{mod_below}
 use Rattle.std.proofs.lemmas.Option.{slice_get_within}
 use Rattle.tta_ops.specs.declared.OpId.{OpId}
 use Rattle.tta_ops.specs.Units.{Units, named}
-use Rattle.tta_arch.specs.declared.ends.GuardRef.{GuardRef}
-use Rattle.tta_arch.specs.declared.parts.Op.TheVariants.{Ldf, Stf, Set}
+use Rattle.tta_arch.specs.declared.parts.Op.TheVariants.{Ldf, Stf}
 use Rattle.tta_arch.specs.Machine.{Machine}
-use Rattle.tta_arch.specs.Effects.{Place, KeptReg, KeptRa, kept, width_of, passes}
+use Rattle.tta_arch.specs.Effects.{KeptReg, passes}
 use Rattle.tta_connect.specs.declared.choice.Choice.{Choice}
 use Rattle.tta_program.specs.declared.operand.Rel.{Rel}
 use Rattle.tta_program.specs.declared.operand.Rel.TheVariants.{Eq, Ne, Lt, Ge, Ltu, Geu}
 use Rattle.tta_program.specs.Sequential.{holds, is_odd}
 use Rattle.tta_moves.specs.declared.items.Item.{Item}
 use Rattle.tta_moves.specs.declared.items.Item.TheVariants.{Move}
-use Rattle.tta_moves.specs.Meaning.{Exit, Next, Held}
+use Rattle.tta_moves.specs.Meaning.{Next, Held}
 use Rattle.tta_moves.proofs.Places.{same_self, kept_there}
 use Rattle.tta_program.specs.Over.{test_name}
 use Rattle.tta_rcode.specs.declared.code.RSrc.{RSrc}
@@ -26,12 +24,12 @@ use Rattle.tta_select.specs.Select.{call_of, test_op, is_inverted, shown_at, gua
 use Rattle.tta_arch.specs.Over.{StandsOver}
 use Rattle.tta_select.specs.Ground.{IsGround, IsServed}
 use Rattle.tta_select.specs.Relation.{Matches, is_src_of}
-use Rattle.tta_select.proofs.Goes.{Goes, stays, chain, Guarded}
-use Rattle.tta_select.proofs.Moves.{wrote, Calm, calm_loads, move_reg}
-use Rattle.tta_select.proofs.Ways.{Way, finish, way_carry}
+use Rattle.tta_select.proofs.Goes.{Goes, chain, Guarded}
+use Rattle.tta_select.proofs.Moves.{wrote, calm_loads, move_reg}
+use Rattle.tta_select.proofs.Ways.{finish, way_carry}
 use Rattle.tta_select.proofs.Matching.{match_calm, match_aside, guard_apart}
 use Rattle.tta_select.proofs.Values.{does_of}
-use Rattle.tta_select.proofs.Results.{Shown, operates}
+use Rattle.tta_select.proofs.Results.{operates}
 
 -- ---- the sense of a guard
 

@@ -1,6 +1,5 @@
 -- The list of a block of constants.
-use Rattle.std.proofs.Common.{◌≡◌, ℕ, List, [], ◌∷◌, ◌++◌, refl, ap, ◌∙◌, map}
-use Rattle.std.specs.List.{flat_map}
+use Rattle.std.proofs.Common.{◌≡◌, ℕ, List, [], ◌∷◌, refl, ap, ◌∙◌, map}
 use Rattle.tta_connect.specs.declared.calls.Call.{Call}
 use Rattle.tta_arch.specs.Machine.{Machine}
 use Rattle.tta_moves.specs.declared.items.BlockList.{BlockList}

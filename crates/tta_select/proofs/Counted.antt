@@ -1,28 +1,19 @@
 -- The counts of a block's list.
-use Rattle.std.proofs.Common.{◌≡◌, ◌<◌, ◌≤◌, ◌+◌, ℕ, zero, suc, Bool, true, false, List, [], ◌∷◌, ◌++◌, Option, Some, None, refl, sym, ap, subst, arith, ◌∙◌, length, map, get_or, is_some, slice_get}
-use Rattle.std.specs.Prelude.{if◌then◌else◌, ◌==◌, ◌&&◌, ◌||◌}
-use Rattle.std.specs.Option.{option_map_or}
+use Rattle.std.proofs.Common.{◌≡◌, ◌<◌, ◌≤◌, ◌+◌, ℕ, suc, Bool, true, false, List, [], ◌∷◌, Option, Some, None, refl, arith, length, get_or}
+use Rattle.std.specs.Prelude.{if◌then◌else◌, ◌==◌, ◌&&◌}
 use Rattle.std.specs.List.{list_all, list_any, sum_by}
-use Rattle.std.proofs.lemmas.Bool.{and_parts}
 use Rattle.std.proofs.lemmas.Bool.Decides.{nat_tests}
-use Rattle.std.proofs.lemmas.List.Sums.{sum_by-cons}
-use Rattle.tta_ops.specs.Units.{Units, named}
+use Rattle.tta_ops.specs.Units.{Units}
 use Rattle.tta_arch.specs.declared.parts.Template.{Template as Field}
 use Rattle.tta_arch.specs.declared.ends.GuardRef.{GuardRef}
 use Rattle.tta_arch.specs.declared.ends.Dest.{Dest}
-use Rattle.tta_arch.specs.declared.ends.Dest.TheVariants as dest
-use Rattle.tta_arch.specs.declared.parts.UnitOp.{UnitOp}
-use Rattle.tta_arch.specs.declared.parts.Op.{Op}
-use Rattle.tta_arch.specs.declared.parts.Op.TheVariants.{Ldw, Stw, Ldf, Stf, Out, Take as TakeIn, Set}
 use Rattle.tta_arch.specs.Machine.{Machine}
-use Rattle.tta_arch.specs.Effects.{Target, Reg, Imm, Operand, Trigger, Control, KeptReg, same_place, target_of, op_at}
-use Rattle.tta_arch.specs.Rules.{is_frame_op, same_op}
+use Rattle.tta_arch.specs.Effects.{Target, Reg, Imm, KeptReg, same_place, target_of}
 use Rattle.tta_connect.specs.declared.choice.Choice.{Choice}
-use Rattle.tta_connect.specs.Coverage.{offered}
 use Rattle.tta_moves.specs.declared.items.ItemSource.{ItemSource}
 use Rattle.tta_moves.specs.declared.items.LongValue.{LongValue}
 use Rattle.tta_moves.specs.declared.items.Item.{Item}
-use Rattle.tta_moves.specs.declared.items.Item.TheVariants.{Move, Long}
+use Rattle.tta_moves.specs.declared.items.Item.TheVariants.{Move}
 use Rattle.tta_moves.specs.Touches.{source_of_long, target_of_item}
 use Rattle.tta_moves.specs.Slots.{joined}
 use Rattle.tta_moves.proofs.Places.{either}
@@ -35,11 +26,10 @@ use Rattle.tta_rcode.specs.declared.code.RStep.TheVariants.{Copy, Apply, Load, T
 use Rattle.tta_rcode.specs.declared.code.Exit.{Exit as RExit}
 use Rattle.tta_rcode.specs.declared.code.Exit.TheVariants as rexit
 use Rattle.tta_rcode.specs.declared.code.RBlock.{RBlock}
-use Rattle.tta_rcode.specs.Counts.{names_place, names_src, names_step, names_exit, names, assigns_place, assigns_rstep, assigns_block, weight_step, weight_exit, weight_block, weight}
-use Rattle.tta_select.specs.Select.{goes, filled, call_of, hub_at, from_hub, home_at, guard_at, trigger_at, long_for, through_hub, long_hub, long_way, constant, carry, test_op, items_of_block, list_of, selected}
-use Rattle.tta_select.specs.Ground.{IsGround, IsServed, home_place}
-use Rattle.tta_select.specs.Needs.{op_of_step, op_of_exit, is_offered, fits_step, fits_exit}
-use Rattle.tta_select.specs.Counts.{targets, is_home, is_frame_trigger, is_trigger_of, is_need, items_in}
+use Rattle.tta_rcode.specs.Counts.{assigns_place, assigns_rstep, assigns_block}
+use Rattle.tta_select.specs.Select.{goes, hub_at, from_hub, home_at, long_for, through_hub, long_hub, long_way, constant, carry, items_of_block}
+use Rattle.tta_select.specs.Ground.{IsGround}
+use Rattle.tta_select.specs.Counts.{targets, is_home}
 use Rattle.tta_select.proofs.Matching.{guard_apart}
 use Rattle.tta_select.proofs.Counting.{step_cost, exit_cost, src_cost, result_cost, block_counts}
 

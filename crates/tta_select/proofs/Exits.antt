@@ -1,7 +1,7 @@
 -- The items of an exit leave the block as the exit does.
-use Rattle.std.proofs.Common.{◌≡◌, ◌<◌, ◌≤◌, ◌+◌, ℕ, zero, suc, Bool, true, false, List, [], ◌∷◌, ◌++◌, Option, Some, None, refl, sym, ap, subst, arith, ◌∙◌, length, slice_get, slice_index, is_some}
-use Rattle.std.specs.Prelude.{if◌then◌else◌, ◌==◌, ◌&&◌, nat_lt, not, option_map}
-use Rattle.std.specs.Option.{option_map_or, unwrap_or}
+use Rattle.std.proofs.Common.{◌≡◌, ◌<◌, ◌+◌, ℕ, zero, suc, Bool, true, false, List, [], ◌∷◌, ◌++◌, Option, Some, None, refl, ap, subst, arith, ◌∙◌, length, slice_index, is_some}
+use Rattle.std.specs.Prelude.{◌==◌, not}
+use Rattle.std.specs.Option.{unwrap_or}
 use Rattle.std.proofs.lemmas.Bool.{and_parts}
 use Rattle.std.proofs.lemmas.Bool.Decides.{nat_tests}
 use Rattle.tta_ops.specs.Units.{Units}
@@ -9,27 +9,26 @@ use Rattle.tta_arch.specs.declared.ends.GuardRef.{GuardRef}
 use Rattle.tta_arch.specs.declared.ends.Dest.TheVariants as dest
 use Rattle.tta_arch.specs.declared.parts.Op.TheVariants.{Ldf, Stf}
 use Rattle.tta_arch.specs.Machine.{Machine}
-use Rattle.tta_arch.specs.Effects.{Kind, Jumps, Calls, Halts, Place, KeptRa, kept}
+use Rattle.tta_arch.specs.Effects.{Jumps, Calls, Halts, KeptRa}
 use Rattle.tta_connect.specs.declared.choice.Choice.{Choice}
 use Rattle.tta_program.specs.declared.operand.Rel.{Rel}
-use Rattle.tta_program.specs.Sequential.{Outcome, Running, Halted, Waiting, holds}
+use Rattle.tta_program.specs.Sequential.{Outcome, Halted, holds}
 use Rattle.tta_moves.specs.declared.items.Item.{Item}
 use Rattle.tta_moves.specs.declared.items.LongValue.TheVariants as long
-use Rattle.tta_moves.specs.Meaning.{Exit, Next, Leaves, Waits, Held}
-use Rattle.tta_list.specs.Legs.{Leave, ToNext, ToBlock, ToHalt, ToWait, ToNowhere}
-use Rattle.tta_moves.specs.Runs.{block_at, to_word, leave_of}
-use Rattle.tta_moves.proofs.Places.{kept_there, same_self}
+use Rattle.tta_moves.specs.Meaning.{Exit, Next, Leaves, Held}
+use Rattle.tta_list.specs.Legs.{ToBlock, ToHalt}
+use Rattle.tta_moves.specs.Runs.{block_at, leave_of}
 use Rattle.tta_rcode.specs.declared.code.RSrc.{RSrc}
 use Rattle.tta_rcode.specs.declared.code.Exit.{Exit as RExit}
 use Rattle.tta_rcode.specs.declared.code.Exit.TheVariants as rexit
-use Rattle.tta_rcode.specs.Meaning.{State, Kept, Plain, Return, found, return_of, operand, value as word_of_operand, is_set, can_leave, falls_through, transfers}
+use Rattle.tta_rcode.specs.Meaning.{State, Kept, Plain, Return, found, return_of, value as word_of_operand, is_set, can_leave, falls_through, transfers}
 use Rattle.tta_select.specs.Select.{guard_of_rel, constant, fetch, condition, test_op, is_inverted, items_of_exit}
 use Rattle.tta_arch.specs.Over.{StandsOver}
 use Rattle.tta_select.specs.Ground.{IsGround, IsServed}
 use Rattle.tta_select.specs.Relation.{slot_word, Matches, is_src_of}
 use Rattle.tta_select.specs.Needs.{op_of_exit, Served, is_exit_of}
-use Rattle.tta_select.proofs.Goes.{Goes, stays, chain, Guarded}
-use Rattle.tta_select.proofs.Moves.{wrote, Calm, calm_loads, move_jump, move_call, move_halt, move_idle}
+use Rattle.tta_select.proofs.Goes.{stays, Guarded}
+use Rattle.tta_select.proofs.Moves.{wrote, calm_loads, move_jump, move_call, move_halt, move_idle}
 use Rattle.tta_select.proofs.Ways.{Way, finish, way_constant}
 use Rattle.tta_select.proofs.Matching.{match_calm}
 use Rattle.tta_select.proofs.Values.{way_fetch}

@@ -1,5 +1,5 @@
 -- The first answer along a list.
-use Rattle.std.proofs.Common.{◌≡◌, ◌+◌, ◌-◌, ℕ, suc, List, [], ◌∷◌, Option, Some, None, refl, sym, ap, arith, ◌∙◌, slice_get, add-zero}
+use Rattle.std.proofs.Common.{◌≡◌, ◌+◌, ℕ, suc, List, [], ◌∷◌, Option, Some, None, refl, sym, ap, arith, ◌∙◌, slice_get, add-zero}
 use Rattle.tta_arch.specs.Effects.{or_else}
 use Rattle.tta_connect.specs.Coverage.{first_by}
 

@@ -1,6 +1,6 @@
 -- A machine on which all rules hold joins what selection asks for.
-use Rattle.std.proofs.Common.{◌≡◌, ◌<◌, ◌≤◌, ◌+◌, ◌-◌, ◌/◌, ◌^◌, ◌⊎◌, inl, inr, ℕ, zero, suc, Bool, true, false, List, [], ◌∷◌, ◌++◌, Option, Some, None, refl, sym, ap, subst, arith, ◌∙◌, length, slice_get, is_some, get_or, add-zero}
-use Rattle.std.specs.Prelude.{if◌then◌else◌, find, ◌==◌, ◌&&◌, ◌||◌, nat_lt, nat_le, not, option_and_then}
+use Rattle.std.proofs.Common.{◌≡◌, ◌<◌, ◌≤◌, ◌+◌, ◌-◌, ◌/◌, ◌^◌, ◌⊎◌, inl, inr, ℕ, zero, suc, Bool, true, false, List, [], ◌∷◌, ◌++◌, Option, Some, None, refl, sym, ap, subst, arith, ◌∙◌, length, slice_get, is_some, add-zero}
+use Rattle.std.specs.Prelude.{if◌then◌else◌, find, ◌==◌, ◌&&◌, ◌||◌, nat_lt, nat_le, not}
 use Rattle.std.specs.Option.{option_map_or}
 use Rattle.std.specs.List.{list_any, range_with_len}
 use Rattle.std.proofs.lemmas.Bool.{and_parts}
@@ -9,26 +9,24 @@ use Rattle.std.proofs.lemmas.Option.{slice_get_within}
 use Rattle.tta_arch.specs.declared.parts.Bus.{Bus}
 use Rattle.tta_arch.specs.declared.parts.File.{File}
 use Rattle.tta_arch.specs.declared.parts.Template.{Template as Field}
-use Rattle.tta_arch.specs.declared.parts.Unit.{Unit as OpUnit}
 use Rattle.tta_arch.specs.declared.parts.Op.{Op}
-use Rattle.tta_arch.specs.declared.parts.Op.TheVariants.{Ldf, Stf}
+use Rattle.tta_arch.specs.declared.parts.Op.TheVariants.{Stf}
 use Rattle.tta_arch.specs.declared.ends.GuardRef.{GuardRef}
 use Rattle.tta_arch.specs.declared.ends.Source.TheVariants as source
 use Rattle.tta_arch.specs.declared.ends.Dest.{Dest}
 use Rattle.tta_arch.specs.declared.ends.Dest.TheVariants as dest
 use Rattle.tta_arch.specs.Machine.{Machine}
 use Rattle.tta_arch.specs.Effects.{has_result}
-use Rattle.tta_arch.specs.Joins.{has_bit, source_socket, dest_socket, has_socket, holds_word, is_source_on, is_dest_on, has_guard, joins}
+use Rattle.tta_arch.specs.Joins.{source_socket, dest_socket, has_socket, holds_word, is_source_on, is_dest_on, has_guard, joins}
 use Rattle.tta_arch.specs.Rules.{IsMachine}
 use Rattle.tta_connect.specs.declared.choice.Choice.{Choice}
 use Rattle.tta_connect.specs.declared.calls.Call.{Call}
-use Rattle.tta_connect.specs.Coverage.{buses_of, some_bus, from, into, brings_all, has_words, has_senses, can_guard, hub_feeds, is_usable, is_usable_at, offered, registers_from, is_home_file, homes_from, homes_of, IsChoice}
+use Rattle.tta_connect.specs.Coverage.{buses_of, some_bus, from, into, brings_all, has_senses, hub_feeds, is_usable, is_usable_at, offered, registers_from, is_home_file, homes_from, IsChoice}
 use Rattle.tta_moves.specs.declared.items.ItemSource.{ItemSource}
 use Rattle.tta_moves.specs.declared.items.ItemSource.TheVariants.{Port}
 use Rattle.tta_moves.specs.Slots.{carried, joined}
-use Rattle.tta_moves.specs.Forms.{is_passing}
 use Rattle.tta_moves.proofs.Places.{either}
-use Rattle.tta_select.specs.Select.{filled, call_of, operand_at, trigger_at, shown_at, hub_at, from_hub, home_pair, home_at, from_home, guard_at, long_for}
+use Rattle.tta_select.specs.Select.{filled, call_of, operand_at, trigger_at, shown_at, hub_at, from_hub, home_pair, home_at, from_home, long_for}
 use Rattle.tta_select.specs.Reaches.{guard_by, HasJoins}
 use Rattle.tta_select.proofs.Offers.{Offered, offered_there, three}
 use Rattle.tta_select.proofs.HomeLists.{Each, each_append, register_at, registers_size}

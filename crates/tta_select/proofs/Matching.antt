@@ -1,14 +1,14 @@
 -- Changes of the states that keep them matched.
-use Rattle.std.proofs.Common.{◌≡◌, ◌<◌, ℕ, Bool, true, false, List, [], ◌∷◌, ◌++◌, Option, Some, None, refl, sym, ap, subst, arith, ◌∙◌, length, slice_get, slice_index, slice_set, get_or, get_or-set_same, get_or-set_other, length-set}
-use Rattle.std.specs.Prelude.{if◌then◌else◌, ◌==◌, ◌&&◌, nat_lt}
+use Rattle.std.proofs.Common.{◌≡◌, ◌<◌, ℕ, Bool, true, false, List, ◌∷◌, Some, refl, sym, ap, subst, arith, ◌∙◌, length, slice_index, slice_set, get_or-set_same, get_or-set_other, length-set}
+use Rattle.std.specs.Prelude.{if◌then◌else◌, ◌==◌}
 use Rattle.std.proofs.lemmas.Bool.Decides.{nat_tests}
 use Rattle.tta_arch.specs.Machine.{Machine}
-use Rattle.tta_arch.specs.Effects.{Place, KeptReg, KeptImm, KeptOperand, KeptRa, KeptPort, kept, same_place, width_of}
+use Rattle.tta_arch.specs.Effects.{Place, KeptReg, KeptRa, kept, same_place, width_of}
 use Rattle.tta_connect.specs.declared.choice.Choice.{Choice}
-use Rattle.tta_moves.specs.Meaning.{Exit, Next, Held}
+use Rattle.tta_moves.specs.Meaning.{Exit, Held}
 use Rattle.tta_moves.proofs.Places.{either, same_self, kept_there, kept_elsewhere}
-use Rattle.tta_rcode.specs.declared.code.Place.TheVariants.{Reg, Frame}
-use Rattle.tta_rcode.specs.Meaning.{State, Kept, Plain, Return, found, puts_at}
+use Rattle.tta_rcode.specs.declared.code.Place.TheVariants.{Reg}
+use Rattle.tta_rcode.specs.Meaning.{State, Kept, found, puts_at}
 use Rattle.tta_select.specs.Select.{home_pair}
 use Rattle.tta_select.specs.Ground.{IsGround, home_place}
 use Rattle.tta_select.specs.Relation.{slot_word, Matches}

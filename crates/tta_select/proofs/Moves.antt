@@ -1,26 +1,20 @@
 -- Single moves, and states that differ only in what passes through.
-use Rattle.std.proofs.Common.{◌≡◌, ℕ, Bool, true, false, List, [], ◌∷◌, ◌++◌, Option, Some, None, refl, sym, ap, subst, arith, ◌∙◌}
-use Rattle.std.specs.Prelude.{if◌then◌else◌, ◌==◌, ◌%◌, ◌&&◌, ◌||◌, not, is_none, slice_get, slice_index, slice_set, drop}
+use Rattle.std.proofs.Common.{◌≡◌, ℕ, Bool, true, false, List, [], ◌∷◌, Option, Some, None, refl, ap, subst, ◌∙◌}
+use Rattle.std.specs.Prelude.{if◌then◌else◌, ◌==◌, ◌%◌}
 use Rattle.tta_ops.specs.Units.{Units}
 use Rattle.tta_arch.specs.declared.ends.GuardRef.{GuardRef}
-use Rattle.tta_arch.specs.declared.ends.Source.{Source}
 use Rattle.tta_arch.specs.declared.ends.Dest.{Dest}
 use Rattle.tta_arch.specs.declared.ends.Dest.TheVariants as dest
 use Rattle.tta_arch.specs.declared.parts.UnitOp.{UnitOp}
-use Rattle.tta_arch.specs.declared.parts.Op.{Op}
-use Rattle.tta_arch.specs.declared.parts.Op.TheVariants.{Ldw, Stw, Ldf, Stf, Out, Take, Set}
 use Rattle.tta_arch.specs.Machine.{Machine}
-use Rattle.tta_arch.specs.Effects.{Target, Reg, Imm, Operand, Trigger, Control, Kind, Jumps, Calls, Halts, Effect, Place, KeptReg, KeptImm, KeptOperand, KeptRa, KeptPort, same_place, Written, kept, width_of, Start, start_of, operand_of, op_at, takes_in, lacks_operand}
+use Rattle.tta_arch.specs.Effects.{Trigger, Jumps, Calls, Halts, Place, KeptReg, KeptImm, KeptOperand, KeptRa, KeptPort, same_place, kept, width_of, Start, start_of, operand_of, op_at}
 use Rattle.tta_moves.specs.declared.items.ItemSource.{ItemSource}
-use Rattle.tta_moves.specs.declared.items.ItemSource.TheVariants.{Port, Address}
 use Rattle.tta_moves.specs.declared.items.LongValue.{LongValue}
-use Rattle.tta_moves.specs.declared.items.LongValue.TheVariants as long
-use Rattle.tta_moves.specs.declared.items.Item.{Item}
 use Rattle.tta_moves.specs.declared.items.Item.TheVariants.{Move, Long}
-use Rattle.tta_moves.specs.Touches.{guard_place, source_of_long}
-use Rattle.tta_moves.specs.Meaning.{Exit, Next, Leaves, Waits, is_waiting, Held, read_held, linked, effect_of, acts, waits_for, does, lacks}
+use Rattle.tta_moves.specs.Touches.{source_of_long}
+use Rattle.tta_moves.specs.Meaning.{Next, Leaves, Waits, is_waiting, Held, read_held, linked, effect_of, acts, waits_for}
 use Rattle.tta_moves.proofs.Places.{either, kept_elsewhere}
-use Rattle.tta_select.proofs.Goes.{Goes, stays, chain, one, Guarded, Brings, brings, Rests, rests, rests_does, rests_lacks, brings_does, brings_lacks, starts_does, starts_lacks}
+use Rattle.tta_select.proofs.Goes.{Goes, one, Guarded, brings, rests, rests_does, rests_lacks, brings_does, brings_lacks, starts_does, starts_lacks}
 use Rattle.tta_arch.proofs.Places.{same_is}
 
 -- ---- states

@@ -1,10 +1,10 @@
 -- What stays from block to block.
-use Rattle.std.proofs.Common.{◌≡◌, ◌<◌, ◌≤◌, ◌+◌, ℕ, zero, suc, Bool, true, false, List, [], ◌∷◌, ◌++◌, Option, Some, None, refl, ap, subst, arith, ◌∙◌, length, map}
-use Rattle.std.specs.Prelude.{if◌then◌else◌, ◌==◌, ◌&&◌, ◌||◌, filter}
+use Rattle.std.proofs.Common.{◌≡◌, ℕ, Bool, true, false, List, [], ◌∷◌, Some, refl, ap, subst, arith, ◌∙◌, map}
+use Rattle.std.specs.Prelude.{if◌then◌else◌, ◌==◌, ◌||◌, filter}
 use Rattle.std.specs.List.{list_any}
 use Rattle.std.proofs.lemmas.Bool.Decides.{nat_tests}
 use Rattle.tta_arch.specs.Machine.{Machine}
-use Rattle.tta_arch.specs.Effects.{Place, KeptReg, KeptRa, Written, kept, same_place}
+use Rattle.tta_arch.specs.Effects.{Place, KeptRa, Written, kept, same_place}
 use Rattle.tta_connect.specs.declared.choice.Choice.{Choice}
 use Rattle.tta_moves.specs.Meaning.{Exit, Next, Held}
 use Rattle.tta_moves.specs.Runs.{lives, restart}

@@ -1,36 +1,33 @@
 -- Stores into slots, and results that go to their places.
-use Rattle.std.proofs.Common.{◌≡◌, ◌<◌, ◌≤◌, ℕ, Bool, true, false, List, [], ◌∷◌, ◌++◌, Option, Some, None, refl, sym, ap, subst, arith, ◌∙◌, length, slice_get, slice_index, slice_set, append_assoc}
-use Rattle.std.specs.Prelude.{if◌then◌else◌, ◌==◌, ◌%◌, ◌&&◌, nat_lt}
+use Rattle.std.proofs.Common.{◌≡◌, ◌<◌, ◌≤◌, ℕ, Bool, true, false, List, [], ◌∷◌, ◌++◌, Some, None, refl, sym, ap, subst, arith, ◌∙◌, length, slice_set}
+use Rattle.std.specs.Prelude.{if◌then◌else◌, ◌==◌}
 use Rattle.std.proofs.lemmas.Bool.{and_parts}
 use Rattle.std.proofs.lemmas.Bool.Decides.{nat_tests}
 use Rattle.tta_ops.specs.declared.OpId.{OpId}
 use Rattle.tta_ops.specs.Units.{Units}
-use Rattle.tta_arch.specs.declared.parts.UnitOp.{UnitOp}
-use Rattle.tta_arch.specs.declared.parts.Op.{Op}
-use Rattle.tta_arch.specs.declared.parts.Op.TheVariants.{Ldw, Stw, Ldf, Stf, Out, Take, Set}
+use Rattle.tta_arch.specs.declared.parts.Op.TheVariants.{Ldf, Stf, Set}
 use Rattle.tta_arch.specs.Machine.{Machine}
 use Rattle.tta_arch.specs.Rules.{is_from_to}
-use Rattle.tta_arch.specs.Effects.{Place, KeptReg, KeptOperand, KeptRa, KeptPort, kept, same_place}
+use Rattle.tta_arch.specs.Effects.{Place, KeptOperand, KeptPort, kept, same_place}
 use Rattle.tta_connect.specs.declared.choice.Choice.{Choice}
 use Rattle.tta_connect.specs.declared.calls.Call.{Call}
 use Rattle.tta_moves.specs.declared.items.LongValue.TheVariants as long
 use Rattle.tta_moves.specs.declared.items.Item.{Item}
-use Rattle.tta_moves.specs.Meaning.{Exit, Next, Waits, Held}
+use Rattle.tta_moves.specs.Meaning.{Exit, Next, Held}
 use Rattle.tta_moves.proofs.Places.{same_self, kept_there, kept_elsewhere}
 use Rattle.tta_rcode.specs.declared.code.Place.{Place as RPlace}
 use Rattle.tta_rcode.specs.declared.code.Place.TheVariants.{Reg, Frame}
 use Rattle.tta_rcode.specs.declared.code.RSrc.{RSrc}
-use Rattle.tta_rcode.specs.declared.code.RSrc.TheVariants as rsrc
-use Rattle.tta_rcode.specs.Meaning.{State, Kept, Plain, Return, found, plain, operand, puts_at}
-use Rattle.tta_select.specs.Select.{call_of, operand_at, trigger_at, shown_at, home_at, constant, carry, value, operate, address_slot, result}
+use Rattle.tta_rcode.specs.Meaning.{State, Kept, Plain, found, operand, puts_at}
+use Rattle.tta_select.specs.Select.{call_of, operand_at, trigger_at, shown_at, home_at, carry, value, operate, address_slot, result}
 use Rattle.tta_arch.specs.Over.{StandsOver}
 use Rattle.tta_select.specs.Ground.{IsGround, IsServed, home_place}
 use Rattle.tta_select.specs.Relation.{slot_word, Matches, is_place_of, is_src_of}
-use Rattle.tta_select.proofs.Goes.{Goes, stays, chain}
-use Rattle.tta_select.proofs.Moves.{wrote, is_free, Calm, calm_loads, move_operand, move_wide}
+use Rattle.tta_select.proofs.Goes.{Goes, chain}
+use Rattle.tta_select.proofs.Moves.{wrote, is_free, calm_loads, move_operand, move_wide}
 use Rattle.tta_select.proofs.Ways.{Way, finish, way_constant, way_carry}
 use Rattle.tta_select.proofs.Matching.{match_calm, match_aside, match_home, match_slot, match_slot_again}
-use Rattle.tta_select.proofs.Values.{does_of, way_loads, way_value, Operated, triggers, two_words, Placed, places, operate_one, operate_two}
+use Rattle.tta_select.proofs.Values.{does_of, way_loads, way_value, triggers, two_words, places, operate_one, operate_two}
 
 -- an arity is 1 or 2
 small : (n : ℕ) → is_from_to 1 2 n ≡ true → (n == 2) ≡ false → (n == 1) ≡ true

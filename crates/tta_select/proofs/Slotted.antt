@@ -1,21 +1,18 @@
 -- Each item of a list has a slot, and no address of a block that is not there.
-use Rattle.std.proofs.Common.{◌≡◌, ◌<◌, ◌≤◌, ◌+◌, ◌-◌, ◌^◌, ◌⊎◌, inl, inr, ℕ, zero, suc, Bool, true, false, List, [], ◌∷◌, ◌++◌, Option, Some, None, refl, sym, ap, subst, arith, ◌∙◌, length, is_some}
-use Rattle.std.specs.Prelude.{if◌then◌else◌, find, ◌==◌, ◌&&◌, ◌||◌, nat_lt}
+use Rattle.std.proofs.Common.{◌≡◌, ◌<◌, ◌-◌, ◌^◌, ◌⊎◌, inl, inr, ℕ, Bool, true, false, List, [], ◌∷◌, ◌++◌, Option, Some, None, refl, sym, ap, subst, arith, ◌∙◌, length, is_some}
+use Rattle.std.specs.Prelude.{if◌then◌else◌, find, ◌==◌, ◌&&◌, ◌||◌}
 use Rattle.std.specs.List.{list_all, list_any}
-use Rattle.std.proofs.lemmas.Bool.{and_parts}
 use Rattle.std.proofs.lemmas.Bool.Decides.{nat_tests}
 use Rattle.std.proofs.lemmas.List.Folds.{list_all-append}
 use Rattle.tta_ops.specs.Units.{Units}
 use Rattle.tta_arch.specs.declared.parts.Template.{Template as Field}
 use Rattle.tta_arch.specs.declared.ends.GuardRef.{GuardRef}
-use Rattle.tta_arch.specs.declared.ends.Source.TheVariants as source
 use Rattle.tta_arch.specs.declared.ends.Dest.{Dest}
 use Rattle.tta_arch.specs.declared.parts.Op.TheVariants.{Ldf, Stf}
 use Rattle.tta_arch.specs.Machine.{Machine}
 use Rattle.tta_connect.specs.declared.choice.Choice.{Choice}
 use Rattle.tta_connect.specs.Coverage.{offered}
 use Rattle.tta_moves.specs.declared.items.ItemSource.{ItemSource}
-use Rattle.tta_moves.specs.declared.items.ItemSource.TheVariants.{Port, Address}
 use Rattle.tta_moves.specs.declared.items.LongValue.{LongValue}
 use Rattle.tta_moves.specs.declared.items.LongValue.TheVariants as long
 use Rattle.tta_moves.specs.declared.items.Item.{Item}
@@ -24,10 +21,8 @@ use Rattle.tta_moves.specs.Touches.{source_of_long}
 use Rattle.tta_moves.specs.Slots.{joined, fills, has_slot}
 use Rattle.tta_rcode.specs.declared.code.Place.{Place as RPlace}
 use Rattle.tta_rcode.specs.declared.code.Place.TheVariants.{Reg, Frame}
-use Rattle.tta_rcode.specs.declared.code.RSrc.{RSrc}
-use Rattle.tta_select.specs.Select.{goes, filled, call_of, trigger_at, hub_at, from_hub, home_at, from_home, long_for, through_hub, long_hub, long_way, constant, carry, value, address_slot, merged, brings_old}
-use Rattle.tta_select.specs.Relation.{is_place_of, is_src_of}
-use Rattle.tta_select.specs.Needs.{word_src}
+use Rattle.tta_select.specs.Select.{goes, filled, call_of, trigger_at, hub_at, from_hub, long_for, through_hub, long_hub, long_way, constant, carry, value, address_slot, merged, brings_old}
+use Rattle.tta_select.specs.Relation.{is_place_of}
 use Rattle.tta_select.specs.Reaches.{guard_by, HasJoins}
 use Rattle.tta_select.proofs.Everywhere.{IsValue, IsCarried, has_constant, has_carry, IsWays, Merging, fetch_all, value_to, address_all}
 use Rattle.tta_list.proofs.Tests.{eq_same as self_nat, or_true as or_second}

@@ -1,41 +1,40 @@
 -- The items of a step do what the step does.
-use Rattle.std.proofs.Common.{◌≡◌, ◌<◌, ℕ, Bool, true, false, List, [], ◌∷◌, ◌++◌, Option, Some, None, refl, sym, ap, subst, arith, ◌∙◌, length, slice_get, slice_index, slice_set, is_some, is_none, drop}
-use Rattle.std.specs.Prelude.{if◌then◌else◌, ◌==◌, ◌&&◌, nat_lt}
+use Rattle.std.proofs.Common.{◌≡◌, ◌<◌, ℕ, Bool, true, false, List, [], ◌∷◌, ◌++◌, Option, Some, None, refl, ap, subst, arith, ◌∙◌, length, slice_get, slice_index, slice_set, is_some, is_none, drop}
+use Rattle.std.specs.Prelude.{if◌then◌else◌, ◌==◌}
 use Rattle.std.specs.Option.{unwrap_or}
 use Rattle.std.proofs.lemmas.Bool.{and_parts}
 use Rattle.std.proofs.lemmas.Bool.Decides.{nat_tests}
 use Rattle.tta_ops.specs.Units.{Units}
 use Rattle.tta_arch.specs.declared.ends.Source.TheVariants as source
-use Rattle.tta_arch.specs.declared.parts.Op.{Op}
 use Rattle.tta_arch.specs.declared.parts.Op.TheVariants.{Ldw, Stw, Ldf, Stf, Out, Take as TakeIn, Set}
 use Rattle.tta_arch.specs.Machine.{Machine}
-use Rattle.tta_arch.specs.Effects.{KeptOperand, KeptRa, KeptPort}
+use Rattle.tta_arch.specs.Effects.{KeptPort}
 use Rattle.tta_connect.specs.declared.choice.Choice.{Choice}
 use Rattle.tta_connect.specs.declared.calls.Call.{Call}
 use Rattle.tta_program.specs.declared.operand.Rel.{Rel}
-use Rattle.tta_program.specs.Sequential.{Outcome, Running, Halted, Waiting, holds}
+use Rattle.tta_program.specs.Sequential.{Waiting, holds}
 use Rattle.tta_moves.specs.declared.items.ItemSource.TheVariants.{Port}
 use Rattle.tta_moves.specs.declared.items.Item.{Item}
 use Rattle.tta_moves.specs.declared.items.LongValue.TheVariants as long
-use Rattle.tta_moves.specs.Meaning.{Exit, Next, Waits, is_waiting, Held}
+use Rattle.tta_moves.specs.Meaning.{Next, Waits, Held}
 use Rattle.tta_rcode.specs.declared.code.Place.{Place as RPlace}
 use Rattle.tta_rcode.specs.declared.code.Place.TheVariants.{Reg, Frame}
 use Rattle.tta_rcode.specs.declared.code.RSrc.{RSrc}
 use Rattle.tta_rcode.specs.declared.code.RSrc.TheVariants as rsrc
 use Rattle.tta_rcode.specs.declared.code.RStep.{RStep}
 use Rattle.tta_rcode.specs.declared.code.RStep.TheVariants.{Copy, Apply, Load, Take, Store, Put, When, SaveRa}
-use Rattle.tta_rcode.specs.Meaning.{State, Kept, Plain, Return, operand, value as word_of_operand, is_set, puts_at, takes, is_ready, carries}
+use Rattle.tta_rcode.specs.Meaning.{State, Plain, Return, operand, value as word_of_operand, is_set, puts_at, takes, is_ready, carries}
 use Rattle.tta_select.specs.Select.{call_of, operand_at, trigger_at, home_at, constant, carry, value, operate, address_slot, result, condition, guard_of_rel, choose, test_op, items_of_step, is_inverted}
 use Rattle.tta_arch.specs.Over.{StandsOver}
 use Rattle.tta_select.specs.Ground.{IsGround, IsServed, home_place}
-use Rattle.tta_select.specs.Relation.{slot_word, Matches, is_place_of, is_src_of}
+use Rattle.tta_select.specs.Relation.{Matches, is_place_of, is_src_of}
 use Rattle.tta_select.specs.Needs.{op_of_step, Served, is_step_of}
-use Rattle.tta_select.proofs.Goes.{Goes, stays, chain, waits}
+use Rattle.tta_select.proofs.Goes.{Goes, chain, waits}
 use Rattle.tta_select.proofs.Moves.{wrote, move_wide}
 use Rattle.tta_select.proofs.Ways.{finish, way_constant, way_carry}
-use Rattle.tta_select.proofs.Matching.{match_calm, match_home, match_aside}
+use Rattle.tta_select.proofs.Matching.{match_calm, match_home}
 use Rattle.tta_select.proofs.Values.{does_of, after, one_word, way_loads, way_value, triggers, places, operate_one, operate_two}
-use Rattle.tta_select.proofs.Results.{Landed, landed_behind, addresses, stores, lands, Shown, shows, operates}
+use Rattle.tta_select.proofs.Results.{Landed, landed_behind, addresses, stores, lands, shows, operates}
 use Rattle.tta_select.proofs.Choosing.{chooses}
 use Rattle.tta_select.proofs.Conditions.{tests}
 

@@ -1,6 +1,6 @@
 -- No way is a detour, wherever it stands.
-use Rattle.std.proofs.Common.{◌≡◌, ◌<◌, ◌≤◌, ◌+◌, ◌-◌, ◌^◌, ℕ, zero, suc, Bool, true, false, List, [], ◌∷◌, ◌++◌, Option, Some, None, refl, sym, ap, subst, arith, ◌∙◌, length, is_some, append_assoc}
-use Rattle.std.specs.Prelude.{if◌then◌else◌, find, ◌==◌, ◌&&◌, ◌||◌, nat_lt, not}
+use Rattle.std.proofs.Common.{◌≡◌, ◌<◌, ◌-◌, ◌^◌, ℕ, Bool, true, false, List, [], ◌∷◌, ◌++◌, Option, Some, None, refl, sym, ap, subst, arith, ◌∙◌, length, is_some, append_assoc}
+use Rattle.std.specs.Prelude.{if◌then◌else◌, find, ◌==◌, ◌&&◌, ◌||◌, not}
 use Rattle.std.specs.Option.{option_map_or}
 use Rattle.std.specs.List.{list_all, list_any}
 use Rattle.std.proofs.lemmas.Bool.{and_parts}
@@ -17,7 +17,7 @@ use Rattle.tta_arch.specs.Effects.{Place, KeptReg, KeptImm, same_place}
 use Rattle.tta_connect.specs.declared.choice.Choice.{Choice}
 use Rattle.tta_connect.specs.Coverage.{offered}
 use Rattle.tta_moves.specs.declared.items.ItemSource.{ItemSource}
-use Rattle.tta_moves.specs.declared.items.ItemSource.TheVariants.{Port, Address}
+use Rattle.tta_moves.specs.declared.items.ItemSource.TheVariants.{Port}
 use Rattle.tta_moves.specs.declared.items.LongValue.{LongValue}
 use Rattle.tta_moves.specs.declared.items.LongValue.TheVariants as long
 use Rattle.tta_moves.specs.declared.items.Item.{Item}
@@ -25,17 +25,17 @@ use Rattle.tta_moves.specs.declared.items.Item.TheVariants.{Move, Long}
 use Rattle.tta_moves.specs.Touches.{source_of_long, place_of_source, writes}
 use Rattle.tta_moves.specs.Slots.{joined, fills}
 use Rattle.tta_moves.specs.Forms.{none_after, is_port_source, is_passing, trail, is_detour}
-use Rattle.tta_moves.proofs.Places.{same_self, either}
+use Rattle.tta_moves.proofs.Places.{same_self}
 use Rattle.tta_rcode.specs.declared.code.Place.{Place as RPlace}
 use Rattle.tta_rcode.specs.declared.code.Place.TheVariants.{Reg, Frame}
 use Rattle.tta_rcode.specs.declared.code.RSrc.{RSrc}
 use Rattle.tta_rcode.specs.declared.code.RSrc.TheVariants as rsrc
-use Rattle.tta_select.specs.Select.{goes, filled, call_of, operand_at, trigger_at, shown_at, hub_at, from_hub, home_at, from_home, long_for, through_hub, constant, carry, fetch, value, address_slot, merged, brings_old}
+use Rattle.tta_select.specs.Select.{goes, filled, call_of, operand_at, trigger_at, shown_at, hub_at, from_hub, home_at, from_home, through_hub, constant, carry, value, address_slot, merged, brings_old}
 use Rattle.tta_select.specs.Relation.{is_place_of, is_src_of}
 use Rattle.tta_select.specs.Needs.{word_src}
 use Rattle.tta_select.specs.Reaches.{guard_by, HasJoins}
-use Rattle.tta_select.proofs.Everywhere.{IsValue, IsCarried, has_constant, has_carry, IsWays, Merging, fetch_all, value_to, address_all, reaches_all, or_middle}
-use Rattle.tta_select.proofs.Slotted.{Template, Route, At_once, By_hub, By_long, By_long_hub, route}
+use Rattle.tta_select.proofs.Everywhere.{IsCarried, IsWays, Merging, fetch_all, value_to, address_all, or_middle}
+use Rattle.tta_select.proofs.Slotted.{Route, At_once, By_hub, By_long, By_long_hub, route}
 use Rattle.tta_list.proofs.Tests.{or_true as or_second}
 
 -- ---- lists in a row

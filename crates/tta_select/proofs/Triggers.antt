@@ -1,24 +1,20 @@
 -- The triggers of a block's list, and its items.
-use Rattle.std.proofs.Common.{◌≡◌, ◌<◌, ◌≤◌, ◌+◌, ℕ, zero, suc, Bool, true, false, List, [], ◌∷◌, ◌++◌, Option, Some, None, refl, sym, ap, subst, arith, ◌∙◌, length, map, is_some, slice_get}
-use Rattle.std.specs.Prelude.{if◌then◌else◌, ◌==◌, ◌&&◌, ◌||◌}
+use Rattle.std.proofs.Common.{◌≡◌, ◌<◌, ◌≤◌, ℕ, Bool, true, false, Option, Some, None, refl, sym, ap, subst, arith, ◌∙◌, length, is_some, slice_get}
+use Rattle.std.specs.Prelude.{if◌then◌else◌, ◌==◌, ◌&&◌}
 use Rattle.std.specs.Option.{option_map_or}
-use Rattle.std.specs.List.{list_all, list_any, sum_by}
-use Rattle.std.proofs.lemmas.Bool.{and_parts}
+use Rattle.std.specs.List.{list_all}
 use Rattle.std.proofs.lemmas.Bool.Decides.{nat_tests}
-use Rattle.std.proofs.lemmas.List.Sums.{sum_by-cons}
 use Rattle.std.proofs.lemmas.Option.{slice_get_within}
 use Rattle.tta_ops.specs.Units.{Units, named}
-use Rattle.tta_arch.specs.declared.ends.Dest.{Dest}
 use Rattle.tta_arch.specs.declared.parts.UnitOp.{UnitOp}
 use Rattle.tta_arch.specs.declared.parts.Op.{Op}
 use Rattle.tta_arch.specs.declared.parts.Op.TheVariants.{Ldw, Stw, Ldf, Stf, Out, Take as TakeIn, Set}
 use Rattle.tta_arch.specs.Machine.{Machine}
-use Rattle.tta_arch.specs.Effects.{Target, Trigger, target_of, op_at}
+use Rattle.tta_arch.specs.Effects.{target_of, op_at}
 use Rattle.tta_arch.specs.Rules.{is_frame_op}
 use Rattle.tta_connect.specs.declared.choice.Choice.{Choice}
 use Rattle.tta_connect.specs.Coverage.{offered}
 use Rattle.tta_program.specs.declared.operand.Rel.{Rel}
-use Rattle.tta_moves.proofs.Places.{either}
 use Rattle.tta_rcode.specs.declared.code.Place.{Place as RPlace}
 use Rattle.tta_rcode.specs.declared.code.Place.TheVariants as place
 use Rattle.tta_rcode.specs.declared.code.RSrc.{RSrc}
@@ -28,7 +24,7 @@ use Rattle.tta_rcode.specs.declared.code.RStep.TheVariants.{Copy, Apply, Load, T
 use Rattle.tta_rcode.specs.declared.code.Exit.{Exit as RExit}
 use Rattle.tta_rcode.specs.declared.code.Exit.TheVariants as rexit
 use Rattle.tta_rcode.specs.declared.code.RBlock.{RBlock}
-use Rattle.tta_rcode.specs.Counts.{names_place, names_src, names_step, names_exit, names, Need, Loads, Stores, Puts, Takes, Named, asks, asks_rstep, asks_exit, counts_need, counts_test}
+use Rattle.tta_rcode.specs.Counts.{names_place, names_src, names_step, names_exit, names, Need, Loads, Stores, Puts, Takes, Named, asks, asks_rstep, asks_exit, counts_test}
 use Rattle.tta_program.specs.Over.{test_name}
 use Rattle.tta_select.specs.Select.{call_of, trigger_at, test_op, items_of_block}
 use Rattle.tta_arch.specs.Over.{StandsOver}
@@ -37,7 +33,7 @@ use Rattle.tta_select.specs.Needs.{op_of_step, op_of_exit, is_offered}
 use Rattle.tta_select.specs.Counts.{targets, is_frame_trigger, is_trigger_of, is_need}
 use Rattle.tta_select.proofs.Values.{does_of}
 use Rattle.tta_select.proofs.Counting.{step_cost, exit_cost, src_cost, result_cost, trigger_cost, block_counts}
-use Rattle.tta_select.proofs.Counted.{counted, counted_item, counted_dest, constant_counts, carry_counts, move_counts}
+use Rattle.tta_select.proofs.Counted.{counted_item, counted_dest, constant_counts, carry_counts, move_counts}
 
 -- the operation of a condition that is offered is one of the set of units
 pub named_there : (u : Units) (m : Machine) (c : Choice) → StandsOver u m → (rel : Rel) → IsServed m c (test_op u rel) → (id : ℕ) × (named u (test_name rel) ≡ Some id)

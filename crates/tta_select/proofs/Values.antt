@@ -1,6 +1,6 @@
 -- The ways of operands, and operations that start.
-use Rattle.std.proofs.Common.{◌≡◌, ◌<◌, ℕ, Bool, true, false, List, [], ◌∷◌, ◌++◌, Option, Some, None, refl, sym, ap, subst, arith, ◌∙◌, length, slice_get, slice_index, slice_set, append_assoc}
-use Rattle.std.specs.Prelude.{if◌then◌else◌, ◌==◌, ◌&&◌, nat_lt}
+use Rattle.std.proofs.Common.{◌≡◌, ◌<◌, ℕ, Bool, true, false, List, [], ◌∷◌, ◌++◌, Option, Some, None, refl, sym, ap, subst, arith, ◌∙◌, length, slice_index, append_assoc}
+use Rattle.std.specs.Prelude.{if◌then◌else◌, ◌==◌}
 use Rattle.std.proofs.lemmas.Bool.{and_parts}
 use Rattle.std.proofs.lemmas.Bool.Decides.{nat_tests}
 use Rattle.tta_ops.specs.Units.{Units}
@@ -8,27 +8,26 @@ use Rattle.tta_arch.specs.declared.ends.GuardRef.{GuardRef}
 use Rattle.tta_arch.specs.declared.ends.Dest.{Dest}
 use Rattle.tta_arch.specs.declared.parts.UnitOp.{UnitOp}
 use Rattle.tta_arch.specs.declared.parts.Op.{Op}
-use Rattle.tta_arch.specs.declared.parts.Op.TheVariants.{Ldw, Stw, Ldf, Stf, Out, Take, Set}
+use Rattle.tta_arch.specs.declared.parts.Op.TheVariants.{Ldf}
 use Rattle.tta_arch.specs.Machine.{Machine}
-use Rattle.tta_arch.specs.Effects.{Trigger, Place, KeptReg, KeptOperand, KeptRa, KeptPort, kept, same_place, Start, operand_of, op_at}
+use Rattle.tta_arch.specs.Effects.{Trigger, Place, KeptOperand, KeptPort, kept, operand_of}
 use Rattle.tta_connect.specs.declared.choice.Choice.{Choice}
 use Rattle.tta_connect.specs.declared.calls.Call.{Call}
 use Rattle.tta_moves.specs.declared.items.LongValue.TheVariants as long
 use Rattle.tta_moves.specs.declared.items.Item.{Item}
-use Rattle.tta_moves.specs.declared.items.Item.TheVariants.{Move, Long}
-use Rattle.tta_moves.specs.Meaning.{Exit, Next, Waits, Held, acts, waits_for}
-use Rattle.tta_moves.proofs.Places.{same_self, kept_there, kept_elsewhere}
-use Rattle.tta_rcode.specs.declared.code.Place.{Place as RPlace}
+use Rattle.tta_moves.specs.declared.items.Item.TheVariants.{Move}
+use Rattle.tta_moves.specs.Meaning.{Next, Waits, Held, acts, waits_for}
+use Rattle.tta_moves.proofs.Places.{same_self, kept_there}
 use Rattle.tta_rcode.specs.declared.code.Place.TheVariants.{Reg, Frame}
 use Rattle.tta_rcode.specs.declared.code.RSrc.{RSrc}
 use Rattle.tta_rcode.specs.declared.code.RSrc.TheVariants as rsrc
 use Rattle.tta_rcode.specs.Meaning.{State, Kept, Plain, Return, found, plain, operand}
-use Rattle.tta_select.specs.Select.{call_of, operand_at, trigger_at, shown_at, home_pair, home_at, from_home, constant, carry, fetch, value, operate}
-use Rattle.tta_select.specs.Ground.{IsGround, IsServed, home_place}
+use Rattle.tta_select.specs.Select.{call_of, operand_at, trigger_at, shown_at, from_home, constant, carry, fetch, value}
+use Rattle.tta_select.specs.Ground.{IsGround, IsServed}
 use Rattle.tta_select.specs.Relation.{slot_word, Matches, is_src_of}
-use Rattle.tta_select.proofs.Goes.{Goes, stays, chain}
-use Rattle.tta_select.proofs.Moves.{wrote, is_free, Calm, calm_then, calm_loads, calm_wrote, started, move_trigger, move_operand}
-use Rattle.tta_select.proofs.Ways.{word_of, Way, finish, way_constant, way_carry}
+use Rattle.tta_select.proofs.Goes.{Goes, chain}
+use Rattle.tta_select.proofs.Moves.{wrote, Calm, calm_then, calm_loads, calm_wrote, started, move_trigger, move_operand}
+use Rattle.tta_select.proofs.Ways.{Way, finish, way_constant, way_carry}
 use Rattle.tta_select.proofs.Matching.{match_calm, match_aside}
 
 -- the operation of a call

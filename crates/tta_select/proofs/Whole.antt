@@ -1,6 +1,6 @@
 -- Whole runs: the lists that are selected have the meaning of their register code.
-use Rattle.std.proofs.Common.{◌≡◌, ◌<◌, ◌≤◌, ◌+◌, ◌⊎◌, inl, inr, ℕ, zero, suc, Bool, true, false, List, [], ◌∷◌, Option, Some, None, refl, sym, ap, subst, arith, ◌∙◌, length, map, drop, slice_index, replicate, is_some}
-use Rattle.std.specs.Prelude.{if◌then◌else◌, ◌==◌, ◌&&◌, nat_lt}
+use Rattle.std.proofs.Common.{◌≡◌, ◌<◌, ◌≤◌, ◌+◌, ℕ, zero, suc, Bool, true, false, List, [], ◌∷◌, Some, None, refl, sym, ap, subst, arith, ◌∙◌, length, map, drop, is_some}
+use Rattle.std.specs.Prelude.{nat_lt}
 use Rattle.std.specs.List.{list_all}
 use Rattle.std.proofs.lemmas.Bool.{and_parts}
 use Rattle.std.proofs.lemmas.Bool.Decides.{nat_tests}
@@ -12,22 +12,20 @@ use Rattle.tta_arch.specs.Machine.{Machine}
 use Rattle.tta_connect.specs.declared.choice.Choice.{Choice}
 use Rattle.tta_connect.specs.Coverage.{offered}
 use Rattle.tta_program.specs.Sequential.{Outcome, Running, Halted, Waiting}
-use Rattle.tta_moves.specs.Meaning.{Next, Held}
+use Rattle.tta_moves.specs.Meaning.{Held}
 use Rattle.tta_list.specs.Legs as legs
 use Rattle.tta_list.specs.Legs.{Run, next_leg}
-use Rattle.tta_moves.specs.Runs.{AreAddresses, go_list, begin, lrun}
+use Rattle.tta_moves.specs.Runs.{go_list, begin, lrun}
 use Rattle.tta_moves.proofs.Places.{either}
 use Rattle.tta_rcode.specs.declared.code.Rir.{Rir}
-use Rattle.tta_rcode.specs.declared.code.RBlock.{RBlock}
 use Rattle.tta_rcode.specs.Meaning.{State, goes_on, walk, leg, start, rrun, lost}
 use Rattle.tta_select.specs.Select.{list_of, selected}
 use Rattle.tta_arch.specs.Over.{StandsOver}
 use Rattle.tta_select.specs.Ground.{IsGround, IsServed}
-use Rattle.tta_select.specs.Relation.{Matches}
 use Rattle.tta_select.specs.Needs.{fits_block}
-use Rattle.tta_select.specs.Keeps.{as_legs, EndAlike, IsFit, KeepsMeaning}
+use Rattle.tta_select.specs.Keeps.{as_legs, IsFit, KeepsMeaning}
 use Rattle.tta_select.proofs.Exits.{Rises}
-use Rattle.tta_select.proofs.Blocks.{Alike, Walked, walks, clash}
+use Rattle.tta_select.proofs.Blocks.{Alike, walks}
 
 all_behind : {A : Type 0} (p : A → Bool) (n : ℕ) (xs : List A) → list_all p xs ≡ true → list_all p (drop n xs) ≡ true
 all_behind p zero xs all = all

@@ -1,5 +1,5 @@
 -- What selection relies on of a machine and a choice.
-use Rattle.std.specs.Prelude.{◌≡◌, ℕ, ◌<◌, ◌==◌, Bool, true, false, ◌&&◌, List, length, Option, Some, None, slice_get}
+use Rattle.std.specs.Prelude.{◌≡◌, ℕ, ◌<◌, ◌==◌, true, false, length, Some}
 use Rattle.tta_arch.specs.declared.parts.Op.{Op}
 use Rattle.tta_arch.specs.Machine.{Machine}
 use Rattle.tta_arch.specs.Effects.{Place, KeptReg, same_place, width_of, op_at}

@@ -1,5 +1,5 @@
 -- What register code asks of a machine: places that are there, and operations that a usable unit offers.
-use Rattle.std.specs.Prelude.{◌≡◌, ℕ, ◌==◌, Bool, true, false, not, ◌&&◌, nat_lt, nat_le, ◌^◌, if◌then◌else◌, List, length, Option, Some, None, is_some}
+use Rattle.std.specs.Prelude.{◌≡◌, ℕ, Bool, true, false, ◌&&◌, nat_lt, nat_le, ◌^◌, length, Option, Some, None, is_some}
 use Rattle.std.specs.Option.{option_map_or}
 use Rattle.std.specs.List.{list_all}
 use Rattle.tta_ops.specs.Units.{Units}
@@ -8,7 +8,6 @@ use Rattle.tta_arch.specs.declared.parts.Op.TheVariants.{Ldw, Stw, Out, Take as 
 use Rattle.tta_arch.specs.Machine.{Machine}
 use Rattle.tta_connect.specs.declared.choice.Choice.{Choice}
 use Rattle.tta_connect.specs.Coverage.{offered}
-use Rattle.tta_rcode.specs.declared.code.Place.{Place}
 use Rattle.tta_rcode.specs.declared.code.RSrc.{RSrc}
 use Rattle.tta_rcode.specs.declared.code.RSrc.TheVariants as rsrc
 use Rattle.tta_rcode.specs.declared.code.RStep.{RStep}

@@ -1,6 +1,5 @@
 -- What a choice reaches: the hub all that can be asked for, and all that can be read the hub.
-use Rattle.std.specs.Prelude.{◌≡◌, ℕ, ◌<◌, ◌^◌, ◌⊎◌, ◌==◌, Bool, true, false, length, Option, Some, None, is_some}
-use Rattle.tta_arch.specs.declared.parts.Template.{Template as Field}
+use Rattle.std.specs.Prelude.{◌≡◌, ℕ, ◌<◌, ◌^◌, ◌⊎◌, ◌==◌, Bool, true, false, length, Some, None, is_some}
 use Rattle.tta_arch.specs.declared.parts.Op.{Op}
 use Rattle.tta_arch.specs.declared.parts.Op.TheVariants.{Stf}
 use Rattle.tta_arch.specs.declared.ends.GuardRef.{GuardRef}
@@ -10,7 +9,6 @@ use Rattle.tta_arch.specs.Machine.{Machine}
 use Rattle.tta_arch.specs.Effects.{has_result}
 use Rattle.tta_connect.specs.declared.choice.Choice.{Choice}
 use Rattle.tta_connect.specs.Coverage.{offered}
-use Rattle.tta_moves.specs.declared.items.ItemSource.{ItemSource}
 use Rattle.tta_moves.specs.declared.items.ItemSource.TheVariants.{Port}
 use Rattle.tta_moves.specs.Slots.{joined}
 use Rattle.tta_moves.specs.Forms.{is_passing}

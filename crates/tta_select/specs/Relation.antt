@@ -1,5 +1,5 @@
 -- How a state of register code and a state of its lists stand to each other.
-use Rattle.std.specs.Prelude.{◌≡◌, ℕ, ◌<◌, Bool, true, false, ◌&&◌, nat_lt, List, length, Option, Some, None, slice_index}
+use Rattle.std.specs.Prelude.{◌≡◌, ℕ, ◌<◌, Bool, true, nat_lt, List, length, Option, Some, None, slice_index}
 use Rattle.tta_arch.specs.Machine.{Machine}
 use Rattle.tta_arch.specs.Effects.{KeptRa, kept}
 use Rattle.tta_connect.specs.declared.choice.Choice.{Choice}
