@@ -8,6 +8,7 @@ use crate::ends::{into, some_bus};
 use crate::guard::guard_register;
 use crate::homes::homes_of;
 use crate::hub::{has_words, hub_of};
+use crate::joined::Joined;
 use crate::net::Net;
 use crate::units::{has_frame, usable_units};
 use std::alloc::{AllocError, Global};
@@ -55,23 +56,27 @@ pub fn cover(alloc: Global, m: &Machine) -> Result<Choice, CoverError>
     ensures refused { IfErr result (λ e. TellsRule m.now e) }
 {
     let net = Net::of(alloc, m)?;
-    let Some(hub) = hub_of(m, &net) else {
+    let on = Joined {
+        machine: m,
+        net: &net,
+    };
+    let Some(hub) = hub_of(&on) else {
         return Err(CoverError::Rule(1));
     };
-    if !has_words(m, &net, hub) {
+    if !has_words(&on, hub) {
         return Err(CoverError::Rule(2));
     }
-    let Some((guard_file, guard_index)) = guard_register(m, &net, hub) else {
+    let Some((guard_file, guard_index)) = guard_register(&on, hub) else {
         return Err(CoverError::Rule(3));
     };
-    if !some_bus(m, &net, Source::Ra, into(hub), None) {
+    if !some_bus(&on, Source::Ra, into(hub), None) {
         return Err(CoverError::Rule(4));
     }
-    let usable = usable_units(m, &net, hub);
+    let usable = usable_units(&on, hub);
     if !has_frame(m, usable) {
         return Err(CoverError::Rule(5));
     }
-    let homes = homes_of(alloc, m, &net, hub)?;
+    let homes = homes_of(alloc, &on, hub)?;
     Ok(Choice {
         hub,
         guard_file,

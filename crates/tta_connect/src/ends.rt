@@ -2,10 +2,9 @@
 
 ghost use Rattle.std.specs.Prelude.{◌≡◌};
 ghost use Rattle.tta_connect.specs.Coverage.{some_bus, from, into};
-ghost use Rattle.tta_connect.specs.Net.{IsNetOf};
 
-use crate::net::Net;
-use tta_arch::{Dest, GuardRef, Machine, Source};
+use crate::joined::Joined;
+use tta_arch::{Dest, GuardRef, Source};
 
 /// The first register of a file as a source.
 pub fn from(file: u8) -> Source
@@ -22,10 +21,10 @@ pub fn into(file: u8) -> Dest
 }
 
 /// Whether some bus joins the ends of a move, with its guard.
-pub fn some_bus(m: &Machine, net: &Net, src: Source, dst: Dest, guard: Option<GuardRef>) -> bool
-    requires { IsNetOf net.now m.now }
-    ensures { result ≡ some_bus m.now src dst guard }
+pub fn some_bus(on: &Joined<'_>, src: Source, dst: Dest, guard: Option<GuardRef>) -> bool
+    ensures { result ≡ some_bus on.now.machine.now src dst guard }
 {
+    let m = on.machine;
     let mut buses = 0..m.buses.len();
-    buses.any(|bus| net.joins(m, bus as u8, &src, &dst, &guard))
+    buses.any(|bus| on.net.joins(m, bus as u8, &src, &dst, &guard))
 }

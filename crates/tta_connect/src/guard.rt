@@ -1,17 +1,15 @@
 //! The third rule: the register that keeps conditions.
 
 ghost use Rattle.std.specs.Prelude.{◌≡◌, ℕ, true, IsTrue};
-ghost use Rattle.tta_connect.specs.Net.{IsNetOf};
 ghost use Rattle.tta_connect.specs.Coverage.{has_senses, can_guard, guard_in, guard_register};
 
 use crate::ends::{from, into, some_bus};
-use crate::net::Net;
-use tta_arch::{Dest, File, GuardRef, Machine};
+use crate::joined::Joined;
+use tta_arch::{Dest, File, GuardRef};
 
 /// Whether a move from the hub can have this register as its guard, plain and inverted.
-fn has_senses(m: &Machine, net: &Net, hub: u8, file: u8, index: u8, dst: Dest) -> bool
-    requires { IsNetOf net.now m.now }
-    ensures { result ≡ has_senses m.now hub file index dst }
+fn has_senses(on: &Joined<'_>, hub: u8, file: u8, index: u8, dst: Dest) -> bool
+    ensures { result ≡ has_senses on.now.machine.now hub file index dst }
 {
     let plain = GuardRef {
         file,
@@ -23,31 +21,28 @@ fn has_senses(m: &Machine, net: &Net, hub: u8, file: u8, index: u8, dst: Dest) -
         index,
         inverted: true,
     };
-    some_bus(m, net, from(hub), dst, Some(plain))
-        && some_bus(m, net, from(hub), dst, Some(inverted))
+    some_bus(on, from(hub), dst, Some(plain)) && some_bus(on, from(hub), dst, Some(inverted))
 }
 
 /// Whether a register can keep a condition, for a jump and for a move within the hub.
-fn can_guard(m: &Machine, net: &Net, hub: u8, file: u8, index: u8) -> bool
-    requires { IsNetOf net.now m.now }
-    ensures { result ≡ can_guard m.now hub file index }
+fn can_guard(on: &Joined<'_>, hub: u8, file: u8, index: u8) -> bool
+    ensures { result ≡ can_guard on.now.machine.now hub file index }
 {
-    some_bus(m, net, from(hub), Dest::Reg { file, index }, None)
-        && has_senses(m, net, hub, file, index, Dest::Jump)
-        && has_senses(m, net, hub, file, index, into(hub))
+    some_bus(on, from(hub), Dest::Reg { file, index }, None)
+        && has_senses(on, hub, file, index, Dest::Jump)
+        && has_senses(on, hub, file, index, into(hub))
 }
 
 /// The first register of a file that can keep a condition.
 #[tactic(auto, using(crate::proofs::Firsts::range_next))]
-fn guard_in(m: &Machine, net: &Net, hub: u8, file: u8, f: &File) -> Option<(u8, u8)>
-    requires { IsNetOf net.now m.now }
-    ensures { result ≡ guard_in m.now hub file f.now }
+fn guard_in(on: &Joined<'_>, hub: u8, file: u8, f: &File) -> Option<(u8, u8)>
+    ensures { result ≡ guard_in on.now.machine.now hub file f.now }
 {
     if f.width != 1 {
         return None;
     }
     for index in 0..f.size {
-        if can_guard(m, net, hub, file, index) {
+        if can_guard(on, hub, file, index) {
             return Some((file, index));
         }
     }
@@ -55,15 +50,15 @@ fn guard_in(m: &Machine, net: &Net, hub: u8, file: u8, f: &File) -> Option<(u8, 
 }
 
 /// The register that keeps conditions.
-pub fn guard_register(m: &Machine, net: &Net, hub: u8) -> Option<(u8, u8)>
-    requires { IsNetOf net.now m.now }
-    ensures { result ≡ guard_register m.now hub }
+pub fn guard_register(on: &Joined<'_>, hub: u8) -> Option<(u8, u8)>
+    ensures { result ≡ guard_register on.now.machine.now hub }
 {
-    if !some_bus(m, net, from(hub), Dest::Jump, None) {
+    if !some_bus(on, from(hub), Dest::Jump, None) {
         return None;
     }
+    let m = on.machine;
     for (file, f) in m.files.as_slice().iter().enumerate() {
-        if let Some(guard) = guard_in(m, net, hub, file as u8, f) {
+        if let Some(guard) = guard_in(on, hub, file as u8, f) {
             return Some(guard);
         }
     }

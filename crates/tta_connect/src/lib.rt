@@ -4,6 +4,7 @@
 
 mod calls;
 mod choice;
+mod covered;
 mod ends;
 mod fields;
 mod guard;
@@ -18,6 +19,7 @@ mod way;
 
 pub use calls::{Call, anywhere, offered};
 pub use choice::{Choice, CoverError, cover};
-pub use joined::{Covered, Joined};
+pub use covered::Covered;
+pub use joined::Joined;
 pub use net::Net;
 pub use way::Way;

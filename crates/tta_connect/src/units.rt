@@ -5,13 +5,12 @@ ghost use Rattle.std.specs.Option.{option_map_or};
 ghost use Rattle.tta_arch.specs.declared.ends.Source.TheVariants as source;
 ghost use Rattle.tta_arch.specs.Joins.{has_bit, has_socket, is_source_on};
 ghost use Rattle.tta_arch.specs.declared.parts.Op.TheVariants.{Ldf, Stf};
-ghost use Rattle.tta_connect.specs.Net.{IsNetOf};
 ghost use Rattle.tta_connect.specs.Coverage.{hub_feeds, is_usable, is_usable_at, into, from};
 ghost use Rattle.tta_connect.specs.Coverage.{some_bus, offered};
 
 use crate::calls::offered;
 use crate::ends::{from, into, some_bus};
-use crate::net::Net;
+use crate::joined::Joined;
 use tta_arch::{Machine, Op, Source, Unit, has_socket, has_source_socket, with_unit};
 
 /// Whether a bus leads from the hub into a socket.
@@ -41,35 +40,33 @@ fn hub_feeds_port(m: &Machine, hub: u8, port: Option<u8>) -> bool
 }
 
 /// Whether the hub takes what a unit shows, if it shows anything.
-fn hub_takes(m: &Machine, net: &Net, hub: u8, unit: u8, port: Option<u8>) -> bool
-    requires { IsNetOf net.now m.now }
+fn hub_takes(on: &Joined<'_>, hub: u8, unit: u8, port: Option<u8>) -> bool
     ensures { result ≡ option_map_or
-        (λ socket. some_bus m.now (source.Shown unit) (into hub) None) port true }
+        (λ socket. some_bus on.now.machine.now (source.Shown unit) (into hub) None) port true }
 {
     match port {
         None => true,
-        Some(_) => some_bus(m, net, Source::Shown { unit }, into(hub), None),
+        Some(_) => some_bus(on, Source::Shown { unit }, into(hub), None),
     }
 }
 
 /// Whether the hub is joined to each port of a unit.
-fn is_usable(m: &Machine, net: &Net, hub: u8, unit: u8, v: &Unit) -> bool
-    requires { IsNetOf net.now m.now }
-    ensures { result ≡ is_usable m.now hub unit v.now }
+fn is_usable(on: &Joined<'_>, hub: u8, unit: u8, v: &Unit) -> bool
+    ensures { result ≡ is_usable on.now.machine.now hub unit v.now }
 {
-    hub_feeds_port(m, hub, v.operand)
-        && hub_feeds(m, hub, v.trigger)
-        && hub_takes(m, net, hub, unit, v.result)
+    hub_feeds_port(on.machine, hub, v.operand)
+        && hub_feeds(on.machine, hub, v.trigger)
+        && hub_takes(on, hub, unit, v.result)
 }
 
 /// The units that all words can reach.
-pub fn usable_units(m: &Machine, net: &Net, hub: u8) -> u32
-    requires { IsNetOf net.now m.now }
-    ensures { (unit : ℕ) → has_bit result unit ≡ is_usable_at m.now hub unit }
+pub fn usable_units(on: &Joined<'_>, hub: u8) -> u32
+    ensures { (unit : ℕ) → has_bit result unit ≡ is_usable_at on.now.machine.now hub unit }
 {
     let mut units = 0;
+    let m = on.machine;
     for (unit, v) in m.units.as_slice().iter().enumerate() {
-        if is_usable(m, net, hub, unit as u8, v) {
+        if is_usable(on, hub, unit as u8, v) {
             units = with_unit(units, unit);
         }
     }

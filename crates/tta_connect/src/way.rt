@@ -5,6 +5,7 @@ ghost use Rattle.tta_connect.specs.Net.{IsNetOf};
 ghost use Rattle.tta_connect.specs.Ways.{goes_by_hub, way};
 
 use crate::ends::{from, into, some_bus};
+use crate::joined::Joined;
 use crate::net::Net;
 use tta_arch::{Dest, GuardRef, Machine, Source};
 
@@ -18,18 +19,10 @@ pub enum Way {
 }
 
 /// Whether the source is joined to the hub, and the hub to the destination with the guard.
-fn goes_by_hub(
-    m: &Machine,
-    net: &Net,
-    hub: u8,
-    src: Source,
-    dst: Dest,
-    guard: Option<GuardRef>,
-) -> bool
-    requires { IsNetOf net.now m.now }
-    ensures { result ≡ goes_by_hub m.now hub src dst guard }
+fn goes_by_hub(on: &Joined<'_>, hub: u8, src: Source, dst: Dest, guard: Option<GuardRef>) -> bool
+    ensures { result ≡ goes_by_hub on.now.machine.now hub src dst guard }
 {
-    some_bus(m, net, src, into(hub), None) && some_bus(m, net, from(hub), dst, guard)
+    some_bus(on, src, into(hub), None) && some_bus(on, from(hub), dst, guard)
 }
 
 impl Net {
@@ -46,10 +39,14 @@ impl Net {
         requires { IsNetOf self.now m.now }
         ensures { result ≡ way m.now hub src.now dst.now guard.now }
     {
-        if some_bus(m, self, *src, *dst, *guard) {
+        let on = Joined {
+            machine: m,
+            net: self,
+        };
+        if some_bus(&on, *src, *dst, *guard) {
             return Some(Way::Direct);
         }
-        if goes_by_hub(m, self, hub, *src, *dst, *guard) {
+        if goes_by_hub(&on, hub, *src, *dst, *guard) {
             return Some(Way::Hub);
         }
         None

@@ -6,6 +6,6 @@ use Rattle.tta_connect.proofs.guard.guard_in.Given as goal
 
 abbrev pub invariant-loop-index : goal.invariant-loop-index
 invariant-loop-index l =
-    guard_in l.m l.hub l.file l.f
-    ≡ first_by (λ k index. if can_guard l.m l.hub l.file index then Some (l.file, index) else None) l.index
+    guard_in l.on.machine.now l.hub l.file l.f
+    ≡ first_by (λ k index. if can_guard l.on.machine.now l.hub l.file index then Some (l.file, index) else None) l.index
     (range_with_len l.index (l.f.size - l.index))

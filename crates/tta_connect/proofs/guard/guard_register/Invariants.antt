@@ -4,4 +4,5 @@ use Rattle.tta_connect.proofs.guard.guard_register.Given as goal
 
 abbrev pub invariant-loop-file : goal.invariant-loop-file
 invariant-loop-file l =
-    guard_register l.m l.hub ≡ first_by (guard_in l.m l.hub) l.file (drop l.file l.m.files)
+    let m = l.on.machine.now in
+    guard_register m l.hub ≡ first_by (guard_in m l.hub) l.file (drop l.file m.files)

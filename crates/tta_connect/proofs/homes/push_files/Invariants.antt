@@ -4,4 +4,5 @@ use Rattle.tta_connect.proofs.homes.push_files.Given as goal
 
 abbrev pub invariant-loop-file : goal.invariant-loop-file
 invariant-loop-file l =
-    l.homes.items ++ homes_from l.m l.hub l.file (drop l.file l.m.files) ≡ l.initial.homes.items ++ homes_from l.m l.hub 0 l.m.files
+    let m = l.on.machine.now in
+    l.homes.items ++ homes_from m l.hub l.file (drop l.file m.files) ≡ l.initial.homes.items ++ homes_from m l.hub 0 m.files

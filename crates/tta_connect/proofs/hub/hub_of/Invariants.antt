@@ -5,4 +5,5 @@ use Rattle.tta_connect.proofs.hub.hub_of.Given as goal
 
 abbrev pub invariant-loop-file : goal.invariant-loop-file
 invariant-loop-file l =
-    hub_of l.m ≡ first_by (λ file f. if is_hub l.m file f then Some file else None) l.file (drop l.file l.m.files)
+    let m = l.on.machine.now in
+    hub_of m ≡ first_by (λ file f. if is_hub m file f then Some file else None) l.file (drop l.file m.files)

@@ -10,7 +10,7 @@ use Rattle.tta_connect.proofs.units.usable_units.Goals.{then-is_usable, else-is_
 
 pub loop-unit-preserved : goal.loop-unit-preserved
 loop-unit-preserved c = λ k.
-    let m = c.args.m.now in
+    let m = c.args.on.now.machine.now in
     let test = is_usable_at m c.args.hub in
     let here = unit_at m c.args.hub c.loop-unit.unit _ _ (c.as_slice-v-items.ensures ∙ ap (λ (x : Machine). x.units) c.m.view_is) c.v-item.is c.loop-unit-test.true in
     elim c.if-is_usable.branch [
@@ -24,6 +24,6 @@ loop-unit-preserved c = λ k.
 
 pub returns : goal.returns
 returns c = λ unit.
-    let m = c.args.m.now in
+    let m = c.args.on.now.machine.now in
     c.loop-unit.invariant unit
     ∙ units_all m c.args.hub c.loop-unit.unit unit _ (c.as_slice-v-items.ensures ∙ ap (λ (x : Machine). x.units) c.m.view_is) c.loop-unit-test.false
