@@ -1,10 +1,10 @@
 -- The rules and the choices on machines of one bus and of three.
-use Rattle.std.specs.Prelude.{◌≡◌, List, [], ◌∷◌, ◌++◌, length, Some, None, true, false, codes, refl}
+use Rattle.std.specs.Prelude.{◌≡◌, [], ◌∷◌, ◌++◌, Some, None, true, false, codes, refl}
 use Rattle.tta_arch.specs.Machine.{Machine}
 use Rattle.tta_arch.specs.declared.ends.Source.TheVariants as source
 use Rattle.tta_arch.specs.declared.ends.Dest.TheVariants as dest
 use Rattle.tta_arch.proofs.Samples.{one_bus, three_buses}
-use Rattle.tta_connect.specs.declared.way.Way.TheVariants.{Direct, Hub}
+use Rattle.tta_connect.specs.declared.way.Way.TheVariants.{Direct}
 use Rattle.tta_connect.specs.Coverage.{hub_of, has_words, guard_register, is_usable_at, homes_of, failed_rule, registers_from}
 use Rattle.tta_connect.specs.Ways.{way}
 
