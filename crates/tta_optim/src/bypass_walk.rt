@@ -1,8 +1,7 @@
 //! Reads that a result port serves.
 
-ghost use Rattle.std.specs.Prelude.{◌≡◌, true, [], reverse, IfOk};
+ghost use Rattle.std.specs.Prelude.{◌≡◌, true, [], IfOk};
 ghost use Rattle.std.specs.List.{list_all};
-ghost use Rattle.tta_connect.specs.Net.{IsNetOf};
 ghost use Rattle.tta_moves.specs.Slots.{has_slot};
 ghost use Rattle.tta_moves.specs.Forms.{is_port_source, is_wide_file};
 ghost use Rattle.tta_optim.specs.Notes.{shown_by, port_by, bypassed_by};
@@ -11,7 +10,7 @@ ghost use Rattle.tta_optim.specs.Passes.{bypass_items};
 use crate::notes::Notes;
 use std::alloc::{AllocError, Global};
 use tta_arch::{Dest, GuardRef, Machine, Source};
-use tta_connect::Net;
+use tta_connect::Joined;
 use tta_list::entry_at;
 use tta_moves::numbers::register;
 use tta_moves::{Item, ItemSource, is_joined, keeps_rules};
@@ -58,20 +57,18 @@ fn shown_by(m: &Machine, notes: &Notes, src: ItemSource) -> Option<ItemSource>
 
 /// The result port that a move can read in place of its source.
 fn port_by(
-    m: &Machine,
-    net: &Net,
+    on: &Joined<'_>,
     notes: &Notes,
     guard: Option<GuardRef>,
     src: ItemSource,
     dst: Dest,
 ) -> Option<ItemSource>
-    requires { IsNetOf net.now m.now }
-    ensures { result ≡ port_by m.now notes.now guard src dst }
+    ensures { result ≡ port_by on.now.machine.now notes.now guard src dst }
 {
-    let Some(port) = shown_by(m, notes, src) else {
+    let Some(port) = shown_by(on.machine, notes, src) else {
         return None;
     };
-    if is_joined(m, net, port, dst, guard) {
+    if is_joined(on.machine, on.net, port, dst, guard) {
         Some(port)
     } else {
         None
@@ -80,14 +77,13 @@ fn port_by(
 
 /// The item, with the result port in place of a register that was copied from it, where a bus joins
 /// the ends.
-fn bypassed(m: &Machine, net: &Net, notes: &Notes, x: Item) -> Item
-    requires { IsNetOf net.now m.now }
-    ensures { result ≡ bypassed_by m.now notes.now x }
+fn bypassed(on: &Joined<'_>, notes: &Notes, x: Item) -> Item
+    ensures { result ≡ bypassed_by on.now.machine.now notes.now x }
 {
     let Item::Move { guard, src, dst } = x else {
         return x;
     };
-    match port_by(m, net, notes, guard, src, dst) {
+    match port_by(on, notes, guard, src, dst) {
         None => x,
         Some(port) => Item::Move {
             guard,
@@ -101,20 +97,18 @@ fn bypassed(m: &Machine, net: &Net, notes: &Notes, x: Item) -> Item
 pub fn bypass_items(
     alloc: Global,
     notes: &mut Notes,
-    m: &Machine,
-    net: &Net,
+    on: &Joined<'_>,
     items: &[Item],
 ) -> Result<Vec<Item>, AllocError>
-    requires net { IsNetOf net.now m.now }
-    requires slots { list_all (has_slot m.now) items.now ≡ true }
-    ensures { IfOk result (λ v. v.items ≡ bypass_items m.now [] items.now) }
+    requires { list_all (has_slot on.now.machine.now) items.now ≡ true }
+    ensures { IfOk result (λ v. v.items ≡ bypass_items on.now.machine.now [] items.now) }
 {
-    keeps_rules(m);
+    keeps_rules(on.machine);
     notes.begin();
     let mut kept = Vec::with_capacity(alloc, items.len())?;
     for (at, x) in items.iter().enumerate() {
-        let y = bypassed(m, net, notes, *x);
-        notes.pass(m, at + 1, y);
+        let y = bypassed(on, notes, *x);
+        notes.pass(on.machine, at + 1, y);
         kept.push(y)?;
     }
     Ok(kept)

@@ -15,7 +15,7 @@ use crate::share_walk::share_items;
 use crate::wanted::Wanted;
 use std::alloc::{AllocError, Global};
 use tta_arch::Machine;
-use tta_connect::Net;
+use tta_connect::{Joined, Net};
 use tta_moves::BlockList;
 
 /// The three passes with the tables that they keep, which serve one list after another.
@@ -52,8 +52,9 @@ impl Passes {
         ensures no_more { IfOk result (λ r. DoesNoMore m.now b.now.items r.items) }
         ensures live { IfOk result (λ r. r.live_out ≡ b.now.live_out) }
     {
+        let on = Joined { machine: m, net };
         let live = b.live_out.as_slice();
-        let one = bypass_items(alloc, &mut self.notes, m, net, b.items.as_slice())?;
+        let one = bypass_items(alloc, &mut self.notes, &on, b.items.as_slice())?;
         let two = share_items(alloc, &mut self.notes, m, one.as_slice())?;
         let three = dead_items(alloc, &mut self.wanted, m, live, two.as_slice())?;
         let r = with_items(alloc, b, three)?;
