@@ -99,7 +99,7 @@ impl Model for Notes {
 }
 
 impl Notes {
-    ghost use Rattle.std.specs.Prelude.{replicate, IfOk};
+    ghost use Rattle.std.specs.Prelude.{replicate};
     ghost use Rattle.tta_optim.specs.Notes.{blank};
 
     /// A table for any number of lists. The only error is out of memory.

@@ -93,7 +93,6 @@ fn mark_of(list: u64, is: bool) -> u64
 
 impl Wanted {
     ghost use Rattle.std.specs.Prelude.{replicate, false};
-    ghost use Rattle.tta_moves.specs.Touches.{place_of_source, place_written};
     ghost use Rattle.tta_optim.specs.Notes.{set_wanted, dead_by, wanted_before, wanted_behind};
 
     /// A table for any number of lists. The only error is out of memory.
