@@ -1,29 +1,24 @@
 //! Whether numbers are an order of a list's items, and the list in that order.
 
-ghost use Rattle.std.specs.Prelude.{◌≡◌, ◌==◌, not, true, false, map, length, replicate};
-ghost use Rattle.std.specs.Prelude.{slice_get, slice_set, slice_index, IfOk, OnOk, IfSome};
+ghost use Rattle.std.specs.Prelude.{◌≡◌, not, true, false, length, replicate};
+ghost use Rattle.std.specs.Prelude.{slice_get, slice_set, IfOk, OnOk, IfSome};
 ghost use Rattle.std.specs.Option.{option_map_or};
-ghost use Rattle.std.specs.List.{list_all};
-ghost use Rattle.tta_arch.specs.Effects.{KeptReg};
 ghost use Rattle.tta_connect.specs.Net.{IsNetOf};
-ghost use Rattle.tta_moves.specs.Numbers.{is_place, place_number};
 ghost use Rattle.tta_moves.specs.Slots.{is_list};
 ghost use Rattle.tta_optim.specs.Kept.{KeepsMeaning, AsksNoMore};
 ghost use Rattle.tta_order.specs.Channels.{may_wait};
 ghost use Rattle.tta_order.specs.Orders.{bare, picked, settled, AreInPlace, IsOrder};
-ghost use Rattle.tta_order.specs.Rows.{none_changed, rows_from, table_after, same_ends, agrees, table_by};
-ghost use Rattle.tta_order.specs.Rows.{same_part, same_parts};
+ghost use Rattle.tta_order.specs.Rows.{none_changed, rows_from, table_after, agrees, table_by};
 ghost use Rattle.tta_order.specs.Rows.{found, same_found};
 
-use crate::channels::{DATA, ENDING, FRAME, TRAFFIC};
-use crate::parts::{started, stores_frame};
+use crate::ends::{in_limits, same_ends, same_parts};
+use crate::parts::started;
 use crate::rows::{Found, Table, same_found};
 use crate::slots::{part_at, parts_of};
 use std::alloc::{AllocError, Global};
 use tta_arch::{Machine, Op};
 use tta_connect::Net;
 use tta_list::Items;
-use tta_moves::numbers::{register, return_address};
 use tta_moves::{BlockList, Item, is_list, keeps_rules};
 
 /// Whether an item takes a word of the input.
@@ -55,56 +50,6 @@ pub fn count_up(numbers: &[usize], count: usize) -> bool
         match numbers.get(k) {
             Some(n) if *n == k => {}
             _ => return false,
-        }
-    }
-    true
-}
-
-/// Whether registers have numbers as those of a machine.
-fn in_limits(live: &[(u8, u8)]) -> bool
-    ensures { result ≡ list_all (λ r. is_place (KeptReg r.0 r.1)) live.now }
-{
-    live.iter().all(|r| r.0 < 8 && r.1 < 64)
-}
-
-/// Whether two tables have the same entry for a channel.
-fn same_entry(a: &Table, b: &Table, channel: usize) -> bool
-    ensures { result ≡ (slice_index a.now channel == slice_index b.now channel) }
-{
-    a.entry(Some(channel)) == b.entry(Some(channel))
-}
-
-/// Whether they have the same entries for registers.
-fn same_live(live: &[(u8, u8)], a: &Table, b: &Table) -> bool
-    ensures { result ≡ list_all (λ r. slice_index a.now (place_number (KeptReg r.0 r.1))
-        == slice_index b.now (place_number (KeptReg r.0 r.1))) live.now }
-{
-    live.iter().all(|r| same_entry(a, b, register(r.0, r.1)))
-}
-
-/// Whether they have the same entries for what the next list finds, but for the frame space.
-fn same_ends(live: &[(u8, u8)], a: &Table, b: &Table) -> bool
-    ensures { result ≡ same_ends live.now a.now b.now }
-{
-    same_live(live, a, b)
-        && (same_entry(a, b, return_address())
-            && (same_entry(a, b, DATA) && (same_entry(a, b, TRAFFIC) && same_entry(a, b, ENDING))))
-}
-
-/// Whether they have the same entry for a part of the frame space, if an item stores into it.
-fn same_part(m: &Machine, part: u16, x: Item, a: &Table, b: &Table) -> bool
-    ensures { result ≡ same_part m.now part x a.now b.now }
-{
-    !stores_frame(m, x) || same_entry(a, b, FRAME + usize::from(part))
-}
-
-/// Whether they have the same entry for each part of the frame space that an item stores into.
-fn same_parts(m: &Machine, parts: &[u16], items: &[Item], a: &Table, b: &Table) -> bool
-    ensures { result ≡ true → same_parts m.now parts.now a.now b.now 0 items.now ≡ true }
-{
-    for (n, x) in items.iter().enumerate() {
-        if !same_part(m, part_at(parts, n), *x, a, b) {
-            return false;
         }
     }
     true
