@@ -1,27 +1,24 @@
 -- Where slots are told apart, an item uses the slot that its list shows.
-use Rattle.std.proofs.Common.{◌≡◌, ℕ, zero, suc, Bool, true, false, List, [], ◌∷◌, Option, Some, None, refl, sym, ap, subst, arith, ◌∙◌}
-use Rattle.std.specs.Prelude.{if◌then◌else◌, ◌==◌, is_none, slice_get, slice_index}
-use Rattle.std.specs.Option.{option_map_or, option_to_list}
-use Rattle.std.proofs.lemmas.Bool.{not-true}
-use Rattle.std.proofs.lemmas.Bool.Decides.{nat_tests}
+use Rattle.std.proofs.Common.{◌≡◌, ℕ, zero, suc, Bool, true, false, List, Option, Some, None, refl, sym, ap, subst, ◌∙◌}
+use Rattle.std.specs.Prelude.{if◌then◌else◌, ◌==◌, slice_get}
+use Rattle.std.specs.Option.{option_map_or}
 use Rattle.tta_ops.specs.Units.{Units}
 use Rattle.tta_arch.specs.declared.ends.GuardRef.{GuardRef}
 use Rattle.tta_arch.specs.declared.ends.Source.TheVariants as source
 use Rattle.tta_arch.specs.declared.parts.UnitOp.{UnitOp}
-use Rattle.tta_arch.specs.declared.parts.Op.{Op}
-use Rattle.tta_arch.specs.declared.parts.Op.TheVariants.{Ldw, Stw, Ldf, Stf, Out, Take, Set}
+use Rattle.tta_arch.specs.declared.parts.Op.TheVariants.{Ldf, Stf}
 use Rattle.tta_arch.specs.Machine.{Machine}
-use Rattle.tta_arch.specs.Effects.{Target, Reg, Imm, Operand, Trigger, Control, Jumps, Calls, Halts, Place, KeptOperand, KeptPort, Written, kept, moved, has_result, op_at, Start, start_of, operand_of, operand_word}
+use Rattle.tta_arch.specs.Effects.{Target, Reg, Imm, Operand, Trigger, Control, Jumps, Calls, Halts, KeptOperand, KeptPort, Written, kept, moved, has_result, op_at, Start, start_of, operand_of, operand_word}
 use Rattle.tta_moves.specs.declared.items.ItemSource.{ItemSource}
 use Rattle.tta_moves.specs.declared.items.ItemSource.TheVariants.{Port, Address}
 use Rattle.tta_moves.specs.declared.items.Item.{Item}
-use Rattle.tta_moves.specs.Touches.{guard_of, source_of, target_of_item, place_written, is_at, writes, is_unguarded}
+use Rattle.tta_moves.specs.Touches.{guard_of, source_of, target_of_item, place_written, is_at, writes}
 use Rattle.tta_moves.specs.Meaning.{is_waiting, Held, linked, effect_of, read_held, does}
 use Rattle.tta_moves.proofs.Places.{either, kept_there}
 use Rattle.tta_moves.proofs.Steps.{kept_other}
 use Rattle.tta_order.specs.Channels.{Division, part_with, part_of, starts, uses_frame}
 use Rattle.tta_order.specs.Slots.{constant_of, sure_constant, held_constant, slot_by, slot_at, slot_of, IsPart, IsDivision}
-use Rattle.tta_order.proofs.Carried.{LiesIn, UsesPart, carried_on, does_on, started_by}
+use Rattle.tta_order.proofs.Carried.{UsesPart, carried_on, does_on, started_by}
 use Rattle.tta_order.proofs.SameItem.{moves}
 use Rattle.tta_order.proofs.Listed.{state, next, past}
 
