@@ -1,5 +1,5 @@
 -- When two guards are one.
-use Rattle.std.proofs.Common.{◌≡◌, Bool, true, false, refl, ℕ, ap, sym, ◌∙◌, arith, ◌-◌, ◌==◌, ◌&&◌}
+use Rattle.std.proofs.Common.{◌≡◌, Bool, true, false, refl, ℕ, ap, sym, ◌∙◌, arith, ◌==◌, ◌&&◌}
 use Rattle.tta_arch.specs.Joins.{is_same, is_same_guard}
 use Rattle.std.proofs.lemmas.Bool.Decides.{nat_tests}
 use Rattle.tta_arch.specs.declared.ends.GuardRef.{GuardRef}

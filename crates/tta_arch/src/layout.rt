@@ -74,16 +74,8 @@ impl BusFields {
         ensures small { IfOk result (λ f. f.width ≤ 448) }
     {
         let guards = guards_on(alloc, m, bus)?;
-        // What was taken before is dropped as a whole where the next cannot be had.
-        let Ok(sources) = sources_on(alloc, m, bus, sources) else {
-            drop(guards);
-            return Err(AllocError);
-        };
-        let Ok(dests) = dests_on(alloc, m, bus, dests) else {
-            drop(guards);
-            drop(sources);
-            return Err(AllocError);
-        };
+        let sources = sources_on(alloc, m, bus, sources)?;
+        let dests = dests_on(alloc, m, bus, dests)?;
         let guards = Items::of(guards);
         let sources = Items::of(sources);
         let dests = Items::of(dests);

@@ -17,8 +17,8 @@ returns-clause-value c =
     let codes = λ (n : ℕ). width_for (1 + n) in
     fields_from_parts m bus c.of-guards.result c.of-sources.result c.of-dests.result _ _ _ _
     (c.of-guards.ensures ∙ c.in_ok-guards.ensures)
-    (c.of-sources.ensures ∙ c.in-Ok.ensures ∙ ap joined c.requires.sources ∙ sources_by_socket m bus)
-    (c.of-dests.ensures ∙ c.in-Ok-dests_on.ensures ∙ ap reached c.requires.dests)
+    (c.of-sources.ensures ∙ c.in_ok-sources.ensures ∙ ap joined c.requires.sources ∙ sources_by_socket m bus)
+    (c.of-dests.ensures ∙ c.in_ok-dests.ensures ∙ ap reached c.requires.dests)
     (c.width_for-guard_width.ensures.least ∙ ap codes c.len.ensures)
     (c.from-short_width.ensures ∙ short_width-read m c.as_slice.result.now bus c.index-as_slice-bus.result (c.as_slice.ensures ∙ ap (λ (x : Machine). x.buses) c.m.view_is) c.requires.within)
     (c.max-payload_width.ensures ∙ ap (λ (w : ℕ). max c.from-short_width.result w) (c.width_for.ensures.least ∙ ap width_for c.len-2.ensures))
