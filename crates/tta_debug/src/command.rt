@@ -15,7 +15,7 @@ use crate::query::seen;
 use crate::run::run;
 use crate::say::say;
 use crate::session::Session;
-use crate::told::{CommandError, Told};
+use crate::told::{CommandError, NO_COMMAND, NOT_THERE, Told};
 use tta_arch::Machine;
 use tta_code::Code;
 use tta_ops::UnitSet;
@@ -87,7 +87,7 @@ fn ask<S: Sink>(
 {
     match seen(session.sim(), m, query) {
         Some(reply) => say(sink, &reply, Told::More),
-        None => Err(CommandError::Refused(71)),
+        None => Err(CommandError::Refused(NOT_THERE)),
     }
 }
 
@@ -181,7 +181,7 @@ impl Session {
             (S.output sink.new) result }
     {
         let Some(asked) = read_asked(line) else {
-            return Err(CommandError::Refused(70));
+            return Err(CommandError::Refused(NO_COMMAND));
         };
         let basis = Basis {
             m,

@@ -20,5 +20,5 @@ pub use basis::Basis;
 pub use law::cycles_are_of_the_run;
 pub use script::{run_script, take_line};
 pub use session::Session;
-pub use told::{CommandError, Told};
+pub use told::{CommandError, NO_COMMAND, NOT_THERE, STOPS_FULL, Told};
 pub use words::next_word;

@@ -9,7 +9,7 @@ ghost use Rattle.tta_machine.specs.Kept.{IsDraft};
 ghost use Rattle.tta_machine.specs.Seen.{formed};
 
 use crate::draft::{Draft, Named};
-use crate::limits::{is_from_to, is_too_long};
+use crate::limits::{MOST_BUSES, MOST_SOCKETS, WORD_BITS, is_from_to, is_too_long};
 use crate::lookups::add_part;
 use crate::refusal::{LineError, Refusal};
 use crate::syntax;
@@ -33,7 +33,10 @@ impl Draft {
         if self.is_taken(form.name) {
             return Err(LineError::Refused(Refusal::Twice));
         }
-        if !is_from_to(1, 32, form.short) || is_too_long(form.name) || self.buses.len() >= 16 {
+        if !is_from_to(1, WORD_BITS, form.short)
+            || is_too_long(form.name)
+            || self.buses.len() >= MOST_BUSES
+        {
             return Err(LineError::Refused(Refusal::Range));
         }
         let place = Named::Bus(self.buses.len() as u8);
@@ -77,7 +80,7 @@ impl Draft {
         let Some(buses) = set else {
             return Err(LineError::Refused(Refusal::Twice));
         };
-        if is_too_long(form.name) || self.sockets.len() >= 128 {
+        if is_too_long(form.name) || self.sockets.len() >= MOST_SOCKETS {
             return Err(LineError::Refused(Refusal::Range));
         }
         let place = Named::Socket(self.sockets.len() as u8);

@@ -11,6 +11,7 @@ ghost use Rattle.tta_machine.specs.Whole.{CompleteEnds, WidthsEnd};
 ghost use Rattle.tta_machine.specs.declared.refusal.MachineError.TheVariants.{Refused};
 
 use crate::draft::Draft;
+use crate::limits::WORD_BITS;
 use crate::refusal::{MachineError, Refusal};
 use std::alloc::Global;
 use tta_arch::{Control, Layout, Machine, Template};
@@ -142,7 +143,7 @@ fn narrow_line(m: &Machine, layout: &Layout, templates: &[Template], lines: &[u3
     ensures { result ≡ narrow_line m.now templates.now lines.now }
 {
     for (k, template) in templates.iter().enumerate() {
-        if layout.width_of_set(template.buses) < 32 {
+        if layout.width_of_set(template.buses) < WORD_BITS {
             return Some(lines[k]);
         }
     }

@@ -10,7 +10,7 @@ ghost use Rattle.tta_machine.specs.declared.refusal.Refusal.TheVariants.{Twice, 
 ghost use Rattle.tta_machine.specs.Seen.{formed};
 
 use crate::draft::Draft;
-use crate::limits::is_from_to;
+use crate::limits::{MOST_ADDRESS_BITS, MOST_DELAY, is_from_to};
 use crate::refusal::{LineError, Refusal};
 use crate::syntax;
 use tta_arch::Control;
@@ -42,7 +42,7 @@ impl Draft {
         if self.control.is_some() {
             return Err(LineError::Refused(Refusal::Twice));
         }
-        if form.delay > 4 || !is_from_to(1, 16, form.address) {
+        if form.delay > MOST_DELAY || !is_from_to(1, MOST_ADDRESS_BITS, form.address) {
             return Err(LineError::Refused(Refusal::Range));
         }
         self.control = Some(Control {

@@ -11,7 +11,10 @@ ghost use Rattle.tta_machine.specs.Seen.{formed};
 
 use crate::draft::{Draft, Named};
 use crate::forms::FileForm;
-use crate::limits::{is_from_to, is_too_long};
+use crate::limits::{
+    MOST_FILES, MOST_IMM_REGISTERS, MOST_IMMS, MOST_PORTS, MOST_REGISTERS, WORD_BITS, is_from_to,
+    is_too_long,
+};
 use crate::lookups::add_part;
 use crate::refusal::{LineError, Refusal};
 use crate::syntax;
@@ -39,7 +42,10 @@ impl Draft {
         if self.is_taken(form.name) {
             return Err(LineError::Refused(Refusal::Twice));
         }
-        if !is_from_to(1, 16, form.size) || is_too_long(form.name) || self.imms.len() >= 4 {
+        if !is_from_to(1, MOST_IMM_REGISTERS, form.size)
+            || is_too_long(form.name)
+            || self.imms.len() >= MOST_IMMS
+        {
             return Err(LineError::Refused(Refusal::Range));
         }
         let place = Named::Imm(self.imms.len() as u8);
@@ -117,10 +123,10 @@ fn is_outside(form: &FileForm, files: &[File]) -> bool
     ensures write { result ≡ false → form.now.write ≤ 16 }
     ensures few { result ≡ false → length files.now < 8 }
 {
-    !(form.width == 1 || form.width == 32)
-        || !is_from_to(1, 64, form.size)
-        || !is_from_to(1, 16, form.read)
-        || !is_from_to(1, 16, form.write)
+    !(form.width == 1 || form.width == WORD_BITS)
+        || !is_from_to(1, MOST_REGISTERS, form.size)
+        || !is_from_to(1, MOST_PORTS, form.read)
+        || !is_from_to(1, MOST_PORTS, form.write)
         || is_too_long(form.name)
-        || files.len() >= 8
+        || files.len() >= MOST_FILES
 }

@@ -14,6 +14,7 @@ ghost use Rattle.tta_machine.specs.Seen.{formed, guard_seen};
 
 use crate::draft::Draft;
 use crate::forms::GuardForm;
+use crate::limits::MOST_GUARDS;
 use crate::refusal::{LineError, Refusal};
 use crate::syntax;
 use tta_arch::{File, Guard, GuardRef};
@@ -75,7 +76,7 @@ fn is_outside(width: u8, size: u8, index: u32, guards: &[Guard]) -> bool
         || nat_le 64 (length guards.now)) }
     ensures index { result ≡ false → index < size }
 {
-    width != 1 || index >= u32::from(size) || guards.len() >= 64
+    width != 1 || index >= u32::from(size) || guards.len() >= MOST_GUARDS
 }
 
 /// The width and the size of the file at a place.

@@ -19,7 +19,7 @@ ghost use Rattle.tta_machine.specs.Seen.{formed};
 ghost use Rattle.tta_machine.specs.Services.{IsOffered};
 
 use crate::draft::Draft;
-use crate::limits::is_from_to;
+use crate::limits::{MOST_LATENCY, MOST_OPS, is_from_to};
 use crate::refusal::{LineError, Refusal};
 use crate::services::is_served;
 use crate::syntax;
@@ -158,7 +158,7 @@ fn is_outside(unit: &Unit, latency: Option<u32>) -> bool
     ensures value { result ≡ (not (is_latency latency) || nat_le 32 (length unit.now.ops)) }
     ensures latency { result ≡ false → is_latency latency ≡ true }
 {
-    !is_latency(latency) || unit.ops.len() >= 32
+    !is_latency(latency) || unit.ops.len() >= MOST_OPS
 }
 
 /// Whether a unit has this operation.
@@ -184,7 +184,7 @@ fn is_latency(latency: Option<u32>) -> bool
     ensures { result ≡ is_latency latency }
 {
     match latency {
-        Some(latency) => is_from_to(1, 16, latency),
+        Some(latency) => is_from_to(1, MOST_LATENCY, latency),
         None => true,
     }
 }

@@ -13,7 +13,7 @@ ghost use Rattle.tta_machine.specs.Seen.{formed};
 ghost use Rattle.tta_machine.specs.Templates.{with_template};
 
 use crate::draft::{Draft, Named};
-use crate::limits::is_too_long;
+use crate::limits::{MOST_TEMPLATES, is_too_long};
 use crate::refusal::{LineError, Refusal};
 use crate::syntax;
 use std::alloc::Global;
@@ -55,7 +55,10 @@ impl Draft {
         let Some(buses) = set else {
             return Err(LineError::Refused(Refusal::Twice));
         };
-        if form.index >= u32::from(size) || is_too_long(form.name) || self.templates.len() >= 8 {
+        if form.index >= u32::from(size)
+            || is_too_long(form.name)
+            || self.templates.len() >= MOST_TEMPLATES
+        {
             return Err(LineError::Refused(Refusal::Range));
         }
         let template = Template {

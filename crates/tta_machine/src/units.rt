@@ -8,7 +8,7 @@ ghost use Rattle.tta_machine.specs.Declarations.{take_unit};
 ghost use Rattle.tta_machine.specs.Seen.{formed};
 
 use crate::draft::{Draft, Named};
-use crate::limits::is_too_long;
+use crate::limits::{MOST_UNITS, is_too_long};
 use crate::lookups::add_part;
 use crate::refusal::{LineError, Refusal};
 use crate::syntax;
@@ -39,7 +39,7 @@ impl Draft {
         if self.is_taken(form.name) {
             return Err(LineError::Refused(Refusal::Twice));
         }
-        if is_too_long(form.name) || self.units.len() >= 32 {
+        if is_too_long(form.name) || self.units.len() >= MOST_UNITS {
             return Err(LineError::Refused(Refusal::Range));
         }
         let place = Named::Unit(self.units.len() as u8);

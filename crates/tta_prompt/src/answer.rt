@@ -15,7 +15,7 @@ use crate::PromptError;
 use crate::own::{Own, read_own};
 use crate::text::text_of;
 use std::alloc::Global;
-use tta_debug::{Basis, Session, take_line};
+use tta_debug::{Basis, NOT_THERE, Session, take_line};
 use tta_ports::{Failed, Sink};
 use tta_print::{Reply, put_reply};
 
@@ -31,7 +31,7 @@ fn put_refusal<S: Sink>(sink: &mut S) -> Result<(), Failed>
     ensures { PutsLine (reply_text (reply.Refused 71)) (S.output sink.old)
         (S.output sink.new) result }
 {
-    put_reply(sink, &Reply::Refused(71))
+    put_reply(sink, &Reply::Refused(NOT_THERE))
 }
 
 /// Puts a text, or the refusal of a place where there is none.
