@@ -49,10 +49,7 @@ impl Region {
             → StandsFor (record { started = []; moment = moment }) r) }
     {
         let rings = carve(alloc, longest)?;
-        let Ok(cells) = empty(alloc, size(longest)) else {
-            drop(rings);
-            return Err(AllocError);
-        };
+        let cells = empty(alloc, size(longest))?;
         Ok(Region {
             rings,
             cells,

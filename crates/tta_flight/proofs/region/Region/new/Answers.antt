@@ -4,7 +4,7 @@ use Rattle.tta_flight.proofs.region.Region.new.Goals as goal
 
 pub invariant_of-result : goal.invariant_of-result
 invariant_of-result c =
-    rw (c.in_ok-rings.ensures, c.in-Ok.ensures)
+    rw (c.in_ok-rings.ensures, c.in_ok-cells.ensures)
     (first_region c.args.longest.now c.size.result _ _ c.size.ensures.size c.size.ensures.few c.requires c.none.ensures)
 
 pub returns-clause-units : goal.returns-clause-units
@@ -15,4 +15,4 @@ returns-clause-longest c = λ unit. rw c.in_ok-rings.ensures (longest-rings_from
 
 pub returns-clause-none : goal.returns-clause-none
 returns-clause-none c = λ moment.
-    rw (c.in_ok-rings.ensures, c.in-Ok.ensures) (first_stands c.args.longest.now c.size.result _ _ moment)
+    rw (c.in_ok-rings.ensures, c.in_ok-cells.ensures) (first_stands c.args.longest.now c.size.result _ _ moment)
