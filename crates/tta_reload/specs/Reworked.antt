@@ -1,9 +1,10 @@
 -- A block's list with copies and served reads, and without stores that are stored over.
-use Rattle.std.specs.Prelude.{◌≡◌, ℕ, true, List, []}
+use Rattle.std.specs.Prelude.{◌≡◌, ℕ, true, List, [], Option, IfSome}
 use Rattle.tta_arch.specs.Machine.{Machine}
 use Rattle.tta_moves.specs.declared.items.Item.{Item}
 use Rattle.tta_moves.specs.declared.items.BlockList.{BlockList}
 use Rattle.tta_moves.specs.Slots.{is_list}
+use Rattle.tta_optim.specs.Kept.{IsStandIn}
 use Rattle.tta_reload.specs.Known.{AreServed}
 use Rattle.tta_reload.specs.Copied.{AreCopied, AreSpare}
 use Rattle.tta_reload.specs.Thinned.{AreThinned}
@@ -25,3 +26,7 @@ pub record IsReworked (m : Machine) (hub : ℕ) (b r : BlockList) : Type 0 where
   pub thinned : AreThinned m [] with_served r.items
   pub list : is_list m r.items ≡ true
   pub live : r.live_out ≡ b.live_out
+
+-- a list that may be placed for that of a block, if there is one
+abbrev pub IsReloaded : Machine → (b : BlockList) → Option BlockList → Type 0
+IsReloaded m b o = IfSome o (λ r. IsStandIn m b r)

@@ -2,7 +2,6 @@
 
 ghost use Rattle.std.specs.Prelude.{◌≡◌, true, IfSome};
 ghost use Rattle.tta_arch.specs.Effects.{KeptReg};
-ghost use Rattle.tta_connect.specs.Net.{IsNetOf};
 ghost use Rattle.tta_moves.specs.Touches.{is_unguarded};
 ghost use Rattle.tta_reload.specs.Copied.{is_one_of, copy_of};
 
@@ -11,8 +10,8 @@ use crate::known::Known;
 use crate::serving::alternative;
 use crate::upcoming::NEVER;
 use arrayvec::ArrayVec;
-use tta_arch::{Dest, Machine, Source};
-use tta_connect::Net;
+use tta_arch::{Dest, Source};
+use tta_connect::Joined;
 use tta_moves::Item;
 use tta_order::parts::source_of;
 
@@ -33,8 +32,7 @@ const NOTHING: Kept = Kept {
 /// which item next loads its slot.
 #[derive(Clone, Copy)]
 pub struct Plan<'a> {
-    pub m: &'a Machine,
-    pub net: &'a Net,
+    pub on: &'a Joined<'a>,
     pub hub: u8,
     pub accesses: &'a [Access],
     pub next: &'a [usize],
@@ -138,7 +136,6 @@ fn is_result(x: Item) -> bool
 /// The word that is worth a copy before an item: a result that is loaded later, and that nothing
 /// else has.
 fn worth(plan: &Plan<'_>, known: &Known, i: usize, x: Item) -> Option<Kept>
-    requires { IsNetOf plan.now.net.now plan.now.m.now }
     ensures { IfSome result (λ k. is_unguarded x ≡ true) }
 {
     if !is_result(x) {
@@ -150,7 +147,7 @@ fn worth(plan: &Plan<'_>, known: &Known, i: usize, x: Item) -> Option<Kept>
     if word.next == NEVER {
         return None;
     }
-    match alternative(plan.m, plan.net, plan.hub, known, x) {
+    match alternative(plan.on, plan.hub, known, x) {
         None => Some(word),
         Some(_) => None,
     }
@@ -197,7 +194,6 @@ pub fn chosen(
     i: usize,
     x: Item,
 ) -> Option<(u8, u8)>
-    requires { IsNetOf plan.now.net.now plan.now.m.now }
     ensures sure { IfSome result (λ r. is_unguarded x ≡ true) }
     ensures one { IfSome result (λ r. is_one_of fresh.now (KeptReg r.0 r.1) ≡ true) }
 {

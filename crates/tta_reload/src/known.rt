@@ -1,9 +1,8 @@
 //! What is known of frame slots on the way down a list: which sources have whose words.
 
-ghost use Rattle.std.specs.Prelude.{◌≡◌, ℕ, List, [], true, false, filter, ◌++◌, ◌∷◌, Some, IfSome};
+ghost use Rattle.std.specs.Prelude.{◌≡◌, List, [], true, false, filter, ◌∷◌, Some, IfSome};
 ghost use Rattle.tta_arch.specs.Machine.{Machine};
 ghost use Rattle.tta_arch.specs.declared.ends.Source.{Source};
-ghost use Rattle.tta_connect.specs.Net.{IsNetOf};
 ghost use Rattle.tta_moves.specs.declared.items.Item.{Item};
 ghost use Rattle.tta_moves.specs.Touches.{target_of_item};
 ghost use Rattle.tta_reload.specs.Known as spec;
@@ -14,7 +13,7 @@ use crate::accesses::{Operand, loaded, operand_after, stored, sure_port, unit_of
 use crate::facts::{Fact, note, same_end};
 use arrayvec::ArrayVec;
 use tta_arch::{Dest, GuardRef, Machine, Source};
-use tta_connect::Net;
+use tta_connect::Joined;
 use tta_list::entry_at;
 use tta_moves::numbers::read_place;
 use tta_moves::{Item, ItemSource, is_joined};
@@ -253,15 +252,13 @@ impl Known {
     /// of those that a bus joins to a destination.
     pub fn other(
         &self,
-        m: &Machine,
-        net: &Net,
+        on: &Joined<'_>,
         src: Source,
         guard: Option<GuardRef>,
         dst: Dest,
     ) -> Option<Source>
-        requires { IsNetOf net.now m.now }
-        ensures { (before : List Item) → Knows m.now before self.now
-            → IfSome result (λ b. spec.have_one (spec.known m.now before) src b ≡ true) }
+        ensures { let m = on.now.machine.now in (before : List Item) → Knows m before self.now
+            → IfSome result (λ b. spec.have_one (spec.known m before) src b ≡ true) }
     {
         let mut slot: Option<u32> = None;
         let mut oldest: Option<Source> = None;
@@ -276,7 +273,7 @@ impl Known {
             if !is_kept(f.from) {
                 continue;
             }
-            if !is_joined(m, net, ItemSource::Port(f.from), dst, guard) {
+            if !is_joined(on.machine, on.net, ItemSource::Port(f.from), dst, guard) {
                 continue;
             }
             oldest = Some(f.from);

@@ -3,11 +3,10 @@
 ghost use Rattle.std.specs.Prelude.{◌≡◌, ◌≤◌, ℕ, List, [], length, true, IfOk, IfSome};
 ghost use Rattle.tta_connect.specs.Net.{IsNetOf};
 ghost use Rattle.tta_connect.specs.Coverage.{IsChoice};
-ghost use Rattle.tta_optim.specs.Kept.{IsStandIn};
 ghost use Rattle.tta_moves.specs.declared.items.Item.{Item};
 ghost use Rattle.tta_reload.specs.Copied.{AreSpare};
 ghost use Rattle.tta_reload.specs.Thinned.{AreThinned};
-ghost use Rattle.tta_reload.specs.Reworked.{AreWorked, IsReworked};
+ghost use Rattle.tta_reload.specs.Reworked.{AreWorked, IsReworked, IsReloaded};
 
 use crate::accesses::{Access, accesses};
 use crate::asking::asked;
@@ -20,7 +19,7 @@ use crate::upcoming::next_loads;
 use crate::worth::{is_worth, may_store_over};
 use std::alloc::{AllocError, Global};
 use tta_arch::Machine;
-use tta_connect::{Choice, Net};
+use tta_connect::{Choice, Joined, Net};
 use tta_list::Items;
 use tta_moves::{BlockList, Item, is_list};
 use tta_order::Checker;
@@ -42,22 +41,19 @@ fn with_items(alloc: Global, b: &BlockList, items: Vec<Item>) -> Result<BlockLis
 /// is one. The only error is out of memory.
 fn served(
     alloc: Global,
-    m: &Machine,
-    net: &Net,
+    on: &Joined<'_>,
     hub: u8,
     b: &BlockList,
     accesses: &[Access],
 ) -> Result<Vec<Item>, AllocError>
-    requires { IsNetOf net.now m.now }
-    ensures { IfOk result (λ v. (fresh : List (ℕ × ℕ))
-        × AreSpare hub b.now fresh × AreWorked m.now fresh b.now.items v.items) }
+    ensures { let m = on.now.machine.now in IfOk result (λ v. (fresh : List (ℕ × ℕ))
+        × AreSpare hub b.now fresh × AreWorked m fresh b.now.items v.items) }
 {
     let items = b.items.as_slice();
     let next = next_loads(alloc, accesses)?;
     let fresh = spare_registers(alloc, hub, b)?;
     let plan = Plan {
-        m,
-        net,
+        on,
         hub,
         accesses,
         next: next.as_slice(),
@@ -88,25 +84,24 @@ fn without_stores(
 /// is out of memory.
 fn reworked(
     alloc: Global,
-    m: &Machine,
-    net: &Net,
+    on: &Joined<'_>,
     hub: u8,
     b: &BlockList,
 ) -> Result<Option<BlockList>, AllocError>
-    requires { IsNetOf net.now m.now }
-    ensures { IfOk result (λ o. IfSome o (λ r. IsReworked m.now hub b.now r)) }
+    ensures { let m = on.now.machine.now in
+        IfOk result (λ o. IfSome o (λ r. IsReworked m hub b.now r)) }
 {
-    let uses = accesses(alloc, m, b.items.as_slice())?;
+    let uses = accesses(alloc, on.machine, b.items.as_slice())?;
     if !is_worth(uses.as_slice()) {
         return Ok(None);
     }
-    let all = served(alloc, m, net, hub, b, uses.as_slice())?;
+    let all = served(alloc, on, hub, b, uses.as_slice())?;
     let stores_over = may_store_over(uses.as_slice());
-    let Some(items) = without_stores(alloc, m, stores_over, all)? else {
+    let Some(items) = without_stores(alloc, on.machine, stores_over, all)? else {
         return Ok(None);
     };
     let more = with_items(alloc, b, items)?;
-    if is_list(m, net, &more) {
+    if is_list(on.machine, on.net, &more) {
         Ok(Some(more))
     } else {
         Ok(None)
@@ -158,9 +153,10 @@ impl Reloads {
     ) -> Result<Option<BlockList>, AllocError>
         requires net { IsNetOf net.now m.now }
         requires choice { IsChoice m.now c.now }
-        ensures { IfOk result (λ o. IfSome o (λ r. IsStandIn m.now b.now r)) }
+        ensures { IfOk result (λ o. IsReloaded m.now b.now o) }
     {
-        let Some(more) = reworked(alloc, m, net, c.hub, b)? else {
+        let on = Joined { machine: m, net };
+        let Some(more) = reworked(alloc, &on, c.hub, b)? else {
             return Ok(None);
         };
         let numbers = asked(alloc, m, more.live_out.as_slice(), more.items.as_slice())?;
@@ -173,7 +169,7 @@ impl Reloads {
         if !gains(m, b, &r) {
             return Ok(None);
         }
-        if is_straight(alloc, m, net, c.hub, r.items.as_slice())? {
+        if is_straight(alloc, &on, c.hub, r.items.as_slice())? {
             Ok(Some(r))
         } else {
             Ok(None)
@@ -192,7 +188,7 @@ pub fn reload(
 ) -> Result<Option<BlockList>, AllocError>
     requires net { IsNetOf net.now m.now }
     requires choice { IsChoice m.now c.now }
-    ensures { IfOk result (λ o. IfSome o (λ r. IsStandIn m.now b.now r)) }
+    ensures { IfOk result (λ o. IsReloaded m.now b.now o) }
 {
     let mut reloads = Reloads::new(alloc)?;
     reloads.reload(alloc, m, net, c, b)

@@ -2,7 +2,6 @@
 
 ghost use Rattle.std.specs.Prelude.{◌≡◌, List, true, IfOk, OnOk, IfSome};
 ghost use Rattle.tta_arch.specs.declared.ends.Source.{Source};
-ghost use Rattle.tta_connect.specs.Net.{IsNetOf};
 ghost use Rattle.tta_moves.specs.declared.items.Item.{Item};
 ghost use Rattle.tta_moves.specs.declared.items.ItemSource.TheVariants.{Port};
 ghost use Rattle.tta_moves.specs.Touches.{source_of};
@@ -15,8 +14,8 @@ ghost use Rattle.tta_reload.specs.Reworked.{AreWorked};
 use crate::copying::{Plan, chosen, copy_of, kept_past, nothing_kept};
 use crate::known::Known;
 use std::alloc::{AllocError, Global};
-use tta_arch::{Dest, Machine, Source};
-use tta_connect::Net;
+use tta_arch::{Dest, Source};
+use tta_connect::Joined;
 use tta_moves::{Item, ItemSource};
 
 /// Whether a source is a result port or the hub's register for ways, which loads are read from.
@@ -30,11 +29,10 @@ fn passes(hub: u8, src: Source) -> bool {
 
 /// Another source with the word that an item takes from a port or by the hub, if a bus joins it to
 /// the item's destination.
-pub fn alternative(m: &Machine, net: &Net, hub: u8, known: &Known, x: Item) -> Option<Source>
-    requires { IsNetOf net.now m.now }
-    ensures { (before : List Item) → Knows m.now before known.now
+pub fn alternative(on: &Joined<'_>, hub: u8, known: &Known, x: Item) -> Option<Source>
+    ensures { let m = on.now.machine.now in (before : List Item) → Knows m before known.now
         → IfSome result (λ b. (a : Source) × (source_of x ≡ Port a)
-        × (have_one (spec.known m.now before) a b ≡ true)) }
+        × (have_one (spec.known m before) a b ≡ true)) }
 {
     let Item::Move { guard, src, dst } = x else {
         return None;
@@ -43,7 +41,7 @@ pub fn alternative(m: &Machine, net: &Net, hub: u8, known: &Known, x: Item) -> O
         return None;
     };
     if passes(hub, from) {
-        known.other(m, net, from, guard, dst)
+        known.other(on, from, guard, dst)
     } else {
         None
     }
@@ -64,11 +62,11 @@ fn with_source(x: Item, other: Source) -> Item
 }
 
 /// An item that reads another source with the same word, where there is one.
-fn served(m: &Machine, net: &Net, hub: u8, known: &Known, x: Item) -> Item
-    requires { IsNetOf net.now m.now }
-    ensures { (before : List Item) → Knows m.now before known.now → IsServed m.now before x result }
+fn served(on: &Joined<'_>, hub: u8, known: &Known, x: Item) -> Item
+    ensures { let m = on.now.machine.now in (before : List Item) → Knows m before known.now
+        → IsServed m before x result }
 {
-    match alternative(m, net, hub, known, x) {
+    match alternative(on, hub, known, x) {
         None => x,
         Some(other) => with_source(x, other),
     }
@@ -88,14 +86,13 @@ fn is_into(fresh: &[(u8, u8)], x: Item) -> bool {
 /// An item that reads another source with the same word, where there is one and the item does not
 /// move into one of some registers.
 fn served_but(plan: &Plan<'_>, known: &Known, fresh: &[(u8, u8)], x: Item) -> Item
-    requires { IsNetOf plan.now.net.now plan.now.m.now }
-    ensures { (before : List Item) → Knows plan.now.m.now before known.now
-        → IsServed plan.now.m.now before x result }
+    ensures { let m = plan.now.on.now.machine.now in (before : List Item)
+        → Knows m before known.now → IsServed m before x result }
 {
     if is_into(fresh, x) {
         return x;
     }
-    served(plan.m, plan.net, plan.hub, known, x)
+    served(plan.on, plan.hub, known, x)
 }
 
 /// Goes past an item, which is served. It fails only where there is no memory.
@@ -106,13 +103,12 @@ fn push_served(
     fresh: &[(u8, u8)],
     x: Item,
 ) -> Result<(), AllocError>
-    requires { IsNetOf plan.now.net.now plan.now.m.now }
-    ensures { OnOk result (
-        GoesOn plan.now.m.now known.old out.old.items x known.new out.new.items) }
+    ensures { let m = plan.now.on.now.machine.now in OnOk result (
+        GoesOn m known.old out.old.items x known.new out.new.items) }
 {
     let y = served_but(plan, known, fresh, x);
     out.push(y)?;
-    known.pass(plan.m, x);
+    known.pass(plan.on.machine, x);
     Ok(())
 }
 
@@ -125,8 +121,8 @@ pub fn serve(
     fresh: &[(u8, u8)],
     items: &[Item],
 ) -> Result<Vec<Item>, AllocError>
-    requires { IsNetOf plan.now.net.now plan.now.m.now }
-    ensures { IfOk result (λ v. AreWorked plan.now.m.now fresh.now items.now v.items) }
+    ensures { let m = plan.now.on.now.machine.now in
+        IfOk result (λ v. AreWorked m fresh.now items.now v.items) }
 {
     let mut known = Known::new();
     let mut kept = nothing_kept(fresh);

@@ -1,7 +1,6 @@
 //! Whether a list is straight.
 
-ghost use Rattle.std.specs.Prelude.{◌≡◌, true, Some, slice_set, IfOk};
-ghost use Rattle.tta_connect.specs.Net.{IsNetOf};
+ghost use Rattle.std.specs.Prelude.{◌≡◌, true, Some, IfOk};
 ghost use Rattle.tta_moves.specs.Slots.{is_list};
 ghost use Rattle.tta_moves.specs.Forms.{is_passing, is_port_source, is_straight};
 ghost use Rattle.tta_reload.specs.Trails.{longer, trail_in, next_trail, trails_after};
@@ -9,7 +8,7 @@ ghost use Rattle.tta_reload.specs.Trails.{could_take, may_detour};
 
 use std::alloc::{AllocError, Global};
 use tta_arch::{Machine, Source};
-use tta_connect::Net;
+use tta_connect::Joined;
 use tta_moves::numbers::{PLACES, read_place};
 use tta_moves::{Item, ItemSource, is_joined, keeps_rules};
 use tta_order::parts::{is_unguarded, source_of, written_number};
@@ -106,51 +105,50 @@ fn pass(m: &Machine, hub: u8, trails: &mut Vec<Trail>, x: Item)
 }
 
 /// Whether a move could take another source than a result port in place of its own.
-fn could_take(m: &Machine, net: &Net, x: Item, other: Option<ItemSource>) -> bool
-    requires { IsNetOf net.now m.now }
-    ensures { result ≡ could_take m.now x other }
+fn could_take(on: &Joined<'_>, x: Item, other: Option<ItemSource>) -> bool
+    ensures { result ≡ could_take on.now.machine.now x other }
 {
     let Some(src) = other else {
         return false;
     };
     match x {
-        Item::Move { guard, dst, .. } => !is_port_source(src) && is_joined(m, net, src, dst, guard),
+        Item::Move { guard, dst, .. } => {
+            !is_port_source(src) && is_joined(on.machine, on.net, src, dst, guard)
+        }
         Item::Long { .. } => false,
     }
 }
 
 /// Whether a move may be a detour.
-fn may_detour(m: &Machine, net: &Net, hub: u8, trails: &[Trail], x: Item) -> bool
-    requires { IsNetOf net.now m.now }
-    ensures { result ≡ may_detour m.now hub trails.now x }
+fn may_detour(on: &Joined<'_>, hub: u8, trails: &[Trail], x: Item) -> bool
+    ensures { result ≡ may_detour on.now.machine.now hub trails.now x }
 {
     let src = source_of(x);
     if !is_passing(hub, src) {
         return false;
     }
     let t = trail_in(trails, src);
-    t.is_long || (could_take(m, net, x, t.one) || could_take(m, net, x, t.two))
+    t.is_long || (could_take(on, x, t.one) || could_take(on, x, t.two))
 }
 
 /// Whether it is known that a list is straight. The only error is out of memory.
 pub fn is_straight(
     alloc: Global,
-    m: &Machine,
-    net: &Net,
+    on: &Joined<'_>,
     hub: u8,
     items: &[Item],
 ) -> Result<bool, AllocError>
-    requires net { IsNetOf net.now m.now }
-    requires list { is_list m.now items.now ≡ true }
-    ensures { IfOk result (λ is. is ≡ true → is_straight m.now (Some hub) items.now ≡ true) }
+    requires { is_list on.now.machine.now items.now ≡ true }
+    ensures { IfOk result (λ is. is ≡ true
+        → is_straight on.now.machine.now (Some hub) items.now ≡ true) }
 {
-    keeps_rules(m);
+    keeps_rules(on.machine);
     let mut trails = vec![in alloc; EMPTY; PLACES]?;
     for x in items {
-        if may_detour(m, net, hub, trails.as_slice(), *x) {
+        if may_detour(on, hub, trails.as_slice(), *x) {
             return Ok(false);
         }
-        pass(m, hub, &mut trails, *x);
+        pass(on.machine, hub, &mut trails, *x);
     }
     Ok(true)
 }

@@ -9,9 +9,9 @@ use Rattle.tta_reload.proofs.known.Known.other.Goals as goal
 
 pub loop-f-preserved : goal.loop-f-preserved
 loop-f-preserved c = record { asked = rw c.in-Some.is at c.loop-f.invariant.asked; found = found } where
-  found : (before : List Item) → Knows c.args.m.now before c.args.self.now → have_one (known c.args.m.now before) c.args.src (get_or c.as_slice-f-items.result.now c.loop-f.f-index (record { slot = 0; from = source.Reg 0 0 })).from ≡ true
+  found : (before : List Item) → Knows c.args.on.now.machine.now before c.args.self.now → have_one (known c.args.on.now.machine.now before) c.args.src (get_or c.as_slice-f-items.result.now c.loop-f.f-index (record { slot = 0; from = source.Reg 0 0 })).from ≡ true
   found before knows =
-      let all : List Fact = known c.args.m.now before in
+      let all : List Fact = known c.args.on.now.machine.now before in
       let f : Fact = get_or c.as_slice-f-items.result.now c.loop-f.f-index (record { slot = 0; from = source.Reg 0 0 }) in
       let facts : are_among all c.as_slice-f-items.result.now ≡ true = rw c.as_slice-f-items.ensures.value knows.facts in
       let among : is_among all f ≡ true = among_at all c.as_slice-f-items.result.now c.loop-f.f-index _ f facts c.loop-f-test.true refl in

@@ -7,5 +7,5 @@ use Rattle.tta_reload.proofs.known.Known.other.Given as goal
 abbrev pub invariant-loop-f : goal.invariant-loop-f
 invariant-loop-f l = record {
   asked : IfSome l.slot (λ v. is_among l.self.facts.items (fact v l.src) ≡ true);
-  found : (before : List Item) → Knows l.m before l.self → IfSome l.oldest (λ b. have_one (known l.m before) l.src b ≡ true);
+  found : (before : List Item) → Knows l.on.machine.now before l.self → IfSome l.oldest (λ b. have_one (known l.on.machine.now before) l.src b ≡ true);
 }
