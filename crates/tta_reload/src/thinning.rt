@@ -1,6 +1,6 @@
 //! Stores into slots that the list stores into again before it loads them.
 
-ghost use Rattle.std.specs.Prelude.{◌≡◌, ◌==◌, ℕ, List, [], not, true, false, filter, length, ◌≤◌};
+ghost use Rattle.std.specs.Prelude.{◌≡◌, ◌==◌, ℕ, [], not, true, false, filter, length, ◌≤◌};
 ghost use Rattle.std.specs.Prelude.{IfOk, IfSome};
 ghost use Rattle.std.specs.Option.{option_map_or};
 ghost use Rattle.tta_reload.specs.Thinned.{is_in, lets_stay, AreThinned};
