@@ -9,7 +9,7 @@ ghost use Rattle.tta_moves.specs.Slots.{carried, joined, fills, has_slot, contro
 
 use crate::items::{BlockList, Item, ItemSource};
 use tta_arch::{Dest, GuardRef, Machine, Source, Template};
-use tta_connect::Net;
+use tta_connect::{Joined, Net};
 
 /// How many items a list has at most.
 const MAX_ITEMS: usize = 1 << 24;
@@ -75,13 +75,12 @@ fn is_filled(m: &Machine, imm: u8, reg: u8) -> bool
 }
 
 /// Whether an item has a bus or a template where it is alone in its cycle.
-fn has_slot(m: &Machine, net: &Net, x: Item) -> bool
-    requires { IsNetOf net.now m.now }
-    ensures { result ≡ has_slot m.now x }
+fn has_slot(on: &Joined<'_>, x: Item) -> bool
+    ensures { result ≡ has_slot on.now.machine.now x }
 {
     match x {
-        Item::Move { guard, src, dst } => is_joined(m, net, src, dst, guard),
-        Item::Long { imm, reg, .. } => is_filled(m, imm, reg),
+        Item::Move { guard, src, dst } => is_joined(on.machine, on.net, src, dst, guard),
+        Item::Long { imm, reg, .. } => is_filled(on.machine, imm, reg),
     }
 }
 
@@ -96,11 +95,10 @@ fn is_control(x: Item) -> bool
 }
 
 /// Whether each item has a bus or a template.
-fn have_slots(m: &Machine, net: &Net, items: &[Item]) -> bool
-    requires { IsNetOf net.now m.now }
-    ensures { result ≡ list_all (has_slot m.now) items.now }
+fn have_slots(on: &Joined<'_>, items: &[Item]) -> bool
+    ensures { result ≡ list_all (has_slot on.now.machine.now) items.now }
 {
-    items.iter().all(|x| has_slot(m, net, *x))
+    items.iter().all(|x| has_slot(on, *x))
 }
 
 /// Whether no item but the last one is a jump, a call or a halt.
@@ -125,5 +123,5 @@ pub fn is_list(m: &Machine, net: &Net, b: &BlockList) -> bool
     if items.len() > MAX_ITEMS {
         return false;
     }
-    have_slots(m, net, items) && control_is_last(items)
+    have_slots(&Joined { machine: m, net }, items) && control_is_last(items)
 }
