@@ -12,7 +12,7 @@ ghost use Rattle.tta_sched.specs.First.{Asks, FindsFirst};
 
 use std::alloc::{AllocError, Global};
 use tta_arch::Machine;
-use tta_connect::Net;
+use tta_connect::{Joined, Net};
 use tta_depend::Bounds;
 use tta_list::Items;
 use tta_moves::{BlockList, Item, Placed, PlacedItem, keeps_rules};
@@ -22,19 +22,17 @@ use tta_reserve::Table;
 /// is None exactly where it fits in none of them.
 fn first_from(
     table: &Table,
-    m: &Machine,
-    net: &Net,
+    on: &Joined<'_>,
     item: &Item,
     from: u32,
     end: u32,
 ) -> Option<PlacedItem>
-    requires net { IsNetOf net.now m.now }
     requires there { end ≤ length table.now }
-    ensures { (placed : List Entry) → Asks m.now table.now placed item.now from
-        → FindsFirst m.now placed item.now end result }
+    ensures { (placed : List Entry) → Asks on.now.machine.now table.now placed item.now from
+        → FindsFirst on.now.machine.now placed item.now end result }
 {
     for cycle in from..end {
-        if let Some(slot) = table.fits(m, net, item, cycle) {
+        if let Some(slot) = table.fits(on.machine, on.net, item, cycle) {
             return Some(PlacedItem {
                 item: *item,
                 cycle,
@@ -78,22 +76,23 @@ impl Placer {
         &mut self,
         placed: &mut Items<PlacedItem>,
         item: &Item,
-        m: &Machine,
-        net: &Net,
+        on: &Joined<'_>,
     ) -> Result<(), AllocError>
-        requires rules { IsMachine m.now }
-        requires net { IsNetOf net.now m.now }
-        requires slot { has_slot m.now item.now ≡ true }
+        requires rules { IsMachine on.now.machine.now }
+        requires slot { has_slot on.now.machine.now item.now ≡ true }
         requires controls { no_control placed.old ≡ true }
-        requires keeps { Keeps m.now self.old.bounds self.old.table placed.old }
-        requires soon { end_of m.now placed.old < 1073741823 }
-        ensures keeps { OnOk result (Keeps m.now self.new.bounds self.new.table placed.new) }
-        ensures adds { OnOk result (AddsFirst m.now placed.old item.now placed.new) }
+        requires keeps { Keeps on.now.machine.now self.old.bounds self.old.table placed.old }
+        requires soon { end_of on.now.machine.now placed.old < 1073741823 }
+        ensures keeps { OnOk result
+            (Keeps on.now.machine.now self.new.bounds self.new.table placed.new) }
+        ensures adds { OnOk result
+            (AddsFirst on.now.machine.now placed.old item.now placed.new) }
     {
+        let m = on.machine;
         let from = self.bounds.least(m, item);
         let end = self.bounds.end() + 1;
         self.table.reserve(end)?;
-        match first_from(&self.table, m, net, item, from, end) {
+        match first_from(&self.table, on, item, from, end) {
             Some(x) => {
                 placed.push(x)?;
                 self.bounds.place(m, &x.item, x.cycle);
@@ -121,12 +120,13 @@ impl Placer {
         ensures room { IfOk result (λ p. HasRoom m.now b.now.items p) }
     {
         keeps_rules(m);
+        let on = Joined { machine: m, net };
         self.bounds.clear(m);
         self.table.clear();
         let room = Vec::with_capacity(alloc, b.items.len())?;
         let mut placed = Items::of(room);
         for x in b.items.as_slice() {
-            self.place_item(&mut placed, x, m, net)?;
+            self.place_item(&mut placed, x, &on)?;
         }
         let length = self.bounds.length();
         Ok(Placed {
