@@ -18,7 +18,7 @@ use Rattle.tta_program.specs.declared.program.DataLine.{DataLine}
 use Rattle.tta_program.specs.Program.{Program}
 use Rattle.tta_program.specs.Sequential.{State, Frame, Running, Halted, Waiting, next, goes_through, carry_out, takes, operand, holds, step_at, seq, start}
 use Rattle.tta_halting.proofs.Shape.{before, counting, shaped, IsMild, AreMild, mild_at}
-use Rattle.tta_program.proofs.Going.{halted_stays}
+use Rattle.tta_program.proofs.Halted.{halted_stays}
 
 -- so a run that has halted has halted later too
 pub halts_later : (u : Units) (p : Program) (k m : ℕ) (s : State) → k ≤ m → (iterate k (next u p) s).outcome ≡ Halted → (iterate m (next u p) s).outcome ≡ Halted

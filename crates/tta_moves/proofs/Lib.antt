@@ -10,4 +10,4 @@ pub mod Addresses
 pub mod Rows
 pub mod Gaps
 pub mod Numbered
-pub mod Copies
+pub mod Waiting

@@ -21,7 +21,7 @@ use Rattle.tta_moves.specs.Forms.{copied, is_port_source, is_wide_file, shown_in
 use Rattle.tta_moves.proofs.Places.{either}
 use Rattle.tta_optim.specs.Passes.{with_source, bypassed, bypass_items}
 use Rattle.tta_optim.proofs.Copies.{is_whole, Copies, one_more, stuck_means, first_means}
-use Rattle.tta_moves.proofs.Copies.{stuck_all}
+use Rattle.tta_moves.proofs.Waiting.{stuck_all}
 
 -- ---- an effect with a source of the same word
 

@@ -22,7 +22,7 @@ use Rattle.tta_optim.specs.Passes.{dead_items}
 use Rattle.tta_optim.proofs.Copies.{stuck_means, first_means, sure_word, brings}
 use Rattle.tta_optim.proofs.Alone.{is_quiet, only_writes}
 use Rattle.tta_arch.proofs.Places.{same_is}
-use Rattle.tta_moves.proofs.Copies.{stuck_all}
+use Rattle.tta_moves.proofs.Waiting.{stuck_all}
 
 -- ---- the places that have to agree
 

@@ -22,7 +22,7 @@ use Rattle.tta_optim.specs.Passes.{share_items}
 use Rattle.tta_optim.proofs.Copies.{Copies, one_more, stuck_means, first_means}
 use Rattle.tta_optim.proofs.Alone.{only_writes, Same, same_read, same_reads, same_after, Ends}
 use Rattle.tta_arch.proofs.Places.{same_is}
-use Rattle.tta_moves.proofs.Copies.{stuck_all}
+use Rattle.tta_moves.proofs.Waiting.{stuck_all}
 
 pub source_is : (a b : ItemSource) → same_source a b ≡ true → a ≡ b
 source_is (Address a) (Address b) e = let s : a ≡ b = grind (arith, nat_tests) in cc

@@ -11,7 +11,7 @@ use Rattle.tta_optim.proofs.Copies.{first_means}
 use Rattle.tta_order.specs.Channels.{may_wait}
 use Rattle.tta_order.specs.Orders.{goes_through, settled}
 use Rattle.tta_order.proofs.Carried.{still_runs}
-use Rattle.tta_moves.proofs.Copies.{stuck_all}
+use Rattle.tta_moves.proofs.Waiting.{stuck_all}
 
 module _ (u : Units) (m : Machine) (addr : List ℕ) (back : ℕ) where
   abbrev pub step : Held → Item → Held

@@ -9,7 +9,7 @@ use Rattle.tta_ops.specs.Units.{Units}
 use Rattle.tta_moves.specs.Meaning.{Exit, Waits as Stops, is_waiting, Held, read_held, exit_after, acts, waits_for, arrives, does, does_all, means, lacks}
 use Rattle.tta_overlap.proofs.Total.{started_by, total, do_move, do_moves, has_meaning, wants, waits_at}
 use Rattle.tta_overlap.proofs.Items.{and_parts as and_split}
-use Rattle.tta_moves.proofs.Copies.{stuck_all as does_stay}
+use Rattle.tta_moves.proofs.Waiting.{stuck_all as does_stay}
 
 -- ---- one effect
 

@@ -1,4 +1,4 @@
 pub mod Rows
 pub mod Squares
 pub mod Mains
-pub mod Going
+pub mod Halted

@@ -2,7 +2,7 @@ use Rattle.std.proofs.Common.{ap}
 use Rattle.tta_ops.specs.Set.{stated}
 use Rattle.tta_program.specs.Sequential.{State, next}
 use Rattle.tta_tool.proofs.program_run.ProgramRunRun.go.Goals as goal
-use Rattle.tta_program.proofs.Going.{halted_stays}
+use Rattle.tta_program.proofs.Halted.{halted_stays}
 
 pub returns-in-Halted-clause-leaves : goal.returns-in-Halted-clause-leaves
 returns-in-Halted-clause-leaves g c = λ s stands fed.

@@ -1,4 +1,4 @@
--- Going.
+-- A run that has halted stays as it is.
 use Rattle.std.proofs.Common.{◌≡◌, ap}
 use Rattle.tta_ops.specs.Units.{Units}
 use Rattle.tta_program.specs.Program.{Program}
