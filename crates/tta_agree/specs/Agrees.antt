@@ -1,6 +1,7 @@
 -- When code with data does what a program does.
 use Rattle.std.specs.Prelude.{◌≡◌, ◌≢◌, ℕ, ◌+◌, ◌*◌, ◌<◌, ◌^◌, List, ◌++◌, length}
 use Rattle.std.specs.List.{AllByRecursion}
+use Rattle.tta_list.specs.Prefix.{IsPrefixOf}
 use Rattle.tta_list.specs.Laid.{over}
 use Rattle.tta_ops.specs.Units.{Units}
 use Rattle.tta_arch.specs.Machine.{Machine}
@@ -10,10 +11,6 @@ use Rattle.tta_program.specs.Sequential.{seq}
 use Rattle.tta_code.specs.Whole.{Whole, data_in}
 use Rattle.tta_code.specs.Cycle as cycle
 use Rattle.tta_code.specs.Cycle.{cyc}
-
--- one list begins another
-abbrev pub IsPrefixOf : List ℕ → List ℕ → Type 0
-IsPrefixOf xs ys = (rest : List ℕ) × (ys ≡ xs ++ rest)
 
 -- words of 32 bits
 abbrev pub AreWords : List ℕ → Type 0

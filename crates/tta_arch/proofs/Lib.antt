@@ -13,3 +13,4 @@ pub mod Places
 pub mod Ports
 pub mod Below
 pub mod Takes
+pub mod Outputs

@@ -4,10 +4,10 @@ use Rattle.std.specs.Prelude.{slice_get, slice_set, if◌then◌else◌}
 use Rattle.std.specs.Option.{option_map_or}
 use Rattle.std.proofs.lemmas.Option.{slice_get_within}
 use Rattle.std.proofs.lemmas.Bool.{cases_eq}
-use Rattle.tta_agree.specs.Agrees.{IsPrefixOf}
+use Rattle.tta_list.proofs.Prefixes.{prefix_same, prefix_chain}
+use Rattle.tta_list.specs.Prefix.{IsPrefixOf}
 use Rattle.tta_cores.specs.Network.{Network, Joined, output_of, feeder_of, fed_to, after_step, stepped, turn, interleaved}
 use Rattle.tta_cores.specs.Queues.{UsesQueues}
-use Rattle.tta_cores.proofs.Prefixes.{prefix_same, prefix_chain}
 use Rattle.tta_cores.proofs.Turns.{IsPast, past_longer, past_next}
 use Rattle.tta_list.proofs.Sets.{set_same as get_set_same, set_other as get_set_other}
 

@@ -4,6 +4,9 @@ use Rattle.std.specs.Prelude.{if◌then◌else◌, slice_get, slice_index, is_no
 use Rattle.std.specs.Option.{option_map_or}
 use Rattle.std.specs.List.{list_any, filter_map, cons_option, AllByRecursion}
 use Rattle.std.proofs.lemmas.Bool.{or_parts}
+use Rattle.tta_arch.proofs.Outputs.{puts_prefix}
+use Rattle.tta_list.proofs.Prefixes.{prefix_same, prefix_chain}
+use Rattle.tta_list.specs.Prefix.{IsPrefixOf}
 use Rattle.tta_list.specs.Input.{left}
 use Rattle.tta_list.proofs.Lists.{all_one}
 use Rattle.tta_ops.specs.Units.{Units}
@@ -16,12 +19,10 @@ use Rattle.tta_code.specs.declared.code.Instruction.{Instruction}
 use Rattle.tta_code.specs.declared.code.Code.{Code}
 use Rattle.tta_code.specs.Legal.{IsLegalCode, is_legal}
 use Rattle.tta_code.specs.Cycle.{State, Outcome, Running, Halted, Waiting, Fault, Result', Pending, result_of, read_source, effects_of, fault_of, pending_after, takes_effect, lands, acts, waits, or_wait, or_fault, carry_out, next_of, next}
-use Rattle.tta_agree.specs.Agrees.{IsPrefixOf}
 use Rattle.tta_cores.specs.declared.cores.Core.{Core}
 use Rattle.tta_cores.specs.Queues.{UsesQueues}
 use Rattle.tta_cores.specs.Cluster.{is_waiting, cycle_of, cycles}
 use Rattle.tta_cores.specs.Laws.{IsCore}
-use Rattle.tta_cores.proofs.Prefixes.{prefix_same, prefix_chain}
 use Rattle.tta_cores.proofs.ProgramQueues.{first_more, index_more, one_off}
 use Rattle.tta_cores.proofs.Takes.{started_by, leaves, leaves_more}
 
@@ -35,23 +36,6 @@ pub record CyclesSo (s next : State) (others : List ℕ → State) : Type 0 wher
 -- nothing is done
 stays_so : (s : State) → CyclesSo s s (λ words. record s { rest = s.rest ++ words })
 stays_so s = record { grows = prefix_same _ _ refl; takes = ([], refl); more = λ words goes. refl; still = λ waits. refl }
-
--- ---- output
-
-puts : (ws : List ℕ) (t : Start) → IsPrefixOf ws (put_out ws t)
-puts ws t = by t.does.op refl where
-  by : (o : Op) → t.does.op ≡ o → IsPrefixOf ws (put_out ws t)
-  by Ldw e = prefix_same ws (put_out ws t) (rw e refl)
-  by Stw e = prefix_same ws (put_out ws t) (rw e refl)
-  by Ldf e = prefix_same ws (put_out ws t) (rw e refl)
-  by Stf e = prefix_same ws (put_out ws t) (rw e refl)
-  by Out e = (t.word ∷ [], rw e refl)
-  by Take e = prefix_same ws (put_out ws t) (rw e refl)
-  by (Set id) e = prefix_same ws (put_out ws t) (rw e refl)
-
-all_put : (ts : List Start) (ws : List ℕ) → IsPrefixOf ws (fold put_out ws ts)
-all_put [] ws = prefix_same ws ws refl
-all_put (t ∷ ts) ws = prefix_chain ws (put_out ws t) (fold put_out (put_out ws t) ts) (puts ws t) (all_put ts (put_out ws t))
 
 -- ---- control
 
@@ -170,7 +154,7 @@ module _ (u : Units) (m : Machine) (rules : IsMachine m) (i : Instruction) (lega
   acts_so goes =
       let landed = lands_so first pending in
       record {
-        grows = prefix_chain _ _ _ (all_put ts s.output) (prefix_same _ _ (sym landed.output));
+        grows = prefix_chain _ _ _ (puts_prefix ts s.output) (prefix_same _ _ (sym landed.output));
         takes =
             let off = left_off (list_any takes ts) s.rest in
             (off.0, off.1 ∙ ap (λ (r : List ℕ). off.0 ++ r) (sym (landed.rest ∙ leaves m rules i legal (read_source s) written s.rest)));

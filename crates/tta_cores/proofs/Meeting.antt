@@ -4,10 +4,11 @@ use Rattle.std.specs.Prelude.{slice_get, if◌then◌else◌}
 use Rattle.std.specs.Option.{option_map_or}
 use Rattle.std.proofs.lemmas.Bool.{cases_eq}
 use Rattle.std.proofs.lemmas.List.Sums.{fold-append}
-use Rattle.tta_agree.specs.Agrees.{IsPrefixOf}
+use Rattle.tta_list.proofs.Prefixes.{prefix_same, prefix_chain}
+use Rattle.tta_list.specs.Prefix.{IsPrefixOf}
 use Rattle.tta_cores.specs.Network.{Network, Joined, output_of, feeder_of, fed_to, after_step, turn, interleaved, joined, AreAtRest, AreComparable}
 use Rattle.tta_cores.specs.Queues.{UsesQueues}
-use Rattle.tta_cores.proofs.Prefixes.{prefix_same, prefix_chain, prefixes_meet}
+use Rattle.tta_cores.proofs.Prefixes.{prefixes_meet}
 use Rattle.tta_cores.proofs.OneCore.{put_by, put_longer}
 use Rattle.tta_cores.proofs.Turns.{past_output, past_next}
 use Rattle.tta_cores.proofs.Clusters.{output_at, next_core, turn_none, turn_here, turn_other, interleaved_grows, HasMade, HavePast, past_turn}

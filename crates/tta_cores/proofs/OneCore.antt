@@ -1,11 +1,11 @@
 -- The run of one core on an input.
 use Rattle.std.proofs.Common.{◌≡◌, inl, inr, ℕ, zero, suc, ◌≤◌, Bool, true, false, List, ◌++◌, refl, sym, ap, subst, ◌∙◌, arith}
 use Rattle.std.proofs.lemmas.Bool.{cases_lt}
+use Rattle.tta_list.proofs.Prefixes.{prefix_same, prefix_chain}
+use Rattle.tta_list.specs.Prefix.{IsPrefixOf}
 use Rattle.tta_list.specs.Iterate.{iterate}
-use Rattle.tta_agree.specs.Agrees.{IsPrefixOf}
 use Rattle.tta_cores.specs.Network.{Network}
 use Rattle.tta_cores.specs.Queues.{UsesQueues}
-use Rattle.tta_cores.proofs.Prefixes.{prefix_same, prefix_chain}
 
 -- the state of a core after so many steps from a state, where this is its whole input
 abbrev pub run : {S : Type 0} → Network S → (core : ℕ) → S → List ℕ → ℕ → S

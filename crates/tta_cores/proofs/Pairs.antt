@@ -3,6 +3,7 @@ use Rattle.std.proofs.Common.{◌≡◌, ℕ, zero, suc, ◌+◌, ◌*◌, List,
 use Rattle.std.specs.Prelude.{slice_get, zip}
 use Rattle.std.specs.Option.{option_map_or}
 use Rattle.std.specs.List.{AllByRecursion}
+use Rattle.tta_list.proofs.Prefixes.{prefix_same, prefix_chain}
 use Rattle.tta_list.specs.Iterate.{iterate}
 use Rattle.tta_list.proofs.Lists.{all_one}
 use Rattle.tta_ops.specs.Units.{Units}
@@ -16,7 +17,6 @@ use Rattle.tta_cores.specs.Network.{Network, Joined, output_of, feeder_of, fed_t
 use Rattle.tta_cores.specs.Cluster.{cycles, cycle_of, first_states}
 use Rattle.tta_cores.specs.Programs as programs
 use Rattle.tta_cores.specs.Laws.{IsCore, Pair, IsPair, core_in, core_memory, program_memory, CoresAgree}
-use Rattle.tta_cores.proofs.Prefixes.{prefix_same, prefix_chain}
 use Rattle.tta_cores.proofs.OneCore.{run, put_by}
 use Rattle.tta_cores.proofs.Meeting.{Does, reaches}
 use Rattle.tta_cores.proofs.CoreQueues.{cores_use}

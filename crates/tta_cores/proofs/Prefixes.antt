@@ -1,15 +1,7 @@
 -- Lists that begin others.
 use Rattle.std.proofs.Common.{◌≡◌, inl, inr, ⊎_elim, ℕ, List, [], ◌∷◌, ◌++◌, refl, sym, ap, ◌∙◌, append_assoc, append-nil}
-use Rattle.tta_agree.specs.Agrees.{IsPrefixOf}
+use Rattle.tta_list.specs.Prefix.{IsPrefixOf}
 use Rattle.tta_cores.specs.Network.{AreComparable}
-
--- a list begins itself
-pub prefix_same : (xs ys : List ℕ) → xs ≡ ys → IsPrefixOf xs ys
-prefix_same xs ys e = ([], sym e ∙ sym (append-nil xs))
-
--- and what begins a list begins what that begins
-pub prefix_chain : (xs ys zs : List ℕ) → IsPrefixOf xs ys → IsPrefixOf ys zs → IsPrefixOf xs zs
-prefix_chain xs ys zs p q = (p.0 ++ q.0, q.1 ∙ ap (λ (l : List ℕ). l ++ q.0) p.1 ∙ append_assoc xs p.0 q.0)
 
 -- of two lists that begin one, one begins the other
 pub prefixes_meet : (xs ys zs : List ℕ) → IsPrefixOf xs zs → IsPrefixOf ys zs → AreComparable xs ys

@@ -2,10 +2,10 @@
 use Rattle.std.proofs.Common.{◌≡◌, ℕ, zero, suc, ◌+◌, ◌≤◌, Bool, true, false, List, [], ◌∷◌, drop, replicate, Some, None, refl, sym, ap, ◌∙◌, arith}
 use Rattle.std.specs.Prelude.{slice_get}
 use Rattle.std.specs.Option.{option_map_or}
-use Rattle.tta_agree.specs.Agrees.{IsPrefixOf}
+use Rattle.tta_list.proofs.Prefixes.{prefix_same, prefix_chain}
+use Rattle.tta_list.specs.Prefix.{IsPrefixOf}
 use Rattle.tta_cores.specs.Network.{Network, Joined, output_of, fed_to, after_step, turn, interleaved, joined}
 use Rattle.tta_cores.specs.Queues.{UsesQueues}
-use Rattle.tta_cores.proofs.Prefixes.{prefix_same, prefix_chain}
 use Rattle.tta_cores.proofs.OneCore.{run, put_by, put_longer, put_later, put_all}
 use Rattle.tta_cores.proofs.Turns.{past_output, past_step}
 use Rattle.tta_cores.proofs.Clusters.{output_at, fed_grows, turn_grows, interleaved_grows, HasMade, HavePast, made_one, past_interleaved}

@@ -1,10 +1,11 @@
 -- The runs of a program and of the converted one.
 use Rattle.std.proofs.Common.{◌≡◌, ◌≤◌, ◌+◌, ◌*◌, ℕ, zero, suc, List, [], ◌∷◌, refl, sym, ap, ◌∙◌, subst, arith}
+use Rattle.tta_list.specs.Prefix.{IsPrefixOf}
 use Rattle.tta_ops.specs.Units.{Units}
 use Rattle.tta_program.specs.Program.{Program}
 use Rattle.tta_program.specs.Sequential.{seq, start, next, enter}
 use Rattle.tta_ifconv.specs.Converted.{Converted}
-use Rattle.tta_ifconv.specs.Statement.{IsPrefixOf, has_ended, RunAlike}
+use Rattle.tta_ifconv.specs.Statement.{has_ended, RunAlike}
 use Rattle.tta_ifconv.proofs.Growing.{later-output, later-end}
 use Rattle.tta_ifconv.proofs.Moved.{moved, Stands, enter_moved}
 use Rattle.tta_ifconv.proofs.Follows.{follows}

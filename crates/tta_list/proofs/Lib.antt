@@ -2,3 +2,4 @@ pub mod Lists
 pub mod Tests
 pub mod Sets
 pub mod Iterated
+pub mod Prefixes

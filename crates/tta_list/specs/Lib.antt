@@ -3,3 +3,4 @@ pub mod Legs
 pub mod Input
 pub mod Lends
 pub mod Laid
+pub mod Prefix

@@ -3,6 +3,8 @@ use Rattle.std.proofs.Common.{◌≡◌, ◌≢◌, ◌⊎◌, inl, inr, ℕ, ze
 use Rattle.std.specs.Prelude.{IsTrue}
 use Rattle.std.specs.List.{AllByRecursion}
 use Rattle.std.proofs.Math.Nat.{mul-suc}
+use Rattle.tta_list.proofs.Prefixes.{prefix_same, prefix_chain}
+use Rattle.tta_list.specs.Prefix.{IsPrefixOf}
 use Rattle.tta_list.specs.Iterate.{iterate}
 use Rattle.tta_list.proofs.Lists.{all_append}
 use Rattle.tta_ops.specs.Units.{Units}
@@ -23,12 +25,12 @@ use Rattle.tta_code.specs.Legal.{is_legal}
 use Rattle.tta_code.specs.Whole.{Whole, data_in}
 use Rattle.tta_code.specs.Cycle as cycle
 use Rattle.tta_code.specs.Cycle.{State, cyc, next}
-use Rattle.tta_agree.specs.Agrees.{IsPrefixOf, AreWords, IsGiven, HaltAlike, WaitAlike, Agrees, program_at}
+use Rattle.tta_agree.specs.Agrees.{AreWords, IsGiven, HaltAlike, WaitAlike, Agrees, program_at}
 use Rattle.tta_overlap.specs.Means.{Means, MeanAt}
 use Rattle.tta_overlap.proofs.Leg.{iterate_add}
 use Rattle.tta_overlap.proofs.Row.{IsRow, HasHalted, HasStopped, Tracks, goes, halts, stops}
 use Rattle.tta_overlap.proofs.Runs.{Reached, reach}
-use Rattle.tta_overlap.proofs.Over.{prefix_same, prefix_chain, output_stays, over_stays, over_same, output_before}
+use Rattle.tta_overlap.proofs.Over.{output_stays, over_stays, over_same, output_before}
 
 -- ---- programs that are over
 

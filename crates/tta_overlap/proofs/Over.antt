@@ -10,36 +10,17 @@ use Rattle.tta_arch.specs.declared.parts.Op.TheVariants.{Ldw, Stw, Ldf, Stf, Out
 use Rattle.tta_arch.specs.Machine.{Machine}
 use Rattle.tta_arch.specs.Effects.{Kind, Jumps, Calls, Halts, Effect, Written, Brought, Start, start_of, bring, write_of, put_out, first_some, control_of}
 use Rattle.std.specs.List.{filter_map}
+use Rattle.tta_list.proofs.Prefixes.{prefix_same, prefix_chain}
+use Rattle.tta_list.specs.Prefix.{IsPrefixOf}
+use Rattle.tta_arch.proofs.Outputs.{puts_prefix}
 use Rattle.tta_code.specs.declared.code.Instruction.{Instruction}
 use Rattle.tta_code.specs.declared.code.Code.{Code}
 use Rattle.tta_code.specs.Cycle.{State, Outcome, Running, Halted, Waiting, Fault, Pending, lands, takes_effect, acts, or_fault, or_wait, carry_out, next_of, next, effects_of, read_source, fault_of, waits, pending_after}
-use Rattle.tta_agree.specs.Agrees.{IsPrefixOf}
 use Rattle.tta_overlap.proofs.Leg.{iterate_add}
 
 -- ---- prefixes
 
-pub prefix_same : (xs ys : List ℕ) → xs ≡ ys → IsPrefixOf xs ys
-prefix_same xs ys e = ([], sym e ∙ sym (append-nil xs))
-
-pub prefix_chain : (xs ys zs : List ℕ) → IsPrefixOf xs ys → IsPrefixOf ys zs → IsPrefixOf xs zs
-prefix_chain xs ys zs p q = (p.0 ++ q.0, q.1 ∙ ap (λ (l : List ℕ). l ++ q.0) p.1 ∙ append_assoc xs p.0 q.0)
-
 -- ---- the output of a cycle
-
-put_prefix : (ws : List ℕ) (t : Start) → IsPrefixOf ws (put_out ws t)
-put_prefix ws t = on t.does.op refl where
-  on : (o : Op) → t.does.op ≡ o → IsPrefixOf ws (put_out ws t)
-  on Ldw e = prefix_same ws (put_out ws t) (rw e refl)
-  on Stw e = prefix_same ws (put_out ws t) (rw e refl)
-  on Ldf e = prefix_same ws (put_out ws t) (rw e refl)
-  on Stf e = prefix_same ws (put_out ws t) (rw e refl)
-  on Out e = (t.word ∷ [], rw e refl)
-  on Take e = prefix_same ws (put_out ws t) (rw e refl)
-  on (Set id) e = prefix_same ws (put_out ws t) (rw e refl)
-
-puts_prefix : (ts : List Start) (ws : List ℕ) → IsPrefixOf ws (fold put_out ws ts)
-puts_prefix [] ws = prefix_same ws ws refl
-puts_prefix (t ∷ ts) ws = prefix_chain ws (put_out ws t) (fold put_out (put_out ws t) ts) (put_prefix ws t) (puts_prefix ts (put_out ws t))
 
 lands_output : (s : State) (o : Option Pending) → (lands s o).output ≡ s.output
 lands_output s None = refl

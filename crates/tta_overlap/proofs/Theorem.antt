@@ -4,6 +4,7 @@ use Rattle.std.specs.Prelude.{is_some, option_map, slice_get}
 use Rattle.std.proofs.lemmas.Bool.Decides.{nat_tests}
 use Rattle.std.proofs.lemmas.List.{take-map}
 use Rattle.std.proofs.lemmas.Option.{slice_get-get_or, get_or_from_slice_get, slice_get_within}
+use Rattle.tta_list.proofs.Prefixes.{prefix_chain, prefix_same}
 use Rattle.tta_list.specs.Iterate.{iterate}
 use Rattle.tta_ops.specs.Units.{Units}
 use Rattle.tta_arch.specs.Machine.{Machine}
@@ -29,7 +30,7 @@ use Rattle.tta_overlap.proofs.Listed.{Run, touches, slot_shows}
 use Rattle.tta_overlap.proofs.InCycle.{reads_same}
 use Rattle.tta_overlap.proofs.InBlock.{now_at}
 use Rattle.tta_overlap.proofs.Padded.{some_or_none, all_same, all_wait, all_runs, meaning_padded}
-use Rattle.tta_overlap.proofs.Over.{output_stays, prefix_chain, prefix_same}
+use Rattle.tta_overlap.proofs.Over.{output_stays}
 use Rattle.tta_overlap.proofs.Block as block
 use Rattle.tta_overlap.proofs.InBlock.{Matches}
 use Rattle.tta_overlap.proofs.Block.{effects, leaves, InCycle}

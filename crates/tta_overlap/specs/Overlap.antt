@@ -2,6 +2,7 @@
 use Rattle.std.specs.Prelude.{option_map, ◌≡◌, ℕ, suc, ◌+◌, ◌<◌, ◌≤◌, true, false, if◌then◌else◌, nat_le, List, ◌++◌, length, map, take, replicate, Option, Some, None, slice_get, IsTrue}
 use Rattle.std.specs.Option.{option_map_or}
 use Rattle.std.specs.List.{list_all, AllByRecursion}
+use Rattle.tta_list.specs.Prefix.{IsPrefixOf}
 use Rattle.tta_list.specs.Iterate.{iterate}
 use Rattle.tta_ops.specs.Units.{Units}
 use Rattle.tta_arch.specs.declared.parts.Op.{Op}
@@ -13,7 +14,6 @@ use Rattle.tta_arch.specs.Effects.{Jumps, Calls, Halts, Target, Reg, Imm, Operan
 use Rattle.tta_code.specs.declared.code.Code.{Code}
 use Rattle.tta_code.specs.Legal.{is_legal}
 use Rattle.tta_code.specs.Cycle.{State, Running, Halted, Waiting, next, port, read_source}
-use Rattle.tta_agree.specs.Agrees.{IsPrefixOf}
 use Rattle.tta_moves.specs.declared.items.BlockList.{BlockList}
 use Rattle.tta_moves.specs.declared.items.PlacedItem.{PlacedItem}
 use Rattle.tta_moves.specs.declared.items.Placed.{Placed}
