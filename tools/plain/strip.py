@@ -46,7 +46,9 @@ DERIVED = re.compile(r"^([ \t]*)#\[derive\(([^)]*)\)\]\n", re.M)
 PRELUDE = "#[allow(unused_imports)]\nuse kit::{eprintln_in as eprintln, prelude::*, prove_in as prove, vec_in as vec};\n"
 # An enum whose variants have texts, and one of its variants with its text.
 TEXTS = re.compile(r"^#\[derive\([^)]*\bError\b[^)]*\)\]\npub enum (\w+) \{\n(.*?)^\}\n", re.M | re.S)
-VARIANT = re.compile(r'#\[error\(("(?:\\.|[^"\\])*")\)\]\s*(\w+)(\s*\{[^}]*\})?')
+VARIANT = re.compile(r'#\[error\(("(?:\\.|[^"\\])*")\)\]\s*(\w+)(\s*\{[^}]*\}|\([^)]*\))?')
+# A type without fields that has a text.
+TEXT = re.compile(r'^(#\[derive\([^)]*\bError\b[^)]*\)\]\n)#\[error\(("(?:\\.|[^"\\])*")\)\]\n(pub struct (\w+);\n)', re.M)
 
 
 def without_comments(text):
@@ -117,7 +119,11 @@ def display(found):
     arms = []
     for text, variant, fields in VARIANT.findall(found[2]):
         names = ", ".join(re.findall(r"(\w+)\s*:", fields))
-        arms.append(f"            Self::{variant}{f' {{ {names} }}' if names else ''} => write!(f, {text}),\n")
+        if fields.startswith("("):
+            shape, text = "(first)", text.replace("{0}", "{first}")
+        else:
+            shape = f" {{ {names} }}" if names else ""
+        arms.append(f"            Self::{variant}{shape} => write!(f, {text}),\n")
     return (
         f"{found[0]}\nimpl std::fmt::Display for {found[1]} {{\n"
         "    fn fmt(&self, f: &mut std::fmt::Formatter<'_>) -> std::fmt::Result {\n        match self {\n"
@@ -125,9 +131,17 @@ def display(found):
     )
 
 
+def display_one(found):
+    """The type without fields again, with what makes its text."""
+    return (
+        f"{found[1]}{found[3]}\nimpl std::fmt::Display for {found[4]} {{\n"
+        f"    fn fmt(&self, f: &mut std::fmt::Formatter<'_>) -> std::fmt::Result {{\n        write!(f, {found[2]})\n    }}\n}}\n"
+    )
+
+
 def plain(text):
     """A source in plain Rust."""
-    text = TEXTS.sub(display, without_comments(text))
+    text = TEXT.sub(display_one, TEXTS.sub(display, without_comments(text)))
     for pattern, end in PARTS:
         text = without(text, pattern, end)
     pieces = LITERAL.split(text)

@@ -11,7 +11,7 @@ ghost use Rattle.tta_select.specs.Needs.{fits_block};
 use crate::calling::call_of;
 use crate::dispatch::put_steps;
 use crate::leaving::put_exit;
-use crate::target::Target;
+use crate::target::SelectionTarget;
 use std::alloc::{AllocError, Global};
 use tta_arch::{Machine, Op};
 use tta_connect::{Choice, Net};
@@ -48,7 +48,7 @@ fn live_homes(alloc: Global, c: &Choice, live: &[u32]) -> Result<Items<(u8, u8)>
 #[tactic(auto, unfolding(crate::specs::Select::items_of_block))]
 fn block_items(
     alloc: Global,
-    on: &Target<'_>,
+    on: &SelectionTarget<'_>,
     units: &UnitSet,
     blocks: usize,
     b: &RBlock,
@@ -67,7 +67,7 @@ fn block_items(
 /// The list of a block.
 fn list_of(
     alloc: Global,
-    on: &Target<'_>,
+    on: &SelectionTarget<'_>,
     units: &UnitSet,
     blocks: usize,
     b: &RBlock,
@@ -87,7 +87,7 @@ fn list_of(
 fn select_all(
     alloc: Global,
     r: &Rir,
-    on: &Target<'_>,
+    on: &SelectionTarget<'_>,
     units: &UnitSet,
 ) -> Result<Vec<BlockList>, AllocError>
     requires fits { list_all (fits_block (stated unit_meaning units.now) on.now.machine.now
@@ -123,7 +123,7 @@ pub fn select(
     ensures lists { IfOk result (λ lists. lists.items
         ≡ selected m.now c.now (stated unit_meaning units.now) r.now) }
 {
-    let on = Target {
+    let on = SelectionTarget {
         machine: m,
         net,
         choice: c,

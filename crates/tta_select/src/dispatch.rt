@@ -10,7 +10,7 @@ use crate::calling::call_of;
 use crate::merging::choose;
 use crate::operands::{home_at, trigger_at, value};
 use crate::stepping::{apply, condition, copy_to_slot, guard_of, load, save_ra, store, take};
-use crate::target::Target;
+use crate::target::SelectionTarget;
 use std::alloc::AllocError;
 use tta_arch::Op;
 use tta_list::Items;
@@ -21,7 +21,7 @@ use tta_rcode::{Place, RStep};
 /// Puts the items of a step at the end.
 fn put_step(
     items: &mut Items<Item>,
-    on: &Target<'_>,
+    on: &SelectionTarget<'_>,
     units: &UnitSet,
     step: RStep,
 ) -> Result<(), AllocError>
@@ -68,7 +68,7 @@ fn put_step(
 #[tactic(auto, using(crate::proofs::Walks::flat_more, crate::proofs::Walks::flat_done))]
 pub fn put_steps(
     items: &mut Items<Item>,
-    on: &Target<'_>,
+    on: &SelectionTarget<'_>,
     units: &UnitSet,
     steps: &[RStep],
 ) -> Result<(), AllocError>

@@ -8,7 +8,7 @@ ghost use Rattle.tta_select.specs.Needs.{is_exit_of, has_no_condition};
 use crate::operands::fetch;
 use crate::putting::constant;
 use crate::stepping::{condition, guard_of};
-use crate::target::Target;
+use crate::target::SelectionTarget;
 use std::alloc::AllocError;
 use tta_arch::Dest;
 use tta_list::Items;
@@ -26,7 +26,7 @@ fn has_no_condition(e: Exit) -> bool
 /// Puts the items of an exit without a condition at the end.
 fn leave(
     items: &mut Items<Item>,
-    on: &Target<'_>,
+    on: &SelectionTarget<'_>,
     units: &UnitSet,
     e: Exit,
 ) -> Result<(), AllocError>
@@ -46,7 +46,7 @@ fn leave(
 /// Puts the items of an exit at the end.
 pub fn put_exit(
     items: &mut Items<Item>,
-    on: &Target<'_>,
+    on: &SelectionTarget<'_>,
     units: &UnitSet,
     blocks: usize,
     e: Exit,

@@ -9,7 +9,7 @@ ghost use Rattle.tta_select.specs.Relation.{is_place_of, is_src_of};
 use crate::operands::{fetch, home_at, home_pair, shown_at, value};
 use crate::operating::{MERGING, put_merged};
 use crate::putting::{PASSING, from_hub, hub_at, long_for, put_move};
-use crate::target::Target;
+use crate::target::SelectionTarget;
 use std::alloc::AllocError;
 use tta_arch::{Dest, GuardRef, Source};
 use tta_list::Items;
@@ -17,7 +17,7 @@ use tta_moves::{Item, ItemSource, is_joined};
 use tta_rcode::{Place, RSrc};
 
 /// Puts the way of a place's own word to the hub's register for merging at the end.
-fn put_old(items: &mut Items<Item>, on: &Target<'_>, d: Place) -> Result<(), AllocError>
+fn put_old(items: &mut Items<Item>, on: &SelectionTarget<'_>, d: Place) -> Result<(), AllocError>
     requires inside { is_place_of on.now.machine.now on.now.choice.now d ≡ true }
     ensures { IfOk result (λ x. items.new ≡ items.old
         ++ brings_old on.now.machine.now on.now.choice.now d) }
@@ -33,7 +33,12 @@ fn put_old(items: &mut Items<Item>, on: &Target<'_>, d: Place) -> Result<(), All
 }
 
 /// Whether a bus joins two ends under a guard, or the second end and the hub's register.
-fn joined_or_hub(on: &Target<'_>, guard: Option<GuardRef>, src: ItemSource, dst: Dest) -> bool
+fn joined_or_hub(
+    on: &SelectionTarget<'_>,
+    guard: Option<GuardRef>,
+    src: ItemSource,
+    dst: Dest,
+) -> bool
     ensures { result ≡ (joined on.now.machine.now src dst guard
         || joined on.now.machine.now (ItemSource.Port (Source.Reg on.now.choice.now.hub 0))
         dst guard) }
@@ -43,7 +48,7 @@ fn joined_or_hub(on: &Target<'_>, guard: Option<GuardRef>, src: ItemSource, dst:
 }
 
 /// Whether an operand has a way to a place.
-fn reaches(on: &Target<'_>, guard: Option<GuardRef>, o: RSrc, dst: Dest) -> bool
+fn reaches(on: &SelectionTarget<'_>, guard: Option<GuardRef>, o: RSrc, dst: Dest) -> bool
     requires inside { is_src_of on.now.machine.now on.now.choice.now o ≡ true }
     ensures { result ≡ reaches on.now.machine.now on.now.choice.now guard o dst }
 {
@@ -64,7 +69,7 @@ fn reaches(on: &Target<'_>, guard: Option<GuardRef>, o: RSrc, dst: Dest) -> bool
 /// Puts the merge of a place's own word and another in the hub at the end.
 fn put_merging(
     items: &mut Items<Item>,
-    on: &Target<'_>,
+    on: &SelectionTarget<'_>,
     g: GuardRef,
     s: RSrc,
     d: Place,
@@ -85,7 +90,7 @@ fn put_merging(
 /// Puts the way of a word to a place at the end, where a guard lets it.
 pub fn choose(
     items: &mut Items<Item>,
-    on: &Target<'_>,
+    on: &SelectionTarget<'_>,
     g: GuardRef,
     s: RSrc,
     d: Place,

@@ -6,7 +6,7 @@ ghost use Rattle.tta_select.specs.Select.{trigger_at, shown_at, fetch, value};
 ghost use Rattle.tta_select.specs.Relation.{is_src_of};
 
 use crate::putting::{carry, constant};
-use crate::target::Target;
+use crate::target::SelectionTarget;
 use std::alloc::AllocError;
 use tta_arch::{Dest, GuardRef, Source};
 use tta_connect::{Call, Choice};
@@ -58,7 +58,7 @@ pub fn home_at(c: &Choice, k: u32) -> Dest
 /// Puts the load of a slot and the way of its word at the end.
 pub fn fetch(
     items: &mut Items<Item>,
-    on: &Target<'_>,
+    on: &SelectionTarget<'_>,
     guard: Option<GuardRef>,
     slot: u32,
     dst: Dest,
@@ -73,7 +73,7 @@ pub fn fetch(
 /// Puts the way of an operand to a place at the end.
 pub fn value(
     items: &mut Items<Item>,
-    on: &Target<'_>,
+    on: &SelectionTarget<'_>,
     guard: Option<GuardRef>,
     o: RSrc,
     dst: Dest,

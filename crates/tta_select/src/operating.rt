@@ -8,7 +8,7 @@ ghost use Rattle.tta_select.specs.Relation.{is_place_of, is_src_of};
 
 use crate::operands::{home_at, operand_at, shown_at, trigger_at, value};
 use crate::putting::{carry, constant, from_hub, put_move};
-use crate::target::Target;
+use crate::target::SelectionTarget;
 use std::alloc::AllocError;
 use tta_connect::Call;
 use tta_list::Items;
@@ -21,7 +21,7 @@ pub const MERGING: u8 = 1;
 /// Puts the operand, where an operation takes two words, and the trigger at the end.
 pub fn operate(
     items: &mut Items<Item>,
-    on: &Target<'_>,
+    on: &SelectionTarget<'_>,
     f: Call,
     a: RSrc,
     b: RSrc,
@@ -38,7 +38,11 @@ pub fn operate(
 }
 
 /// Puts the way of a slot's address to the operand port of the store at the end.
-pub fn address_slot(items: &mut Items<Item>, on: &Target<'_>, slot: u32) -> Result<(), AllocError>
+pub fn address_slot(
+    items: &mut Items<Item>,
+    on: &SelectionTarget<'_>,
+    slot: u32,
+) -> Result<(), AllocError>
     ensures { IfOk result (λ x. items.new ≡ items.old
         ++ address_slot on.now.machine.now on.now.choice.now slot) }
 {
@@ -48,7 +52,7 @@ pub fn address_slot(items: &mut Items<Item>, on: &Target<'_>, slot: u32) -> Resu
 /// Puts the way of a result to its place at the end.
 pub fn put_result(
     items: &mut Items<Item>,
-    on: &Target<'_>,
+    on: &SelectionTarget<'_>,
     f: Call,
     d: Place,
 ) -> Result<(), AllocError>
@@ -66,7 +70,11 @@ pub fn put_result(
 }
 
 /// Puts the way of the word in the hub's register for merging to its place at the end.
-pub fn put_merged(items: &mut Items<Item>, on: &Target<'_>, d: Place) -> Result<(), AllocError>
+pub fn put_merged(
+    items: &mut Items<Item>,
+    on: &SelectionTarget<'_>,
+    d: Place,
+) -> Result<(), AllocError>
     requires inside { is_place_of on.now.machine.now on.now.choice.now d ≡ true }
     ensures { IfOk result (λ x. items.new ≡ items.old
         ++ merged on.now.machine.now on.now.choice.now d) }

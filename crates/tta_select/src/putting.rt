@@ -6,7 +6,7 @@ ghost use Rattle.tta_moves.specs.Slots.{joined};
 ghost use Rattle.tta_select.specs.Select.{filled, through_hub, long_hub, long_way, constant, carry};
 ghost use Rattle.tta_select.specs.Select.{value};
 
-use crate::target::Target;
+use crate::target::SelectionTarget;
 use std::alloc::AllocError;
 use tta_arch::{Dest, GuardRef, Source, Template};
 use tta_connect::Choice;
@@ -56,7 +56,7 @@ pub fn put_move(
 /// Puts the two moves of a way through the hub at the end.
 fn put_through_hub(
     items: &mut Items<Item>,
-    on: &Target<'_>,
+    on: &SelectionTarget<'_>,
     guard: Option<GuardRef>,
     src: ItemSource,
     dst: Dest,
@@ -71,7 +71,7 @@ fn put_through_hub(
 /// Puts the way of a register, a result or the return address at the end.
 pub fn carry(
     items: &mut Items<Item>,
-    on: &Target<'_>,
+    on: &SelectionTarget<'_>,
     guard: Option<GuardRef>,
     src: ItemSource,
     dst: Dest,
@@ -96,7 +96,11 @@ fn filled(t: &Template) -> ItemSource
 }
 
 /// The first template whose register some bus joins to a place, with a guard.
-pub fn long_for<'a>(on: &Target<'a>, dst: Dest, guard: Option<GuardRef>) -> Option<&'a Template>
+pub fn long_for<'a>(
+    on: &SelectionTarget<'a>,
+    dst: Dest,
+    guard: Option<GuardRef>,
+) -> Option<&'a Template>
     ensures { option_map (λ t. t.now) result
         ≡ find (λ t. joined on.now.machine.now (filled t) dst guard)
         on.now.machine.now.templates }
@@ -124,7 +128,7 @@ fn put_long(items: &mut Items<Item>, t: &Template, value: LongValue) -> Result<(
 /// Puts the way of a constant by an immediate register and the hub at the end.
 fn put_long_hub(
     items: &mut Items<Item>,
-    on: &Target<'_>,
+    on: &SelectionTarget<'_>,
     guard: Option<GuardRef>,
     v: LongValue,
     dst: Dest,
@@ -146,7 +150,7 @@ fn put_long_hub(
 /// Puts the way of a constant by an immediate register at the end.
 fn put_long_way(
     items: &mut Items<Item>,
-    on: &Target<'_>,
+    on: &SelectionTarget<'_>,
     guard: Option<GuardRef>,
     v: LongValue,
     dst: Dest,
@@ -168,7 +172,7 @@ fn put_long_way(
 /// Puts the way of a word or an address at the end.
 pub fn constant(
     items: &mut Items<Item>,
-    on: &Target<'_>,
+    on: &SelectionTarget<'_>,
     guard: Option<GuardRef>,
     v: LongValue,
     dst: Dest,

@@ -12,7 +12,7 @@ use crate::calling::{call_of, test_op};
 use crate::operands::{operand_at, shown_at, trigger_at, value};
 use crate::operating::{address_slot, operate, put_result};
 use crate::putting::{carry, constant};
-use crate::target::Target;
+use crate::target::SelectionTarget;
 use std::alloc::AllocError;
 use tta_arch::{Dest, GuardRef, Source};
 use tta_connect::{Call, Choice};
@@ -50,7 +50,7 @@ pub fn guard_of(c: &Choice, rel: Rel) -> GuardRef
 /// Puts a condition's way to the guard register at the end.
 pub fn condition(
     items: &mut Items<Item>,
-    on: &Target<'_>,
+    on: &SelectionTarget<'_>,
     units: &UnitSet,
     rel: Rel,
     a: RSrc,
@@ -74,7 +74,7 @@ pub fn condition(
 /// Puts the items of a copy to a slot at the end.
 pub fn copy_to_slot(
     items: &mut Items<Item>,
-    on: &Target<'_>,
+    on: &SelectionTarget<'_>,
     slot: u32,
     s: RSrc,
 ) -> Result<(), AllocError>
@@ -89,7 +89,11 @@ pub fn copy_to_slot(
 }
 
 /// Puts the items of a step that saves the return address at the end.
-pub fn save_ra(items: &mut Items<Item>, on: &Target<'_>, slot: u32) -> Result<(), AllocError>
+pub fn save_ra(
+    items: &mut Items<Item>,
+    on: &SelectionTarget<'_>,
+    slot: u32,
+) -> Result<(), AllocError>
     ensures { IfOk result (λ x. items.new ≡ items.old
         ++ (address_slot on.now.machine.now on.now.choice.now slot
         ++ carry on.now.machine.now on.now.choice.now None (ItemSource.Port Source.Ra)
@@ -103,7 +107,7 @@ pub fn save_ra(items: &mut Items<Item>, on: &Target<'_>, slot: u32) -> Result<()
 /// Puts the items of an operation of the set of units at the end.
 pub fn apply(
     items: &mut Items<Item>,
-    on: &Target<'_>,
+    on: &SelectionTarget<'_>,
     f: Call,
     d: Place,
     a: RSrc,
@@ -123,7 +127,7 @@ pub fn apply(
 /// Puts the items of a load at the end.
 pub fn load(
     items: &mut Items<Item>,
-    on: &Target<'_>,
+    on: &SelectionTarget<'_>,
     f: Call,
     d: Place,
     a: RSrc,
@@ -139,7 +143,12 @@ pub fn load(
 }
 
 /// Puts the items of a step that takes a word of the input at the end.
-pub fn take(items: &mut Items<Item>, on: &Target<'_>, f: Call, d: Place) -> Result<(), AllocError>
+pub fn take(
+    items: &mut Items<Item>,
+    on: &SelectionTarget<'_>,
+    f: Call,
+    d: Place,
+) -> Result<(), AllocError>
     requires place { is_place_of on.now.machine.now on.now.choice.now d ≡ true }
     ensures { IfOk result (λ x. items.new ≡ items.old
         ++ (constant on.now.machine.now on.now.choice.now None (LongValue.Word 0) (trigger_at f)
@@ -152,7 +161,7 @@ pub fn take(items: &mut Items<Item>, on: &Target<'_>, f: Call, d: Place) -> Resu
 /// Puts the items of a store at the end.
 pub fn store(
     items: &mut Items<Item>,
-    on: &Target<'_>,
+    on: &SelectionTarget<'_>,
     f: Call,
     a: RSrc,
     v: RSrc,

@@ -11,7 +11,7 @@ use tta_connect::{Call, Choice, Net};
 /// What items are selected for: a machine with its net, what is chosen on it, and the load and the
 /// store of the frame, which are the first that usable units offer.
 #[derive(Drop)]
-pub struct Target<'a> {
+pub struct SelectionTarget<'a> {
     pub machine: &'a Machine,
     /// Which buses join which ports.
     pub net: &'a Net,
