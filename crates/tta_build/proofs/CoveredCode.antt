@@ -16,7 +16,7 @@ use Rattle.tta_program.specs.Sizes.{frame_need}
 use Rattle.tta_rcode.specs.declared.code.Rir.{Rir}
 use Rattle.tta_lower.specs.Law.{IsKnown}
 use Rattle.tta_lower.specs.Lower.{lowered, parts}
-use Rattle.tta_lower.specs.Known.{spans, home_by, first_by, after_by}
+use Rattle.tta_lower.specs.Known.{first_by, known_by}
 use Rattle.tta_lower.proofs.SameHomes.{answers_know}
 use Rattle.tta_moves.specs.declared.items.BlockList.{BlockList}
 use Rattle.tta_moves.specs.declared.items.Placed.{Placed}
@@ -64,24 +64,24 @@ module _ (u : Units) (m : Machine) (c : Choice) (p : Program) (machine : IsMachi
 
   -- what is known of register code
   abbrev known : (r : Rir) (is : IsLowered p (length c.homes) m.frame_words r)
-      → IsKnown p (length c.homes) (spans is.blocks) (home_by p is.kept) (first_by p is.live) (after_by p is.live)
+      → IsKnown p (length c.homes) (known_by p is.blocks is.live is.kept)
   known r is = answers_know p (length c.homes) is.blocks is.live is.kept program is.flow is.lives is.allotted
 
   -- it is the code that the laws of the parts speak of
   code_is : (r : Rir) (is : IsLowered p (length c.homes) m.frame_words r)
-      → r ≡ lowered p (spans is.blocks) (first_by p is.live) (home_by p is.kept) (after_by p is.live) (length c.homes)
+      → r ≡ lowered p (known_by p is.blocks is.live is.kept) (length c.homes)
   code_is r is =
-      is.code.is ∙ ap (lowered p (spans is.blocks) (first_by p is.live) (home_by p is.kept) (after_by p is.live)) is.allotted.count
+      is.code.is ∙ ap (lowered p (known_by p is.blocks is.live is.kept)) is.allotted.count
 
   -- its blocks fit the machine
   pub blocks_fit : (r : Rir) → IsLowered p (length c.homes) m.frame_words r → list_all (fits_block u m c (length r.blocks)) r.blocks ≡ true
   blocks_fit r is =
       subst (λ (x : Rir). list_all (fits_block u m c (length x.blocks)) x.blocks ≡ true) (sym (code_is r is))
-      (fit u m c p (spans is.blocks) (home_by p is.kept) (first_by p is.live) (after_by p is.live) (pair is.code.room) (known r is)).blocks
+      (fit u m c p (known_by p is.blocks is.live is.kept) (pair is.code.room) (known r is)).blocks
 
   -- the lists that are selected for it
   abbrev selected_for : (r : Rir) → IsLowered p (length c.homes) m.frame_words r → List BlockList
-  selected_for r is = raw u m c p (spans is.blocks) (home_by p is.kept) (first_by p is.live) (after_by p is.live)
+  selected_for r is = raw u m c p (known_by p is.blocks is.live is.kept)
 
   selected_are : (r : Rir) (is : IsLowered p (length c.homes) m.frame_words r) (lists : List BlockList) → lists ≡ selected m c u r → lists ≡ selected_for r is
   selected_are r is lists same = same ∙ ap (selected m c u) (code_is r is)
@@ -103,9 +103,9 @@ module _ (u : Units) (m : Machine) (c : Choice) (p : Program) (machine : IsMachi
   pub selected_lists : (lists : List BlockList) → AreSelected u m c p lists → list_all (λ (b : BlockList). is_list m b.items) lists ≡ true
   selected_lists lists of =
       let known = answers_know p (length c.homes) of.blocks of.live of.kept program of.flow of.lives of.allotted in
-      let planned = lists_planned u m c p (spans of.blocks) (home_by p of.kept) (first_by p of.live) (after_by p of.live) lists
+      let planned = lists_planned u m c p (known_by p of.blocks of.live of.kept) lists
       (pair of.room) known (subst (λ (l : List BlockList). AreStandIns m l lists) of.are (selected_stand m lists)) in
-      all_by (λ (b : BlockList). is_list m b.items) (parts p (spans of.blocks) (first_by p of.live)) lists planned.count
+      all_by (λ (b : BlockList). is_list m b.items) (parts p of.blocks (first_by p of.live)) lists planned.count
       (λ k x b e f. (planned.each k x b e f).list)
 
   -- of the placements that are chosen for them each is one of a list that may be placed for them
@@ -128,11 +128,11 @@ module _ (u : Units) (m : Machine) (c : Choice) (p : Program) (lists : List Bloc
   pair_of : IsPair u m c p
   pair_of = record { machine = machine; over = over; choice = choice; program = program; offered = offers; room = of.room }
 
-  known_of : IsKnown p (length c.homes) (spans of.blocks) (home_by p of.kept) (first_by p of.live) (after_by p of.live)
+  known_of : IsKnown p (length c.homes) (known_by p of.blocks of.live of.kept)
   known_of = answers_know p (length c.homes) of.blocks of.live of.kept program of.flow of.lives of.allotted
 
   abbrev raw_for : List BlockList
-  raw_for = raw u m c p (spans of.blocks) (home_by p of.kept) (first_by p of.live) (after_by p of.live)
+  raw_for = raw u m c p (known_by p of.blocks of.live of.kept)
 
   -- the lists may be placed for the selected ones
   stand_in : AreStandIns m raw_for lists
@@ -149,15 +149,15 @@ module _ (u : Units) (m : Machine) (c : Choice) (p : Program) (lists : List Bloc
     flow = of.flow;
     lives = of.lives;
     allotted = of.allotted;
-    planned = lists_planned u m c p (spans of.blocks) (home_by p of.kept) (first_by p of.live) (after_by p of.live) lists pair_of known_of stand_in;
+    planned = lists_planned u m c p (known_by p of.blocks of.live of.kept) lists pair_of known_of stand_in;
     forms = are.forms;
-    means = lists_mean u m c p (spans of.blocks) (home_by p of.kept) (first_by p of.live) (after_by p of.live) lists pair_of known_of (stand_for m raw_for lists stand_in);
+    means = lists_mean u m c p (known_by p of.blocks of.live of.kept) lists pair_of known_of (stand_for m raw_for lists stand_in);
   }
 
   -- their placements can be linked
   can_link : (ps : List Placed) → AreRespected m lists ps → AreBlocks m ps
   can_link ps respected =
-      lists_link u m c p (spans of.blocks) (home_by p of.kept) (first_by p of.live) (after_by p of.live) lists ps pair_of known_of stand_in respected
+      lists_link u m c p (known_by p of.blocks of.live of.kept) lists ps pair_of known_of stand_in respected
 
   accepted : is_direct m p ≡ false → failed_rule m ≡ None → unsupplied u m p ≡ None → IsAccepted u m p
   accepted other kept supplied = Covered other kept supplied of.room
@@ -169,17 +169,17 @@ module _ (u : Units) (m : Machine) (c : Choice) (p : Program) (lists : List Bloc
     legal = is.legal;
     packed = record { lists = lists; placements = is.placements; plan = plan; first = is.first; linked = is.linked };
     room =
-        let fits = lists_fit u m c p (spans of.blocks) (home_by p of.kept) (first_by p of.live) (after_by p of.live) lists is.placements pair_of known_of stand_in is.roomy in
+        let fits = lists_fit u m c p (known_by p of.blocks of.live of.kept) lists is.placements pair_of known_of stand_in is.roomy in
         let same = linked_length m code is.placements is.linked in omega (arith, fits, same);
     agrees = λ init laid.
-        lists_agree u m c p (spans of.blocks) (home_by p of.kept) (first_by p of.live) (after_by p of.live) lists is.placements (record { code = code; init = init })
+        lists_agree u m c p (known_by p of.blocks of.live of.kept) lists is.placements (record { code = code; init = init })
         pair_of known_of stand_in is.roomy.respected is.linked is.legal laid;
   }
 
   -- and where it is too long, it has no more words than the pair's room
   room_for : is_direct m p ≡ false → failed_rule m ≡ None → unsupplied u m p ≡ None → (words have : ℕ) → IsTooLong m lists words have → LacksRoom u m p words have
   room_for other kept supplied words have is =
-      let fits = lists_fit u m c p (spans of.blocks) (home_by p of.kept) (first_by p of.live) (after_by p of.live) lists is.placements pair_of known_of stand_in is.roomy in
+      let fits = lists_fit u m c p (known_by p of.blocks of.live of.kept) lists is.placements pair_of known_of stand_in is.roomy in
       let same = is.length in record {
         accepted = accepted other kept supplied;
         addresses = is.addresses;

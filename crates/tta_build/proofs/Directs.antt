@@ -19,7 +19,7 @@ use Rattle.tta_program.specs.Direct.{only_constants, puts, alone}
 use Rattle.tta_rcode.specs.declared.code.Rir.{Rir}
 use Rattle.tta_rcode.specs.Direct.{one_block}
 use Rattle.tta_lower.specs.Lower.{lowered}
-use Rattle.tta_lower.specs.Known.{spans, home_by, first_by, after_by}
+use Rattle.tta_lower.specs.Known.{known_by}
 use Rattle.tta_moves.specs.declared.items.BlockList.{BlockList}
 use Rattle.tta_moves.specs.declared.items.Placed.{Placed}
 use Rattle.tta_moves.specs.Slots.{is_list}
@@ -66,7 +66,7 @@ pub list_is : (m : Machine) (p : Program) (r : Rir) (lists : List BlockList) →
 list_is m p r lists program direct is one =
     let lower = direct_lowers m p program direct 0 is.blocks is.live is.kept is.flow is.lives is.allotted in
     let same : r ≡ record { blocks = one_block (constants_of p) ∷ [] } =
-    is.code.is ∙ ap (lowered p (spans is.blocks) (first_by p is.live) (home_by p is.kept) (after_by p is.live)) is.allotted.count ∙ lower in
+    is.code.is ∙ ap (lowered p (known_by p is.blocks is.live is.kept)) is.allotted.count ∙ lower in
     record {
       blocks = is.blocks;
       live = is.live;

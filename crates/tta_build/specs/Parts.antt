@@ -13,7 +13,7 @@ use Rattle.tta_flow.specs.Blocks.{IsFlow}
 use Rattle.tta_flow.specs.Live.{IsLive}
 use Rattle.tta_alloc.specs.declared.homes.Homes.{Homes}
 use Rattle.tta_alloc.specs.Allotted.{AreAllotted}
-use Rattle.tta_lower.specs.Known.{spans, home_by, first_by, after_by}
+use Rattle.tta_lower.specs.Known.{known_by}
 use Rattle.tta_lower.specs.Statement.{IsCodeOf}
 use Rattle.tta_moves.specs.declared.items.BlockList.{BlockList}
 use Rattle.tta_moves.specs.declared.items.Placed.{Placed}
@@ -52,7 +52,7 @@ pub record AreSelected (u : Units) (m : Machine) (c : Choice) (p : Program) (lis
   pub lives : IsLive p live
   pub allotted : AreAllotted p (length c.homes) kept
   pub room : frame_need p ≤ m.frame_words
-  pub are : lists ≡ raw u m c p (spans blocks) (home_by p kept) (first_by p live) (after_by p live)
+  pub are : lists ≡ raw u m c p (known_by p blocks live kept)
 
 -- The lists that are placed for a program: each may be placed for the selected one, and is in all forms.
 pub record AreListsOf (u : Units) (m : Machine) (c : Choice) (p : Program) (lists : List BlockList) : Type 0 where

@@ -1,5 +1,5 @@
 -- What the parts prove of their own, one after another.
-use Rattle.std.proofs.Common.{◌≡◌, ◌≢◌, ◌<◌, ◌^◌, ℕ, suc, ◌+◌, Bool, true, List, [], ◌∷◌, ◌++◌, refl, sym, ap, subst, arith, ◌∙◌, length, map}
+use Rattle.std.proofs.Common.{◌≡◌, ◌≢◌, ◌<◌, ◌^◌, ℕ, suc, ◌+◌, true, List, [], ◌∷◌, ◌++◌, refl, sym, ap, subst, arith, ◌∙◌, length, map}
 use Rattle.std.specs.Prelude.{nat_lt}
 use Rattle.std.specs.List.{list_all, AllByRecursion}
 use Rattle.std.proofs.lemmas.Bool.{and_parts}
@@ -20,11 +20,10 @@ use Rattle.tta_optim.specs.Kept.{StandsFor}
 use Rattle.tta_optim.proofs.RunsKept.{keeps_runs}
 use Rattle.tta_optim.proofs.NoMore.{optimise_bypassed, optimise_shared, optimise_lively}
 use Rattle.tta_optim.proofs.StandIns.{stands_itself, stand_in_next, optimised_stands}
-use Rattle.tta_lower.specs.declared.part.Span.{Span}
 use Rattle.tta_lower.specs.declared.part.Part.{Part}
 use Rattle.tta_rcode.specs.declared.code.RBlock.{RBlock}
 use Rattle.tta_rcode.specs.declared.code.Rir.{Rir}
-use Rattle.tta_lower.specs.Liveness.{Homes}
+use Rattle.tta_lower.specs.Liveness.{Known}
 use Rattle.tta_lower.specs.Lower.{parts, block_of, lowered}
 use Rattle.tta_rcode.specs.Closed.{is_closed_block}
 use Rattle.tta_rcode.specs.Meaning.{is_running, rrun}
@@ -122,46 +121,46 @@ module _ (u : Units) (m : Machine) (p : Program) (r : Rir) (lists : List BlockLi
 
 -- ---- all together
 
-module _ (u : Units) (m : Machine) (c : Choice) (p : Program) (blocks : List Span) (home : Homes) (live_first : (owner x : ℕ) → Bool) (live_after : (owner at x : ℕ) → Bool)
-    (pair : IsPair u m c p) (known : IsKnown p (length c.homes) blocks home live_first live_after) where
+module _ (u : Units) (m : Machine) (c : Choice) (p : Program) (known : Known)
+    (pair : IsPair u m c p) (is_known : IsKnown p (length c.homes) known) where
   abbrev pub code : Rir
-  code = lowered p blocks live_first home live_after (length c.homes)
+  code = lowered p known (length c.homes)
 
-  pub law : IsRegisterCode u p blocks home live_first live_after (length c.homes) m.frame_words
-  law = lowers_well u p blocks home live_first live_after (length c.homes) m.frame_words pair.program known.flow known.apart known.answers
+  pub law : IsRegisterCode u p known (length c.homes) m.frame_words
+  law = lowers_well u p known (length c.homes) m.frame_words pair.program is_known.flow is_known.apart is_known.answers
 
   parts_fit : (n : ℕ) (xs : List Part)
-      → list_all (is_closed_block (length c.homes) m.frame_words n) (map (block_of p blocks live_first home live_after (length c.homes)) xs) ≡ true
-      → list_all (fits_block u m c n) (map (block_of p blocks live_first home live_after (length c.homes)) xs) ≡ true
+      → list_all (is_closed_block (length c.homes) m.frame_words n) (map (block_of p known (length c.homes)) xs) ≡ true
+      → list_all (fits_block u m c n) (map (block_of p known (length c.homes)) xs) ≡ true
   parts_fit n [] e = refl
   parts_fit n (x ∷ xs) e =
-      let b : RBlock = block_of p blocks live_first home live_after (length c.homes) x in
+      let b : RBlock = block_of p known (length c.homes) x in
       let halves = and_parts (is_closed_block (length c.homes) m.frame_words n b)
-      (list_all (is_closed_block (length c.homes) m.frame_words n) (map (block_of p blocks live_first home live_after (length c.homes)) xs)) e in
+      (list_all (is_closed_block (length c.homes) m.frame_words n) (map (block_of p known (length c.homes)) xs)) e in
       let one : fits_block u m c n b ≡ true = block_fits m c u n b halves.0
-      (part_steps u m c p home blocks live_first live_after (length c.homes) pair.offered x)
-      (part_exit u m c p home blocks live_first live_after (length c.homes) pair.offered x) in
+      (part_steps u m c p known (length c.homes) pair.offered x)
+      (part_exit u m c p known (length c.homes) pair.offered x) in
       rw (one, parts_fit n xs halves.1) refl
 
   parts_words : (n : ℕ) (xs : List Part)
-      → list_all (is_closed_block (length c.homes) m.frame_words n) (map (block_of p blocks live_first home live_after (length c.homes)) xs) ≡ true
-      → list_all word_block (map (block_of p blocks live_first home live_after (length c.homes)) xs) ≡ true
+      → list_all (is_closed_block (length c.homes) m.frame_words n) (map (block_of p known (length c.homes)) xs) ≡ true
+      → list_all word_block (map (block_of p known (length c.homes)) xs) ≡ true
   parts_words n [] e = refl
   parts_words n (x ∷ xs) e =
-      let b : RBlock = block_of p blocks live_first home live_after (length c.homes) x in
+      let b : RBlock = block_of p known (length c.homes) x in
       let halves = and_parts (is_closed_block (length c.homes) m.frame_words n b)
-      (list_all (is_closed_block (length c.homes) m.frame_words n) (map (block_of p blocks live_first home live_after (length c.homes)) xs)) e in
+      (list_all (is_closed_block (length c.homes) m.frame_words n) (map (block_of p known (length c.homes)) xs)) e in
       let one : word_block b ≡ true = rw (
-        steps_words p home pair.program blocks live_first live_after (length c.homes) x,
-        exit_words p home pair.program blocks live_first live_after (length c.homes) x,
+        steps_words p known pair.program (length c.homes) x,
+        exit_words p known pair.program (length c.homes) x,
         block_short m c n b halves.0,
       ) refl in
       rw (one, parts_words n xs halves.1) refl
 
   pub fit : IsFit u m c code
   fit = record {
-    blocks = parts_fit (length code.blocks) (parts p blocks live_first) (law.closed pair.room).blocks;
-    words = parts_words (length code.blocks) (parts p blocks live_first) (law.closed pair.room).blocks;
+    blocks = parts_fit (length code.blocks) (parts p known.blocks known.first) (law.closed pair.room).blocks;
+    words = parts_words (length code.blocks) (parts p known.blocks known.first) (law.closed pair.room).blocks;
     sound = law.keeps.meaning;
   }
 
@@ -170,29 +169,29 @@ module _ (u : Units) (m : Machine) (c : Choice) (p : Program) (blocks : List Spa
   given = record { machine = pair.machine; over = pair.over; choice = pair.choice; code = fit }
 
   -- the selected lists run as the register code
-  pub raw_keeps : select.KeepsMeaning u m code (raw u m c p blocks home live_first live_after)
+  pub raw_keeps : select.KeepsMeaning u m code (raw u m c p known)
   raw_keeps = (selects u m c code given).keeps
 
-  module _ (lists : List BlockList) (stand : AllPairs (StandsFor m) (raw u m c p blocks home live_first live_after) lists)
+  module _ (lists : List BlockList) (stand : AllPairs (StandsFor m) (raw u m c p known) lists)
       (addr memory input : List ℕ) (are : AreAddresses addr (length lists)) where
-    are_raw : AreAddresses addr (length (raw u m c p blocks home live_first live_after))
-    are_raw = subst (AreAddresses addr) (pairs_length (StandsFor m) (raw u m c p blocks home live_first live_after) lists stand) are
+    are_raw : AreAddresses addr (length (raw u m c p known))
+    are_raw = subst (AreAddresses addr) (pairs_length (StandsFor m) (raw u m c p known) lists stand) are
 
     -- the lists run as the register code
     runs : (n : ℕ) → select.EndAlike (rrun u code memory input n) (lrun u m lists addr memory input n)
     runs n =
         let a = raw_keeps addr are_raw memory input n in
-        let defined : (lrun u m (raw u m c p blocks home live_first live_after) addr memory input n).outcome ≢ legs.Undefined =
+        let defined : (lrun u m (raw u m c p known) addr memory input n).outcome ≢ legs.Undefined =
         λ e. never (rrun u code memory input n).outcome (sym a.outcome ∙ e) in
-        let b = keeps_runs u m (raw u m c p blocks home live_first live_after) lists addr memory input n stand defined in
+        let b = keeps_runs u m (raw u m c p known) lists addr memory input n stand defined in
         record { outcome = b.outcome ∙ a.outcome; memory = b.memory ∙ a.memory; rest = b.rest ∙ a.rest; output = b.output ∙ a.output }
 
     mean : MeanAt u m p lists addr memory input
     mean = mean_of u m p code lists addr memory input law.keeps runs
 
 pub lists_mean : ListsMean
-lists_mean u m c p blocks home live_first live_after lists pair known stand addr memory input are given =
-    mean u m c p blocks home live_first live_after pair known lists stand addr memory input are
+lists_mean u m c p known lists pair is_known stand addr memory input are given =
+    mean u m c p known pair is_known lists stand addr memory input are
 
 -- ---- the code
 

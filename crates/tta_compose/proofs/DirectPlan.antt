@@ -26,7 +26,7 @@ use Rattle.tta_alloc.specs.Allotted.{AreAllotted}
 use Rattle.tta_lower.specs.declared.part.Part.{Part}
 use Rattle.tta_lower.specs.Law.{IsRegisterCode}
 use Rattle.tta_lower.specs.Lower.{parts, block_of}
-use Rattle.tta_lower.specs.Known.{spans, home_by, first_by, after_by}
+use Rattle.tta_lower.specs.Known.{first_by, known_by}
 use Rattle.tta_lower.proofs.Lowering.{lowers_well}
 use Rattle.tta_lower.proofs.SameHomes.{answers_know}
 use Rattle.tta_moves.specs.declared.items.Item.{Item}
@@ -79,15 +79,15 @@ module _ (u : Units) (m : Machine) (p : Program) (machine : IsMachine m) (progra
     count = length (homes_on m)
 
     abbrev parts_of : List Part
-    parts_of = parts p (spans blocks) (first_by p l)
+    parts_of = parts p blocks (first_by p l)
 
     abbrev block : Part → RBlock
-    block x = block_of p (spans blocks) (first_by p l) (home_by p h) (after_by p l) count x
+    block x = block_of p (known_by p blocks l h) count x
 
-    law : IsRegisterCode u p (spans blocks) (home_by p h) (first_by p l) (after_by p l) count 0
+    law : IsRegisterCode u p (known_by p blocks l h) count 0
     law =
         let known = answers_know p count blocks l h program flow lives allotted in
-        lowers_well u p (spans blocks) (home_by p h) (first_by p l) (after_by p l) count 0 program known.flow known.apart known.answers
+        lowers_well u p (known_by p blocks l h) count 0 program known.flow known.apart known.answers
 
     one : map block parts_of ≡ one_block words ∷ []
     one = ap (λ (r : Rir). r.blocks) (direct_lowers m p program direct count blocks l h flow lives allotted)
@@ -98,11 +98,11 @@ module _ (u : Units) (m : Machine) (p : Program) (machine : IsMachine m) (progra
         (ap (λ (bs : List RBlock). slice_get bs k) (sym one) ∙ slice_get-map block parts_of k ∙ ap (option_map block) e)).1
 
     list_of : (k : ℕ) (x : Part) (b : BlockList) → slice_get parts_of k ≡ Some x → list_of_direct m p ≡ b
-        → IsListOf u m choice p (spans blocks) (home_by p h) (first_by p l) (after_by p l) x b
+        → IsListOf u m choice p (known_by p blocks l h) x b
     list_of k x b e same =
         let is = block_is k x e in
         let i = in_get parts_of k x e in
-        subst (IsListOf u m choice p (spans blocks) (home_by p h) (first_by p l) (after_by p l) x) same (record {
+        subst (IsListOf u m choice p (known_by p blocks l h) x) same (record {
           live = ap (λ (r : RBlock). map (home_pair m choice) r.live_out) is;
           list = direct_is_list m p machine program direct;
           addresses = no_address (length parts_of) (out_of m) words;
@@ -115,7 +115,7 @@ module _ (u : Units) (m : Machine) (p : Program) (machine : IsMachine m) (progra
           homes = let a = homes choice (out_of m) words in omega (arith, a);
         })
 
-    planned : ArePlanned u m choice p (spans blocks) (home_by p h) (first_by p l) (after_by p l) (list_of_direct m p ∷ [])
+    planned : ArePlanned u m choice p (known_by p blocks l h) (list_of_direct m p ∷ [])
     planned = record {
       count = sym (ap length one) ∙ length-map parts_of block;
       each = λ k x b e f. list_of k x b e (only_one (list_of_direct m p) k b f).1;

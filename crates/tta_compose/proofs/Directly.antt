@@ -16,7 +16,7 @@ use Rattle.tta_alloc.specs.Allotted.{AreAllotted}
 use Rattle.tta_lower.specs.Keeps as lower
 use Rattle.tta_lower.specs.Lower.{lowered}
 use Rattle.tta_lower.specs.Law.{IsKnown}
-use Rattle.tta_lower.specs.Known.{spans, home_by, first_by, after_by}
+use Rattle.tta_lower.specs.Known.{known_by}
 use Rattle.tta_lower.proofs.Lowering.{lowers_well}
 use Rattle.tta_lower.proofs.OneBlock.{one-block}
 use Rattle.tta_lower.proofs.SameBlocks.{are_blocks}
@@ -38,15 +38,15 @@ use Rattle.tta_compose.proofs.Pairs.{IsAlone, is_alone}
 -- ---- the register code
 
 lowers_alone : (q : Proc) (init : List DataLine) → only_constants q.steps ≡ true → IsProgram (alone q init) → (homes : ℕ) (blocks : List Block) (l : Live) (h : Homes) → IsFlow (alone q init) blocks → IsLive (alone q init) l → AreAllotted (alone q init) homes h
-    → lowered (alone q init) (spans blocks) (first_by (alone q init) l) (home_by (alone q init) h) (after_by (alone q init) l) homes ≡ record { blocks = one_block (puts q.steps) ∷ [] }
+    → lowered (alone q init) (known_by (alone q init) blocks l h) homes ≡ record { blocks = one_block (puts q.steps) ∷ [] }
 lowers_alone q init only rules homes blocks l h flow live allotted =
-    one-block q init only (home_by (alone q init) h) (first_by (alone q init) l) (after_by (alone q init) l) homes (spans blocks) (are_blocks (alone q init) rules blocks flow)
+    one-block q init only (known_by (alone q init) blocks l h) homes (are_blocks (alone q init) rules blocks flow)
     (answers_know (alone q init) homes blocks l h rules flow live allotted).answers
 
 pub direct_lowers : DirectLowers
 direct_lowers m p rules direct homes blocks l h flow live allotted =
     let a = is_alone m p rules direct in
-    subst (λ (r : Program). IsFlow r blocks → IsLive r l → AreAllotted r homes h → lowered r (spans blocks) (first_by r l) (home_by r h) (after_by r l) homes ≡ record { blocks = one_block (constants_of r) ∷ [] }) (sym a.is)
+    subst (λ (r : Program). IsFlow r blocks → IsLive r l → AreAllotted r homes h → lowered r (known_by r blocks l h) homes ≡ record { blocks = one_block (constants_of r) ∷ [] }) (sym a.is)
     (λ flow live allotted. lowers_alone a.proc p.init a.only (subst IsProgram a.is rules) homes blocks l h flow live allotted) flow live allotted
 
 -- ---- the list
@@ -67,12 +67,12 @@ direct_means u m p machine rules direct blocks l h flow live allotted addr memor
       a : IsAlone m p
       a = is_alone m p rules direct
 
-      known : IsKnown p 0 (spans blocks) (home_by p h) (first_by p l) (after_by p l)
+      known : IsKnown p 0 (known_by p blocks l h)
       known = answers_know p 0 blocks l h rules flow live allotted
 
       keeps : lower.KeepsMeaning u p (record { blocks = one_block (constants_of p) ∷ [] })
       keeps = subst (lower.KeepsMeaning u p) (direct_lowers m p rules direct 0 blocks l h flow live allotted)
-          (lowers_well u p (spans blocks) (home_by p h) (first_by p l) (after_by p l) 0 0 rules known.flow known.apart known.answers).keeps
+          (lowers_well u p (known_by p blocks l h) 0 0 rules known.flow known.apart known.answers).keeps
 
 -- ---- its code
 

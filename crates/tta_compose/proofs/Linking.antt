@@ -20,9 +20,8 @@ use Rattle.tta_moves.specs.declared.items.Placed.{Placed}
 use Rattle.tta_moves.specs.Touches.{source_of}
 use Rattle.tta_moves.specs.Slots.{is_list, has_slot, control_is_last}
 use Rattle.tta_moves.specs.Bounds.{Respects}
-use Rattle.tta_lower.specs.declared.part.Span.{Span}
 use Rattle.tta_lower.specs.declared.part.Part.{Part}
-use Rattle.tta_lower.specs.Liveness.{Homes}
+use Rattle.tta_lower.specs.Liveness.{Known}
 use Rattle.tta_lower.specs.Lower.{parts, block_of}
 use Rattle.tta_select.specs.Lists.{is_closed}
 use Rattle.tta_overlap.specs.Overlap.{ArePlaced}
@@ -82,32 +81,32 @@ control_last m items e = (and_parts (nat_le (length items) 16777216 && list_all 
 
 -- ---- all blocks
 
-module _ (u : Units) (m : Machine) (c : Choice) (p : Program) (blocks : List Span) (home : Homes) (live_first : (owner x : ℕ) → Bool) (live_after : (owner at x : ℕ) → Bool)
-    (pair : IsPair u m c p) (known : IsKnown p (length c.homes) blocks home live_first live_after) (lists : List BlockList)
-    (stand : AreStandIns m (raw u m c p blocks home live_first live_after) lists) where
-  plan : ArePlanned u m c p blocks home live_first live_after lists
-  plan = lists_planned u m c p blocks home live_first live_after lists pair known stand
+module _ (u : Units) (m : Machine) (c : Choice) (p : Program) (known : Known)
+    (pair : IsPair u m c p) (is_known : IsKnown p (length c.homes) known) (lists : List BlockList)
+    (stand : AreStandIns m (raw u m c p known) lists) where
+  plan : ArePlanned u m c p known lists
+  plan = lists_planned u m c p known lists pair is_known stand
 
   -- the part that a list stands for
   record Stands (k : ℕ) : Type 0 where
     part : Part
-    is : slice_get (parts p blocks live_first) k ≡ Some part
+    is : slice_get (parts p known.blocks known.first) k ≡ Some part
 
   stands : (k : ℕ) (b : BlockList) → slice_get lists k ≡ Some b → Stands k
-  stands k b e = on (slice_get (parts p blocks live_first) k) refl where
-    less : k < length (parts p blocks live_first)
+  stands k b e = on (slice_get (parts p known.blocks known.first) k) refl where
+    less : k < length (parts p known.blocks known.first)
     less = let n = plan.count in let w = slice_get_within lists k b e in omega (arith, n, w)
 
-    on : (o : Option Part) → slice_get (parts p blocks live_first) k ≡ o → Stands k
+    on : (o : Option Part) → slice_get (parts p known.blocks known.first) k ≡ o → Stands k
     on (Some x) f = record { part = x; is = f }
-    on None f = absurd (none (parts p blocks live_first) k less f) where
+    on None f = absurd (none (parts p known.blocks known.first) k less f) where
       none : {A : Type 0} (xs : List A) (k : ℕ) → k < length xs → slice_get xs k ≡ None → ⊥
       none [] k lt e = omega (arith, lt)
       none (x ∷ xs) zero lt e = cc
       none (x ∷ xs) (suc k) lt e = none xs k (omega (arith, lt)) e
 
   list_at : (k : ℕ) (b : BlockList) (e : slice_get lists k ≡ Some b)
-      → IsListOf u m c p blocks home live_first live_after (stands k b e).part b
+      → IsListOf u m c p known (stands k b e).part b
   list_at k b e = plan.each k (stands k b e).part b (stands k b e).is e
 
   module _ (ps : List Placed) (are : AreRespected m lists ps) where
@@ -118,9 +117,9 @@ module _ (u : Units) (m : Machine) (c : Choice) (p : Program) (blocks : List Spa
     few =
         let n = are.count in
         let q = plan.count in
-        let f = ((law u m c p blocks home live_first live_after pair known).closed pair.room).few in
-        let l = length-map (parts p blocks live_first) (block_of p blocks live_first home live_after (length c.homes)) in
-        let z : length (parts p blocks live_first) ≤ 16777216 = subst (λ (t : ℕ). t ≤ 16777216) l f in
+        let f = ((law u m c p known pair is_known).closed pair.room).few in
+        let l = length-map (parts p known.blocks known.first) (block_of p known (length c.homes)) in
+        let z : length (parts p known.blocks known.first) ≤ 16777216 = subst (λ (t : ℕ). t ≤ 16777216) l f in
         omega (arith, n, q, z)
 
     some_list : (k : ℕ) (q : Placed) → slice_get ps k ≡ Some q → (b : BlockList) × (slice_get lists k ≡ Some b)
@@ -136,21 +135,21 @@ module _ (u : Units) (m : Machine) (c : Choice) (p : Program) (blocks : List Spa
       each = λ k q e.
           let s = some_list k q e in
           let l = list_at k s.0 s.1 in
-          let n : length (parts p blocks live_first) ≡ length ps = let a = are.count in let b = plan.count in sym b ∙ sym a in
+          let n : length (parts p known.blocks known.first) ≡ length ps = let a = are.count in let b = plan.count in sym b ∙ sym a in
           is_block m s.0 q (control_last m (s.0).items l.list) (are.respects k s.0 q s.1 e) (length ps)
           (subst (λ (t : ℕ). list_all (λ y. is_closed t (source_of y)) (s.0).items ≡ true) n l.addresses);
     }
 
 pub lists_link : ListsLink
-lists_link u m c p blocks home live_first live_after lists ps pair known stand are = linkable u m c p blocks home live_first live_after pair known lists stand ps are
+lists_link u m c p known lists ps pair is_known stand are = linkable u m c p known pair is_known lists stand ps are
 
 pub lists_agree : ListsAgree
-lists_agree u m c p blocks home live_first live_after lists ps whole pair known stand are linked legal laid =
+lists_agree u m c p known lists ps whole pair is_known stand are linked legal laid =
     built_agrees u m pair.machine p whole lists ps (record {
       legal = legal;
-      placed = placed u m c p blocks home live_first live_after pair known lists stand ps are;
+      placed = placed u m c p known pair is_known lists stand ps are;
       linked = linked;
-      means = lists_mean u m c p blocks home live_first live_after lists pair known (stand_for m (raw u m c p blocks home live_first live_after) lists stand);
+      means = lists_mean u m c p known lists pair is_known (stand_for m (raw u m c p known) lists stand);
       laid = laid;
       words = data_words p.init pair.program.init;
     })

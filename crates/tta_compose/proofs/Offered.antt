@@ -16,8 +16,7 @@ use Rattle.tta_program.specs.Program.{Program}
 use Rattle.tta_program.specs.Sequential.{step_at}
 use Rattle.tta_rcode.specs.declared.code.RSrc.{RSrc}
 use Rattle.tta_rcode.specs.declared.code.RStep.{RStep}
-use Rattle.tta_lower.specs.declared.part.Span.{Span}
-use Rattle.tta_lower.specs.Liveness.{Homes}
+use Rattle.tta_lower.specs.Liveness.{Known}
 use Rattle.tta_lower.specs.declared.part.Part.{Part}
 use Rattle.tta_lower.specs.declared.part.Part.TheVariants.{Entry, Steps, Returned}
 use Rattle.tta_lower.specs.Lower.{block_of, number_of, entry_number}
@@ -30,22 +29,22 @@ use Rattle.tta_compose.specs.Needs.{need_of, are_offered}
 both : {A : Type 0} (t : A → Bool) (xs ys : List A) → list_all t xs ≡ true → list_all t ys ≡ true → list_all t (xs ++ ys) ≡ true
 both t xs ys a b = list_all-append t xs ys ∙ (rw (a, b) refl)
 
-module _ (u : Units) (m : Machine) (c : Choice) (p : Program) (home : Homes) where
+module _ (u : Units) (m : Machine) (c : Choice) (p : Program) (known : Known) where
   -- a step of register code that needs only what is offered
   abbrev pub offers : RStep → Bool
   offers r = is_offered m c (op_of_step u r)
 
-  of_passes : (owner callee x : ℕ) (ss : List Src) → list_all offers (passes p home owner callee x ss) ≡ true
+  of_passes : (owner callee x : ℕ) (ss : List Src) → list_all offers (passes p known.home owner callee x ss) ≡ true
   of_passes owner callee x [] = refl
   of_passes owner callee x (s ∷ ss) = of_passes owner callee (x + 1) ss
 
-  of_gives : (owner : ℕ) (s : RSrc) → list_all offers (gives p home owner s) ≡ true
+  of_gives : (owner : ℕ) (s : RSrc) → list_all offers (gives p known.home owner s) ≡ true
   of_gives owner s = on (owner == p.main) refl where
-    on : (b : Bool) → (owner == p.main) ≡ b → list_all offers (gives p home owner s) ≡ true
+    on : (b : Bool) → (owner == p.main) ≡ b → list_all offers (gives p known.home owner s) ≡ true
     on true e = rw e refl
     on false e = rw e refl
 
-  of_step : (owner : ℕ) (st : Step) → is_offered m c (need_of u st) ≡ true → list_all offers (steps_for p home owner st) ≡ true
+  of_step : (owner : ℕ) (st : Step) → is_offered m c (need_of u st) ≡ true → list_all offers (steps_for p known.home owner st) ≡ true
   of_step owner (Copy d s) e = refl
   of_step owner (Apply d op a b) e = rw e refl
   of_step owner (Load d a) e = rw e refl
@@ -70,47 +69,47 @@ module _ (u : Units) (m : Machine) (c : Choice) (p : Program) (home : Homes) whe
         list_all_one (λ s. is_offered m c (need_of u s)) q.steps at st
         (list_all_one (λ q. list_all (λ s. is_offered m c (need_of u s)) q.steps) p.procs owner q all is) e
 
-  of_code : are_offered u m c p ≡ true → (owner at n : ℕ) → list_all offers (code_from p home owner at n) ≡ true
+  of_code : are_offered u m c p ≡ true → (owner at n : ℕ) → list_all offers (code_from p known.home owner at n) ≡ true
   of_code all owner at zero = refl
   of_code all owner at (suc n) =
-      both offers (option_map_or (steps_for p home owner) (step_at p owner at) []) (code_from p home owner (at + 1) n) (on (step_at p owner at) refl) (of_code all owner (at + 1) n) where
-        on : (o : Option Step) → step_at p owner at ≡ o → list_all offers (option_map_or (steps_for p home owner) o []) ≡ true
+      both offers (option_map_or (steps_for p known.home owner) (step_at p owner at) []) (code_from p known.home owner (at + 1) n) (on (step_at p owner at) refl) (of_code all owner (at + 1) n) where
+        on : (o : Option Step) → step_at p owner at ≡ o → list_all offers (option_map_or (steps_for p known.home owner) o []) ≡ true
         on None e = refl
         on (Some st) e = of_step owner st (step_offered all owner at st e)
 
-  of_ra : (owner : ℕ) → list_all offers (keeps_ra p home owner) ≡ true
+  of_ra : (owner : ℕ) → list_all offers (keeps_ra p known.home owner) ≡ true
   of_ra owner = on (owner == p.main) refl where
-    on : (b : Bool) → (owner == p.main) ≡ b → list_all offers (keeps_ra p home owner) ≡ true
+    on : (b : Bool) → (owner == p.main) ≡ b → list_all offers (keeps_ra p known.home owner) ≡ true
     on true e = rw e refl
     on false e = rw e refl
 
-  of_sets : (live : ℕ → Bool) (owner x n : ℕ) → list_all offers (sets_from p home live owner x n) ≡ true
+  of_sets : (live : ℕ → Bool) (owner x n : ℕ) → list_all offers (sets_from p known.home live owner x n) ≡ true
   of_sets live owner x zero = refl
   of_sets live owner x (suc n) =
-      both offers (if live x then sets p home owner x else []) (sets_from p home live owner (x + 1) n) (on (live x)) (of_sets live owner (x + 1) n) where
-        one : (b : Bool) (r : RSrc) → list_all offers (if b then [] else rstep.Copy (place p home owner x) r ∷ []) ≡ true
+      both offers (if live x then sets p known.home owner x else []) (sets_from p known.home live owner (x + 1) n) (on (live x)) (of_sets live owner (x + 1) n) where
+        one : (b : Bool) (r : RSrc) → list_all offers (if b then [] else rstep.Copy (place p known.home owner x) r ∷ []) ≡ true
         one true r = refl
         one false r = refl
 
-        on : (b : Bool) → list_all offers (if b then sets p home owner x else []) ≡ true
+        on : (b : Bool) → list_all offers (if b then sets p known.home owner x else []) ≡ true
         on true = one _ _
         on false = refl
 
-  module _ (blocks : List Span) (live_first : (owner x : ℕ) → Bool) (live_after : (owner at x : ℕ) → Bool) (homes : ℕ) where
-    pub part_steps : are_offered u m c p ≡ true → (x : Part) → list_all offers (block_of p blocks live_first home live_after homes x).steps ≡ true
+  module _ (homes : ℕ) where
+    pub part_steps : are_offered u m c p ≡ true → (x : Part) → list_all offers (block_of p known homes x).steps ≡ true
     part_steps all (Entry owner) =
-        both offers (keeps_ra p home owner) (sets_from p home (live_first owner) owner 0 (vars_of p owner)) (of_ra owner) (of_sets (live_first owner) owner 0 (vars_of p owner))
+        both offers (keeps_ra p known.home owner) (sets_from p known.home (known.first owner) owner 0 (vars_of p owner)) (of_ra owner) (of_sets (known.first owner) owner 0 (vars_of p owner))
     part_steps all (Steps b) = of_code all b.owner b.first (b.last + 1 - b.first)
     part_steps all (Returned b d callee) = refl
 
-    back_needs : (owner : ℕ) → is_offered m c (op_of_exit u (back p home (number_of p blocks live_first) (entry_number p blocks live_first) owner)) ≡ true
+    back_needs : (owner : ℕ) → is_offered m c (op_of_exit u (back p known.home (number_of p known.blocks known.first) (entry_number p known.blocks known.first) owner)) ≡ true
     back_needs owner = on (owner == p.main) refl where
-      on : (b : Bool) → (owner == p.main) ≡ b → is_offered m c (op_of_exit u (back p home (number_of p blocks live_first) (entry_number p blocks live_first) owner)) ≡ true
+      on : (b : Bool) → (owner == p.main) ≡ b → is_offered m c (op_of_exit u (back p known.home (number_of p known.blocks known.first) (entry_number p known.blocks known.first) owner)) ≡ true
       on true e = rw e refl
       on false e = rw e refl
 
     of_exit : (owner : ℕ) (st : Step) → is_offered m c (need_of u st) ≡ true
-        → is_offered m c (op_of_exit u (exit_for p home (number_of p blocks live_first) (entry_number p blocks live_first) owner st)) ≡ true
+        → is_offered m c (op_of_exit u (exit_for p known.home (number_of p known.blocks known.first) (entry_number p known.blocks known.first) owner st)) ≡ true
     of_exit owner (Copy d s) e = refl
     of_exit owner (Apply d op a b) e = refl
     of_exit owner (Load d a) e = refl
@@ -125,11 +124,11 @@ module _ (u : Units) (m : Machine) (c : Choice) (p : Program) (home : Homes) whe
     of_exit owner Halt e = refl
     of_exit owner End e = back_needs owner
 
-    pub part_exit : are_offered u m c p ≡ true → (x : Part) → is_offered m c (op_of_exit u (block_of p blocks live_first home live_after homes x).exit) ≡ true
+    pub part_exit : are_offered u m c p ≡ true → (x : Part) → is_offered m c (op_of_exit u (block_of p known homes x).exit) ≡ true
     part_exit all (Entry owner) = refl
     part_exit all (Returned b d callee) = refl
     part_exit all (Steps b) = on (step_at p b.owner b.last) refl where
       on : (o : Option Step) → step_at p b.owner b.last ≡ o
-          → is_offered m c (op_of_exit u (option_map_or (exit_for p home (number_of p blocks live_first) (entry_number p blocks live_first) b.owner) o exit.Halt)) ≡ true
+          → is_offered m c (op_of_exit u (option_map_or (exit_for p known.home (number_of p known.blocks known.first) (entry_number p known.blocks known.first) b.owner) o exit.Halt)) ≡ true
       on None e = refl
       on (Some st) e = of_exit b.owner st (step_offered all b.owner b.last st e)

@@ -21,11 +21,10 @@ use Rattle.tta_list.specs.Legs.{AllPairs}
 use Rattle.tta_list.proofs.Lists.{list_all_one}
 use Rattle.tta_optim.specs.Kept.{is_address}
 use Rattle.tta_optim.specs.Kept as kept
-use Rattle.tta_lower.specs.declared.part.Span.{Span}
 use Rattle.tta_lower.specs.declared.part.Part.{Part}
 use Rattle.tta_rcode.specs.declared.code.RBlock.{RBlock}
 use Rattle.tta_lower.specs.Members.{In}
-use Rattle.tta_lower.specs.Liveness.{Homes}
+use Rattle.tta_lower.specs.Liveness.{Known}
 use Rattle.tta_lower.specs.Lower.{parts, block_of}
 use Rattle.tta_select.specs.Select.{list_of}
 use Rattle.tta_rcode.specs.Counts.{names, assigns_block}
@@ -92,32 +91,32 @@ pair_at P (a ∷ xs) (b ∷ ys) all (suc k) x y at is = pair_at P xs ys all.1 k 
 
 -- ---- all lists
 
-module _ (u : Units) (m : Machine) (c : Choice) (p : Program) (blocks : List Span) (home : Homes) (live_first : (owner x : ℕ) → Bool) (live_after : (owner at x : ℕ) → Bool)
-    (pair : IsPair u m c p) (known : IsKnown p (length c.homes) blocks home live_first live_after) (lists : List BlockList)
-    (stand : AreStandIns m (raw u m c p blocks home live_first live_after) lists) where
+module _ (u : Units) (m : Machine) (c : Choice) (p : Program) (known : Known)
+    (pair : IsPair u m c p) (is_known : IsKnown p (length c.homes) known) (lists : List BlockList)
+    (stand : AreStandIns m (raw u m c p known) lists) where
   abbrev block : Part → RBlock
-  block x = block_of p blocks live_first home live_after (length c.homes) x
+  block x = block_of p known (length c.homes) x
 
-  picked : IsSelection u m c (code u m c p blocks home live_first live_after pair known) (raw u m c p blocks home live_first live_after)
-  picked = selects u m c (code u m c p blocks home live_first live_after pair known) (given u m c p blocks home live_first live_after pair known)
+  picked : IsSelection u m c (code u m c p known pair is_known) (raw u m c p known)
+  picked = selects u m c (code u m c p known pair is_known) (given u m c p known pair is_known)
 
   -- how many lists there are
-  count : length (raw u m c p blocks home live_first live_after) ≡ length (parts p blocks live_first)
-  count = picked.size.count ∙ length-map (parts p blocks live_first) block
+  count : length (raw u m c p known) ≡ length (parts p known.blocks known.first)
+  count = picked.size.count ∙ length-map (parts p known.blocks known.first) block
 
-  block_there : (k : ℕ) (x : Part) → slice_get (parts p blocks live_first) k ≡ Some x → slice_get (code u m c p blocks home live_first live_after pair known).blocks k ≡ Some (block x)
-  block_there k x e = slice_get-map (block_of p blocks live_first home live_after (length c.homes)) (parts p blocks live_first) k ∙ ap (option_map (block_of p blocks live_first home live_after (length c.homes))) e
+  block_there : (k : ℕ) (x : Part) → slice_get (parts p known.blocks known.first) k ≡ Some x → slice_get (code u m c p known pair is_known).blocks k ≡ Some (block x)
+  block_there k x e = slice_get-map (block_of p known (length c.homes)) (parts p known.blocks known.first) k ∙ ap (option_map (block_of p known (length c.homes))) e
 
-  list_there : (k : ℕ) (x : Part) → slice_get (parts p blocks live_first) k ≡ Some x → slice_get (raw u m c p blocks home live_first live_after) k ≡ Some (list_of m c u (block x))
+  list_there : (k : ℕ) (x : Part) → slice_get (parts p known.blocks known.first) k ≡ Some x → slice_get (raw u m c p known) k ≡ Some (list_of m c u (block x))
   list_there k x e =
-      slice_get-map (list_of m c u) (code u m c p blocks home live_first live_after pair known).blocks k ∙ ap (option_map (list_of m c u)) (block_there k x e)
+      slice_get-map (list_of m c u) (code u m c p known pair is_known).blocks k ∙ ap (option_map (list_of m c u)) (block_there k x e)
 
-  one : (k : ℕ) (x : Part) (o : BlockList) → slice_get (parts p blocks live_first) k ≡ Some x → slice_get lists k ≡ Some o
-      → IsListOf u m c p blocks home live_first live_after x o
+  one : (k : ℕ) (x : Part) (o : BlockList) → slice_get (parts p known.blocks known.first) k ≡ Some x → slice_get lists k ≡ Some o
+      → IsListOf u m c p known x o
   one k x o e at =
       let l : BlockList = list_of m c u (block x) in
-      let lists_raw = raw u m c p blocks home live_first live_after in
-      let rs = (code u m c p blocks home live_first live_after pair known).blocks in
+      let lists_raw = raw u m c p known in
+      let rs = (code u m c p known pair is_known).blocks in
       let b = block_there k x e in
       let there = list_there k x e in
       let f = pair_at (IsListFor m c) rs lists_raw picked.each k (block x) l b there in
@@ -128,12 +127,12 @@ module _ (u : Units) (m : Machine) (c : Choice) (p : Program) (blocks : List Spa
       let homes = pair_at (λ (b : RBlock) (l : BlockList). targets (is_home c) l.items ≤ assigns_block b) rs lists_raw picked.homes k (block x) l b there in
       let t = pair_at (IsStandIn m) lists_raw lists stand k l o there at in
       let n = t.spare in
-      let w = law u m c p blocks home live_first live_after pair known in
-      let i = in_get (parts p blocks live_first) k x e in
+      let w = law u m c p known pair is_known in
+      let i = in_get (parts p known.blocks known.first) k x e in
       record {
         live = t.stands.live ∙ f.live_out;
         list = n.list f.list;
-        addresses = all_closed (length (parts p blocks live_first)) l.items o.items
+        addresses = all_closed (length (parts p known.blocks known.first)) l.items o.items
             (subst (λ (t : ℕ). list_all (λ y. is_closed t (source_of y)) l.items ≡ true) count closed) n.addresses;
         straight = n.straight straight;
         triggers = λ unit k o there plain. let a = n.targets (is_trigger_of unit k) (trigger_apart m unit k) in let t = triggers unit k o there plain in let q = w.asked (is_need o.op) x i in omega (arith, a, t, q);
@@ -141,11 +140,11 @@ module _ (u : Units) (m : Machine) (c : Choice) (p : Program) (blocks : List Spa
         homes = let a = n.targets (is_home c) (home_apart m c pair.choice) in let q = w.assigned x i in omega (arith, a, homes, q);
       }
 
-  pub planned : ArePlanned u m c p blocks home live_first live_after lists
+  pub planned : ArePlanned u m c p known lists
   planned = record {
-    count = pairs_length (IsStandIn m) (raw u m c p blocks home live_first live_after) lists stand ∙ count;
+    count = pairs_length (IsStandIn m) (raw u m c p known) lists stand ∙ count;
     each = λ k x l e f. one k x l e f;
   }
 
 pub lists_planned : ListsPlanned
-lists_planned u m c p blocks home live_first live_after lists pair known stand = planned u m c p blocks home live_first live_after pair known lists stand
+lists_planned u m c p known lists pair is_known stand = planned u m c p known pair is_known lists stand

@@ -48,13 +48,13 @@ no_more_items m (b ∷ lists) (o ∷ others) all =
     omega (arith, few, rest, s, t)
 
 pub lists_fit : ListsFit
-lists_fit u m c p blocks home live_first live_after lists ps pair known stand are =
+lists_fit u m c p known lists ps pair is_known stand are =
     let total = total_fits m lists ps are.respected.count are.room in
-    let less = no_more_items m (raw u m c p blocks home live_first live_after) lists stand in
-    let light = (selects u m c (code u m c p blocks home live_first live_after pair known) (given u m c p blocks home live_first live_after pair known)).size.items in
-    let w = (law u m c p blocks home live_first live_after pair known).light in
-    let few = (law u m c p blocks home live_first live_after pair known).few in
-    let q = (lists_planned u m c p blocks home live_first live_after lists pair known stand).count in
+    let less = no_more_items m (raw u m c p known) lists stand in
+    let light = (selects u m c (code u m c p known pair is_known) (given u m c p known pair is_known)).size.items in
+    let w = (law u m c p known pair is_known).light in
+    let few = (law u m c p known pair is_known).few in
+    let q = (lists_planned u m c p known lists pair is_known stand).count in
     let items : items_in lists ≤ 32 * step_count p + 8 * (arg_count p + var_count p) + 16 * length p.procs = omega (arith, less, light, w) in
     let count : length lists ≤ 2 * step_count p + 3 * length p.procs = omega (arith, q, few) in
     let a : items_in lists * (longest m + 1) ≤ (32 * step_count p + 8 * (arg_count p + var_count p) + 16 * length p.procs) * (longest m + 1) = mul-le-mul items (let z : longest m + 1 ≤ longest m + 1 = omega arith in z) in

@@ -13,7 +13,6 @@ use Rattle.tta_program.specs.declared.program.Proc.{Proc}
 use Rattle.tta_program.specs.Program.{Program}
 use Rattle.tta_program.specs.Rules.{IsProgram, is_src, is_step, is_call}
 use Rattle.tta_program.specs.Sequential.{step_at}
-use Rattle.tta_lower.specs.declared.part.Span.{Span}
 use Rattle.tta_lower.specs.declared.part.Part.{Part}
 use Rattle.tta_lower.specs.declared.part.Part.TheVariants.{Entry, Steps, Returned}
 use Rattle.tta_rcode.specs.declared.code.RSrc.{RSrc}
@@ -21,7 +20,7 @@ use Rattle.tta_rcode.specs.declared.code.RSrc.TheVariants as rsrc
 use Rattle.tta_rcode.specs.declared.code.RStep.TheVariants as rstep
 use Rattle.tta_rcode.specs.declared.code.Exit.TheVariants as exit
 use Rattle.tta_rcode.specs.declared.code.Place.TheVariants as place_of
-use Rattle.tta_lower.specs.Liveness.{Homes}
+use Rattle.tta_lower.specs.Liveness.{Known}
 use Rattle.tta_lower.specs.Lower.{block_of, number_of, entry_number}
 use Rattle.tta_lower.specs.Layout.{vars_of, params_of, value_slot, var_slot, place, source, steps_for, passes, gives, code_from, exit_for, keeps_ra, sets, first_value, sets_from, back}
 use Rattle.tta_lower.proofs.Steps.{step_of}
@@ -30,27 +29,27 @@ use Rattle.tta_select.specs.Needs.{word_src, word_step, word_exit}
 both : {A : Type 0} (t : A → Bool) (xs ys : List A) → list_all t xs ≡ true → list_all t ys ≡ true → list_all t (xs ++ ys) ≡ true
 both t xs ys a b = list_all-append t xs ys ∙ (rw (a, b) refl)
 
-module _ (p : Program) (home : Homes) where
-  word_of : (owner vars : ℕ) (s : Src) → is_src vars s ≡ true → word_src (source p home owner s) ≡ true
+module _ (p : Program) (known : Known) where
+  word_of : (owner vars : ℕ) (s : Src) → is_src vars s ≡ true → word_src (source p known.home owner s) ≡ true
   word_of owner vars (Var x) e = refl
   word_of owner vars (Word w) e = e
 
-  of_passes : (owner vars callee x : ℕ) (ss : List Src) → list_all (is_src vars) ss ≡ true → list_all word_step (passes p home owner callee x ss) ≡ true
+  of_passes : (owner vars callee x : ℕ) (ss : List Src) → list_all (is_src vars) ss ≡ true → list_all word_step (passes p known.home owner callee x ss) ≡ true
   of_passes owner vars callee x [] e = refl
   of_passes owner vars callee x (s ∷ ss) e =
       let parts = and_parts (is_src vars s) (list_all (is_src vars) ss) e in
       rw (word_of owner vars s parts.0, of_passes owner vars callee (x + 1) ss parts.1) refl
 
-  of_gives : (owner : ℕ) (s : RSrc) → word_src s ≡ true → list_all word_step (gives p home owner s) ≡ true
+  of_gives : (owner : ℕ) (s : RSrc) → word_src s ≡ true → list_all word_step (gives p known.home owner s) ≡ true
   of_gives owner s w = on (owner == p.main) where
     on : (b : Bool) → list_all word_step (if b then [] else rstep.Copy (place_of.Frame (value_slot p owner)) s ∷ []) ≡ true
     on true = refl
     on false = rw w refl
 
-  two : (vars : ℕ) (a b : Src) (owner : ℕ) → is_src vars a ≡ true → is_src vars b ≡ true → (word_src (source p home owner a) && word_src (source p home owner b)) ≡ true
+  two : (vars : ℕ) (a b : Src) (owner : ℕ) → is_src vars a ≡ true → is_src vars b ≡ true → (word_src (source p known.home owner a) && word_src (source p known.home owner b)) ≡ true
   two vars a b owner e f = rw (word_of owner vars a e, word_of owner vars b f) refl
 
-  of_step : (owner : ℕ) (q : Proc) (st : Step) → is_step p q st ≡ true → list_all word_step (steps_for p home owner st) ≡ true
+  of_step : (owner : ℕ) (q : Proc) (st : Step) → is_step p q st ≡ true → list_all word_step (steps_for p known.home owner st) ≡ true
   of_step owner q (Copy d s) e = rw (word_of owner q.vars s (and_parts (nat_lt d q.vars) (is_src q.vars s) e).1) refl
   of_step owner q (Apply d op a b) e =
       let f = and_parts (nat_lt d q.vars && is_src q.vars a) (is_src q.vars b) e in
@@ -72,57 +71,57 @@ module _ (p : Program) (home : Homes) where
   of_step owner q (Invoke d callee args) e =
       let f = and_parts (option_map_or (λ x. nat_lt x q.vars) d true && list_all (is_src q.vars) args) (is_call p callee args) e in
       of_passes owner q.vars callee 0 args (and_parts (option_map_or (λ x. nat_lt x q.vars) d true) (list_all (is_src q.vars) args) f.0).1
-  of_step owner q (Return (Some s)) e = of_gives owner (source p home owner s) (word_of owner q.vars s e)
+  of_step owner q (Return (Some s)) e = of_gives owner (source p known.home owner s) (word_of owner q.vars s e)
   of_step owner q (Return None) e = of_gives owner (rsrc.Word 0) refl
   of_step owner q Halt e = refl
   of_step owner q End e = of_gives owner (rsrc.Word 0) refl
 
   module _ (rules : IsProgram p) where
-    of_code : (owner at n : ℕ) → list_all word_step (code_from p home owner at n) ≡ true
+    of_code : (owner at n : ℕ) → list_all word_step (code_from p known.home owner at n) ≡ true
     of_code owner at zero = refl
     of_code owner at (suc n) =
-        both word_step (option_map_or (steps_for p home owner) (step_at p owner at) []) (code_from p home owner (at + 1) n) (on (step_at p owner at) refl) (of_code owner (at + 1) n) where
-          on : (o : Option Step) → step_at p owner at ≡ o → list_all word_step (option_map_or (steps_for p home owner) o []) ≡ true
+        both word_step (option_map_or (steps_for p known.home owner) (step_at p owner at) []) (code_from p known.home owner (at + 1) n) (on (step_at p owner at) refl) (of_code owner (at + 1) n) where
+          on : (o : Option Step) → step_at p owner at ≡ o → list_all word_step (option_map_or (steps_for p known.home owner) o []) ≡ true
           on None e = refl
           on (Some st) e = let s = step_of p rules owner at st e in of_step owner s.proc st s.rules
 
-    of_ra : (owner : ℕ) → list_all word_step (keeps_ra p home owner) ≡ true
+    of_ra : (owner : ℕ) → list_all word_step (keeps_ra p known.home owner) ≡ true
     of_ra owner = on (owner == p.main) refl where
-      on : (b : Bool) → (owner == p.main) ≡ b → list_all word_step (keeps_ra p home owner) ≡ true
+      on : (b : Bool) → (owner == p.main) ≡ b → list_all word_step (keeps_ra p known.home owner) ≡ true
       on true e = rw e refl
       on false e = rw e refl
 
-    first_word : (owner x : ℕ) → word_src (first_value p home owner x) ≡ true
+    first_word : (owner x : ℕ) → word_src (first_value p known.home owner x) ≡ true
     first_word owner x = on (nat_lt x (params_of p owner)) where
       on : (b : Bool) → word_src (if b then rsrc.At (place_of.Frame (var_slot p owner x)) else rsrc.Word 0) ≡ true
       on true = refl
       on false = refl
 
-    of_sets : (live : ℕ → Bool) (owner x n : ℕ) → list_all word_step (sets_from p home live owner x n) ≡ true
+    of_sets : (live : ℕ → Bool) (owner x n : ℕ) → list_all word_step (sets_from p known.home live owner x n) ≡ true
     of_sets live owner x zero = refl
     of_sets live owner x (suc n) =
-        both word_step (if live x then sets p home owner x else []) (sets_from p home live owner (x + 1) n) (on (live x)) (of_sets live owner (x + 1) n) where
-          one : (b : Bool) → list_all word_step (if b then [] else rstep.Copy (place p home owner x) (first_value p home owner x) ∷ []) ≡ true
+        both word_step (if live x then sets p known.home owner x else []) (sets_from p known.home live owner (x + 1) n) (on (live x)) (of_sets live owner (x + 1) n) where
+          one : (b : Bool) → list_all word_step (if b then [] else rstep.Copy (place p known.home owner x) (first_value p known.home owner x) ∷ []) ≡ true
           one true = refl
           one false = rw (first_word owner x) refl
 
-          on : (b : Bool) → list_all word_step (if b then sets p home owner x else []) ≡ true
-          on true = one (nat_lt x (params_of p owner) && is_none (home owner x))
+          on : (b : Bool) → list_all word_step (if b then sets p known.home owner x else []) ≡ true
+          on true = one (nat_lt x (params_of p owner) && is_none (known.home owner x))
           on false = refl
 
-    module _ (blocks : List Span) (live_first : (owner x : ℕ) → Bool) (live_after : (owner at x : ℕ) → Bool) (homes : ℕ) where
-      pub steps_words : (x : Part) → list_all word_step (block_of p blocks live_first home live_after homes x).steps ≡ true
-      steps_words (Entry owner) = both word_step (keeps_ra p home owner) (sets_from p home (live_first owner) owner 0 (vars_of p owner)) (of_ra owner) (of_sets (live_first owner) owner 0 (vars_of p owner))
+    module _ (homes : ℕ) where
+      pub steps_words : (x : Part) → list_all word_step (block_of p known homes x).steps ≡ true
+      steps_words (Entry owner) = both word_step (keeps_ra p known.home owner) (sets_from p known.home (known.first owner) owner 0 (vars_of p owner)) (of_ra owner) (of_sets (known.first owner) owner 0 (vars_of p owner))
       steps_words (Steps b) = of_code b.owner b.first (b.last + 1 - b.first)
       steps_words (Returned b d callee) = refl
 
-      back_words : (owner : ℕ) → word_exit (back p home (number_of p blocks live_first) (entry_number p blocks live_first) owner) ≡ true
+      back_words : (owner : ℕ) → word_exit (back p known.home (number_of p known.blocks known.first) (entry_number p known.blocks known.first) owner) ≡ true
       back_words owner = on (owner == p.main) refl where
-        on : (b : Bool) → (owner == p.main) ≡ b → word_exit (back p home (number_of p blocks live_first) (entry_number p blocks live_first) owner) ≡ true
+        on : (b : Bool) → (owner == p.main) ≡ b → word_exit (back p known.home (number_of p known.blocks known.first) (entry_number p known.blocks known.first) owner) ≡ true
         on true e = rw e refl
         on false e = rw e refl
 
-      of_exit : (owner : ℕ) (q : Proc) (st : Step) → is_step p q st ≡ true → word_exit (exit_for p home (number_of p blocks live_first) (entry_number p blocks live_first) owner st) ≡ true
+      of_exit : (owner : ℕ) (q : Proc) (st : Step) → is_step p q st ≡ true → word_exit (exit_for p known.home (number_of p known.blocks known.first) (entry_number p known.blocks known.first) owner st) ≡ true
       of_exit owner q (Copy d s) e = refl
       of_exit owner q (Apply d op a b) e = refl
       of_exit owner q (Load d a) e = refl
@@ -140,11 +139,11 @@ module _ (p : Program) (home : Homes) where
       of_exit owner q Halt e = refl
       of_exit owner q End e = back_words owner
 
-      pub exit_words : (x : Part) → word_exit (block_of p blocks live_first home live_after homes x).exit ≡ true
+      pub exit_words : (x : Part) → word_exit (block_of p known homes x).exit ≡ true
       exit_words (Entry owner) = refl
       exit_words (Returned b d callee) = refl
       exit_words (Steps b) = on (step_at p b.owner b.last) refl where
         on : (o : Option Step) → step_at p b.owner b.last ≡ o
-            → word_exit (option_map_or (exit_for p home (number_of p blocks live_first) (entry_number p blocks live_first) b.owner) o exit.Halt) ≡ true
+            → word_exit (option_map_or (exit_for p known.home (number_of p known.blocks known.first) (entry_number p known.blocks known.first) b.owner) o exit.Halt) ≡ true
         on None e = refl
         on (Some st) e = let s = step_of p rules b.owner b.last st e in of_exit b.owner s.proc st s.rules

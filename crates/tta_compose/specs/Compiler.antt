@@ -1,5 +1,5 @@
 -- The lists of a program, as the parts of the compiler make them one after another.
-use Rattle.std.specs.Prelude.{◌≡◌, ℕ, ◌≤◌, Bool, true, List, length}
+use Rattle.std.specs.Prelude.{◌≡◌, ◌≤◌, true, List, length}
 use Rattle.tta_ops.specs.Units.{Units}
 use Rattle.tta_arch.specs.Machine.{Machine}
 use Rattle.tta_arch.specs.Rules.{IsMachine}
@@ -13,8 +13,7 @@ use Rattle.tta_moves.specs.declared.items.BlockList.{BlockList}
 use Rattle.tta_list.specs.Legs.{AllPairs}
 use Rattle.tta_optim.specs.Passes.{optimise_items}
 use Rattle.tta_optim.specs.Kept.{IsStandIn}
-use Rattle.tta_lower.specs.declared.part.Span.{Span}
-use Rattle.tta_lower.specs.Liveness.{Homes}
+use Rattle.tta_lower.specs.Liveness.{Known}
 use Rattle.tta_lower.specs.Lower.{lowered}
 use Rattle.tta_select.specs.Select.{selected}
 use Rattle.tta_compose.specs.Needs.{are_offered}
@@ -39,7 +38,7 @@ AreStandIns m lists others = AllPairs (IsStandIn m) lists others
 abbrev pub optimised : Machine → BlockList → BlockList
 optimised m b = record { items = optimise_items m b.live_out b.items; live_out = b.live_out }
 
-module _ (u : Units) (m : Machine) (c : Choice) (p : Program) (blocks : List Span) (home : Homes) (live_first : (owner x : ℕ) → Bool) (live_after : (owner at x : ℕ) → Bool) where
+module _ (u : Units) (m : Machine) (c : Choice) (p : Program) (known : Known) where
   -- the lists as they are selected
   abbrev pub raw : List BlockList
-  raw = selected m c u (lowered p blocks live_first home live_after (length c.homes))
+  raw = selected m c u (lowered p known (length c.homes))

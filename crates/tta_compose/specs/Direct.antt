@@ -27,7 +27,7 @@ use Rattle.tta_flow.specs.Live.{IsLive}
 use Rattle.tta_alloc.specs.declared.homes.Homes.{Homes}
 use Rattle.tta_alloc.specs.Allotted.{AreAllotted}
 use Rattle.tta_lower.specs.Lower.{lowered}
-use Rattle.tta_lower.specs.Known.{spans, home_by, first_by, after_by}
+use Rattle.tta_lower.specs.Known.{known_by}
 use Rattle.tta_select.specs.Direct.{out_of, brings, direct_list}
 use Rattle.tta_link.specs.Linked.{IsLinked}
 use Rattle.tta_link.specs.Blocks.{AreBlocks}
@@ -76,7 +76,7 @@ list_of_direct m p = direct_list (out_of m) (constants_of p)
 abbrev pub DirectLowers : Type 0
 DirectLowers =
     (m : Machine) (p : Program) → IsProgram p → is_direct m p ≡ true → (homes : ℕ) (blocks : List Block) (l : Live) (h : Homes) → IsFlow p blocks → IsLive p l → AreAllotted p homes h
-    → lowered p (spans blocks) (first_by p l) (home_by p h) (after_by p l) homes ≡ record { blocks = one_block (constants_of p) ∷ [] }
+    → lowered p (known_by p blocks l h) homes ≡ record { blocks = one_block (constants_of p) ∷ [] }
 
 -- the machine can carry out the list
 abbrev pub DirectIsList : Type 0

@@ -1,5 +1,5 @@
 -- What the lists of a program mean, and which lists may be placed for them.
-use Rattle.std.specs.Prelude.{ℕ, Bool, List, length}
+use Rattle.std.specs.Prelude.{List, length}
 use Rattle.tta_ops.specs.Units.{Units}
 use Rattle.tta_arch.specs.Machine.{Machine}
 use Rattle.tta_connect.specs.declared.choice.Choice.{Choice}
@@ -7,8 +7,7 @@ use Rattle.tta_program.specs.Program.{Program}
 use Rattle.tta_moves.specs.declared.items.BlockList.{BlockList}
 use Rattle.tta_list.specs.Legs.{AllPairs}
 use Rattle.tta_optim.specs.Kept.{StandsFor}
-use Rattle.tta_lower.specs.declared.part.Span.{Span}
-use Rattle.tta_lower.specs.Liveness.{Homes}
+use Rattle.tta_lower.specs.Liveness.{Known}
 use Rattle.tta_overlap.specs.Means.{Means}
 use Rattle.tta_lower.specs.Law.{IsKnown}
 use Rattle.tta_optim.specs.Kept.{IsStandIn}
@@ -18,9 +17,8 @@ use Rattle.tta_compose.specs.Planned.{HasForms}
 -- lists that stand for the selected ones mean the program
 abbrev pub ListsMean : Type 0
 ListsMean =
-    (u : Units) (m : Machine) (c : Choice) (p : Program) (blocks : List Span) (home : Homes) (live_first : (owner x : ℕ) → Bool) (live_after : (owner at x : ℕ) → Bool)
-    (lists : List BlockList) → IsPair u m c p → IsKnown p (length c.homes) blocks home live_first live_after
-    → AllPairs (StandsFor m) (raw u m c p blocks home live_first live_after) lists → Means u m p lists
+    (u : Units) (m : Machine) (c : Choice) (p : Program) (known : Known) (lists : List BlockList) → IsPair u m c p → IsKnown p (length c.homes) known
+    → AllPairs (StandsFor m) (raw u m c p known) lists → Means u m p lists
 
 -- the selected lists may be placed for themselves
 abbrev pub SelectedStand : Type 0

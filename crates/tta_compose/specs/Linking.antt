@@ -1,5 +1,5 @@
 -- Placements of a program's lists can be linked, and their code agrees with the program.
-use Rattle.std.specs.Prelude.{◌≡◌, ℕ, Bool, List, length, Some, slice_get}
+use Rattle.std.specs.Prelude.{◌≡◌, ℕ, List, length, Some, slice_get}
 use Rattle.tta_ops.specs.Units.{Units}
 use Rattle.tta_arch.specs.Machine.{Machine}
 use Rattle.tta_connect.specs.declared.choice.Choice.{Choice}
@@ -12,8 +12,7 @@ use Rattle.tta_moves.specs.declared.items.BlockList.{BlockList}
 use Rattle.tta_moves.specs.declared.items.Placed.{Placed}
 use Rattle.tta_moves.specs.Bounds.{Respects}
 use Rattle.tta_moves.specs.FirstFit.{IsFirstFit}
-use Rattle.tta_lower.specs.declared.part.Span.{Span}
-use Rattle.tta_lower.specs.Liveness.{Homes}
+use Rattle.tta_lower.specs.Liveness.{Known}
 use Rattle.tta_link.specs.Linked.{IsLinked}
 use Rattle.tta_link.specs.Blocks.{AreBlocks}
 use Rattle.tta_lower.specs.Law.{IsKnown}
@@ -32,14 +31,14 @@ pub record AreFirstFits (m : Machine) (lists : List BlockList) (ps : List Placed
 -- the linker takes placements that respect lists that may be placed for the selected ones
 abbrev pub ListsLink : Type 0
 ListsLink =
-    (u : Units) (m : Machine) (c : Choice) (p : Program) (blocks : List Span) (home : Homes) (live_first : (owner x : ℕ) → Bool) (live_after : (owner at x : ℕ) → Bool)
-    (lists : List BlockList) (ps : List Placed) → IsPair u m c p → IsKnown p (length c.homes) blocks home live_first live_after
-    → AreStandIns m (raw u m c p blocks home live_first live_after) lists → AreRespected m lists ps → AreBlocks m ps
+    (u : Units) (m : Machine) (c : Choice) (p : Program) (known : Known)
+    (lists : List BlockList) (ps : List Placed) → IsPair u m c p → IsKnown p (length c.homes) known
+    → AreStandIns m (raw u m c p known) lists → AreRespected m lists ps → AreBlocks m ps
 
 -- and the code that it makes of them agrees with the program, where the data are the program's
 abbrev pub ListsAgree : Type 0
 ListsAgree =
-    (u : Units) (m : Machine) (c : Choice) (p : Program) (blocks : List Span) (home : Homes) (live_first : (owner x : ℕ) → Bool) (live_after : (owner at x : ℕ) → Bool)
-    (lists : List BlockList) (ps : List Placed) (whole : Whole) → IsPair u m c p → IsKnown p (length c.homes) blocks home live_first live_after
-    → AreStandIns m (raw u m c p blocks home live_first live_after) lists → AreRespected m lists ps → IsLinked m whole.code ps → IsLegalCode m whole.code
+    (u : Units) (m : Machine) (c : Choice) (p : Program) (known : Known)
+    (lists : List BlockList) (ps : List Placed) (whole : Whole) → IsPair u m c p → IsKnown p (length c.homes) known
+    → AreStandIns m (raw u m c p known) lists → AreRespected m lists ps → IsLinked m whole.code ps → IsLegalCode m whole.code
     → ((memory : List ℕ) → over (data_in whole) memory ≡ over (data_of p) memory) → Agrees u m p whole

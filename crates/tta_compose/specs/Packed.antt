@@ -12,7 +12,7 @@ use Rattle.tta_flow.specs.Blocks.{IsFlow}
 use Rattle.tta_flow.specs.Live.{IsLive}
 use Rattle.tta_alloc.specs.declared.homes.Homes.{Homes}
 use Rattle.tta_alloc.specs.Allotted.{AreAllotted}
-use Rattle.tta_lower.specs.Known.{spans, home_by, first_by, after_by}
+use Rattle.tta_lower.specs.Known.{known_by}
 use Rattle.tta_code.specs.declared.code.Code.{Code}
 use Rattle.tta_moves.specs.declared.items.BlockList.{BlockList}
 use Rattle.tta_moves.specs.declared.items.Placed.{Placed}
@@ -38,7 +38,7 @@ pub record IsPlan (u : Units) (m : Machine) (p : Program) (lists : List BlockLis
   pub flow : IsFlow p blocks
   pub lives : IsLive p live
   pub allotted : AreAllotted p (length choice.homes) kept
-  pub planned : ArePlanned u m choice p (spans blocks) (home_by p kept) (first_by p live) (after_by p live) lists
+  pub planned : ArePlanned u m choice p (known_by p blocks live kept) lists
   pub forms : (k : ℕ) (l : BlockList) → slice_get lists k ≡ Some l → HasForms m l
   pub means : Means u m p lists
 

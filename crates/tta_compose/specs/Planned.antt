@@ -1,5 +1,5 @@
 -- What is known of the list of each part of a program, beside what all lists mean.
-use Rattle.std.specs.Prelude.{◌≡◌, ◌≤◌, ℕ, Bool, true, false, List, length, map, Some, slice_get}
+use Rattle.std.specs.Prelude.{◌≡◌, ◌≤◌, ℕ, true, false, List, length, map, Some, slice_get}
 use Rattle.std.specs.List.{list_all}
 use Rattle.tta_ops.specs.Units.{Units}
 use Rattle.tta_arch.specs.declared.parts.UnitOp.{UnitOp}
@@ -13,9 +13,8 @@ use Rattle.tta_moves.specs.declared.items.BlockList.{BlockList}
 use Rattle.tta_moves.specs.Touches.{source_of}
 use Rattle.tta_moves.specs.Slots.{is_list}
 use Rattle.tta_moves.specs.Forms.{is_bypassed, is_shared, is_lively, is_straight}
-use Rattle.tta_lower.specs.declared.part.Span.{Span}
 use Rattle.tta_lower.specs.declared.part.Part.{Part}
-use Rattle.tta_lower.specs.Liveness.{Homes}
+use Rattle.tta_lower.specs.Liveness.{Known}
 use Rattle.tta_lower.specs.Lower.{parts, block_of}
 use Rattle.tta_lower.specs.Counts.{traffic, asks_part, assigns_part}
 use Rattle.tta_select.specs.Select.{home_pair}
@@ -24,29 +23,28 @@ use Rattle.tta_select.specs.Lists.{is_closed}
 use Rattle.tta_lower.specs.Law.{IsKnown}
 use Rattle.tta_compose.specs.Compiler.{IsPair, AreStandIns, raw}
 
-module _ (u : Units) (m : Machine) (c : Choice) (p : Program) (blocks : List Span) (home : Homes) (live_first : (owner x : ℕ) → Bool) (live_after : (owner at x : ℕ) → Bool) where
+module _ (u : Units) (m : Machine) (c : Choice) (p : Program) (known : Known) where
   -- The list of a part: with the part's registers that stay; a list for the machine whose addresses are those of blocks;
   -- straight; and it triggers and writes no more than the part asks for.
   pub record IsListOf (x : Part) (l : BlockList) : Type 0 where
-    pub live : l.live_out ≡ map (home_pair m c) (block_of p blocks live_first home live_after (length c.homes) x).live_out
+    pub live : l.live_out ≡ map (home_pair m c) (block_of p known (length c.homes) x).live_out
     pub list : is_list m l.items ≡ true
-    pub addresses : list_all (λ y. is_closed (length (parts p blocks live_first)) (source_of y)) l.items ≡ true
+    pub addresses : list_all (λ y. is_closed (length (parts p known.blocks known.first)) (source_of y)) l.items ≡ true
     pub straight : is_straight m (hub_of m) l.items ≡ true
-    pub triggers : (unit k : ℕ) (o : UnitOp) → op_at m unit k ≡ Some o → is_frame_op o.op ≡ false → targets (is_trigger_of unit k) l.items ≤ asks_part u (is_need o.op) p home x
-    pub frame : targets (is_frame_trigger m) l.items ≤ traffic p home live_first x
-    pub homes : targets (is_home c) l.items ≤ assigns_part p home live_first x
+    pub triggers : (unit k : ℕ) (o : UnitOp) → op_at m unit k ≡ Some o → is_frame_op o.op ≡ false → targets (is_trigger_of unit k) l.items ≤ asks_part u (is_need o.op) p known.home x
+    pub frame : targets (is_frame_trigger m) l.items ≤ traffic p known.home known.first x
+    pub homes : targets (is_home c) l.items ≤ assigns_part p known.home known.first x
 
   -- one such list for each part, in order
   pub record ArePlanned (lists : List BlockList) : Type 0 where
-    pub count : length lists ≡ length (parts p blocks live_first)
-    pub each : (k : ℕ) (x : Part) (l : BlockList) → slice_get (parts p blocks live_first) k ≡ Some x → slice_get lists k ≡ Some l → IsListOf x l
+    pub count : length lists ≡ length (parts p known.blocks known.first)
+    pub each : (k : ℕ) (x : Part) (l : BlockList) → slice_get (parts p known.blocks known.first) k ≡ Some x → slice_get lists k ≡ Some l → IsListOf x l
 
 -- lists that may be placed for the selected ones are such
 abbrev pub ListsPlanned : Type 0
 ListsPlanned =
-    (u : Units) (m : Machine) (c : Choice) (p : Program) (blocks : List Span) (home : Homes) (live_first : (owner x : ℕ) → Bool) (live_after : (owner at x : ℕ) → Bool)
-    (lists : List BlockList) → IsPair u m c p → IsKnown p (length c.homes) blocks home live_first live_after
-    → AreStandIns m (raw u m c p blocks home live_first live_after) lists → ArePlanned u m c p blocks home live_first live_after lists
+    (u : Units) (m : Machine) (c : Choice) (p : Program) (known : Known) (lists : List BlockList) → IsPair u m c p → IsKnown p (length c.homes) known
+    → AreStandIns m (raw u m c p known) lists → ArePlanned u m c p known lists
 
 -- a list in all three forms: no register stands between a result and its reader, no operand is moved twice, and no write
 -- is for nothing

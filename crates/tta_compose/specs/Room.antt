@@ -1,12 +1,11 @@
 -- How long the placed lists of a program are together at most.
-use Rattle.std.specs.Prelude.{◌≡◌, ℕ, ◌+◌, ◌*◌, ◌≤◌, Bool, List, length, Some, slice_get}
+use Rattle.std.specs.Prelude.{◌≡◌, ℕ, ◌+◌, ◌*◌, ◌≤◌, List, length, Some, slice_get}
 use Rattle.tta_ops.specs.Units.{Units}
 use Rattle.tta_arch.specs.Machine.{Machine}
 use Rattle.tta_connect.specs.declared.choice.Choice.{Choice}
 use Rattle.tta_program.specs.Program.{Program, step_count}
 use Rattle.tta_moves.specs.declared.items.Placed.{Placed}
-use Rattle.tta_lower.specs.declared.part.Span.{Span}
-use Rattle.tta_lower.specs.Liveness.{Homes}
+use Rattle.tta_lower.specs.Liveness.{Known}
 use Rattle.tta_program.specs.Sizes.{arg_count, var_count}
 use Rattle.tta_link.specs.Blocks.{total_length}
 use Rattle.tta_lower.specs.Law.{IsKnown}
@@ -33,6 +32,6 @@ pub record AreRoomy (m : Machine) (lists : List BlockList) (ps : List Placed) : 
 -- where each placed list has room, all of them together have the program's
 abbrev pub ListsFit : Type 0
 ListsFit =
-    (u : Units) (m : Machine) (c : Choice) (p : Program) (blocks : List Span) (home : Homes) (live_first : (owner x : ℕ) → Bool) (live_after : (owner at x : ℕ) → Bool)
-    (lists : List BlockList) (ps : List Placed) → IsPair u m c p → IsKnown p (length c.homes) blocks home live_first live_after
-    → AreStandIns m (raw u m c p blocks home live_first live_after) lists → AreRoomy m lists ps → total_length ps ≤ room_on m p
+    (u : Units) (m : Machine) (c : Choice) (p : Program) (known : Known)
+    (lists : List BlockList) (ps : List Placed) → IsPair u m c p → IsKnown p (length c.homes) known
+    → AreStandIns m (raw u m c p known) lists → AreRoomy m lists ps → total_length ps ≤ room_on m p

@@ -1,5 +1,5 @@
 -- A leg from its first block on.
-use Rattle.std.proofs.Common.{◌≡◌, ◌≤◌, ◌+◌, ◌-◌, ◌++◌, ◌∷◌, [], ℕ, suc, Bool, List, Option, Some, length, drop, slice_get, refl, sym, ap, ◌∙◌, subst, ap₂, arith}
+use Rattle.std.proofs.Common.{◌≡◌, ◌≤◌, ◌+◌, ◌-◌, ◌++◌, ◌∷◌, [], ℕ, suc, List, Option, Some, length, drop, slice_get, refl, sym, ap, ◌∙◌, subst, ap₂, arith}
 use Rattle.tta_ops.specs.Units.{Units}
 use Rattle.tta_program.specs.declared.step.Step.{Step}
 use Rattle.tta_program.specs.Program.{Program}
@@ -9,7 +9,7 @@ use Rattle.tta_program.specs.Sequential.{Frame, Outcome, Running, Halted, Waitin
 use Rattle.tta_rcode.specs.declared.code.RBlock.{RBlock}
 use Rattle.tta_rcode.specs.declared.code.Rir.{Rir}
 use Rattle.tta_rcode.specs.Meaning.{State, Kept, steps_of, walk}
-use Rattle.tta_lower.specs.Liveness.{Span, Has, Homes, IsFlow, IsHomes}
+use Rattle.tta_lower.specs.Liveness.{Known, Block, Has, IsFlow, IsHomes}
 use Rattle.tta_lower.specs.Layout.{vars_of, steps_for, code_from}
 use Rattle.tta_lower.specs.Shape.{Counts, BlockFor, IsLowered}
 use Rattle.tta_lower.specs.Relation.{running, going, HeldBefore, KeepsBack, Callers, AtBlock}
@@ -21,24 +21,24 @@ use Rattle.tta_lower.proofs.Frames.{frame-by-vars, back-own}
 use Rattle.tta_lower.proofs.Walks.{Walked, Over, walked-after, WalkFrom}
 use Rattle.tta_lower.proofs.Legs.{last-step}
 
-module _ (u : Units) (p : Program) (blocks : List Span) (home : Homes) (live : ℕ → ℕ → Bool) (r : Rir) (number : ℕ → ℕ → ℕ) (entry : ℕ → ℕ) (before : Counts)
-    (flow : IsFlow p blocks) (homes : IsHomes p home) (sound : IsProgram p) (lowered : IsLowered p blocks home live r number entry before) where
+module _ (u : Units) (p : Program) (known : Known) (r : Rir) (number : ℕ → ℕ → ℕ) (entry : ℕ → ℕ) (before : Counts)
+    (flow : IsFlow p known.blocks) (homes : IsHomes p known.home) (sound : IsProgram p) (lowered : IsLowered p known r number entry before) where
   -- what is claimed of the blocks from one on
   abbrev From : List RBlock → Type 0
-  From bs = WalkFrom u p blocks home live r number entry before bs
+  From bs = WalkFrom u p known r number entry before bs
 
   -- what is known of a walk from a block
   abbrev Goes : program.State → State → ℕ → Type 0
-  Goes s t low = Walked u p blocks home live r number entry before s t low
+  Goes s t low = Walked u p known r number entry before s t low
 
   -- ---- a block of steps
 
-  module _ (b : Span) (has : Has blocks b) (st : Step) (there : step_at p b.owner b.last ≡ Some st)
-      (bf : BlockFor p blocks home live r number entry before b st)
+  module _ (b : Block) (has : Has known.blocks b) (st : Step) (there : step_at p b.owner b.last ≡ Some st)
+      (bf : BlockFor p known r number entry before b st)
       (bs : List RBlock) (ih : From bs) (rests : drop (number b.owner b.first + 1) r.blocks ≡ bs) (rest : List Frame)
       (vars : List ℕ) (regs : List (ℕ × ℕ)) (frame : List (ℕ × Kept)) (ra : Option ℕ) (k : ℕ) (memory input output : List ℕ)
-      (size : length vars ≡ vars_of p b.owner) (held : HeldBefore p home (record { proc = b.owner; at = b.first; vars = vars }) regs frame b.first)
-      (kept : KeepsBack p blocks number frame b.owner rest) (callers : Callers p blocks number frame b.owner rest) where
+      (size : length vars ≡ vars_of p b.owner) (held : HeldBefore p known.home (record { proc = b.owner; at = b.first; vars = vars }) regs frame b.first)
+      (kept : KeepsBack p known.blocks number frame b.owner rest) (callers : Callers p known.blocks number frame b.owner rest) where
     abbrev here : ℕ
     here = number b.owner b.first
 
@@ -58,13 +58,13 @@ module _ (u : Units) (p : Program) (blocks : List Span) (home : Homes) (live : �
     counted : before here + plain_ones + 1 ≤ before (here + 1)
     counted = omega (arith, lowered.counts b has, flow.rises b has)
 
-    all-code : (bf.code).steps ≡ code_from p home b.owner b.first plain_ones ++ (steps_for p home b.owner st ++ [])
+    all-code : (bf.code).steps ≡ code_from p known.home b.owner b.first plain_ones ++ (steps_for p known.home b.owner st ++ [])
     all-code =
         let e : b.last + 1 - b.first ≡ suc plain_ones = omega (arith, flow.rises b has) in
         let l : b.first + plain_ones ≡ b.last = omega (arith, flow.rises b has) in
-        bf.steps ∙ ap (code_from p home b.owner b.first) e ∙ code_from-more p home b.owner b.first plain_ones st (ap (step_at p b.owner) l ∙ there)
+        bf.steps ∙ ap (code_from p known.home b.owner b.first) e ∙ code_from-more p known.home b.owner b.first plain_ones st (ap (step_at p b.owner) l ∙ there)
 
-    by : PlainRun u p home homes sound plain_ones k f rest here regs frame ra memory input output → Goes s (walk u (bf.code ∷ bs) t) (before here)
+    by : PlainRun u p known.home homes sound plain_ones k f rest here regs frame ra memory input output → Goes s (walk u (bf.code ∷ bs) t) (before here)
     by (OneWaits a) = Over (record {
       made = a.made;
       some = a.some;
@@ -82,29 +82,29 @@ module _ (u : Units) (p : Program) (blocks : List Span) (home : Homes) (live : �
       ended = refl;
       program = a.program;
       code = wait u bf.code bs here a.regs_new a.frame_new ra a.memory_new a.input_new a.output_new t
-          (ap (λ l. steps_of u l t) all-code ∙ a.code (steps_for p home b.owner st ++ []));
+          (ap (λ l. steps_of u l t) all-code ∙ a.code (steps_for p known.home b.owner st ++ []));
     })
     by (AllMade a) =
         let e : a.to ≡ b.last = a.come ∙ omega (arith, flow.rises b has) in
         let of_step = step_of p sound b.owner b.last st there in
-        walked-after u p blocks home live r number entry before plain_ones s
+        walked-after u p known r number entry before plain_ones s
         (running a.steps (record { proc = b.owner; at = b.last; vars = a.vars } ∷ rest) a.memory_new a.input_new a.output_new Running) _
         (before here) (before here + plain_ones)
         (a.program ∙ ap (λ i. running a.steps (record { proc = b.owner; at = i; vars = a.vars } ∷ rest) a.memory_new a.input_new a.output_new Running) e)
         (omega arith)
-        (last-step u p blocks home live r number entry before flow homes sound lowered b has st there bf bs ih rests rest t a.vars a.regs_new a.frame_new ra a.steps
+        (last-step u p known r number entry before flow homes sound lowered b has st there bf bs ih rests rest t a.vars a.regs_new a.frame_new ra a.steps
         a.memory_new a.input_new a.output_new (a.size ∙ size)
-        (subst (λ i. HeldBefore p home (record { proc = b.owner; at = i; vars = a.vars }) a.regs_new a.frame_new i) e a.held)
-        (back-own p sound blocks number frame a.frame_new b.owner rest callers a.untouched kept)
-        (callers-stay p sound blocks number b.owner of_step.proc of_step.is frame a.frame_new (frame-by-vars p b.owner frame a.frame_new a.untouched)
-        b.owner rest (outside p sound blocks number frame b.owner rest callers) callers)
+        (subst (λ i. HeldBefore p known.home (record { proc = b.owner; at = i; vars = a.vars }) a.regs_new a.frame_new i) e a.held)
+        (back-own p sound known.blocks number frame a.frame_new b.owner rest callers a.untouched kept)
+        (callers-stay p sound known.blocks number b.owner of_step.proc of_step.is frame a.frame_new (frame-by-vars p b.owner frame a.frame_new a.untouched)
+        b.owner rest (outside p sound known.blocks number frame b.owner rest callers) callers)
         (before here + plain_ones) counted
-        (ap (λ l. steps_of u l t) all-code ∙ a.code (steps_for p home b.owner st ++ []))
+        (ap (λ l. steps_of u l t) all-code ∙ a.code (steps_for p known.home b.owner st ++ []))
         st refl)
 
     pub block-walk : Goes s (walk u (bf.code ∷ bs) t) (before here)
     block-walk =
-        by (plain-run u p home homes sound plain_ones k f rest here regs frame ra memory input output
+        by (plain-run u p known.home homes sound plain_ones k f rest here regs frame ra memory input output
         (λ i lo hi. flow.plain b has i lo (omega (arith, hi)))
         (λ i lo hi. flow.reached b has i lo (omega (arith, hi)))
         size held)
@@ -127,7 +127,7 @@ module _ (u : Units) (p : Program) (blocks : List Span) (home : Homes) (live : �
       cc
 
   -- where a block stands
-  place-of : (f : Frame) (rest : List Frame) (at : ℕ) (regs : List (ℕ × ℕ)) (frame : List (ℕ × Kept)) → (a : AtBlock p blocks home live r number entry before f rest at regs frame)
+  place-of : (f : Frame) (rest : List Frame) (at : ℕ) (regs : List (ℕ × ℕ)) (frame : List (ℕ × Kept)) → (a : AtBlock p known r number entry before f rest at regs frame)
       → at ≡ number (a.block).owner (a.block).first
   place-of f rest at regs frame a = a.here ∙ sym (ap₂ number a.owned a.first)
 
@@ -149,6 +149,6 @@ module _ (u : Units) (p : Program) (blocks : List Span) (home : Homes) (live : �
       (subst (λ g. Goes (running k (g ∷ rest) memory input output Running) (walk u (bf.code ∷ bs) (going (number b.owner b.first) regs frame ra memory input output Running)) (before (number b.owner b.first))) same_frame
       (block-walk b a.has last.st last.there bf bs (walk-from bs) (ap (λ n. drop (n + 1) r.blocks) (sym is) ∙ both.1) rest f.vars regs frame ra k memory input output
       (a.size ∙ ap (vars_of p) (sym a.owned))
-      (subst (λ g. HeldBefore p home g regs frame b.first) (sym same_frame) (subst (λ i. HeldBefore p home f regs frame i) (sym a.first) a.held))
-      (subst (λ o. KeepsBack p blocks number frame o rest) (sym a.owned) a.back)
-      (subst (λ o. Callers p blocks number frame o rest) (sym a.owned) a.callers))))
+      (subst (λ g. HeldBefore p known.home g regs frame b.first) (sym same_frame) (subst (λ i. HeldBefore p known.home f regs frame i) (sym a.first) a.held))
+      (subst (λ o. KeepsBack p known.blocks number frame o rest) (sym a.owned) a.back)
+      (subst (λ o. Callers p known.blocks number frame o rest) (sym a.owned) a.callers))))

@@ -7,7 +7,7 @@ use Rattle.tta_program.specs.declared.step.Step.TheVariants.{Copy, Apply, Load, 
 use Rattle.tta_program.specs.declared.program.Proc.{Proc}
 use Rattle.tta_program.specs.Program.{Program}
 use Rattle.tta_program.specs.Sequential.{step_at}
-use Rattle.tta_lower.specs.Liveness.{Span, Has, Begins, Homes, StepThere, Reached, First, Then, IsFlow, IsHomes, leads, is_plain}
+use Rattle.tta_lower.specs.Liveness.{Block, Has, Begins, Homes, StepThere, Reached, First, Then, IsFlow, IsHomes, leads, is_plain}
 use Rattle.tta_lower.specs.Lower.{spans_of, EndsBefore, InOrder}
 use Rattle.tta_lower.specs.FlowFacts.{names_step, IsFirst, AtBegin, Named, AfterStep, StandsBefore, AreBlocks, AtEntry, AtStep, HomeLaw}
 
@@ -30,13 +30,13 @@ names-or-next (Put v) at to goes = inr (eqb-true (at + 1) to goes)
 names-or-next (When rel a b d s) at to goes = inr (eqb-true (at + 1) to goes)
 names-or-next (Invoke d callee args) at to goes = inr (eqb-true (at + 1) to goes)
 
-module _ (p : Program) (blocks : List Span) (are : AreBlocks p blocks) where
+module _ (p : Program) (blocks : List Block) (are : AreBlocks p blocks) where
   record Owned (owner : ℕ) : Type 0 where
     proc : Proc
     is : slice_get p.procs owner ≡ Some proc
 
   -- the owner of a block is a procedure
-  owned-by : (b : Span) → Has blocks b → Owned b.owner
+  owned-by : (b : Block) → Has blocks b → Owned b.owner
   owned-by b has = by (slice_get p.procs b.owner) refl where
     by : (t : Option Proc) → slice_get p.procs b.owner ≡ t → Owned b.owner
     by None is = absurd (false≢true (sym (ap is_some is) ∙ some_within p.procs b.owner (are.owned b has)))
@@ -81,11 +81,11 @@ module _ (p : Program) (blocks : List Span) (are : AreBlocks p blocks) where
         begins-there b.owner to o.proc o.is come (first-by b has st to there goes come (names-or-next st b.last to goes) here);
     reached = λ b has. (are.sound b has).reached;
   } where
-    plain-by : (b : Span) → Has blocks b → (i : ℕ) → b.first ≤ i → i < b.last → (st : Step) → step_at p b.owner i ≡ Some st → (t : Bool) → is_plain st ≡ t → is_plain st ≡ true
+    plain-by : (b : Block) → Has blocks b → (i : ℕ) → b.first ≤ i → i < b.last → (st : Step) → step_at p b.owner i ≡ Some st → (t : Bool) → is_plain st ≡ t → is_plain st ≡ true
     plain-by b has i lo hi st there true is = is
     plain-by b has i lo hi st there false is = absurd ((are.sound b has).only (i + 1) (omega (arith, lo)) (omega (arith, hi)) (AfterStep i (i + 1) st there is refl))
 
-    first-by : (b : Span) → Has blocks b → (st : Step) (to : ℕ) → step_at p b.owner b.last ≡ Some st → leads st b.last to ≡ true → Reached p b.owner to
+    first-by : (b : Block) → Has blocks b → (st : Step) (to : ℕ) → step_at p b.owner b.last ≡ Some st → leads st b.last to ≡ true → Reached p b.owner to
         → (names_step st to ≡ true) ⊎ (b.last + 1 ≡ to) → Reached p b.owner b.last → IsFirst p b.owner to
     first-by b has st to there goes come (inl named) here = Named b.last to st here there named
     first-by b has st to there goes come (inr next) here =
@@ -94,11 +94,11 @@ module _ (p : Program) (blocks : List Span) (are : AreBlocks p blocks) where
   -- ---- the order of blocks
 
   -- each of some blocks stands before those after it
-  abbrev Rising : List Span → Type 0
-  Rising bs = (j k : ℕ) (a b : Span) → j < k → slice_get bs j ≡ Some a → slice_get bs k ≡ Some b → StandsBefore a b
+  abbrev Rising : List Block → Type 0
+  Rising bs = (j k : ℕ) (a b : Block) → j < k → slice_get bs j ≡ Some a → slice_get bs k ≡ Some b → StandsBefore a b
 
   -- a block ends before the others of its procedure begin
-  ends-of : (owner : ℕ) (b : Span) → b.owner ≡ owner → (bs : List Span) → ((k : ℕ) (c : Span) → slice_get bs k ≡ Some c → StandsBefore b c)
+  ends-of : (owner : ℕ) (b : Block) → b.owner ≡ owner → (bs : List Block) → ((k : ℕ) (c : Block) → slice_get bs k ≡ Some c → StandsBefore b c)
       → EndsBefore b (filter (λ c. c.owner == owner) bs)
   ends-of owner b mine [] before = tt
   ends-of owner b mine (c ∷ bs) before = by (c.owner == owner) refl (ends-of owner b mine bs (λ k d is. before (suc k) d is)) where
@@ -111,7 +111,7 @@ module _ (p : Program) (blocks : List Span) (are : AreBlocks p blocks) where
     by false is rest = rw is rest
 
   -- blocks that rise stand in order
-  in-order : (owner : ℕ) (bs : List Span) → Rising bs → InOrder (filter (λ c. c.owner == owner) bs)
+  in-order : (owner : ℕ) (bs : List Block) → Rising bs → InOrder (filter (λ c. c.owner == owner) bs)
   in-order owner [] rising = tt
   in-order owner (b ∷ bs) rising = by (b.owner == owner) refl (in-order owner bs (λ j k a c lt ja kc. rising (suc j) (suc k) a c (omega (arith, lt)) ja kc)) where
     by : (t : Bool) → (b.owner == owner) ≡ t → InOrder (filter (λ c. c.owner == owner) bs) → InOrder (filter (λ c. c.owner == owner) (b ∷ bs))

@@ -14,7 +14,7 @@ use Rattle.tta_program.specs.Rules.{IsProgram, IsProc, is_step, is_src, Reaches,
 use Rattle.tta_program.specs.Rules as rules
 use Rattle.tta_program.specs.Sequential.{Frame, step_at}
 use Rattle.tta_rcode.specs.Meaning.{Kept, Return, found, plain}
-use Rattle.tta_lower.specs.Liveness.{LiveBefore, Reads, Leads, LiveAfter, After, Span, is_var, reads}
+use Rattle.tta_lower.specs.Liveness.{LiveBefore, Reads, Leads, LiveAfter, After, Block, is_var, reads}
 use Rattle.tta_lower.specs.Layout.{vars_of, var_slot, back_slot, own, InFrame}
 use Rattle.tta_lower.specs.Relation.{IsCaller, KeepsBack, Callers, UntouchedFrame}
 use Rattle.tta_lower.proofs.Slots.{one-frame}
@@ -158,7 +158,7 @@ module _ (p : Program) (sound : IsProgram p) where
     by None is = cc
     by (Some q) is = any-at q.steps at callee d args is
 
-  module _ (blocks : List Span) (number : ℕ → ℕ → ℕ) where
+  module _ (blocks : List Block) (number : ℕ → ℕ → ℕ) where
     all-reach : (frame : List (ℕ × Kept)) (above : ℕ) (rest : List Frame) → Callers p blocks number frame above rest → AllReach above rest
     all-reach frame above [] callers = tt
     all-reach frame above (g ∷ rest) callers =

@@ -15,7 +15,7 @@ use Rattle.tta_rcode.specs.declared.code.RSrc.{RSrc}
 use Rattle.tta_rcode.specs.declared.code.RSrc.TheVariants as rsrc
 use Rattle.tta_rcode.specs.declared.code.RStep.TheVariants as rstep
 use Rattle.tta_rcode.specs.declared.code.RBlock.{RBlock}
-use Rattle.tta_lower.specs.Liveness.{Span, Has, Homes, IsFlow}
+use Rattle.tta_lower.specs.Liveness.{Known, Has, Homes, IsFlow}
 use Rattle.tta_lower.specs.Layout
 use Rattle.tta_lower.specs.Layout.{vars_of, params_of, place, place_by, source, passes, gives, steps_for, code_from, exit_for, keeps_ra, first_value, sets, sets_from}
 use Rattle.tta_lower.specs.Lower.{Part, Entry, Steps, Returned, number_of, entry_number, block_of}
@@ -188,62 +188,62 @@ module _ (p : Program) (home : Homes) where
 
 -- ---- whole blocks
 
-module _ (p : Program) (blocks : List Span) (home : Homes) (live_first : (owner x : ℕ) → Bool) (live_after : (owner at x : ℕ) → Bool) (homes : ℕ) (flow : IsFlow p blocks) where
+module _ (p : Program) (known : Known) (homes : ℕ) (flow : IsFlow p known.blocks) where
   abbrev number : ℕ → ℕ → ℕ
-  number = number_of p blocks live_first
+  number = number_of p known.blocks known.first
 
   -- the number of an entry block
   abbrev entry : ℕ → ℕ
-  entry = entry_number p blocks live_first
+  entry = entry_number p known.blocks known.first
 
   -- the block of a part
   abbrev block : Part → RBlock
-  block = block_of p blocks live_first home live_after homes
+  block = block_of p known homes
 
   -- a part of the program: its steps are a block
   abbrev pub IsPart : Part → Type 0
-  IsPart (Steps b) = Has blocks b
+  IsPart (Steps b) = Has known.blocks b
   IsPart x = ⊤
 
   -- each block of register code names slots at most as often as its frame traffic
-  pub names-few : (x : Part) → IsPart x → names (block x) ≤ traffic p home live_first x
+  pub names-few : (x : Part) → IsPart x → names (block x) ≤ traffic p known.home known.first x
   names-few (Entry owner) is =
-      let ra = keeps-names p home live_first number entry owner in
-      let live = entry-sum p home names_step (fetched p home owner) (live_first owner) owner 0 (vars_of p owner) (sets-names p home live_first number entry owner) in
-      rw (sum_by-append names_step (keeps_ra p home owner) (sets_from p home (live_first owner) owner 0 (vars_of p owner))) (omega (arith, ra, live))
+      let ra = keeps-names p known.home known.first number entry owner in
+      let live = entry-sum p known.home names_step (fetched p known.home owner) (known.first owner) owner 0 (vars_of p owner) (sets-names p known.home known.first number entry owner) in
+      rw (sum_by-append names_step (keeps_ra p known.home owner) (sets_from p known.home (known.first owner) owner 0 (vars_of p owner))) (omega (arith, ra, live))
   names-few (Steps b) is =
       let last = flow.last b is in
-      let all = block-sum p home names_step (traffic_step p home b.owner) (names_exit (exit_for p home number entry b.owner last.st)) b last.st (flow.rises b is) last.there
-      (λ s. let one = step-names p home live_first number entry b.owner s in omega (arith, one)) (step-names p home live_first number entry b.owner last.st) in
+      let all = block-sum p known.home names_step (traffic_step p known.home b.owner) (names_exit (exit_for p known.home number entry b.owner last.st)) b last.st (flow.rises b is) last.there
+      (λ s. let one = step-names p known.home known.first number entry b.owner s in omega (arith, one)) (step-names p known.home known.first number entry b.owner last.st) in
       rw (last.there) all
-  names-few (Returned b d callee) is = one (place p home b.owner d) where
+  names-few (Returned b d callee) is = one (place p known.home b.owner d) where
     one : (pl : Place) → 0 + (names_place pl + 1) + 0 ≤ 2
     one (Reg k) = omega arith
     one (Frame f) = omega arith
 
   -- it asks for operations at most as often
-  pub asks-few : (u : Units) (wanted : Need → Bool) (x : Part) → IsPart x → asks u wanted (block x) ≤ asks_part u wanted p home x
+  pub asks-few : (u : Units) (wanted : Need → Bool) (x : Part) → IsPart x → asks u wanted (block x) ≤ asks_part u wanted p known.home x
   asks-few u wanted (Entry owner) is =
-      let ra = keeps-asks p home u wanted number entry owner in
-      let live = entry-sum p home (asks_rstep u wanted) (λ y. 0) (live_first owner) owner 0 (vars_of p owner) (sets-asks p home u wanted number entry owner) in
-      let none = over-zero p home (live_first owner) 0 (vars_of p owner) in
-      rw (sum_by-append (asks_rstep u wanted) (keeps_ra p home owner) (sets_from p home (live_first owner) owner 0 (vars_of p owner))) (omega (arith, ra, live, none))
+      let ra = keeps-asks p known.home u wanted number entry owner in
+      let live = entry-sum p known.home (asks_rstep u wanted) (λ y. 0) (known.first owner) owner 0 (vars_of p owner) (sets-asks p known.home u wanted number entry owner) in
+      let none = over-zero p known.home (known.first owner) 0 (vars_of p owner) in
+      rw (sum_by-append (asks_rstep u wanted) (keeps_ra p known.home owner) (sets_from p known.home (known.first owner) owner 0 (vars_of p owner))) (omega (arith, ra, live, none))
   asks-few u wanted (Steps b) is =
       let last = flow.last b is in
-      let all = block-sum p home (asks_rstep u wanted) (asks_step u wanted) (asks_exit u wanted (exit_for p home number entry b.owner last.st)) b last.st (flow.rises b is) last.there
-      (λ s. let one = step-asks p home u wanted number entry b.owner s in omega (arith, one)) (step-asks p home u wanted number entry b.owner last.st) in
+      let all = block-sum p known.home (asks_rstep u wanted) (asks_step u wanted) (asks_exit u wanted (exit_for p known.home number entry b.owner last.st)) b last.st (flow.rises b is) last.there
+      (λ s. let one = step-asks p known.home u wanted number entry b.owner s in omega (arith, one)) (step-asks p known.home u wanted number entry b.owner last.st) in
       rw (last.there) all
   asks-few u wanted (Returned b d callee) is = omega arith
 
   -- and assigns at most as often
-  pub assigns-few : (x : Part) → IsPart x → assigns_block (block x) ≤ assigns_part p home live_first x
+  pub assigns-few : (x : Part) → IsPart x → assigns_block (block x) ≤ assigns_part p known.home known.first x
   assigns-few (Entry owner) is =
-      let ra = keeps-assigns p home owner in
-      let live = entry-sum p home assigns_rstep (λ y. 1) (live_first owner) owner 0 (vars_of p owner) (sets-assigns p home owner) in
-      rw (sum_by-append assigns_rstep (keeps_ra p home owner) (sets_from p home (live_first owner) owner 0 (vars_of p owner))) (omega (arith, ra, live))
+      let ra = keeps-assigns p known.home owner in
+      let live = entry-sum p known.home assigns_rstep (λ y. 1) (known.first owner) owner 0 (vars_of p owner) (sets-assigns p known.home owner) in
+      rw (sum_by-append assigns_rstep (keeps_ra p known.home owner) (sets_from p known.home (known.first owner) owner 0 (vars_of p owner))) (omega (arith, ra, live))
   assigns-few (Steps b) is =
       let last = flow.last b is in
-      let one = step-assigns p home b.owner last.st in
-      let all = block-sum p home assigns_rstep assigns_step 0 b last.st (flow.rises b is) last.there (step-assigns p home b.owner) (omega (arith, one)) in
+      let one = step-assigns p known.home b.owner last.st in
+      let all = block-sum p known.home assigns_rstep assigns_step 0 b last.st (flow.rises b is) last.there (step-assigns p known.home b.owner) (omega (arith, one)) in
       omega (arith, all)
-  assigns-few (Returned b d callee) is = omega (arith, at-most-one p home (place p home b.owner d))
+  assigns-few (Returned b d callee) is = omega (arith, at-most-one p known.home (place p known.home b.owner d))

@@ -13,7 +13,8 @@ use Rattle.tta_program.specs.Program.{Program}
 use Rattle.tta_program.specs.Rules.{IsProgram, IsProc, is_step, is_src, is_call}
 use Rattle.tta_program.specs.Sequential.{step_at}
 use Rattle.tta_lower.specs.declared.numbers.Numbers.{Numbers}
-use Rattle.tta_lower.specs.Liveness.{Span, Has, Homes}
+use Rattle.tta_flow.specs.Blocks as flows
+use Rattle.tta_lower.specs.Liveness.{Known, Block, Has, IsFlow}
 use Rattle.tta_lower.specs.Layout.{vars_of}
 use Rattle.tta_lower.specs.Law.{IsKnown}
 use Rattle.tta_lower.specs.Lower.{Part, Entry, Steps, Returned, parts, block_of}
@@ -22,7 +23,9 @@ use Rattle.tta_lower.specs.Laid.{IsSpan, IsPart, AreParts, block_by, test_of}
 use Rattle.tta_lower.proofs.Steps.{StepOf, step_of}
 use Rattle.tta_lower.proofs.Callers.{called, vars-are}
 use Rattle.tta_lower.proofs.Lists.{has-in}
-use Rattle.tta_lower.proofs.Shutting.{IsPartOf, parts-are, main-in}
+use Rattle.tta_lower.proofs.Shutting.{IsPartOf, parts-are}
+use Rattle.tta_lower.proofs.Bridge.{is-flow}
+use Rattle.tta_lower.proofs.SameBlocks.{are_blocks}
 use Rattle.tta_lower.proofs.Weighing.{few-blocks}
 use Rattle.tta_lower.proofs.Agreeing.{blocks-agree}
 use Rattle.tta_lower.proofs.Unique.{stand-once}
@@ -98,30 +101,37 @@ module _ (p : Program) (sound : IsProgram p) where
     by Halt there is = refl
     by End there is = refl
 
-  module _ (homes : ℕ) (blocks : List Span) (home : Homes) (live_first : (owner x : ℕ) → Bool) (live_after : (owner at x : ℕ) → Bool)
-      (known : IsKnown p homes blocks home live_first live_after) where
-    -- the steps of a block are there
-    pub span-is : (b : Span) → Has blocks b → IsSpan p b
-    span-is b has =
-        let last = (known.flow).last b has in
-        let of = step_of p sound b.owner b.last last.st last.there in
-        record {
-          owner = slice_get_within p.procs b.owner of.proc of.is;
-          ordered = (known.flow).rises b has;
-          within = λ q is. slice_get_within q.steps b.last last.st (sym (step-is b.owner b.last q is) ∙ last.there);
-        } where
-          step-is : (owner at : ℕ) (q : Proc) → slice_get p.procs owner ≡ Some q → step_at p owner at ≡ slice_get q.steps at
-          step-is owner at q is = rw is refl
+  -- the steps of a block are there
+  span-in : (blocks : List Block) → IsFlow p blocks → (b : Block) → Has blocks b → IsSpan p b
+  span-in blocks flow b has =
+      let last = flow.last b has in
+      let of = step_of p sound b.owner b.last last.st last.there in
+      record {
+        owner = slice_get_within p.procs b.owner of.proc of.is;
+        ordered = flow.rises b has;
+        within = λ q is. slice_get_within q.steps b.last last.st (sym (step-is b.owner b.last q is) ∙ last.there);
+      } where
+        step-is : (owner at : ℕ) (q : Proc) → slice_get p.procs owner ≡ Some q → step_at p owner at ≡ slice_get q.steps at
+        step-is owner at q is = rw is refl
 
-    part-of : (k : ℕ) (x : Part) → slice_get (parts p blocks live_first) k ≡ Some x → IsPartOf p blocks x
-    part-of k x is = parts-are p blocks home live_first live_after homes sound known.flow known.answers x (has-in (parts p blocks live_first) k x is)
+  -- the steps of a program's blocks are there
+  pub span-is : (blocks : List Block) → flows.IsFlow p blocks → (b : Block) → Has blocks b → IsSpan p b
+  span-is blocks flow = span-in blocks (is-flow p blocks (are_blocks p sound blocks flow))
+
+  -- a number can count the procedures
+  pub procs_few : length p.procs < 2 ^ 32
+  procs_few = let lines = sound.lines in omega (arith, lines)
+
+  module _ (homes : ℕ) (known : Known) (is_known : IsKnown p homes known) where
+    part-of : (k : ℕ) (x : Part) → slice_get (parts p known.blocks known.first) k ≡ Some x → IsPartOf p known.blocks x
+    part-of k x is = parts-are p known homes sound is_known.flow is_known.answers x (has-in (parts p known.blocks known.first) k x is)
 
     -- what the parts name is there
-    pub are-parts : AreParts p (parts p blocks live_first)
+    pub are-parts : AreParts p (parts p known.blocks known.first)
     are-parts k x is = by x (part-of k x is) where
-      by : (x : Part) → IsPartOf p blocks x → IsPart p x
+      by : (x : Part) → IsPartOf p known.blocks x → IsPart p x
       by (Entry owner) lt = lt
-      by (Steps b) has = span-is b has
+      by (Steps b) has = span-in known.blocks is_known.flow b has
       by (Returned b d callee) r =
           let call = called p sound b.owner b.last callee (Some d) r.args r.call in
           let of = step_of p sound b.owner b.last (Invoke (Some d) callee r.args) r.call in
@@ -136,28 +146,21 @@ module _ (p : Program) (sound : IsProgram p) where
           }
 
     -- blocks of steps and entries stand once among the parts
-    pub parts-once : StandOnce (parts p blocks live_first)
-    parts-once = stand-once p blocks live_first (known.answers).order (λ k b is. (span-is b (part-of k (Steps b) is)).ordered)
+    pub parts-once : StandOnce (parts p known.blocks known.first)
+    parts-once = stand-once p known.blocks known.first (is_known.answers).order (λ k b is. (span-in known.blocks is_known.flow b (part-of k (Steps b) is)).ordered)
 
     -- there are fewer parts than a number can count
-    pub parts-few : length (parts p blocks live_first) < 2 ^ 32
+    pub parts-few : length (parts p known.blocks known.first) < 2 ^ 32
     parts-few =
-        let few = few-blocks p blocks home live_first live_after homes sound known.flow known.answers in
+        let few = few-blocks p known homes sound is_known.flow is_known.answers in
         let lines = sound.lines in
         omega (arith, few, lines)
 
     -- the blocks of all parts are the register code
-    pub code-is : (n : Numbers) (ps rs : List Part) → ps ≡ parts p blocks live_first → HasNumbers p ps n (length ps) → rs ≡ parts p blocks live_first
-        → map (λ x. block_by p home (number_in n.rows.items) (slice_index n.entries.items) homes (test_of live_first live_after x) x) rs
-        ≡ map (block_of p blocks live_first home live_after homes) (parts p blocks live_first)
+    pub code-is : (n : Numbers) (ps rs : List Part) → ps ≡ parts p known.blocks known.first → HasNumbers p ps n (length ps) → rs ≡ parts p known.blocks known.first
+        → map (λ x. block_by p known.home (number_in n.rows.items) (slice_index n.entries.items) homes (test_of known.first known.after x) x) rs
+        ≡ map (block_of p known homes) (parts p known.blocks known.first)
     code-is n ps rs are has same =
-        ap (map (λ x. block_by p home (number_in n.rows.items) (slice_index n.entries.items) homes (test_of live_first live_after x) x)) same
-        ∙ blocks-agree p blocks home live_first live_after homes sound known.flow known.answers n (subst (λ l. HasNumbers p l n (length l)) are has)
-        (parts p blocks live_first) (parts-are p blocks home live_first live_after homes sound known.flow known.answers)
-
-    -- main is there
-    pub main-is : p.main < length p.procs
-    main-is = main-in p blocks home live_first live_after homes sound known.flow known.answers
-
-    pub procs-few : length p.procs < 2 ^ 32
-    procs-few = let lines = sound.lines in omega (arith, lines)
+        ap (map (λ x. block_by p known.home (number_in n.rows.items) (slice_index n.entries.items) homes (test_of known.first known.after x) x)) same
+        ∙ blocks-agree p known homes sound is_known.flow is_known.answers n (subst (λ l. HasNumbers p l n (length l)) are has)
+        (parts p known.blocks known.first) (parts-are p known homes sound is_known.flow is_known.answers)

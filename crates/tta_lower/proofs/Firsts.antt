@@ -184,7 +184,7 @@ lay-room p procs firsts next o q s laid lt is =
     omega (arith, few, laid.free)
 
 -- main is there
-main-below : (p : Program) → IsProgram p → p.main < length p.procs
+pub main-below : (p : Program) → IsProgram p → p.main < length p.procs
 main-below p sound = by (slice_get p.procs p.main) refl sound.main where
   by : (q : Option Proc) → slice_get p.procs p.main ≡ q → option_map_or (λ q. q.params == 0) q false ≡ true → p.main < length p.procs
   by None is none = cc

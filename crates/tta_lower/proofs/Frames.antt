@@ -7,7 +7,7 @@ use Rattle.tta_program.specs.Program.{Program}
 use Rattle.tta_program.specs.Rules.{IsProgram}
 use Rattle.tta_program.specs.Sequential.{Frame, enter}
 use Rattle.tta_rcode.specs.Meaning.{Kept}
-use Rattle.tta_lower.specs.Liveness.{Span}
+use Rattle.tta_lower.specs.Liveness.{Block}
 use Rattle.tta_lower.specs.Layout.{vars_of, var_slot, back_slot, own, InFrame}
 use Rattle.tta_lower.specs.Relation.{KeepsBack, Callers, Untouched, UntouchedFrame}
 use Rattle.tta_lower.proofs.Callers.{called}
@@ -28,7 +28,7 @@ main-own p owner e = rw (eq-eqb owner p.main e) refl
 pub other-own : (p : Program) (owner : ℕ) → owner ≢ p.main → own p owner ≡ 2
 other-own p owner ne = rw (ne_eqb owner p.main ne) refl
 
-module _ (p : Program) (sound : IsProgram p) (blocks : List Span) (number : ℕ → ℕ → ℕ) where
+module _ (p : Program) (sound : IsProgram p) (blocks : List Block) (number : ℕ → ℕ → ℕ) where
   -- who was called is not main
   pub not-main : (frame : List (ℕ × Kept)) (owner : ℕ) (g : Frame) (rest : List Frame) → Callers p blocks number frame owner (g ∷ rest) → owner ≢ p.main
   not-main frame owner g rest callers = (called p sound g.proc g.at owner callers.0.d callers.0.args callers.0.call).other

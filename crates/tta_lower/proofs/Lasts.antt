@@ -16,7 +16,7 @@ use Rattle.tta_program.specs.Rules.{IsProgram}
 use Rattle.tta_program.specs.Sequential.{step_at}
 use Rattle.tta_rcode.specs.declared.code.RBlock.{RBlock}
 use Rattle.tta_rcode.specs.declared.code.Exit.TheVariants as exit
-use Rattle.tta_lower.specs.Liveness.{Span, Has, Homes, IsFlow, leads}
+use Rattle.tta_lower.specs.Liveness.{Known, Block, Has, IsFlow, leads}
 use Rattle.tta_lower.specs.Layout.{vars_of, own, base, var_slot, value_slot, back_slot, size, place, place_by, exit_for}
 use Rattle.tta_lower.specs.Lower.{numbers, code_order, spans_of, Part, Steps, return_after, span_parts, entry_parts, proc_parts, parts, number_of, entry_number, block_of, EndsBefore, InOrder, Answers}
 use Rattle.tta_program.specs.Sizes.{frame_need}
@@ -34,34 +34,34 @@ last-of x (y ∷ ys) =
     (x ∷ rest.0, rest.1, ap (λ l. x ∷ l) rest.2)
 
 -- a block ends before a later one begins
-numbers-order : (prefix : List Span) (c d : Span) → InOrder (prefix ++ c ∷ []) → In d prefix → d.last < c.first
+numbers-order : (prefix : List Block) (c d : Block) → InOrder (prefix ++ c ∷ []) → In d prefix → d.last < c.first
 numbers-order [] c d order is = absurd is
 numbers-order (b ∷ prefix) c d order (inl e) = subst (λ x. x.last < c.first) (sym e) (ends prefix order.0) where
-  ends : (prefix : List Span) → EndsBefore b (prefix ++ c ∷ []) → b.last < c.first
+  ends : (prefix : List Block) → EndsBefore b (prefix ++ c ∷ []) → b.last < c.first
   ends [] h = h.0
   ends (a ∷ prefix) h = ends prefix h.1
 numbers-order (b ∷ prefix) c d order (inr more) = numbers-order prefix c d order.1 more
 
-module _ (p : Program) (blocks : List Span) (home : Homes) (live_first : (owner x : ℕ) → Bool) (live_after : (owner at x : ℕ) → Bool) (homes frame_words : ℕ)
-    (sound : IsProgram p) (flow : IsFlow p blocks) (answers : Answers p blocks home live_first live_after homes) (need : frame_need p ≤ frame_words) where
+module _ (p : Program) (known : Known) (homes frame_words : ℕ)
+    (sound : IsProgram p) (flow : IsFlow p known.blocks) (answers : Answers p known homes) (need : frame_need p ≤ frame_words) where
   abbrev all : List Part
-  all = parts p blocks live_first
+  all = parts p known.blocks known.first
 
   -- the block of a part
   abbrev block : Part → RBlock
-  block = block_of p blocks live_first home live_after homes
+  block = block_of p known homes
 
   -- the number of the block that holds a step
   abbrev number : ℕ → ℕ → ℕ
-  number = number_of p blocks live_first
+  number = number_of p known.blocks known.first
 
   -- the number of an entry block
   abbrev entry : ℕ → ℕ
-  entry = entry_number p blocks live_first
+  entry = entry_number p known.blocks known.first
 
   -- main is there
   main_below : p.main < length p.procs
-  main_below = main-in p blocks home live_first live_after homes sound flow answers
+  main_below = main-in p known homes sound flow answers
 
   -- a procedure that is there
   record ProcOf (owner : ℕ) : Type 0 where
@@ -88,8 +88,8 @@ module _ (p : Program) (blocks : List Span) (home : Homes) (live_first : (owner 
   -- ---- the last block
 
   -- a last step of a procedure's last block leads to no next one
-  ends-so : (b : Span) → Has blocks b → (st : Step) → step_at p b.owner b.last ≡ Some st → (leads st b.last (b.last + 1) ≡ true → ⊥)
-      → (return_after b (Some st) ≡ []) × (wants_next (exit_for p home number entry b.owner st) ≡ false)
+  ends-so : (b : Block) → Has known.blocks b → (st : Step) → step_at p b.owner b.last ≡ Some st → (leads st b.last (b.last + 1) ≡ true → ⊥)
+      → (return_after b (Some st) ≡ []) × (wants_next (exit_for p known.home number entry b.owner st) ≡ false)
   ends-so b has (If rel a c to) there no_more = absurd (no_more (or_right (to == b.last + 1) _ (eq-eqb (b.last + 1) (b.last + 1) refl)))
   ends-so b has (Invoke d callee args) there no_more = absurd (no_more (eq-eqb (b.last + 1) (b.last + 1) refl))
   ends-so b has (Copy d s) there no_more = absurd (no_more (eq-eqb (b.last + 1) (b.last + 1) refl))
@@ -111,16 +111,16 @@ module _ (p : Program) (blocks : List Span) (home : Homes) (live_first : (owner 
     by false = refl
 
   -- the last block of a procedure leads to no next one
-  last-span : (owner : ℕ) (prefix : List Span) (c : Span) → spans_of blocks owner ≡ prefix ++ c ∷ [] → Has blocks c → c.owner ≡ owner → (st : Step)
+  last-span : (owner : ℕ) (prefix : List Block) (c : Block) → spans_of known.blocks owner ≡ prefix ++ c ∷ [] → Has known.blocks c → c.owner ≡ owner → (st : Step)
       → step_at p c.owner c.last ≡ Some st → leads st c.last (c.last + 1) ≡ true → ⊥
   last-span owner prefix c split has owned st there goes =
       let begins = flow.onward c has st (c.last + 1) there goes in
       let d = begins.block in
       let d_owner : (d.owner == owner) ≡ true = eq-eqb d.owner owner (begins.owned ∙ owned) in
-      let inside : In d (prefix ++ c ∷ []) = subst (λ l. In d l) split (in-filter (λ b. b.owner == owner) blocks d (has-in blocks (begins.has).0 d (begins.has).1) d_owner) in
+      let inside : In d (prefix ++ c ∷ []) = subst (λ l. In d l) split (in-filter (λ b. b.owner == owner) known.blocks d (has-in known.blocks (begins.has).0 d (begins.has).1) d_owner) in
       let order = subst InOrder split (answers.order owner) in
       by d begins.from (flow.rises d begins.has) (in-append prefix (c ∷ []) d inside) order where
-        by : (d : Span) → d.first ≡ c.last + 1 → d.first ≤ d.last → In d prefix ⊎ In d (c ∷ []) → InOrder (prefix ++ c ∷ []) → ⊥
+        by : (d : Block) → d.first ≡ c.last + 1 → d.first ≤ d.last → In d prefix ⊎ In d (c ∷ []) → InOrder (prefix ++ c ∷ []) → ⊥
         by d first rises (inl e) order = absurd (omega (arith, numbers-order prefix c d order e, first, rises, flow.rises c has))
         by d first rises (inr (inl e)) order =
             let same : d.first ≡ c.first = ap (λ x. x.first) e in
@@ -140,41 +140,41 @@ module _ (p : Program) (blocks : List Span) (home : Homes) (live_first : (owner 
       let os = last-of p.main (filter (λ o. not (o == p.main)) (numbers 0 (length p.procs))) in
       let owner = os.1 in
       let in_order : In owner (code_order p) = subst (λ l. In owner l) (sym os.2) (in-end os.0 owner) in
-      of-owner os.0 owner os.2 (order-below p blocks home live_first live_after homes sound flow answers owner in_order) where
+      of-owner os.0 owner os.2 (order-below p known homes sound flow answers owner in_order) where
         in-end : {A : Type 0} (prefix : List A) (x : A) → In x (prefix ++ x ∷ [])
         in-end [] x = inl refl
         in-end (y ∷ prefix) x = inr (in-end prefix x)
 
-        of-span : (procs : List ℕ) (owner : ℕ) → code_order p ≡ procs ++ owner ∷ [] → (prefix : List Span) (c : Span) → spans_of blocks owner ≡ prefix ++ c ∷ [] → LastPart
+        of-span : (procs : List ℕ) (owner : ℕ) → code_order p ≡ procs ++ owner ∷ [] → (prefix : List Block) (c : Block) → spans_of known.blocks owner ≡ prefix ++ c ∷ [] → LastPart
         of-span procs owner order prefix c split =
-            let both = filter-in (λ b. b.owner == owner) blocks c (subst (λ l. In c l) (sym split) (in-end prefix c)) in
-            let has = in-has blocks c both.0 in
+            let both = filter-in (λ b. b.owner == owner) known.blocks c (subst (λ l. In c l) (sym split) (in-end prefix c)) in
+            let has = in-has known.blocks c both.0 in
             let owned = eqb-true c.owner owner both.1 in
             let last = flow.last c has in
             let ended = ends-so c has last.st last.there (last-span owner prefix c split has owned last.st last.there) in
             let one : span_parts p c ≡ Steps c ∷ [] = ap (λ o. Steps c ∷ return_after c o) last.there ∙ ap (λ l. Steps c ∷ l) ended.0 in
-            let spans : flat_map (span_parts p) (spans_of blocks owner) ≡ flat_map (span_parts p) prefix ++ Steps c ∷ [] =
+            let spans : flat_map (span_parts p) (spans_of known.blocks owner) ≡ flat_map (span_parts p) prefix ++ Steps c ∷ [] =
             ap (flat_map (span_parts p)) split ∙ flat_map-append (span_parts p) prefix (c ∷ [])
             ∙ ap (λ l. flat_map (span_parts p) prefix ++ l) (append-nil (span_parts p c) ∙ one) in
-            let procs_all : all ≡ flat_map (proc_parts p blocks live_first) procs ++ (entry_parts p blocks live_first owner ++ (flat_map (span_parts p) prefix ++ Steps c ∷ [])) =
-            ap (flat_map (proc_parts p blocks live_first)) order ∙ flat_map-append (proc_parts p blocks live_first) procs (owner ∷ [])
-            ∙ ap (λ l. flat_map (proc_parts p blocks live_first) procs ++ l) (append-nil (proc_parts p blocks live_first owner) ∙ ap (λ l. entry_parts p blocks live_first owner ++ l) spans) in
+            let procs_all : all ≡ flat_map (proc_parts p known.blocks known.first) procs ++ (entry_parts p known.blocks known.first owner ++ (flat_map (span_parts p) prefix ++ Steps c ∷ [])) =
+            ap (flat_map (proc_parts p known.blocks known.first)) order ∙ flat_map-append (proc_parts p known.blocks known.first) procs (owner ∷ [])
+            ∙ ap (λ l. flat_map (proc_parts p known.blocks known.first) procs ++ l) (append-nil (proc_parts p known.blocks known.first owner) ∙ ap (λ l. entry_parts p known.blocks known.first owner ++ l) spans) in
             record {
-              prefix = flat_map (proc_parts p blocks live_first) procs ++ (entry_parts p blocks live_first owner ++ flat_map (span_parts p) prefix);
+              prefix = flat_map (proc_parts p known.blocks known.first) procs ++ (entry_parts p known.blocks known.first owner ++ flat_map (span_parts p) prefix);
               part = Steps c;
               split = procs_all
-                  ∙ ap (λ l. flat_map (proc_parts p blocks live_first) procs ++ l) (sym (append_assoc (entry_parts p blocks live_first owner) (flat_map (span_parts p) prefix) (Steps c ∷ [])))
-                  ∙ sym (append_assoc (flat_map (proc_parts p blocks live_first) procs) (entry_parts p blocks live_first owner ++ flat_map (span_parts p) prefix) (Steps c ∷ []));
-              done = ap (λ o. wants_next (option_map_or (exit_for p home number entry c.owner) o exit.Halt)) last.there ∙ ended.1;
+                  ∙ ap (λ l. flat_map (proc_parts p known.blocks known.first) procs ++ l) (sym (append_assoc (entry_parts p known.blocks known.first owner) (flat_map (span_parts p) prefix) (Steps c ∷ [])))
+                  ∙ sym (append_assoc (flat_map (proc_parts p known.blocks known.first) procs) (entry_parts p known.blocks known.first owner ++ flat_map (span_parts p) prefix) (Steps c ∷ []));
+              done = ap (λ o. wants_next (option_map_or (exit_for p known.home number entry c.owner) o exit.Halt)) last.there ∙ ended.1;
             }
 
         of-owner : (procs : List ℕ) (owner : ℕ) → code_order p ≡ procs ++ owner ∷ [] → owner < length p.procs → LastPart
         of-owner procs owner order lt =
             let q = proc-below owner lt in
             let begins = flow.entry owner q.proc q.is in
-            let first = in-filter (λ b. b.owner == owner) blocks begins.block (has-in blocks (begins.has).0 begins.block (begins.has).1) (eq-eqb (begins.block).owner owner begins.owned) in
-            some-spans begins.block (spans_of blocks owner) refl first where
-              some-spans : (x : Span) (l : List Span) → spans_of blocks owner ≡ l → In x l → LastPart
+            let first = in-filter (λ b. b.owner == owner) known.blocks begins.block (has-in known.blocks (begins.has).0 begins.block (begins.has).1) (eq-eqb (begins.block).owner owner begins.owned) in
+            some-spans begins.block (spans_of known.blocks owner) refl first where
+              some-spans : (x : Block) (l : List Block) → spans_of known.blocks owner ≡ l → In x l → LastPart
               some-spans x [] is none = absurd none
               some-spans x (b ∷ bs) is here =
                   let cut = last-of b bs in
@@ -219,14 +219,14 @@ module _ (p : Program) (blocks : List Span) (home : Homes) (live_first : (owner 
     differs : (f s : ℕ) → f ≢ s → not (f == s) ≡ true
     differs f s other = rw (ne_eqb f s other) refl
 
-    no-place : (owner x : ℕ) → x < vars_of p owner → is_not_slot (back_slot p o) (place p home owner x) ≡ true
-    no-place owner x few = by (home owner x) where
-      by : (h : Option ℕ) → is_not_slot (back_slot p o) (place_by p home owner x h) ≡ true
+    no-place : (owner x : ℕ) → x < vars_of p owner → is_not_slot (back_slot p o) (place p known.home owner x) ≡ true
+    no-place owner x few = by (known.home owner x) where
+      by : (h : Option ℕ) → is_not_slot (back_slot p o) (place_by p known.home owner x h) ≡ true
       by (Some k) = refl
       by None = differs (var_slot p owner x) (back_slot p o) (not-var owner x few)
 
     pub none-names : list_all (block_passes (is_not_slot (back_slot p o)) (λ t. true)) (map block all) ≡ true
-    none-names = all-pass p blocks home live_first live_after homes sound flow answers (is_not_slot (back_slot p o)) (λ t. true)
+    none-names = all-pass p known homes sound flow answers (is_not_slot (back_slot p o)) (λ t. true)
         no-place (λ owner x few. differs (var_slot p owner x) (back_slot p o) (not-var owner x few))
         (λ owner below other. differs (value_slot p owner) (back_slot p o) (not-value owner below other)) (λ owner below other. refl)
 
@@ -255,7 +255,7 @@ module _ (p : Program) (blocks : List Span) (home : Homes) (live_first : (owner 
         let names = none-names a.found (omega (arith, numbers-below 0 (length p.procs) a.found a.is)) other in
         absurd (false≢true (sym named ∙ subst (λ n. list_all (block_passes (is_not_slot n) (λ t. true)) (map block all) ≡ true) (eqb-true (back_slot p a.found) s parts.1) names))
     by false none =
-        all-pass p blocks home live_first live_after homes sound flow answers (λ q. true) (λ t. not (t == s))
+        all-pass p known homes sound flow answers (λ q. true) (λ t. not (t == s))
         (λ owner x few. refl) (λ owner x few. refl) (λ owner lt other. refl)
         (λ owner lt other. rw (ne_eqb (back_slot p owner) s (λ e. false≢true (sym none ∙ in-any (is_back s) (numbers 0 (length p.procs)) owner (in-numbers 0 (length p.procs) owner (omega arith) (omega (arith, lt)))
         (and_from (not (owner == p.main)) (back_slot p owner == s) (rw (ne_eqb owner p.main other) refl) (eq-eqb (back_slot p owner) s e))))) refl)

@@ -20,7 +20,7 @@ use Rattle.tta_rcode.specs.declared.code.RBlock.{RBlock}
 use Rattle.tta_rcode.specs.declared.code.Rir.{Rir}
 use Rattle.tta_rcode.specs.Meaning as code
 use Rattle.tta_rcode.specs.Meaning.{State, Kept, Plain, found, plain, word, steps_of, walk, stay, is_running, leg}
-use Rattle.tta_lower.specs.Liveness.{Reads, After, Reached, Span, Has, Homes, IsFlow, IsHomes, is_plain, is_var, reads, assigned, leads}
+use Rattle.tta_lower.specs.Liveness.{Known, Reads, After, Reached, Block, Has, IsFlow, IsHomes, is_plain, is_var, reads, assigned, leads}
 use Rattle.tta_lower.specs.Layout.{vars_of, params_of, var_slot, place_by, source, gives, steps_for, exit_for, InFrame, back as back_exit}
 use Rattle.tta_lower.specs.Shape.{Counts, BlockFor, IsLowered, may_fall, is_call}
 use Rattle.tta_lower.specs.Relation.{running, going, one_more, HeldBefore, HeldAfter, IsCaller, KeepsBack, Callers, AtBlock, BlockNext, EntryNext}
@@ -36,13 +36,13 @@ use Rattle.tta_lower.proofs.Falling.{falls-leads, IsPlainExit, plain-exit}
 use Rattle.tta_lower.proofs.Returning.{last-return}
 use Rattle.tta_lower.proofs.Walks.{Walked, walked-after, walked-code, comes-now, ends-now, WalkFrom}
 
-module _ (u : Units) (p : Program) (blocks : List Span) (home : Homes) (live : ℕ → ℕ → Bool) (r : Rir) (number : ℕ → ℕ → ℕ) (entry : ℕ → ℕ) (before : Counts) where
+module _ (u : Units) (p : Program) (known : Known) (r : Rir) (number : ℕ → ℕ → ℕ) (entry : ℕ → ℕ) (before : Counts) where
   -- ---- the last step of a block
 
-  module _ (flow : IsFlow p blocks) (homes : IsHomes p home) (sound : IsProgram p) (lowered : IsLowered p blocks home live r number entry before)
-      (b : Span) (has : Has blocks b) (st : Step) (there : step_at p b.owner b.last ≡ Some st)
-      (bf : BlockFor p blocks home live r number entry before b st)
-      (bs : List RBlock) (ih : WalkFrom u p blocks home live r number entry before bs) (rests : drop (number b.owner b.first + 1) r.blocks ≡ bs) (rest : List Frame) where
+  module _ (flow : IsFlow p known.blocks) (homes : IsHomes p known.home) (sound : IsProgram p) (lowered : IsLowered p known r number entry before)
+      (b : Block) (has : Has known.blocks b) (st : Step) (there : step_at p b.owner b.last ≡ Some st)
+      (bf : BlockFor p known r number entry before b st)
+      (bs : List RBlock) (ih : WalkFrom u p known r number entry before bs) (rests : drop (number b.owner b.first + 1) r.blocks ≡ bs) (rest : List Frame) where
     abbrev here : ℕ
     here = number b.owner b.first
 
@@ -54,18 +54,18 @@ module _ (u : Units) (p : Program) (blocks : List Span) (home : Homes) (live : �
     reached = flow.reached b has b.last (flow.rises b has) (omega arith)
 
     -- what is live after the last step is still there after the block
-    stays : (vars : List ℕ) (regs : List (ℕ × ℕ)) (frame : List (ℕ × Kept)) → is_call st ≡ false → HeldAfter p home (at_step b.last vars) regs frame b.last
-        → HeldAfter p home (at_step b.last vars) (stay (bf.code).live_out regs) frame b.last
-    stays vars regs frame no_call held x alive = by (home b.owner x) refl ∙ held x alive where
-      by : (o : Option ℕ) → home b.owner x ≡ o → word (stay (bf.code).live_out regs) frame (place_by p home b.owner x o) ≡ word regs frame (place_by p home b.owner x o)
+    stays : (vars : List ℕ) (regs : List (ℕ × ℕ)) (frame : List (ℕ × Kept)) → is_call st ≡ false → HeldAfter p known.home (at_step b.last vars) regs frame b.last
+        → HeldAfter p known.home (at_step b.last vars) (stay (bf.code).live_out regs) frame b.last
+    stays vars regs frame no_call held x alive = by (known.home b.owner x) refl ∙ held x alive where
+      by : (o : Option ℕ) → known.home b.owner x ≡ o → word (stay (bf.code).live_out regs) frame (place_by p known.home b.owner x o) ≡ word regs frame (place_by p known.home b.owner x o)
       by None is = refl
       by (Some j) is = found-stay j (bf.code).live_out regs (bf.kept x j no_call alive is)
 
     -- a block to which the last step leads
     arrives : (to at : ℕ) (vars : List ℕ) (regs : List (ℕ × ℕ)) (frame : List (ℕ × Kept)) → leads st b.last to ≡ true → at ≡ number b.owner to → is_call st ≡ false
-        → length vars ≡ vars_of p b.owner → HeldAfter p home (at_step b.last vars) regs frame b.last
-        → KeepsBack p blocks number frame b.owner rest → Callers p blocks number frame b.owner rest
-        → AtBlock p blocks home live r number entry before (at_step to vars) rest at (stay (bf.code).live_out regs) frame
+        → length vars ≡ vars_of p b.owner → HeldAfter p known.home (at_step b.last vars) regs frame b.last
+        → KeepsBack p known.blocks number frame b.owner rest → Callers p known.blocks number frame b.owner rest
+        → AtBlock p known r number entry before (at_step to vars) rest at (stay (bf.code).live_out regs) frame
     arrives to at vars regs frame goes is no_call size held kept callers =
         let begins = flow.onward b has st to there goes in
         record {
@@ -83,10 +83,10 @@ module _ (u : Units) (p : Program) (blocks : List Span) (home : Homes) (live : �
     -- ---- from a state before the last step
 
     module _ (first_state : State) (vars : List ℕ) (regs : List (ℕ × ℕ)) (frame : List (ℕ × Kept)) (ra : Option ℕ) (k : ℕ) (memory input output : List ℕ)
-        (size : length vars ≡ vars_of p b.owner) (held : HeldBefore p home (at_step b.last vars) regs frame b.last)
-        (kept : KeepsBack p blocks number frame b.owner rest) (callers : Callers p blocks number frame b.owner rest)
+        (size : length vars ≡ vars_of p b.owner) (held : HeldBefore p known.home (at_step b.last vars) regs frame b.last)
+        (kept : KeepsBack p known.blocks number frame b.owner rest) (callers : Callers p known.blocks number frame b.owner rest)
         (low : ℕ) (counted : low + 1 ≤ before (here + 1))
-        (row : steps_of u (bf.code).steps first_state ≡ steps_of u (steps_for p home b.owner st ++ []) (going here regs frame ra memory input output Running)) where
+        (row : steps_of u (bf.code).steps first_state ≡ steps_of u (steps_for p known.home b.owner st ++ []) (going here regs frame ra memory input output Running)) where
       abbrev f : Frame
       f = at_step b.last vars
 
@@ -97,32 +97,32 @@ module _ (u : Units) (p : Program) (blocks : List Span) (home : Homes) (live : �
       program_now = running k (f ∷ rest) memory input output Running
 
       abbrev Claim : Type 0
-      Claim = Walked u p blocks home live r number entry before program_now (walk u (bf.code ∷ bs) first_state) low
+      Claim = Walked u p known r number entry before program_now (walk u (bf.code ∷ bs) first_state) low
 
       moves : (s : Step) → st ≡ s → next u p program_now ≡ goes_through u p program_now f rest s
-      moves s is = next-is u p home homes sound f regs frame st there reached size held k rest memory input output ∙ ap (goes_through u p program_now f rest) is
+      moves s is = next-is u p known.home homes sound f regs frame st there reached size held k rest memory input output ∙ ap (goes_through u p program_now f rest) is
 
-      row-of : (s : Step) → st ≡ s → steps_of u (bf.code).steps first_state ≡ steps_of u (steps_for p home b.owner s ++ []) now
-      row-of s is = row ∙ ap (λ x. steps_of u (steps_for p home b.owner x ++ []) now) is
+      row-of : (s : Step) → st ≡ s → steps_of u (bf.code).steps first_state ≡ steps_of u (steps_for p known.home b.owner s ++ []) now
+      row-of s is = row ∙ ap (λ x. steps_of u (steps_for p known.home b.owner x ++ []) now) is
 
-      exit-of : (s : Step) → st ≡ s → (bf.code).exit ≡ exit_for p home number entry b.owner s
-      exit-of s is = bf.exit ∙ ap (exit_for p home number entry b.owner) is
+      exit-of : (s : Step) → st ≡ s → (bf.code).exit ≡ exit_for p known.home number entry b.owner s
+      exit-of s is = bf.exit ∙ ap (exit_for p known.home number entry b.owner) is
 
-      set : (s : Src) → ((x : ℕ) → is_var x s ≡ true → reads st x ≡ true) → code.operand now (source p home b.owner s) ≡ Some (program.operand vars s)
-      set s is_read = operand-set u p home homes sound f regs frame st there reached size held s here ra memory input output is_read
+      set : (s : Src) → ((x : ℕ) → is_var x s ≡ true → reads st x ≡ true) → code.operand now (source p known.home b.owner s) ≡ Some (program.operand vars s)
+      set s is_read = operand-set u p known.home homes sound f regs frame st there reached size held s here ra memory input output is_read
 
-      unassigned : assigned st ≡ None → HeldAfter p home f regs frame b.last
-      unassigned none = held-kept u p home homes sound f regs frame st there reached size held none
+      unassigned : assigned st ≡ None → HeldAfter p known.home f regs frame b.last
+      unassigned none = held-kept u p known.home homes sound f regs frame st there reached size held none
 
       -- the next block follows
       fall-on : may_fall st ≡ true → is_call st ≡ false → (k_new : ℕ) (vars_new : List ℕ) (regs_new : List (ℕ × ℕ)) (frame_new : List (ℕ × Kept)) (memory_new input_new output_new : List ℕ)
           → next u p program_now ≡ running k_new (at_step (b.last + 1) vars_new ∷ rest) memory_new input_new output_new Running
           → walk u (bf.code ∷ bs) first_state ≡ walk u bs (going (here + 1) (stay (bf.code).live_out regs_new) frame_new ra memory_new input_new output_new Running)
-          → length vars_new ≡ vars_of p b.owner → HeldAfter p home (at_step b.last vars_new) regs_new frame_new b.last
-          → KeepsBack p blocks number frame_new b.owner rest → Callers p blocks number frame_new b.owner rest → Claim
+          → length vars_new ≡ vars_of p b.owner → HeldAfter p known.home (at_step b.last vars_new) regs_new frame_new b.last
+          → KeepsBack p known.blocks number frame_new b.owner rest → Callers p known.blocks number frame_new b.owner rest → Claim
       fall-on may no_call k_new vars_new regs_new frame_new memory_new input_new output_new by_program by_code size_new held_new kept_new callers_new =
-          walked-code u p blocks home live r number entry before program_now _ _ low by_code
-          (walked-after u p blocks home live r number entry before 1 program_now _ _ low (before (here + 1)) by_program counted
+          walked-code u p known r number entry before program_now _ _ low by_code
+          (walked-after u p known r number entry before 1 program_now _ _ low (before (here + 1)) by_program counted
           (ih (at_step (b.last + 1) vars_new) rest (here + 1) (stay (bf.code).live_out regs_new) frame_new ra k_new memory_new input_new output_new
           (arrives (b.last + 1) (here + 1) vars_new regs_new frame_new (falls-leads st b.last may) (sym (lowered.falls b has st there may)) no_call size_new held_new kept_new callers_new)
           rests))
@@ -132,7 +132,7 @@ module _ (u : Units) (p : Program) (blocks : List Span) (home : Homes) (live : �
           → next u p program_now ≡ running (k + 1) (at_step to vars ∷ rest) memory input output Running
           → walk u (bf.code ∷ bs) first_state ≡ going (number b.owner to) (stay (bf.code).live_out regs) frame ra memory input output Running → Claim
       jump-on to goes no_call none by_program by_code =
-          comes-now u p blocks home live r number entry before program_now _ low (before (here + 1)) (k + 1) (at_step to vars) rest (number b.owner to) (stay (bf.code).live_out regs) frame ra memory input output
+          comes-now u p known r number entry before program_now _ low (before (here + 1)) (k + 1) (at_step to vars) rest (number b.owner to) (stay (bf.code).live_out regs) frame ra memory input output
           counted (lowered.all_counted (here + 1)) by_program by_code
           (BlockNext (arrives to (number b.owner to) vars regs frame goes refl no_call size (unassigned none) kept callers))
 
@@ -143,50 +143,50 @@ module _ (u : Units) (p : Program) (blocks : List Span) (home : Homes) (live : �
 
       last-if : (rel : Rel) (a c : Src) (to : ℕ) → st ≡ If rel a c to → Claim
       last-if rel a c to is = by (holds u rel (program.operand vars a) (program.operand vars c)) refl where
-        set_a : code.operand now (source p home b.owner a) ≡ Some (program.operand vars a)
+        set_a : code.operand now (source p known.home b.owner a) ≡ Some (program.operand vars a)
         set_a = set a (λ x e. ap (λ s. reads s x) is ∙ or_left (is_var x a) _ e)
 
-        set_c : code.operand now (source p home b.owner c) ≡ Some (program.operand vars c)
+        set_c : code.operand now (source p known.home b.owner c) ≡ Some (program.operand vars c)
         set_c = set c (λ x e. ap (λ s. reads s x) is ∙ or_right (is_var x a) _ e)
 
         by : (t : Bool) → holds u rel (program.operand vars a) (program.operand vars c) ≡ t → Claim
         by true test =
             jump-on to (ap (λ s. leads s b.last to) is ∙ or_left (to == to) _ (eq-eqb to to refl)) (ap is_call is) (ap assigned is)
             (moves (If rel a c to) is ∙ rw test refl)
-            (jump-if u bf.code bs here regs frame ra memory input output first_state rel (source p home b.owner a) (source p home b.owner c) (number b.owner to)
+            (jump-if u bf.code bs here regs frame ra memory input output first_state rel (source p known.home b.owner a) (source p known.home b.owner c) (number b.owner to)
             (program.operand vars a) (program.operand vars c) (row-of (If rel a c to) is) (exit-of (If rel a c to) is) set_a set_c test)
         by false test =
             fall-on (ap may_fall is) (ap is_call is) (k + 1) vars regs frame memory input output
             (moves (If rel a c to) is ∙ rw test refl)
-            (fall-if u bf.code bs here regs frame ra memory input output first_state rel (source p home b.owner a) (source p home b.owner c) (number b.owner to)
+            (fall-if u bf.code bs here regs frame ra memory input output first_state rel (source p known.home b.owner a) (source p known.home b.owner c) (number b.owner to)
             (program.operand vars a) (program.operand vars c) (row-of (If rel a c to) is) (exit-of (If rel a c to) is) set_a set_c test)
             size (unassigned (ap assigned is)) kept callers
 
       last-plain : is_plain st ≡ true → Claim
-      last-plain plain = by (plain-step u p home homes sound f regs frame reached size held k rest here ra memory input output st there plain) where
-        ways : IsPlainExit p home number entry b.owner st
-        ways = plain-exit p home number entry b.owner st plain
+      last-plain plain = by (plain-step u p known.home homes sound f regs frame reached size held k rest here ra memory input output st there plain) where
+        ways : IsPlainExit p known.home number entry b.owner st
+        ways = plain-exit p known.home number entry b.owner st plain
 
-        one-step : (x : RStep) (s : State) → steps_for p home b.owner st ≡ x ∷ [] → code.step u now x ≡ s → steps_of u (bf.code).steps first_state ≡ (if code.goes_on s then s else s)
+        one-step : (x : RStep) (s : State) → steps_for p known.home b.owner st ≡ x ∷ [] → code.step u now x ≡ s → steps_of u (bf.code).steps first_state ≡ (if code.goes_on s then s else s)
         one-step x s one e = row ∙ rw (one, e) refl
 
-        by : PlainStep u p home homes sound k f rest here regs frame ra memory input output (steps_for p home b.owner st) → Claim
+        by : PlainStep u p known.home homes sound k f rest here regs frame ra memory input output (steps_for p known.home b.owner st) → Claim
         by (GoesOn x one w) =
             let of_step = step_of p sound b.owner b.last st there in
             fall-on ways.falls ways.no_call (k + 1) w.vars w.regs_new w.frame_new w.memory_new w.input_new w.output_new w.program
             (fall u bf.code bs here w.regs_new w.frame_new ra w.memory_new w.input_new w.output_new first_state (one-step x _ one w.code) (bf.exit ∙ ways.next))
             (w.size ∙ size) w.held
-            (back-own p sound blocks number frame w.frame_new b.owner rest callers w.untouched kept)
-            (callers-stay p sound blocks number b.owner of_step.proc of_step.is frame w.frame_new (frame-by-vars p b.owner frame w.frame_new w.untouched)
-            b.owner rest (outside p sound blocks number frame b.owner rest callers) callers)
+            (back-own p sound known.blocks number frame w.frame_new b.owner rest callers w.untouched kept)
+            (callers-stay p sound known.blocks number b.owner of_step.proc of_step.is frame w.frame_new (frame-by-vars p b.owner frame w.frame_new w.untouched)
+            b.owner rest (outside p sound known.blocks number frame b.owner rest callers) callers)
         by (Waits x one w) =
-            ends-now u p blocks home live r number entry before program_now _ low (before (here + 1)) k (f ∷ rest) here regs frame ra memory input output Waiting
+            ends-now u p known r number entry before program_now _ low (before (here + 1)) k (f ∷ rest) here regs frame ra memory input output Waiting
             counted (lowered.all_counted (here + 1)) refl w.program
             (wait u bf.code bs here regs frame ra memory input output first_state (one-step x _ one w.code))
 
       last-halt : st ≡ Halt → Claim
       last-halt is =
-          ends-now u p blocks home live r number entry before program_now _ low (before (here + 1)) (k + 1) (f ∷ rest) here (stay (bf.code).live_out regs) frame ra memory input output Halted
+          ends-now u p known r number entry before program_now _ low (before (here + 1)) (k + 1) (f ∷ rest) here (stay (bf.code).live_out regs) frame ra memory input output Halted
           counted (lowered.all_counted (here + 1)) refl (moves Halt is)
           (halt u bf.code bs here regs frame ra memory input output first_state (row-of Halt is) (exit-of Halt is))
 
@@ -196,7 +196,7 @@ module _ (u : Units) (p : Program) (blocks : List Span) (home : Homes) (live : �
         the_call : step_at p b.owner b.last ≡ Some (Invoke d callee args)
         the_call = there ∙ ap Some is
 
-        old_caller : IsCaller p blocks number frame callee f
+        old_caller : IsCaller p known.blocks number frame callee f
         old_caller = record {
           block = b;
           has = has;
@@ -208,8 +208,8 @@ module _ (u : Units) (p : Program) (blocks : List Span) (home : Homes) (live : �
           size = size;
           saved = λ x alive ne.
               let in_slot = homes.saved b.owner b.last callee x d args reached the_call alive ne in
-              sym (ap (λ o. word regs frame (place_by p home b.owner x o)) in_slot)
-              ∙ held x (live-before u p home homes sound f regs frame st there reached size held x alive (λ e. ne (sym (ap assigned is) ∙ e)));
+              sym (ap (λ o. word regs frame (place_by p known.home b.owner x o)) in_slot)
+              ∙ held x (live-before u p known.home homes sound f regs frame st there reached size held x alive (λ e. ne (sym (ap assigned is) ∙ e)));
         }
 
         last-invoke : Claim
@@ -220,15 +220,15 @@ module _ (u : Units) (p : Program) (blocks : List Span) (home : Homes) (live : �
             let many : length words ≡ q.params = length-map args (program.operand vars) ∙ of_call.count in
             let among = (all_one (IsProc p) p.procs callee q sound.procs of_call.is).among in
             let vars_are = vars-are p callee q of_call.is in
-            let old_callers : Callers p blocks number frame callee (f ∷ rest) = (old_caller, kept, callers) in
-            let out = outside p sound blocks number frame callee (f ∷ rest) old_callers in
+            let old_callers : Callers p known.blocks number frame callee (f ∷ rest) = (old_caller, kept, callers) in
+            let out = outside p sound known.blocks number frame callee (f ∷ rest) old_callers in
             let of_step = step_of p sound b.owner b.last st there in
-            let passed = pass u p home b.owner callee here regs vars
+            let passed = pass u p known.home b.owner callee here regs vars
             (λ x y lx ly e. out.0 (one-frame p b.owner callee (var_slot p b.owner x) of_step.proc q of_step.is of_call.is (var-in p b.owner x lx)
             (subst (InFrame p callee) (sym e) (var-in p callee y ly))))
             ra memory input output args frame 0 (omega (arith, of_call.count, among, vars_are))
             (λ y any. (live-below p sound b.owner y b.last (Reads b.last st there (ap (λ s. reads s y) is ∙ any)), held y (Reads b.last st there (ap (λ s. reads s y) is ∙ any)))) in
-            comes-now u p blocks home live r number entry before program_now _ low (before (here + 1)) (k + 1) (enter p callee words) (f ∷ rest) (entry callee) (stay (bf.code).live_out regs) passed.frame_new (Some (here + 1))
+            comes-now u p known r number entry before program_now _ low (before (here + 1)) (k + 1) (enter p callee words) (f ∷ rest) (entry callee) (stay (bf.code).live_out regs) passed.frame_new (Some (here + 1))
             memory input output counted (lowered.all_counted (here + 1)) (moves (Invoke d callee args) is)
             (call u bf.code bs here regs passed.frame_new ra memory input output first_state (entry callee)
             (row-of (Invoke d callee args) is ∙ passed.code []) (exit-of (Invoke d callee args) is))
@@ -249,7 +249,7 @@ module _ (u : Units) (p : Program) (blocks : List Span) (home : Homes) (live : �
                   let few : params_of p callee ≡ q.params = rw (of_call.is) refl in
                   enter-zero p callee words q of_call.is (omega (arith, many, among)) x (omega (arith, le, few, many));
               address = ap (λ n. Some (n + 1)) (sym (lowered.same b has));
-              callers = callers-stay p sound blocks number callee q of_call.is frame passed.frame_new
+              callers = callers-stay p sound known.blocks number callee q of_call.is frame passed.frame_new
                   (λ slot notin. passed.same slot (λ j lt e. notin (subst (InFrame p callee) (sym e) (var-in p callee (0 + j) (omega (arith, lt, of_call.count, among, vars_are))))))
                   callee (f ∷ rest) out old_callers;
             }))
@@ -257,10 +257,10 @@ module _ (u : Units) (p : Program) (blocks : List Span) (home : Homes) (live : �
       -- ---- a return
 
       returning : (v : ℕ) (src : RSrc) → code.operand now src ≡ Some v
-          → steps_of u (bf.code).steps first_state ≡ steps_of u (gives p home b.owner src ++ []) now
-          → (bf.code).exit ≡ back_exit p home number entry b.owner → next u p program_now ≡ returns p (one_more program_now) rest v → Claim
+          → steps_of u (bf.code).steps first_state ≡ steps_of u (gives p known.home b.owner src ++ []) now
+          → (bf.code).exit ≡ back_exit p known.home number entry b.owner → next u p program_now ≡ returns p (one_more program_now) rest v → Claim
       returning v src given by_steps by_exit by_program =
-          last-return u p blocks home live r number entry before flow homes sound lowered b has st there bf bs rest first_state vars regs frame ra k memory input output
+          last-return u p known r number entry before flow homes sound lowered b has st there bf bs rest first_state vars regs frame ra k memory input output
           kept callers low counted v src given by_steps by_exit by_program rest refl
 
       -- ---- any step
@@ -270,7 +270,7 @@ module _ (u : Units) (p : Program) (blocks : List Span) (home : Homes) (live : �
       last-step (Goto to) is = last-goto to is
       last-step (Invoke d callee args) is = last-invoke d callee args is
       last-step (Return (Some v)) is =
-          returning (program.operand vars v) (source p home b.owner v) (set v (λ x e. ap (λ s. reads s x) is ∙ e))
+          returning (program.operand vars v) (source p known.home b.owner v) (set v (λ x e. ap (λ s. reads s x) is ∙ e))
           (row-of (Return (Some v)) is) (exit-of (Return (Some v)) is) (moves (Return (Some v)) is)
       last-step (Return None) is = returning 0 (rsrc.Word 0) refl (row-of (Return None) is) (exit-of (Return None) is) (moves (Return None) is)
       last-step Halt is = last-halt is

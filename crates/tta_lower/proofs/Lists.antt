@@ -6,7 +6,7 @@ use Rattle.std.proofs.lemmas.List.Concat.{flat_map-append}
 use Rattle.std.proofs.lemmas.Option.{same_Some}
 use Rattle.tta_list.proofs.Lists.{slice_get-back, slice_get-longer}
 use Rattle.tta_program.specs.Program.{Program}
-use Rattle.tta_lower.specs.Liveness.{Span}
+use Rattle.tta_lower.specs.Liveness.{Block}
 pub use Rattle.tta_lower.specs.Members.{In}
 use Rattle.tta_lower.specs.Lower.{numbers, procs_before, spans_before, EndsBefore, InOrder}
 
@@ -83,7 +83,7 @@ part-at f xs ys zs x j y split is =
     ∙ slice_get-back (flat_map f ys) (flat_map f (x ∷ zs)) j
     ∙ slice_get-longer (f x) (flat_map f zs) j y is
 
-module _ (p : Program) (blocks : List Span) (live_first : (owner x : ℕ) → Bool) where
+module _ (p : Program) (blocks : List Block) (live_first : (owner x : ℕ) → Bool) where
   -- a procedure divides the list of procedures
   pub procs-split : (owner : ℕ) (os : List ℕ) → In owner os → (zs : List ℕ) × (os ≡ procs_before p blocks live_first owner os ++ owner ∷ zs)
   procs-split owner [] is = absurd is
@@ -97,13 +97,13 @@ module _ (p : Program) (blocks : List Span) (live_first : (owner x : ℕ) → Bo
   -- ---- blocks in order
 
   -- a block ends before those after it begin
-  ends-before : (b c : Span) (cs : List Span) → EndsBefore b cs → In c cs → b.last < c.first
+  ends-before : (b c : Block) (cs : List Block) → EndsBefore b cs → In c cs → b.last < c.first
   ends-before b c [] ends is = absurd is
   ends-before b c (d ∷ cs) ends (inl e) = subst (λ x. b.last < x.first) (sym e) ends.0
   ends-before b c (d ∷ cs) ends (inr more) = ends-before b c cs ends.1 more
 
   -- none of the blocks after one ends before the step after it
-  none-before : (b : Span) (cs : List Span) (at : ℕ) → ((c : Span) → In c cs → c.first ≤ c.last) → EndsBefore b cs → at ≤ b.last + 1
+  none-before : (b : Block) (cs : List Block) (at : ℕ) → ((c : Block) → In c cs → c.first ≤ c.last) → EndsBefore b cs → at ≤ b.last + 1
       → spans_before p blocks live_first at cs ≡ []
   none-before b [] at rises ends le = refl
   none-before b (c ∷ cs) at rises ends le =
@@ -111,8 +111,8 @@ module _ (p : Program) (blocks : List Span) (live_first : (owner x : ℕ) → Bo
       rw not_before refl
 
   -- the blocks before a step of a block
-  pub spans-split : (bs : List Span) (b : Span) (at : ℕ) → ((c : Span) → In c bs → c.first ≤ c.last) → InOrder bs → In b bs → b.first ≤ at → at ≤ b.last
-      → (zs : List Span) × (bs ≡ spans_before p blocks live_first at bs ++ b ∷ zs)
+  pub spans-split : (bs : List Block) (b : Block) (at : ℕ) → ((c : Block) → In c bs → c.first ≤ c.last) → InOrder bs → In b bs → b.first ≤ at → at ≤ b.last
+      → (zs : List Block) × (bs ≡ spans_before p blocks live_first at bs ++ b ∷ zs)
   spans-split [] b at rises order is lo hi = absurd is
   spans-split (c ∷ bs) b at rises order (inl e) lo hi =
       let last : b.last ≡ c.last = ap (λ x. x.last) e in
@@ -122,7 +122,7 @@ module _ (p : Program) (blocks : List Span) (live_first : (owner x : ℕ) → Bo
       (rest.0, rw (lt-ltb c.last at (omega (arith, ends-before c b bs order.0 more, lo))) (ap (λ l. c ∷ l) rest.1))
 
   -- the same for each step of a block
-  pub spans-same : (bs : List Span) (b : Span) (at : ℕ) → ((c : Span) → In c bs → c.first ≤ c.last) → InOrder bs → In b bs → b.first ≤ at → at ≤ b.last
+  pub spans-same : (bs : List Block) (b : Block) (at : ℕ) → ((c : Block) → In c bs → c.first ≤ c.last) → InOrder bs → In b bs → b.first ≤ at → at ≤ b.last
       → spans_before p blocks live_first at bs ≡ spans_before p blocks live_first b.first bs
   spans-same [] b at rises order is lo hi = absurd is
   spans-same (c ∷ bs) b at rises order (inl e) lo hi =
@@ -134,7 +134,7 @@ module _ (p : Program) (blocks : List Span) (live_first : (owner x : ℕ) → Bo
       (ap (λ l. c ∷ l) (spans-same bs b at (λ d is. rises d (inr is)) order.1 more lo hi))
 
   -- the block itself comes before the step after it
-  pub spans-next : (bs : List Span) (b : Span) → ((c : Span) → In c bs → c.first ≤ c.last) → InOrder bs → In b bs
+  pub spans-next : (bs : List Block) (b : Block) → ((c : Block) → In c bs → c.first ≤ c.last) → InOrder bs → In b bs
       → spans_before p blocks live_first (b.last + 1) bs ≡ spans_before p blocks live_first b.first bs ++ b ∷ []
   spans-next [] b rises order is = absurd is
   spans-next (c ∷ bs) b rises order (inl e) =

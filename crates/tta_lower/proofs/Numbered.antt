@@ -5,7 +5,7 @@ use Rattle.std.proofs.lemmas.Bool.{eq-eqb, eqb-true, cases_eq}
 use Rattle.tta_program.specs.declared.program.Proc.{Proc}
 use Rattle.tta_program.specs.Program.{Program}
 use Rattle.tta_lower.specs.declared.numbers.Numbers.{Numbers}
-use Rattle.tta_lower.specs.Liveness.{Span}
+use Rattle.tta_lower.specs.Liveness.{Block}
 use Rattle.tta_lower.specs.Lower.{Part, Entry, Steps, Returned}
 use Rattle.tta_lower.specs.Tables.{StandOnce, HasRoom, HasNumbers, IsWritten, row_of, number_in}
 
@@ -23,7 +23,7 @@ module _ (p : Program) (parts : List Part) (old new : Numbers) (k : ℕ) (once :
   -- ---- an entry
 
   module _ (o : ℕ) (here : slice_get parts k ≡ Some (Entry o)) (is : IsWritten (Entry o) k old new) where
-    entry-steps : (j : ℕ) (b : Span) (q : Proc) → j < k + 1 → slice_get parts j ≡ Some (Steps b) → slice_get p.procs b.owner ≡ Some q → b.first < length q.steps
+    entry-steps : (j : ℕ) (b : Block) (q : Proc) → j < k + 1 → slice_get parts j ≡ Some (Steps b) → slice_get p.procs b.owner ≡ Some q → b.first < length q.steps
         → number_in new.rows.items b.owner b.first ≡ j
     entry-steps j b q lt there of within = elim (cases_eq j k) as (λ c. number_in new.rows.items b.owner b.first ≡ j) [
       | inl e ↦ let other : Steps b ≡ Entry o = latest j (Entry o) (Steps b) e here there in cc
@@ -54,7 +54,7 @@ module _ (p : Program) (parts : List Part) (old new : Numbers) (k : ℕ) (once :
 
   -- ---- a block of steps
 
-  module _ (b : Span) (here : slice_get parts k ≡ Some (Steps b)) (is : IsWritten (Steps b) k old new) where
+  module _ (b : Block) (here : slice_get parts k ≡ Some (Steps b)) (is : IsWritten (Steps b) k old new) where
     row-size : (o : ℕ) → length (row_of new.rows.items o) ≡ length (row_of old.rows.items o)
     row-size o = ap length (is.2 o) ∙ by (b.owner == o) where
       by : (t : Bool) → length (if t then slice_set (row_of old.rows.items o) b.first k else row_of old.rows.items o) ≡ length (row_of old.rows.items o)
@@ -64,14 +64,14 @@ module _ (p : Program) (parts : List Part) (old new : Numbers) (k : ℕ) (once :
     own-row : slice_index (row_of new.rows.items b.owner) b.first ≡ slice_index (slice_set (row_of old.rows.items b.owner) b.first k) b.first
     own-row = ap (λ l. slice_index l b.first) (is.2 b.owner ∙ rw (eq-eqb b.owner b.owner refl) refl)
 
-    other-row : (c : Span) → (b.owner ≡ c.owner → b.first ≡ c.first → ⊥) → number_in new.rows.items c.owner c.first ≡ number_in old.rows.items c.owner c.first
+    other-row : (c : Block) → (b.owner ≡ c.owner → b.first ≡ c.first → ⊥) → number_in new.rows.items c.owner c.first ≡ number_in old.rows.items c.owner c.first
     other-row c none = ap (λ l. slice_index l c.first) (is.2 c.owner) ∙ by (b.owner == c.owner) refl where
       by : (t : Bool) → (b.owner == c.owner) ≡ t
           → slice_index (if t then slice_set (row_of old.rows.items c.owner) b.first k else row_of old.rows.items c.owner) c.first ≡ number_in old.rows.items c.owner c.first
       by true e = get_or-set_other (row_of old.rows.items c.owner) b.first c.first k 0 (λ f. none (eqb-true b.owner c.owner e) (sym f))
       by false e = refl
 
-    steps-steps : (j : ℕ) (c : Span) (q : Proc) → j < k + 1 → slice_get parts j ≡ Some (Steps c) → slice_get p.procs c.owner ≡ Some q → c.first < length q.steps
+    steps-steps : (j : ℕ) (c : Block) (q : Proc) → j < k + 1 → slice_get parts j ≡ Some (Steps c) → slice_get p.procs c.owner ≡ Some q → c.first < length q.steps
         → number_in new.rows.items c.owner c.first ≡ j
     steps-steps j c q lt there of within = elim (cases_eq j k) as (λ t. number_in new.rows.items c.owner c.first ≡ j) [
       | inl e ↦
@@ -86,7 +86,7 @@ module _ (p : Program) (parts : List Part) (old new : Numbers) (k : ℕ) (once :
           other-row c (λ o f. ne (once.steps j k c b there here (sym o) (sym f)))
           ∙ has.steps j c q (below j k ne lt) there of within
     ] where
-      span-is : {a b : Span} → Steps a ≡ Steps b → a ≡ b
+      span-is : {a b : Block} → Steps a ≡ Steps b → a ≡ b
       span-is e = cc
 
     steps-entries : (j a : ℕ) → j < k + 1 → slice_get parts j ≡ Some (Entry a) → a < length p.procs → slice_index new.entries.items a ≡ j
@@ -105,7 +105,7 @@ module _ (p : Program) (parts : List Part) (old new : Numbers) (k : ℕ) (once :
 
   -- ---- a return
 
-  module _ (b : Span) (d callee : ℕ) (here : slice_get parts k ≡ Some (Returned b d callee)) where
+  module _ (b : Block) (d callee : ℕ) (here : slice_get parts k ≡ Some (Returned b d callee)) where
     return-more : HasNumbers p parts old (k + 1)
     return-more = record {
       room = has.room;

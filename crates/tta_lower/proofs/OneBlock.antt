@@ -11,7 +11,7 @@ use Rattle.tta_program.specs.declared.program.DataLine.{DataLine}
 use Rattle.tta_program.specs.Sequential.{step_at}
 use Rattle.tta_rcode.specs.declared.code.RSrc.TheVariants as rsrc
 use Rattle.tta_rcode.specs.declared.code.RStep.TheVariants as rstep
-use Rattle.tta_lower.specs.Liveness.{Span, Has, Homes, Reached, First, Then, LiveBefore, Reads, Leads, LiveAfter, After, reads, leads, is_plain}
+use Rattle.tta_lower.specs.Liveness.{Known, Block, Has, Homes, Reached, First, Then, LiveBefore, Reads, Leads, LiveAfter, After, reads, leads, is_plain}
 use Rattle.tta_lower.specs.Layout.{steps_for, code_from}
 use Rattle.tta_lower.specs.Lower.{numbers, is_home_of, homes_of, lowered, Answers}
 use Rattle.tta_lower.specs.FlowFacts.{names_step, IsFirst, AtBegin, Named, AfterStep, IsRun, AreBlocks}
@@ -103,8 +103,8 @@ module _ (q : Proc) (init : List DataLine) (only : only_constants q.steps ≡ tr
 
   -- ---- the one block
 
-  module _ (blocks : List Span) (are : AreBlocks (alone q init) blocks) where
-    the-block : (b : Span) → Has blocks b → b ≡ record { owner = 0; first = 0; last = last }
+  module _ (blocks : List Block) (are : AreBlocks (alone q init) blocks) where
+    the-block : (b : Block) → Has blocks b → b ≡ record { owner = 0; first = 0; last = last }
     the-block b has =
         let owner : b.owner ≡ 0 = omega (arith, are.owned b has) in
         let run : IsRun (alone q init) 0 b.first b.last = subst (λ o. IsRun (alone q init) o b.first b.last) owner (are.sound b has) in
@@ -112,7 +112,7 @@ module _ (q : Proc) (init : List DataLine) (only : only_constants q.steps ≡ tr
         let first : b.first ≡ 0 = first-alone b.first run.begins (omega (arith, high, run.within)) in
         let end : b.last ≡ last = by b run high (cases_lt b.last last) in
         ap (λ o. record { owner = o; first = b.first; last = b.last }) owner ∙ ap (λ f. record { owner = 0; first = f; last = b.last }) first ∙ ap (λ l. record { owner = 0; first = 0; last = l }) end where
-          by : (b : Span) → IsRun (alone q init) 0 b.first b.last → b.last ≤ last → (b.last < last) ⊎ (last ≤ b.last) → b.last ≡ last
+          by : (b : Block) → IsRun (alone q init) 0 b.first b.last → b.last ≤ last → (b.last < last) ⊎ (last ≤ b.last) → b.last ≡ last
           by b run high (inl lt) =
               let zero_first = first-alone (b.last + 1) (run.ends (comes (b.last + 1) (omega (arith, lt)))) (omega (arith, lt)) in
               absurd (omega (arith, zero_first))
@@ -120,14 +120,14 @@ module _ (q : Proc) (init : List DataLine) (only : only_constants q.steps ≡ tr
 
     pub one-span : blocks ≡ record { owner = 0; first = 0; last = last } ∷ []
     one-span = by blocks refl where
-      some : (l : List Span) → blocks ≡ l → l ≢ []
+      some : (l : List Block) → blocks ≡ l → l ≢ []
       some l is none =
           let h = are.covers 0 0 q refl (First 0 refl) in
           no-entry h.has.0 h.block (ap (λ x. slice_get x h.has.0) (sym (is ∙ none)) ∙ h.has.1) where
-            no-entry : (k : ℕ) (b : Span) → slice_get [] k ≡ Some b → ⊥
+            no-entry : (k : ℕ) (b : Block) → slice_get [] k ≡ Some b → ⊥
             no-entry k b e = cc
 
-      by : (l : List Span) → blocks ≡ l → blocks ≡ record { owner = 0; first = 0; last = last } ∷ []
+      by : (l : List Block) → blocks ≡ l → blocks ≡ record { owner = 0; first = 0; last = last } ∷ []
       by [] is = absurd (some [] is refl)
       by (b ∷ []) is = is ∙ ap (λ x. x ∷ []) (the-block b (0, ap (λ l. slice_get l 0) is))
       by (b ∷ c ∷ cs) is =
@@ -170,45 +170,48 @@ module _ (q : Proc) (init : List DataLine) (only : only_constants q.steps ≡ tr
   filter-none t (x ∷ xs) none = rw (false_from_ne_true (t x) (none x)) (filter-none t xs none)
 
   -- the block
-  abbrev span : Span
+  abbrev span : Block
   span = record { owner = 0; first = 0; last = last }
 
-  module _ (home : Homes) (live_first : (owner x : ℕ) → Bool) (live_after : (owner at x : ℕ) → Bool) (homes : ℕ) (blocks : List Span)
-      (are : AreBlocks (alone q init) blocks) (answers : Answers (alone q init) blocks home live_first live_after homes) where
-    no-entry : list_any (live_first 0) (numbers 0 q.vars) ≡ false
-    no-entry = false_from_ne_true (list_any (live_first 0) (numbers 0 q.vars)) (λ any.
-        let a = any-there (live_first 0) (numbers 0 q.vars) any in
-        not-live blocks are a.0 0 (answers.first_only 0 a.0 a.2) (omega arith))
+  module _ (known : Known) (homes : ℕ) (are : AreBlocks (alone q init) known.blocks) (answers : Answers (alone q init) known homes) where
+    -- the same with other blocks
+    abbrev over : List Block → Known
+    over blocks = record { blocks = blocks; home = known.home; first = known.first; after = known.after }
 
-    has-span : Has blocks span
-    has-span = (0, ap (λ l. slice_get l 0) (one-span blocks are))
+    no-entry : list_any (known.first 0) (numbers 0 q.vars) ≡ false
+    no-entry = false_from_ne_true (list_any (known.first 0) (numbers 0 q.vars)) (λ any.
+        let a = any-there (known.first 0) (numbers 0 q.vars) any in
+        not-live known.blocks are a.0 0 (answers.first_only 0 a.0 a.2) (omega arith))
 
-    none-after : (x : ℕ) → live_after 0 last x ≡ true → ⊥
+    has-span : Has known.blocks span
+    has-span = (0, ap (λ l. slice_get l 0) (one-span known.blocks are))
+
+    none-after : (x : ℕ) → known.after 0 last x ≡ true → ⊥
     none-after x alive = by (answers.after_only span has-span x alive) where
       by : LiveAfter (alone q init) 0 x last → ⊥
       by (After to st there goes live) = stops st last to (last-is st there) goes
 
-    none-stay : homes_of (alone q init) (span ∷ []) live_first home live_after homes 0 (live_after 0 last) ≡ []
-    none-stay = filter-none (λ k. list_any (is_home_of (alone q init) (span ∷ []) live_first home live_after homes 0 (live_after 0 last) k) (numbers 0 q.vars)) (numbers 0 homes)
+    none-stay : homes_of (alone q init) (over (span ∷ [])) homes 0 (known.after 0 last) ≡ []
+    none-stay = filter-none (λ k. list_any (is_home_of (alone q init) (over (span ∷ [])) homes 0 (known.after 0 last) k) (numbers 0 q.vars)) (numbers 0 homes)
         (λ k any.
-        let a = any-there (is_home_of (alone q init) (span ∷ []) live_first home live_after homes 0 (live_after 0 last) k) (numbers 0 q.vars) any in
-        none-after a.0 (and_parts (live_after 0 last a.0) _ a.2).0)
+        let a = any-there (is_home_of (alone q init) (over (span ∷ [])) homes 0 (known.after 0 last) k) (numbers 0 q.vars) any in
+        none-after a.0 (and_parts (known.after 0 last a.0) _ a.2).0)
 
-    row : (st : Step) → step_at (alone q init) 0 last ≡ Some st → steps_for (alone q init) home 0 st ≡ [] → code_from (alone q init) home 0 0 (last + 1 - 0) ≡ map (λ w. rstep.Put (rsrc.Word w)) (puts q.steps)
+    row : (st : Step) → step_at (alone q init) 0 last ≡ Some st → steps_for (alone q init) known.home 0 st ≡ [] → code_from (alone q init) known.home 0 0 (last + 1 - 0) ≡ map (λ w. rstep.Put (rsrc.Word w)) (puts q.steps)
     row st there nothing =
         let e : last + 1 - 0 ≡ suc last = omega arith in
         let l : 0 + last ≡ last = omega arith in
-        ap (code_from (alone q init) home 0 0) e
-        ∙ code_from-more (alone q init) home 0 0 last st (ap (step_at (alone q init) 0) l ∙ there)
-        ∙ ap (λ x. code_from (alone q init) home 0 0 last ++ (x ++ [])) nothing
-        ∙ append-nil (code_from (alone q init) home 0 0 last)
-        ∙ puts-code home last 0 (omega arith)
+        ap (code_from (alone q init) known.home 0 0) e
+        ∙ code_from-more (alone q init) known.home 0 0 last st (ap (step_at (alone q init) 0) l ∙ there)
+        ∙ ap (λ x. code_from (alone q init) known.home 0 0 last ++ (x ++ [])) nothing
+        ∙ append-nil (code_from (alone q init) known.home 0 0 last)
+        ∙ puts-code known.home last 0 (omega arith)
 
     by-end : (slice_get q.steps (length (puts q.steps)) ≡ Some Halt) ⊎ (slice_get q.steps (length (puts q.steps)) ≡ Some End)
-        → lowered (alone q init) (span ∷ []) live_first home live_after homes ≡ record { blocks = one_block (puts q.steps) ∷ [] }
+        → lowered (alone q init) (over (span ∷ [])) homes ≡ record { blocks = one_block (puts q.steps) ∷ [] }
     by-end (inl halt) = rw (no-entry, row Halt halt refl, halt, none-stay) refl
     by-end (inr end) = rw (no-entry, row End end refl, end, none-stay) refl
 
     -- the code is the one block
-    pub one-block : lowered (alone q init) blocks live_first home live_after homes ≡ record { blocks = one_block (puts q.steps) ∷ [] }
-    one-block = ap (λ l. lowered (alone q init) l live_first home live_after homes) (one-span blocks are) ∙ by-end (ends-there q.steps only)
+    pub one-block : lowered (alone q init) known homes ≡ record { blocks = one_block (puts q.steps) ∷ [] }
+    one-block = ap (λ l. lowered (alone q init) (over l) homes) (one-span known.blocks are) ∙ by-end (ends-there q.steps only)

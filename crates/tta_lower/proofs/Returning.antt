@@ -1,5 +1,5 @@
 -- A leg that ends with a return, or with the end of its procedure.
-use Rattle.std.proofs.Common.{◌≡◌, ◌≢◌, ◌<◌, ◌≤◌, ◌+◌, ◌++◌, ◌∷◌, [], ℕ, Bool, List, Option, Some, None, true, slice_set, nat_lt, refl, sym, ap, ◌∙◌, subst, ap₂, arith, get_or-set_same, get_or-set_other, length-set}
+use Rattle.std.proofs.Common.{◌≡◌, ◌≢◌, ◌<◌, ◌≤◌, ◌+◌, ◌++◌, ◌∷◌, [], ℕ, List, Option, Some, None, true, slice_set, nat_lt, refl, sym, ap, ◌∙◌, subst, ap₂, arith, get_or-set_same, get_or-set_other, length-set}
 use Rattle.std.specs.Option.{option_map_or}
 use Rattle.std.specs.List.{list_all}
 use Rattle.std.proofs.lemmas.Bool.{eq-eqb, ne_eqb, and_parts, ltb-true}
@@ -17,7 +17,7 @@ use Rattle.tta_rcode.specs.declared.code.RBlock.{RBlock}
 use Rattle.tta_rcode.specs.declared.code.Rir.{Rir}
 use Rattle.tta_rcode.specs.Meaning as code
 use Rattle.tta_rcode.specs.Meaning.{State, Kept, Plain, found, plain, word, steps_of, walk, stay, is_running, leg}
-use Rattle.tta_lower.specs.Liveness.{LiveAfter, After, Reached, Span, Has, Homes, IsFlow, IsHomes}
+use Rattle.tta_lower.specs.Liveness.{Known, LiveAfter, After, Reached, Block, Has, IsFlow, IsHomes}
 use Rattle.tta_lower.specs.Layout.{value_slot, back_slot, place_by, gives, back as back_exit}
 use Rattle.tta_lower.specs.Shape.{Counts, BlockFor, IsLowered}
 use Rattle.tta_lower.specs.Relation.{running, going, one_more, KeepsBack, Callers, next_block, BlockNext, ReturnNext}
@@ -29,15 +29,15 @@ use Rattle.tta_lower.proofs.Passing.{copy-slot}
 use Rattle.tta_lower.proofs.Frames.{other-own, not-main}
 use Rattle.tta_lower.proofs.Walks.{Walked, comes-now, ends-now}
 
-module _ (u : Units) (p : Program) (blocks : List Span) (home : Homes) (live : ℕ → ℕ → Bool) (r : Rir) (number : ℕ → ℕ → ℕ) (entry : ℕ → ℕ) (before : Counts) where
-  module _ (flow : IsFlow p blocks) (homes : IsHomes p home) (sound : IsProgram p) (lowered : IsLowered p blocks home live r number entry before)
-      (b : Span) (has : Has blocks b) (st : Step) (there : step_at p b.owner b.last ≡ Some st)
-      (bf : BlockFor p blocks home live r number entry before b st) (bs : List RBlock) (rest : List Frame) where
+module _ (u : Units) (p : Program) (known : Known) (r : Rir) (number : ℕ → ℕ → ℕ) (entry : ℕ → ℕ) (before : Counts) where
+  module _ (flow : IsFlow p known.blocks) (homes : IsHomes p known.home) (sound : IsProgram p) (lowered : IsLowered p known r number entry before)
+      (b : Block) (has : Has known.blocks b) (st : Step) (there : step_at p b.owner b.last ≡ Some st)
+      (bf : BlockFor p known r number entry before b st) (bs : List RBlock) (rest : List Frame) where
     abbrev here : ℕ
     here = number b.owner b.first
 
     module _ (first_state : State) (vars : List ℕ) (regs : List (ℕ × ℕ)) (frame : List (ℕ × Kept)) (ra : Option ℕ) (k : ℕ) (memory input output : List ℕ)
-        (kept : KeepsBack p blocks number frame b.owner rest) (callers : Callers p blocks number frame b.owner rest)
+        (kept : KeepsBack p known.blocks number frame b.owner rest) (callers : Callers p known.blocks number frame b.owner rest)
         (low : ℕ) (counted : low + 1 ≤ before (here + 1)) where
       abbrev now : State
       now = going here regs frame ra memory input output Running
@@ -46,18 +46,18 @@ module _ (u : Units) (p : Program) (blocks : List Span) (home : Homes) (live : �
       program_now = running k (record { proc = b.owner; at = b.last; vars = vars } ∷ rest) memory input output Running
 
       abbrev Claim : Type 0
-      Claim = Walked u p blocks home live r number entry before program_now (walk u (bf.code ∷ bs) first_state) low
+      Claim = Walked u p known r number entry before program_now (walk u (bf.code ∷ bs) first_state) low
 
       module _ (v : ℕ) (src : RSrc) (given : code.operand now src ≡ Some v)
-          (by_steps : steps_of u (bf.code).steps first_state ≡ steps_of u (gives p home b.owner src ++ []) now)
-          (by_exit : (bf.code).exit ≡ back_exit p home number entry b.owner)
+          (by_steps : steps_of u (bf.code).steps first_state ≡ steps_of u (gives p known.home b.owner src ++ []) now)
+          (by_exit : (bf.code).exit ≡ back_exit p known.home number entry b.owner)
           (by_program : next u p program_now ≡ returns p (one_more program_now) rest v) where
         -- main's return ends the run
         from-main : rest ≡ [] → Claim
         from-main none =
-            let main : b.owner ≡ p.main = subst (λ l. Callers p blocks number frame b.owner l) none callers in
+            let main : b.owner ≡ p.main = subst (λ l. Callers p known.blocks number frame b.owner l) none callers in
             let same = eq-eqb b.owner p.main main in
-            ends-now u p blocks home live r number entry before program_now _ low (before (here + 1)) (k + 1) [] here (stay (bf.code).live_out regs) frame ra memory input output Halted
+            ends-now u p known r number entry before program_now _ low (before (here + 1)) (k + 1) [] here (stay (bf.code).live_out regs) frame ra memory input output Halted
             counted (lowered.all_counted (here + 1)) refl
             (by_program ∙ ap (λ l. returns p (one_more program_now) l v) none)
             (halt u bf.code bs here regs frame ra memory input output first_state (by_steps ∙ rw same refl) (by_exit ∙ rw same refl))
@@ -67,30 +67,30 @@ module _ (u : Units) (p : Program) (blocks : List Span) (home : Homes) (live : �
         given_frame = (value_slot p b.owner, Plain v) ∷ frame
 
         module _ (g : Frame) (more : List Frame) (some : rest ≡ g ∷ more) where
-          these : Callers p blocks number frame b.owner (g ∷ more)
-          these = subst (λ l. Callers p blocks number frame b.owner l) some callers
+          these : Callers p known.blocks number frame b.owner (g ∷ more)
+          these = subst (λ l. Callers p known.blocks number frame b.owner l) some callers
 
           other : b.owner ≢ p.main
-          other = not-main p sound blocks number frame b.owner g more these
+          other = not-main p sound known.blocks number frame b.owner g more these
 
           -- the calls below, with the value given
-          still : Callers p blocks number given_frame b.owner (g ∷ more)
+          still : Callers p known.blocks number given_frame b.owner (g ∷ more)
           still =
               let of_step = step_of p sound b.owner b.last st there in
               let two = other-own p b.owner other in
-              callers-stay p sound blocks number b.owner of_step.proc of_step.is frame given_frame
+              callers-stay p sound known.blocks number b.owner of_step.proc of_step.is frame given_frame
               (λ slot notin. found-other (value_slot p b.owner) slot (Plain v) frame (λ e. notin (omega (arith, e), omega (arith, two, e))))
-              b.owner (g ∷ more) (outside p sound blocks number frame b.owner (g ∷ more) these) these
+              b.owner (g ∷ more) (outside p sound known.blocks number frame b.owner (g ∷ more) these) these
 
-          kept_back : found (back_slot p b.owner) given_frame ≡ Some (code.Return (next_block p blocks number g))
+          kept_back : found (back_slot p b.owner) given_frame ≡ Some (code.Return (next_block p known.blocks number g))
           kept_back =
               found-other (value_slot p b.owner) (back_slot p b.owner) (Plain v) frame (λ e. absurd (omega (arith, e)))
-              ∙ subst (λ l. KeepsBack p blocks number frame b.owner l) some kept
+              ∙ subst (λ l. KeepsBack p known.blocks number frame b.owner l) some kept
 
-          by_code : walk u (bf.code ∷ bs) first_state ≡ going (next_block p blocks number g) (stay (bf.code).live_out regs) given_frame ra memory input output Running
+          by_code : walk u (bf.code ∷ bs) first_state ≡ going (next_block p known.blocks number g) (stay (bf.code).live_out regs) given_frame ra memory input output Running
           by_code =
               let differs = ne_eqb b.owner p.main other in
-              back u bf.code bs here regs given_frame ra memory input output first_state (back_slot p b.owner) (next_block p blocks number g)
+              back u bf.code bs here regs given_frame ra memory input output first_state (back_slot p b.owner) (next_block p known.blocks number g)
               (by_steps ∙ rw (differs, copy-slot u here regs frame ra memory input output (value_slot p b.owner) src v given) refl)
               (by_exit ∙ rw differs refl) kept_back
 
@@ -117,7 +117,7 @@ module _ (u : Units) (p : Program) (blocks : List Span) (home : Homes) (live : �
               let c = still.0 in
               let called_so = block-call ∙ ap (λ o. Some (Invoke o b.owner c.args)) none in
               let begins = flow.onward c.block c.has (Invoke c.d b.owner c.args) ((c.block).last + 1) block-call (eq-eqb ((c.block).last + 1) ((c.block).last + 1) refl) in
-              comes-now u p blocks home live r number entry before program_now _ low (before (here + 1)) (k + 1) (record g { at = g.at + 1 }) more (next_block p blocks number g) (stay (bf.code).live_out regs) given_frame ra
+              comes-now u p known r number entry before program_now _ low (before (here + 1)) (k + 1) (record g { at = g.at + 1 }) more (next_block p known.blocks number g) (stay (bf.code).live_out regs) given_frame ra
               memory input output counted (lowered.all_counted (here + 1)) (next-caller None none) by_code
               (BlockNext (record {
                 block = begins.block;
@@ -131,7 +131,7 @@ module _ (u : Units) (p : Program) (blocks : List Span) (home : Homes) (live : �
                     let after = After (g.at + 1) (Invoke c.d b.owner c.args) c.call (eq-eqb (g.at + 1) (g.at + 1) refl) alive in
                     let ne : c.d ≢ Some x = λ e. none-some x (sym none ∙ e) in
                     let in_slot = homes.saved g.proc g.at b.owner x c.d c.args reached-call c.call after ne in
-                    ap (λ o. word (stay (bf.code).live_out regs) given_frame (place_by p home g.proc x o)) in_slot ∙ c.saved x after ne;
+                    ap (λ o. word (stay (bf.code).live_out regs) given_frame (place_by p known.home g.proc x o)) in_slot ∙ c.saved x after ne;
                 back = still.1;
                 callers = still.2;
               }))
@@ -143,7 +143,7 @@ module _ (u : Units) (p : Program) (blocks : List Span) (home : Homes) (live : �
               let vars_are = vars-are p g.proc caller_step.proc caller_step.is in
               let test : option_map_or (λ x. nat_lt x (caller_step.proc).vars) c.d true ≡ true = (and_parts _ (list_all (is_src (caller_step.proc).vars) c.args) (and_parts _ (rules.is_call p b.owner c.args) caller_step.rules).0).0 in
               let below : d < (caller_step.proc).vars = ltb-true d (caller_step.proc).vars (sym (ap (λ o. option_map_or (λ x. nat_lt x (caller_step.proc).vars) o true) is) ∙ test) in
-              comes-now u p blocks home live r number entry before program_now _ low (before (here + 1)) (k + 1) (record g { at = g.at + 1; vars = slice_set g.vars d v }) more (next_block p blocks number g) (stay (bf.code).live_out regs) given_frame ra
+              comes-now u p known r number entry before program_now _ low (before (here + 1)) (k + 1) (record g { at = g.at + 1; vars = slice_set g.vars d v }) more (next_block p known.blocks number g) (stay (bf.code).live_out regs) given_frame ra
               memory input output counted (lowered.all_counted (here + 1)) (next-caller (Some d) is) by_code
               (ReturnNext (record {
                 block = c.block;

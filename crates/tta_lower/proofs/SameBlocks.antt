@@ -1,8 +1,8 @@
 -- The blocks of a program are what lowering takes them for.
-use Rattle.std.proofs.Common.{◌≡◌, ◌<◌, ◌+◌, ℕ, Bool, true, false, List, Option, Some, None, refl, sym, ap, subst, ◌∙◌, slice_get, length}
-use Rattle.std.specs.Prelude.{◌==◌, not, option_map}
+use Rattle.std.proofs.Common.{◌≡◌, ◌<◌, ◌+◌, ℕ, Bool, true, false, List, Some, refl, sym, ap, subst, ◌∙◌, slice_get, length}
+use Rattle.std.specs.Prelude.{◌==◌, not}
 use Rattle.std.specs.Option.{option_map_or}
-use Rattle.std.proofs.lemmas.Option.{slice_get-map, slice_get_within}
+use Rattle.std.proofs.lemmas.Option.{slice_get_within}
 use Rattle.tta_list.proofs.Lists.{all_one}
 use Rattle.tta_program.specs.declared.step.Step.{Step}
 use Rattle.tta_program.specs.declared.program.Proc.{Proc}
@@ -13,29 +13,10 @@ use Rattle.tta_flow.specs.Steps as steps
 use Rattle.tta_flow.specs.Paths as paths
 use Rattle.tta_flow.specs.Blocks as flow
 use Rattle.tta_flow.proofs.BlockLemmas.{closed_of}
-use Rattle.tta_lower.specs.declared.part.Span.{Span}
-use Rattle.tta_lower.specs.Liveness.{Has, is_plain}
+use Rattle.tta_lower.specs.Liveness.{is_plain}
 use Rattle.tta_lower.specs.FlowFacts as lower
-use Rattle.tta_lower.specs.Known.{span_of, spans}
 use Rattle.tta_lower.proofs.SameSteps.{same_cuts, same_names}
 use Rattle.tta_lower.proofs.SamePaths.{passing, passes_at, reached_to, reached_from}
-
--- a block of some, as it was before
-pub record From (blocks : List Block) (k : ℕ) (b : Span) : Type 0 where
-  pub block : Block
-  pub is : slice_get blocks k ≡ Some block
-  pub same : span_of block ≡ b
-
--- a span of a block
-pub from_get : (blocks : List Block) (k : ℕ) (b : Span) → slice_get (spans blocks) k ≡ Some b → From blocks k b
-from_get blocks k b e = on (slice_get blocks k) refl (sym (slice_get-map span_of blocks k) ∙ e) where
-  on : (o : Option Block) → slice_get blocks k ≡ o → option_map span_of o ≡ Some b → From blocks k b
-  on None is f = absurd cc
-  on (Some block) is f = record { block = block; is = is; same = cc }
-
--- a block as a span
-to_get : (blocks : List Block) (k : ℕ) (b : Block) → slice_get blocks k ≡ Some b → slice_get (spans blocks) k ≡ Some (span_of b)
-to_get blocks k b e = slice_get-map span_of blocks k ∙ ap (option_map span_of) e
 
 -- a step that cuts is not plain
 plain_not : (st : Step) → steps.cuts st ≡ true → is_plain st ≡ false
@@ -84,30 +65,13 @@ module _ (p : Program) (rules : IsProgram p) where
       ends = λ r. first_to (last + 1) (h.ends (reached_from p owner q is (last + 1) r));
     }
 
-  module _ (blocks : List Block) (h : flow.IsFlow p blocks) where
-    span_run : (b : Span) → Has (spans blocks) b → lower.IsRun p b.owner b.first b.last
-    span_run b has =
-        let f = from_get blocks has.0 b has.1 in
-        let s = h.sound has.0 f.block f.is in
-        subst (λ (c : Span). lower.IsRun p c.owner c.first c.last) f.same (run (f.block).owner s.proc s.is (f.block).first (f.block).last s.block)
-
-    rises : (j k : ℕ) (a b : Span) → j < k → slice_get (spans blocks) j ≡ Some a → slice_get (spans blocks) k ≡ Some b → lower.StandsBefore a b
-    rises j k a b less ja kb =
-        let f = from_get blocks j a ja in
-        let g = from_get blocks k b kb in
-        let s : lower.StandsBefore (span_of f.block) (span_of g.block) = h.rising j k f.block g.block less f.is g.is in
-        subst (λ (c : Span). lower.StandsBefore c b) f.same (subst (λ (c : Span). lower.StandsBefore (span_of f.block) c) g.same s)
-
-    pub are_blocks : lower.AreBlocks p (spans blocks)
-    are_blocks = record {
-      sound = span_run;
-      rising = rises;
-      covers = λ owner i q is r.
-          let c = h.covers owner i q is (reached_from p owner q is i r) in
-          record { block = span_of c.block; has = (c.at, to_get blocks c.at c.block c.is); mine = c.mine; low = c.low; high = c.high };
-      there = λ owner i r q is. within owner i q is (reached_from p owner q is i r);
-      owned = λ b has.
-          let f = from_get blocks has.0 b has.1 in
-          let s = h.sound has.0 f.block f.is in
-          subst (λ (c : Span). c.owner < length p.procs) f.same (slice_get_within p.procs (f.block).owner s.proc s.is);
-    }
+  pub are_blocks : (blocks : List Block) → flow.IsFlow p blocks → lower.AreBlocks p blocks
+  are_blocks blocks h = record {
+    sound = λ b has. let s = h.sound has.0 b has.1 in run b.owner s.proc s.is b.first b.last s.block;
+    rising = h.rising;
+    covers = λ owner i q is r.
+        let c = h.covers owner i q is (reached_from p owner q is i r) in
+        record { block = c.block; has = (c.at, c.is); mine = c.mine; low = c.low; high = c.high };
+    there = λ owner i r q is. within owner i q is (reached_from p owner q is i r);
+    owned = λ b has. let s = h.sound has.0 b has.1 in slice_get_within p.procs b.owner s.proc s.is;
+  }

@@ -23,7 +23,7 @@ use Rattle.tta_lower.specs.Layout.{vars_of}
 use Rattle.tta_lower.specs.Liveness.{Reached, LiveAfter, Touches, ByRead, ByAssigned, ByBefore, ByAfter, IsHomes}
 use Rattle.tta_lower.proofs.Bridge.{is-flow, blocks-in-order}
 use Rattle.tta_lower.proofs.Callers.{live-below, live-after-below}
-use Rattle.tta_lower.specs.Known.{spans, reg_of, home_by, AnswersKnow}
+use Rattle.tta_lower.specs.Known.{reg_of, home_by, AnswersKnow}
 use Rattle.tta_lower.proofs.SameSteps.{same_reads, same_assigned}
 use Rattle.tta_lower.proofs.SamePaths.{passes_at, reached_from, live_to, live_from, after_to, after_from}
 use Rattle.tta_lower.proofs.SameBlocks.{are_blocks}
@@ -156,10 +156,10 @@ module _ (p : Program) (rules : IsProgram p) (homes : ℕ) (h : Homes) (allotted
 -- all that lowering has to know
 pub answers_know : AnswersKnow
 answers_know p homes blocks l h rules flow live allotted = record {
-  flow = is-flow p (spans blocks) (are_blocks p rules blocks flow);
+  flow = is-flow p blocks (are_blocks p rules blocks flow);
   apart = homes_are p rules homes h allotted;
   answers = record {
-    order = blocks-in-order p (spans blocks) (are_blocks p rules blocks flow);
+    order = blocks-in-order p blocks (are_blocks p rules blocks flow);
     first_only = λ owner x e.
         let s = and_parts (nat_lt x (vars_of p owner)) (live_before l owner 0 x) e in
         let v = owned p owner x s.0 in

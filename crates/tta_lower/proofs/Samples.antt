@@ -12,11 +12,11 @@ use Rattle.tta_rcode.specs.Meaning as code
 use Rattle.tta_rcode.specs.Meaning.{rrun}
 use Rattle.tta_lower.specs.Squares.{squares}
 use Rattle.tta_lower.specs.Layout.{base}
-use Rattle.tta_lower.specs.Liveness.{Span}
+use Rattle.tta_lower.specs.Liveness.{Known, Block}
 use Rattle.tta_lower.specs.Lower.{lowered}
 
 -- its blocks
-abbrev blocks : List Span
+abbrev blocks : List Block
 blocks =
     record { owner = 0; first = 0; last = 1 }
     ∷ record { owner = 1; first = 0; last = 1 }
@@ -36,9 +36,13 @@ live_first owner x = owner == 0 && x == 0
 abbrev live_after : (owner at x : ℕ) → Bool
 live_after owner at x = owner == 1 && (x == 0 || (x == 1 || x == 2 && at == 2))
 
+-- what lowering is told
+abbrev known : Known
+known = record { blocks = blocks; home = home; first = live_first; after = live_after }
+
 -- the code
 abbrev squares_code : Rir
-squares_code = lowered squares blocks live_first home live_after 2
+squares_code = lowered squares known 2
 
 -- the slots of sq are 0 to 3, those of main 4 to 7
 squares-code : squares_code ≡ record {

@@ -17,7 +17,7 @@ use Rattle.tta_program.specs.Sequential.{step_at}
 use Rattle.tta_rcode.specs.declared.code.Place.{Place}
 use Rattle.tta_rcode.specs.declared.code.Place.TheVariants.{Frame}
 use Rattle.tta_rcode.specs.declared.code.RBlock.{RBlock}
-use Rattle.tta_lower.specs.Liveness.{Span, Has, Homes, IsFlow}
+use Rattle.tta_lower.specs.Liveness.{Known, Block, Has, IsFlow}
 use Rattle.tta_lower.specs.Layout.{vars_of, base, slots_before, var_slot, value_slot, back_slot, size, place, keeps_ra, sets_from, code_from}
 use Rattle.tta_lower.specs.Lower.{numbers, code_order, spans_of, Part, Entry, Steps, Returned, return_after, span_parts, has_entry, entry_parts, proc_parts, parts, number_of, entry_number, block_of, lowered, Answers}
 use Rattle.tta_program.specs.Sizes.{frame_need}
@@ -104,21 +104,21 @@ all-in t [] all = refl
 all-in t (x ∷ xs) all = and_from (t x) _ (all x (inl refl)) (all-in t xs (λ y is. all y (inr is)))
 
 -- what is known of a part
-pub record IsReturn (p : Program) (blocks : List Span) (b : Span) (d callee : ℕ) : Type 0 where
+pub record IsReturn (p : Program) (blocks : List Block) (b : Block) (d callee : ℕ) : Type 0 where
   pub has : Has blocks b
   pub args : List Src
   pub call : step_at p b.owner b.last ≡ Some (Invoke (Some d) callee args)
 
 -- what a part names is the program's
-abbrev pub IsPartOf : Program → List Span → Part → Type 0
+abbrev pub IsPartOf : Program → List Block → Part → Type 0
 IsPartOf p blocks (Entry owner) = owner < length p.procs
 IsPartOf p blocks (Steps b) = Has blocks b
 IsPartOf p blocks (Returned b d callee) = IsReturn p blocks b d callee
 
-module _ (p : Program) (blocks : List Span) (home : Homes) (live_first : (owner x : ℕ) → Bool) (live_after : (owner at x : ℕ) → Bool) (homes : ℕ)
-    (sound : IsProgram p) (flow : IsFlow p blocks) (answers : Answers p blocks home live_first live_after homes) where
+module _ (p : Program) (known : Known) (homes : ℕ)
+    (sound : IsProgram p) (flow : IsFlow p known.blocks) (answers : Answers p known homes) where
   pub main-in : p.main < length p.procs
-  main-in = main-below p blocks home live_first live_after homes sound flow answers
+  main-in = main-below p known homes sound flow answers
 
   -- the code has procedures that are there
   pub order-below : (owner : ℕ) → In owner (code_order p) → owner < length p.procs
@@ -128,71 +128,71 @@ module _ (p : Program) (blocks : List Span) (home : Homes) (live_first : (owner 
       omega (arith, numbers-below 0 (length p.procs) owner both.0)
 
   -- the part after a block
-  return-is : (b : Span) → Has blocks b → (o : Option Step) → step_at p b.owner b.last ≡ o → (x : Part) → In x (return_after b o) → IsPartOf p blocks x
-  return-is b has (Some (Invoke (Some d) callee args)) there x (inl e) = subst (IsPartOf p blocks) (sym e) (record { has = has; args = args; call = there })
+  return-is : (b : Block) → Has known.blocks b → (o : Option Step) → step_at p b.owner b.last ≡ o → (x : Part) → In x (return_after b o) → IsPartOf p known.blocks x
+  return-is b has (Some (Invoke (Some d) callee args)) there x (inl e) = subst (IsPartOf p known.blocks) (sym e) (record { has = has; args = args; call = there })
   return-is b has (Some (Invoke (Some d) callee args)) there x (inr none) = absurd none
   return-is b has (Some (Invoke None callee args)) there x is = absurd is
   return-is b has o there x is = absurd is
 
   -- each part is one of the program
-  pub parts-are : (x : Part) → In x (parts p blocks live_first) → IsPartOf p blocks x
-  parts-are x is = by (in-append (entry_parts p blocks live_first of.from) (flat_map (span_parts p) (spans_of blocks of.from)) x of.there) where
-    of : FlatPart (proc_parts p blocks live_first) (code_order p) x
-    of = in-flat_map (proc_parts p blocks live_first) (code_order p) x is
+  pub parts-are : (x : Part) → In x (parts p known.blocks known.first) → IsPartOf p known.blocks x
+  parts-are x is = by (in-append (entry_parts p known.blocks known.first of.from) (flat_map (span_parts p) (spans_of known.blocks of.from)) x of.there) where
+    of : FlatPart (proc_parts p known.blocks known.first) (code_order p) x
+    of = in-flat_map (proc_parts p known.blocks known.first) (code_order p) x is
 
-    entry-is : (b : Bool) → In x (if b then Entry of.from ∷ [] else []) → IsPartOf p blocks x
-    entry-is true (inl e) = subst (IsPartOf p blocks) (sym e) (order-below of.from of.is)
+    entry-is : (b : Bool) → In x (if b then Entry of.from ∷ [] else []) → IsPartOf p known.blocks x
+    entry-is true (inl e) = subst (IsPartOf p known.blocks) (sym e) (order-below of.from of.is)
     entry-is true (inr none) = absurd none
     entry-is false none = absurd none
 
-    span-is : FlatPart (span_parts p) (spans_of blocks of.from) x → IsPartOf p blocks x
+    span-is : FlatPart (span_parts p) (spans_of known.blocks of.from) x → IsPartOf p known.blocks x
     span-is s = within s.there where
-      has : Has blocks s.from
-      has = in-has blocks s.from (filter-in (λ c. c.owner == of.from) blocks s.from s.is).0
+      has : Has known.blocks s.from
+      has = in-has known.blocks s.from (filter-in (λ c. c.owner == of.from) known.blocks s.from s.is).0
 
-      within : In x (span_parts p s.from) → IsPartOf p blocks x
-      within (inl e) = subst (IsPartOf p blocks) (sym e) has
+      within : In x (span_parts p s.from) → IsPartOf p known.blocks x
+      within (inl e) = subst (IsPartOf p known.blocks) (sym e) has
       within (inr more) = return-is s.from has (step_at p (s.from).owner (s.from).last) refl x more
 
-    by : In x (entry_parts p blocks live_first of.from) ⊎ In x (flat_map (span_parts p) (spans_of blocks of.from)) → IsPartOf p blocks x
-    by (inl e) = entry-is (has_entry p blocks live_first of.from) e
-    by (inr s) = span-is (in-flat_map (span_parts p) (spans_of blocks of.from) x s)
+    by : In x (entry_parts p known.blocks known.first of.from) ⊎ In x (flat_map (span_parts p) (spans_of known.blocks of.from)) → IsPartOf p known.blocks x
+    by (inl e) = entry-is (has_entry p known.blocks known.first of.from) e
+    by (inr s) = span-is (in-flat_map (span_parts p) (spans_of known.blocks of.from) x s)
 
   -- the block of a part
   abbrev block : Part → RBlock
-  block = block_of p blocks live_first home live_after homes
+  block = block_of p known homes
 
   -- ---- places and slots that pass in every block
 
   module _ (test : Place → Bool) (slot : ℕ → Bool)
-      (place_ok : (owner x : ℕ) → x < vars_of p owner → test (place p home owner x) ≡ true)
+      (place_ok : (owner x : ℕ) → x < vars_of p owner → test (place p known.home owner x) ≡ true)
       (var_ok : (owner x : ℕ) → x < vars_of p owner → test (Frame (var_slot p owner x)) ≡ true)
       (value_ok : (owner : ℕ) → owner < length p.procs → owner ≢ p.main → test (Frame (value_slot p owner)) ≡ true)
       (slot_ok : (owner : ℕ) → owner < length p.procs → owner ≢ p.main → slot (back_slot p owner) ≡ true) where
-    pub part-passes : (x : Part) → IsPartOf p blocks x → block_passes test slot (block x) ≡ true
+    pub part-passes : (x : Part) → IsPartOf p known.blocks x → block_passes test slot (block x) ≡ true
     part-passes (Entry owner) lt =
-        and_from (list_all (step_passes test slot) (keeps_ra p home owner ++ sets_from p home (live_first owner) owner 0 (vars_of p owner))) true
-        (list_all-append (step_passes test slot) (keeps_ra p home owner) (sets_from p home (live_first owner) owner 0 (vars_of p owner))
-        ∙ and_from _ _ (keeps-ok p home sound test slot place_ok var_ok value_ok slot_ok owner lt)
-        (sets-ok p home sound test slot place_ok var_ok value_ok slot_ok (live_first owner) owner 0 (vars_of p owner) (omega arith)))
+        and_from (list_all (step_passes test slot) (keeps_ra p known.home owner ++ sets_from p known.home (known.first owner) owner 0 (vars_of p owner))) true
+        (list_all-append (step_passes test slot) (keeps_ra p known.home owner) (sets_from p known.home (known.first owner) owner 0 (vars_of p owner))
+        ∙ and_from _ _ (keeps-ok p known.home sound test slot place_ok var_ok value_ok slot_ok owner lt)
+        (sets-ok p known.home sound test slot place_ok var_ok value_ok slot_ok (known.first owner) owner 0 (vars_of p owner) (omega arith)))
         refl
     part-passes (Steps b) has =
         let last = flow.last b has in
-        let exit = exit-ok p home sound test slot place_ok var_ok value_ok slot_ok (number_of p blocks live_first) (entry_number p blocks live_first) b.owner b.last last.st last.there in
-        and_from (list_all (step_passes test slot) (code_from p home b.owner b.first (b.last + 1 - b.first))) _
-        (code-ok p home sound test slot place_ok var_ok value_ok slot_ok b.owner b.first (b.last + 1 - b.first))
+        let exit = exit-ok p known.home sound test slot place_ok var_ok value_ok slot_ok (number_of p known.blocks known.first) (entry_number p known.blocks known.first) b.owner b.last last.st last.there in
+        and_from (list_all (step_passes test slot) (code_from p known.home b.owner b.first (b.last + 1 - b.first))) _
+        (code-ok p known.home sound test slot place_ok var_ok value_ok slot_ok b.owner b.first (b.last + 1 - b.first))
         (rw (last.there) exit)
     part-passes (Returned b d callee) r =
         let of_call = called p sound b.owner b.last callee (Some d) r.args r.call in
         let of_step = step_of p sound b.owner b.last (Invoke (Some d) callee r.args) r.call in
         let vars = vars-are p b.owner of_step.proc of_step.is in
         let d_test : nat_lt d (of_step.proc).vars ≡ true = (and_parts (nat_lt d (of_step.proc).vars) (list_all (is_src (of_step.proc).vars) r.args) (and_parts _ (Rules.is_call p callee r.args) of_step.rules).0).0 in
-        and_from (test (place p home b.owner d) && test (Frame (value_slot p callee)) && true) true
-        (and_from (test (place p home b.owner d) && test (Frame (value_slot p callee))) true
-        (and_from (test (place p home b.owner d)) _ (place_ok b.owner d (omega (arith, vars, ltb-true d (of_step.proc).vars d_test)))
+        and_from (test (place p known.home b.owner d) && test (Frame (value_slot p callee)) && true) true
+        (and_from (test (place p known.home b.owner d) && test (Frame (value_slot p callee))) true
+        (and_from (test (place p known.home b.owner d)) _ (place_ok b.owner d (omega (arith, vars, ltb-true d (of_step.proc).vars d_test)))
         (value_ok callee (slice_get_within p.procs callee of_call.proc of_call.is) of_call.other))
         refl)
         refl
 
-    pub all-pass : list_all (block_passes test slot) (lowered p blocks live_first home live_after homes).blocks ≡ true
-    all-pass = all-mapped (block_passes test slot) block (parts p blocks live_first) (λ x is. part-passes x (parts-are x is))
+    pub all-pass : list_all (block_passes test slot) (lowered p known homes).blocks ≡ true
+    all-pass = all-mapped (block_passes test slot) block (parts p known.blocks known.first) (λ x is. part-passes x (parts-are x is))

@@ -8,9 +8,8 @@ use Rattle.std.proofs.lemmas.Option.{slice_get-get_or}
 use Rattle.tta_program.specs.declared.program.Proc.{Proc}
 use Rattle.tta_program.specs.Program.{Program}
 use Rattle.tta_flow.specs.declared.flow.Block.{Block}
-use Rattle.tta_lower.specs.Liveness.{Span, Has}
+use Rattle.tta_lower.specs.Liveness.{Has}
 use Rattle.tta_lower.specs.Lower.{Part, numbers, spans_of, entry_parts, span_parts, proc_parts, parts}
-use Rattle.tta_lower.specs.Known.{span_of, spans}
 use Rattle.tta_lower.specs.Tables.{row_of, Added, IsSplit}
 use Rattle.tta_lower.specs.Laid.{IsSpan}
 use Rattle.tta_lower.proofs.Counted.{numbers-more}
@@ -55,7 +54,7 @@ row-set-other (v ∷ table) (suc i) (suc k) w ne = row-set-other table i k w (λ
 -- ---- blocks that are put to their procedures
 
 -- a block that was put to its procedure
-pub added-one : (b : Span) (table made : List (Vec Span Global)) (was now : Vec Span Global) → b.owner < length table → was ≡ get_or table b.owner was
+pub added-one : (b : Block) (table made : List (Vec Block Global)) (was now : Vec Block Global) → b.owner < length table → was ≡ get_or table b.owner was
     → now.items ≡ was.items ++ b ∷ [] → made ≡ slice_set table b.owner now → Added b table made
 added-one b table made was now below read grown set = record {
   size = ap length set ∙ length-set table b.owner now;
@@ -71,52 +70,52 @@ added-one b table made was now below read grown set = record {
   by o (inr ne) = row-set-other table b.owner o now ne ∙ rw (ne_eqb b.owner o ne) (sym (append-nil (row_of table o)))
 
 -- some blocks are still to be put
-pub record IsSplitTo (procs : ℕ) (blocks : List Block) (i : ℕ) (table : List (Vec Span Global)) : Type 0 where
+pub record IsSplitTo (procs : ℕ) (blocks : List Block) (i : ℕ) (table : List (Vec Block Global)) : Type 0 where
   pub size : length table ≡ procs
-  pub rows : (o : ℕ) → o < procs → row_of table o ++ spans_of (spans (drop i blocks)) o ≡ spans_of (spans blocks) o
+  pub rows : (o : ℕ) → o < procs → row_of table o ++ spans_of (drop i blocks) o ≡ spans_of blocks o
 
 -- no block was put yet
-pub split-none : (procs : ℕ) (blocks : List Block) (table : List (Vec Span Global)) → IsSplit procs [] table → IsSplitTo procs blocks 0 table
+pub split-none : (procs : ℕ) (blocks : List Block) (table : List (Vec Block Global)) → IsSplit procs [] table → IsSplitTo procs blocks 0 table
 split-none procs blocks table is = record {
   size = is.size;
-  rows = λ o lt. ap (λ l. l ++ spans_of (spans blocks) o) (is.rows o lt);
+  rows = λ o lt. ap (λ l. l ++ spans_of blocks o) (is.rows o lt);
 }
 
 -- one block more was put
-pub split-more : (procs : ℕ) (blocks : List Block) (i : ℕ) (table made : List (Vec Span Global)) (b : Block) → i < length blocks → b ≡ get_or blocks i b
-    → Added (span_of b) table made → IsSplitTo procs blocks i table → IsSplitTo procs blocks (i + 1) made
+pub split-more : (procs : ℕ) (blocks : List Block) (i : ℕ) (table made : List (Vec Block Global)) (b : Block) → i < length blocks → b ≡ get_or blocks i b
+    → Added b table made → IsSplitTo procs blocks i table → IsSplitTo procs blocks (i + 1) made
 split-more procs blocks i table made b lt is added to = record {
   size = added.size ∙ to.size;
   rows = λ o small.
       let cut : drop i blocks ≡ b ∷ drop (i + 1) blocks = drop_more blocks i b lt ∙ ap (λ x. x ∷ drop (i + 1) blocks) (sym is) in
       let here : o < length table = omega (arith, small, to.size) in
-      let rest = spans_of (spans (drop (i + 1) blocks)) o in
+      let rest = spans_of (drop (i + 1) blocks) o in
       ap (λ l. l ++ rest) (added.rows o here)
-      ∙ append_assoc (row_of table o) (if b.owner == o then span_of b ∷ [] else []) rest
-      ∙ ap (λ l. row_of table o ++ l) (sym (ap (λ l. spans_of (spans l) o) cut ∙ filter-by (λ c. c.owner == o) (b.owner == o) (span_of b) (spans (drop (i + 1) blocks)) refl))
+      ∙ append_assoc (row_of table o) (if b.owner == o then b ∷ [] else []) rest
+      ∙ ap (λ l. row_of table o ++ l) (sym (ap (λ l. spans_of l o) cut ∙ filter-by (λ c. c.owner == o) (b.owner == o) b (drop (i + 1) blocks) refl))
       ∙ to.rows o small;
 }
 
 -- all blocks were put
-pub split-all : (procs : ℕ) (blocks : List Block) (i : ℕ) (table : List (Vec Span Global)) → length blocks ≤ i → IsSplitTo procs blocks i table → IsSplit procs (spans blocks) table
+pub split-all : (procs : ℕ) (blocks : List Block) (i : ℕ) (table : List (Vec Block Global)) → length blocks ≤ i → IsSplitTo procs blocks i table → IsSplit procs blocks table
 split-all procs blocks i table past to = record {
   size = to.size;
   rows = λ o lt.
       sym (append-nil (row_of table o))
-      ∙ ap (λ l. row_of table o ++ spans_of (spans l) o) (sym (drop_all i blocks past))
+      ∙ ap (λ l. row_of table o ++ spans_of l o) (sym (drop_all i blocks past))
       ∙ to.rows o lt;
 }
 
 -- the steps of the blocks of a procedure are there
-pub row-spans : (p : Program) (procs : ℕ) (all : List Span) (table : List (Vec Span Global)) (o : ℕ) (row : List Span) → ((b : Span) → Has all b → IsSpan p b) → IsSplit procs all table
-    → o < procs → row ≡ row_of table o → (b : Span) → Has row b → IsSpan p b
+pub row-spans : (p : Program) (procs : ℕ) (all : List Block) (table : List (Vec Block Global)) (o : ℕ) (row : List Block) → ((b : Block) → Has all b → IsSpan p b) → IsSplit procs all table
+    → o < procs → row ≡ row_of table o → (b : Block) → Has row b → IsSpan p b
 row-spans p procs all table o row are is lt same b has =
     let there : In b (spans_of all o) = subst (λ l. In b l) (same ∙ is.rows o lt) (has-in row has.0 b has.1) in
     are b (in-has all b (filter-in (λ c. c.owner == o) all b there).0)
 
 -- ---- the parts of the other procedures
 
-module _ (p : Program) (blocks : List Span) (live_first : (owner x : ℕ) → Bool) where
+module _ (p : Program) (blocks : List Block) (live_first : (owner x : ℕ) → Bool) where
   -- the parts of the procedures from one on, but main
   abbrev pub others_from : ℕ → List Part
   others_from o = flat_map (proc_parts p blocks live_first) (filter (λ k. not (k == p.main)) (numbers o (length p.procs - o)))
@@ -128,7 +127,7 @@ module _ (p : Program) (blocks : List Span) (live_first : (owner x : ℕ) → Bo
   by-main false o rest = refl
 
   -- the parts of one procedure more
-  pub others-more : (o : ℕ) (row : List Span) (made into : List Part) → o < length p.procs → row ≡ spans_of blocks o
+  pub others-more : (o : ℕ) (row : List Block) (made into : List Part) → o < length p.procs → row ≡ spans_of blocks o
       → made ≡ into ++ (if o == p.main then [] else entry_parts p [] live_first o ++ flat_map (span_parts p) row)
       → made ++ others_from (o + 1) ≡ into ++ others_from o
   others-more o row made into lt same is =
@@ -149,7 +148,7 @@ module _ (p : Program) (blocks : List Span) (live_first : (owner x : ℕ) → Bo
       ∙ ap (λ n. into ++ flat_map (proc_parts p blocks live_first) (filter (λ k. not (k == p.main)) (numbers o n))) (sym none) ∙ is
 
   -- main's parts come first
-  pub main-first : (main : ℕ) (row : List Span) (made start : List Part) → main ≡ p.main → start ≡ [] → row ≡ spans_of blocks main
+  pub main-first : (main : ℕ) (row : List Block) (made start : List Part) → main ≡ p.main → start ≡ [] → row ≡ spans_of blocks main
       → made ≡ start ++ (entry_parts p [] live_first main ++ flat_map (span_parts p) row) → made ++ others_from 0 ≡ parts p blocks live_first
   main-first main row made start e none same is =
       let z : length p.procs - 0 ≡ length p.procs = omega arith in

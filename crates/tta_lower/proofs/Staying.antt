@@ -4,7 +4,7 @@ use Rattle.std.specs.Option.{option_map_or}
 use Rattle.std.specs.List.{list_any}
 use Rattle.std.proofs.lemmas.Bool.{eq-eqb, eqb-true, and_parts, and_from, or_cases}
 use Rattle.tta_program.specs.Program.{Program}
-use Rattle.tta_lower.specs.Liveness.{Span, Homes}
+use Rattle.tta_lower.specs.Liveness.{Known}
 use Rattle.tta_lower.specs.Layout.{vars_of}
 use Rattle.tta_lower.specs.Lower.{numbers, is_home_of, homes_of}
 use Rattle.tta_lower.specs.Members.{In, Rises}
@@ -34,31 +34,31 @@ any-there t (x ∷ xs) any = by (or_cases (t x) (list_any t xs) any) (any-there 
   by (inl e) more = (x, inl refl, e)
   by (inr any) more = ((more any).0, inr (more any).1, (more any).2)
 
-module _ (p : Program) (blocks : List Span) (live_first : (owner x : ℕ) → Bool) (home : Homes) (live_after : (owner at x : ℕ) → Bool) (homes : ℕ)
-    (few : (owner x k : ℕ) → home owner x ≡ Some k → k < homes) (owner : ℕ) (test : ℕ → Bool) where
+module _ (p : Program) (known : Known) (homes : ℕ)
+    (few : (owner x k : ℕ) → known.home owner x ≡ Some k → k < homes) (owner : ℕ) (test : ℕ → Bool) where
   abbrev staying : List ℕ
-  staying = homes_of p blocks live_first home live_after homes owner test
+  staying = homes_of p known homes owner test
 
   -- the registers rise
   pub homes-rise : Rises staying
-  homes-rise = rising-filter (λ k. list_any (is_home_of p blocks live_first home live_after homes owner test k) (numbers 0 (vars_of p owner))) 0 homes
+  homes-rise = rising-filter (λ k. list_any (is_home_of p known homes owner test k) (numbers 0 (vars_of p owner))) 0 homes
 
   -- each of them is the home of a variable that passes
-  pub homes-only : (k : ℕ) → In k staying → (x : ℕ) × (x < vars_of p owner) × (test x ≡ true) × (home owner x ≡ Some k)
+  pub homes-only : (k : ℕ) → In k staying → (x : ℕ) × (x < vars_of p owner) × (test x ≡ true) × (known.home owner x ≡ Some k)
   homes-only k is =
-      let both = filter-in (λ k. list_any (is_home_of p blocks live_first home live_after homes owner test k) (numbers 0 (vars_of p owner))) (numbers 0 homes) k is in
-      let a = any-there (is_home_of p blocks live_first home live_after homes owner test k) (numbers 0 (vars_of p owner)) both.1 in
-      let parts = and_parts (test a.0) (option_map_or (λ h. h == k) (home owner a.0) false) a.2 in
+      let both = filter-in (λ k. list_any (is_home_of p known homes owner test k) (numbers 0 (vars_of p owner))) (numbers 0 homes) k is in
+      let a = any-there (is_home_of p known homes owner test k) (numbers 0 (vars_of p owner)) both.1 in
+      let parts = and_parts (test a.0) (option_map_or (λ h. h == k) (known.home owner a.0) false) a.2 in
       let below = numbers-below 0 (vars_of p owner) a.0 a.1 in
-      (a.0, omega (arith, below), parts.0, register (home owner a.0) parts.1) where
+      (a.0, omega (arith, below), parts.0, register (known.home owner a.0) parts.1) where
         register : (o : Option ℕ) → option_map_or (λ h. h == k) o false ≡ true → o ≡ Some k
         register None is = cc
         register (Some h) is = ap Some (eqb-true h k is)
 
   -- and each such home is one of them
-  pub homes-all : (k x : ℕ) → x < vars_of p owner → test x ≡ true → home owner x ≡ Some k → In k staying
+  pub homes-all : (k x : ℕ) → x < vars_of p owner → test x ≡ true → known.home owner x ≡ Some k → In k staying
   homes-all k x within passes is =
-      in-filter (λ k. list_any (is_home_of p blocks live_first home live_after homes owner test k) (numbers 0 (vars_of p owner))) (numbers 0 homes) k
+      in-filter (λ k. list_any (is_home_of p known homes owner test k) (numbers 0 (vars_of p owner))) (numbers 0 homes) k
       (in-numbers 0 homes k (omega arith) (omega (arith, few owner x k is)))
-      (in-any (is_home_of p blocks live_first home live_after homes owner test k) (numbers 0 (vars_of p owner)) x (in-numbers 0 (vars_of p owner) x (omega arith) (omega (arith, within)))
+      (in-any (is_home_of p known homes owner test k) (numbers 0 (vars_of p owner)) x (in-numbers 0 (vars_of p owner) x (omega arith) (omega (arith, within)))
       (and_from (test x) _ passes (rw is (eq-eqb k k refl))))

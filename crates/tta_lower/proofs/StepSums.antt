@@ -8,7 +8,7 @@ use Rattle.tta_program.specs.declared.step.Step.{Step}
 use Rattle.tta_program.specs.Program.{Program}
 use Rattle.tta_program.specs.Sequential.{step_at}
 use Rattle.tta_rcode.specs.declared.code.RStep.{RStep}
-use Rattle.tta_lower.specs.Liveness.{Span, Homes}
+use Rattle.tta_lower.specs.Liveness.{Block, Homes}
 use Rattle.tta_lower.specs.Layout.{steps_for, code_from, sets, sets_from}
 use Rattle.tta_lower.specs.Counts.{over_steps, over_live}
 use Rattle.tta_lower.proofs.Exits.{code_from-more}
@@ -38,7 +38,7 @@ module _ (p : Program) (home : Homes) where
         by (Some s) = le s
 
   -- a block's steps and something more that its last step allows
-  pub block-sum : (f : RStep → ℕ) (g : Step → ℕ) (extra : ℕ) (b : Span) (st : Step) → b.first ≤ b.last → step_at p b.owner b.last ≡ Some st
+  pub block-sum : (f : RStep → ℕ) (g : Step → ℕ) (extra : ℕ) (b : Block) (st : Step) → b.first ≤ b.last → step_at p b.owner b.last ≡ Some st
       → ((s : Step) → sum_by f (steps_for p home b.owner s) ≤ g s) → sum_by f (steps_for p home b.owner st) + extra ≤ g st
       → sum_by f (code_from p home b.owner b.first (b.last + 1 - b.first)) + extra ≤ over_steps p home g b.owner b.first (b.last + 1 - b.first)
   block-sum f g extra b st rises there le last =

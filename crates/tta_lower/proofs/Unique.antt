@@ -8,7 +8,7 @@ use Rattle.tta_program.specs.declared.step.Step.{Step}
 use Rattle.tta_program.specs.declared.step.Step.TheVariants.{Invoke}
 use Rattle.tta_program.specs.Program.{Program}
 use Rattle.tta_program.specs.Sequential.{step_at}
-use Rattle.tta_lower.specs.Liveness.{Span}
+use Rattle.tta_lower.specs.Liveness.{Block}
 use Rattle.tta_lower.specs.Lower.{numbers, code_order, spans_of, Entry, Steps, return_after, span_parts, entry_parts, has_entry, proc_parts, parts, procs_before, spans_before, entry_number, number_of, EndsBefore, InOrder}
 use Rattle.tta_lower.specs.Members.{In, Rises}
 use Rattle.tta_lower.specs.Tables.{StandOnce}
@@ -53,28 +53,28 @@ cut-of {A = A} {B = B} f (x ∷ xs) k y is = by (cases_lt k (length (f x))) (λ 
       }
 
 -- what stands after a step is no block of steps
-return-none : (b c : Span) (o : Option Step) (i : ℕ) → slice_get (return_after c o) i ≡ Some (Steps b) → ⊥
+return-none : (b c : Block) (o : Option Step) (i : ℕ) → slice_get (return_after c o) i ≡ Some (Steps b) → ⊥
 return-none b c (Some (Invoke (Some d) callee args)) zero is = cc
 return-none b c (Some (Invoke (Some d) callee args)) (suc i) is = cc
 return-none b c (Some (Invoke None callee args)) i is = cc
 return-none b c o i is = cc
 
 -- a block of steps is the first part of its block
-steps-at : (p : Program) (b c : Span) (i : ℕ) → slice_get (span_parts p c) i ≡ Some (Steps b) → (i ≡ 0) × (c ≡ b)
+steps-at : (p : Program) (b c : Block) (i : ℕ) → slice_get (span_parts p c) i ≡ Some (Steps b) → (i ≡ 0) × (c ≡ b)
 steps-at p b c zero is = (refl, same is) where
-  same : {x y : Span} → Some (Steps x) ≡ Some (Steps y) → x ≡ y
+  same : {x y : Block} → Some (Steps x) ≡ Some (Steps y) → x ≡ y
   same e = cc
 steps-at p b c (suc i) is = absurd (return-none b c (step_at p c.owner c.last) i is)
 
 -- what a block becomes is no entry
-return-no-entry : (a : ℕ) (c : Span) (o : Option Step) (i : ℕ) → slice_get (return_after c o) i ≡ Some (Entry a) → ⊥
+return-no-entry : (a : ℕ) (c : Block) (o : Option Step) (i : ℕ) → slice_get (return_after c o) i ≡ Some (Entry a) → ⊥
 return-no-entry a c (Some (Invoke (Some d) callee args)) zero is = cc
 return-no-entry a c (Some (Invoke (Some d) callee args)) (suc i) is = cc
 return-no-entry a c (Some (Invoke None callee args)) i is = cc
 return-no-entry a c o i is = cc
 
 -- a part of a block is no entry
-span-no-entry : (p : Program) (a : ℕ) (c : Span) (i : ℕ) → slice_get (span_parts p c) i ≡ Some (Entry a) → ⊥
+span-no-entry : (p : Program) (a : ℕ) (c : Block) (i : ℕ) → slice_get (span_parts p c) i ≡ Some (Entry a) → ⊥
 span-no-entry p a c zero is = cc
 span-no-entry p a c (suc i) is = return-no-entry a c (step_at p c.owner c.last) i is
 
@@ -91,7 +91,7 @@ rises-split (x ∷ prefix) o back rises (inl e) =
       in-end (y ∷ prefix) = inr (in-end prefix)
 rises-split (x ∷ prefix) o back rises (inr more) = rises-split prefix o back rises.1 more
 
-module _ (p : Program) (blocks : List Span) (live_first : (owner x : ℕ) → Bool) where
+module _ (p : Program) (blocks : List Block) (live_first : (owner x : ℕ) → Bool) where
   before-is : (prefix : List ℕ) (o : ℕ) (back : List ℕ) → (In o prefix → ⊥) → procs_before p blocks live_first o (prefix ++ o ∷ back) ≡ prefix
   before-is [] o back none = rw (eq-eqb o o refl) refl
   before-is (x ∷ prefix) o back none = rw (ne_eqb x o (λ e. none (inl (sym e)))) (ap (λ l. x ∷ l) (before-is prefix o back (λ is. none (inr is))))
@@ -119,16 +119,16 @@ module _ (p : Program) (blocks : List Span) (live_first : (owner x : ℕ) → Bo
         by (inr more) main other rest = rises-split prefix o back (subst Rises rest (rising-filter (λ k. not (k == p.main)) 0 (length p.procs))) more
 
   -- the blocks before one
-  spans-is : (prefix : List Span) (b : Span) (back : List Span) → b.first ≤ b.last → InOrder (prefix ++ b ∷ back) → spans_before p blocks live_first b.first (prefix ++ b ∷ back) ≡ prefix
+  spans-is : (prefix : List Block) (b : Block) (back : List Block) → b.first ≤ b.last → InOrder (prefix ++ b ∷ back) → spans_before p blocks live_first b.first (prefix ++ b ∷ back) ≡ prefix
   spans-is [] b back rises order = rw (le-ltb b.last b.first rises) refl
   spans-is (c ∷ prefix) b back rises order =
       rw (lt-ltb c.last b.first (ends prefix order.0)) (ap (λ l. c ∷ l) (spans-is prefix b back rises order.1)) where
-        ends : (prefix : List Span) → EndsBefore c (prefix ++ b ∷ back) → c.last < b.first
+        ends : (prefix : List Block) → EndsBefore c (prefix ++ b ∷ back) → c.last < b.first
         ends [] h = h.0
         ends (d ∷ prefix) h = ends prefix h.1
 
   -- a block's steps stand at the block's number alone
-  pub steps-once : ((owner : ℕ) → InOrder (spans_of blocks owner)) → (k : ℕ) (b : Span) → b.first ≤ b.last → slice_get (parts p blocks live_first) k ≡ Some (Steps b)
+  pub steps-once : ((owner : ℕ) → InOrder (spans_of blocks owner)) → (k : ℕ) (b : Block) → b.first ≤ b.last → slice_get (parts p blocks live_first) k ≡ Some (Steps b)
       → k ≡ number_of p blocks live_first b.owner b.first
   steps-once order k b rises is = by (cases_lt outer.at (length (entry_parts p blocks live_first outer.from))) where
     outer : Cut (proc_parts p blocks live_first) (code_order p) k (Steps b)
@@ -153,7 +153,7 @@ module _ (p : Program) (blocks : List Span) (live_first : (owner x : ℕ) → Bo
         let inside = ap (λ l. length (flat_map (span_parts p) l)) spans in
         let owner = ap (λ o. number_of p blocks live_first o b.first) mine in
         omega (arith, outer.place, at, c.place, first.0, entry, inside, owner) where
-          in-end : (prefix back : List Span) → In b (prefix ++ b ∷ back)
+          in-end : (prefix back : List Block) → In b (prefix ++ b ∷ back)
           in-end [] back = inl refl
           in-end (y ∷ prefix) back = inr (in-end prefix back)
 
@@ -199,7 +199,7 @@ module _ (p : Program) (blocks : List Span) (live_first : (owner x : ℕ) → Bo
         absurd (span-no-entry p o c.from c.at c.there)
 
   -- so blocks of steps and entries stand once
-  pub stand-once : ((owner : ℕ) → InOrder (spans_of blocks owner)) → ((k : ℕ) (b : Span) → slice_get (parts p blocks live_first) k ≡ Some (Steps b) → b.first ≤ b.last)
+  pub stand-once : ((owner : ℕ) → InOrder (spans_of blocks owner)) → ((k : ℕ) (b : Block) → slice_get (parts p blocks live_first) k ≡ Some (Steps b) → b.first ≤ b.last)
       → StandOnce (parts p blocks live_first)
   stand-once order rises = record {
     steps = λ j k b c here there owner first.

@@ -1,5 +1,5 @@
 -- A run of the program and a walk of the register code that come to states that stand together, or end alike.
-use Rattle.std.proofs.Common.{◌≡◌, ◌<◌, ◌≤◌, ◌+◌, ◌∷◌, ℕ, Bool, List, Option, false, drop, sym, ap, ◌∙◌, subst, arith}
+use Rattle.std.proofs.Common.{◌≡◌, ◌<◌, ◌≤◌, ◌+◌, ◌∷◌, ℕ, List, Option, false, drop, sym, ap, ◌∙◌, subst, arith}
 use Rattle.tta_list.specs.Iterate.{iterate}
 use Rattle.tta_ops.specs.Units.{Units}
 use Rattle.tta_program.specs.Program.{Program, step_count}
@@ -8,12 +8,12 @@ use Rattle.tta_program.specs.Sequential.{Frame, Outcome, Running, Halted, Waitin
 use Rattle.tta_rcode.specs.declared.code.RBlock.{RBlock}
 use Rattle.tta_rcode.specs.declared.code.Rir.{Rir}
 use Rattle.tta_rcode.specs.Meaning.{State, Kept, walk, is_running}
-use Rattle.tta_lower.specs.Liveness.{Span, Homes}
+use Rattle.tta_lower.specs.Liveness.{Known}
 use Rattle.tta_lower.specs.Shape.{Counts}
 use Rattle.tta_lower.specs.Relation.{running, going, AtBlock, Stands}
 use Rattle.tta_lower.proofs.Runs.{iterate-add}
 
-module _ (u : Units) (p : Program) (blocks : List Span) (home : Homes) (live : ℕ → ℕ → Bool) (r : Rir) (number : ℕ → ℕ → ℕ) (entry : ℕ → ℕ) (before : Counts) where
+module _ (u : Units) (p : Program) (known : Known) (r : Rir) (number : ℕ → ℕ → ℕ) (entry : ℕ → ℕ) (before : Counts) where
   -- a run of the program comes, in one step or more, to a state that stands beside one of the register code
   pub record Comes (s : program.State) (t : State) (low : ℕ) : Type 0 where
     pub made : ℕ
@@ -31,7 +31,7 @@ module _ (u : Units) (p : Program) (blocks : List Span) (home : Homes) (live : �
     pub output : List ℕ
     pub program : iterate made (next u p) s ≡ running steps (f ∷ rest) memory input output Running
     pub code : t ≡ going at regs frame ra memory input output Running
-    pub stands : Stands p blocks home live r number entry before f rest at regs frame ra
+    pub stands : Stands p known r number entry before f rest at regs frame ra
 
   -- both end alike
   pub record Ends (s : program.State) (t : State) (low : ℕ) : Type 0 where
@@ -104,7 +104,7 @@ module _ (u : Units) (p : Program) (blocks : List Span) (home : Homes) (live : �
   pub comes-now : (s : program.State) (t : State) (low high : ℕ) (steps : ℕ) (f : Frame) (rest : List Frame) (at : ℕ) (regs : List (ℕ × ℕ)) (frame : List (ℕ × Kept))
       (ra : Option ℕ) (memory input output : List ℕ) → low + 1 ≤ high → high ≤ step_count p
       → next u p s ≡ running steps (f ∷ rest) memory input output Running → t ≡ going at regs frame ra memory input output Running
-      → Stands p blocks home live r number entry before f rest at regs frame ra → Walked s t low
+      → Stands p known r number entry before f rest at regs frame ra → Walked s t low
   comes-now s t low high steps f rest at regs frame ra memory input output le all by_program by_code stands = GoOn (record {
     made = 1;
     some = omega arith;
@@ -151,5 +151,5 @@ module _ (u : Units) (p : Program) (blocks : List Span) (home : Homes) (live : �
   -- what is claimed of the blocks from one on
   abbrev pub WalkFrom : List RBlock → Type 0
   WalkFrom bs = (f : Frame) (rest : List Frame) (at : ℕ) (regs : List (ℕ × ℕ)) (frame : List (ℕ × Kept)) (ra : Option ℕ) (k : ℕ) (memory input output : List ℕ)
-      → AtBlock p blocks home live r number entry before f rest at regs frame → drop at r.blocks ≡ bs
+      → AtBlock p known r number entry before f rest at regs frame → drop at r.blocks ≡ bs
       → Walked (running k (f ∷ rest) memory input output Running) (walk u bs (going at regs frame ra memory input output Running)) (before at)

@@ -1,5 +1,5 @@
 -- Whole runs.
-use Rattle.std.proofs.Common.{◌≡◌, ◌≤◌, ◌+◌, ◌*◌, ◌∷◌, [], ℕ, zero, suc, Bool, List, Option, None, true, false, refl, sym, ap, ◌∙◌, subst, arith, inl, inr}
+use Rattle.std.proofs.Common.{◌≡◌, ◌≤◌, ◌+◌, ◌*◌, ◌∷◌, [], ℕ, zero, suc, List, Option, None, true, false, refl, sym, ap, ◌∙◌, subst, arith, inl, inr}
 use Rattle.std.proofs.lemmas.Bool.{cases_lt, false≢true}
 use Rattle.tta_list.specs.Iterate.{iterate}
 use Rattle.tta_ops.specs.Units.{Units}
@@ -9,7 +9,7 @@ use Rattle.tta_program.specs.Sequential as program
 use Rattle.tta_program.specs.Sequential.{Frame, Outcome, Running, Halted, Waiting, enter, next, seq}
 use Rattle.tta_rcode.specs.declared.code.Rir.{Rir}
 use Rattle.tta_rcode.specs.Meaning.{Kept, is_running, leg, rrun}
-use Rattle.tta_lower.specs.Liveness.{Span, Homes, IsFlow, IsHomes}
+use Rattle.tta_lower.specs.Liveness.{Known, IsFlow, IsHomes}
 use Rattle.tta_lower.specs.Shape.{Counts, IsLowered}
 use Rattle.tta_lower.specs.Relation.{running, going, Stands}
 use Rattle.tta_lower.specs.Keeps.{IsPrefixOf, EndAlike, KeepsMeaning}
@@ -24,8 +24,8 @@ leg-stays : (u : Units) (r : Rir) (at : ℕ) (regs : List (ℕ × ℕ)) (frame :
 unfolding leg
 leg-stays u r at regs frame ra memory input output outcome ended = rw ended refl
 
-module _ (u : Units) (p : Program) (blocks : List Span) (home : Homes) (live : ℕ → ℕ → Bool) (r : Rir) (number : ℕ → ℕ → ℕ) (entry : ℕ → ℕ) (before : Counts)
-    (flow : IsFlow p blocks) (homes : IsHomes p home) (sound : IsProgram p) (lowered : IsLowered p blocks home live r number entry before) where
+module _ (u : Units) (p : Program) (known : Known) (r : Rir) (number : ℕ → ℕ → ℕ) (entry : ℕ → ℕ) (before : Counts)
+    (flow : IsFlow p known.blocks) (homes : IsHomes p known.home) (sound : IsProgram p) (lowered : IsLowered p known r number entry before) where
   -- the first state of the program
   abbrev first : (memory input : List ℕ) → program.State
   first memory input = program.start p memory input
@@ -47,7 +47,7 @@ module _ (u : Units) (p : Program) (blocks : List Span) (home : Homes) (live : �
     output_now : List ℕ
     program : seq u p memory input made ≡ running steps (f ∷ rest) memory_now input_now output_now Running
     code : rrun u r memory input n ≡ going at regs frame ra memory_now input_now output_now Running
-    stands : Stands p blocks home live r number entry before f rest at regs frame ra
+    stands : Stands p known r number entry before f rest at regs frame ra
 
   -- after n legs both runs have ended
   record AtEnd (memory input : List ℕ) (n : ℕ) : Type 0 where
@@ -96,8 +96,8 @@ module _ (u : Units) (p : Program) (blocks : List Span) (home : Homes) (live : �
     code = ap (leg u r) a.code ∙ leg-stays u r a.at a.regs a.frame a.ra a.memory_now a.input_now a.output_now a.outcome a.ended;
   })
   one-more memory input n (BothGo a) =
-      by (one-leg u p blocks home live r number entry before flow homes sound lowered a.f a.rest a.at a.regs a.frame a.ra a.steps a.memory_now a.input_now a.output_now a.stands) where
-        by : Walked u p blocks home live r number entry before (running a.steps (a.f ∷ a.rest) a.memory_now a.input_now a.output_now Running)
+      by (one-leg u p known r number entry before flow homes sound lowered a.f a.rest a.at a.regs a.frame a.ra a.steps a.memory_now a.input_now a.output_now a.stands) where
+        by : Walked u p known r number entry before (running a.steps (a.f ∷ a.rest) a.memory_now a.input_now a.output_now Running)
             (leg u r (going a.at a.regs a.frame a.ra a.memory_now a.input_now a.output_now Running)) (before a.at) → Beside memory input (suc n)
         by (GoOn c) = BothGo (record {
           made = a.made + c.made;
@@ -153,7 +153,7 @@ module _ (u : Units) (p : Program) (blocks : List Span) (home : Homes) (live : �
     output_now = [];
     program = refl;
     code = refl;
-    stands = starts u p blocks home live r number entry before flow homes sound lowered memory input;
+    stands = starts u p known r number entry before flow homes sound lowered memory input;
   })
   beside memory input (suc n) = one-more memory input n (beside memory input n)
 

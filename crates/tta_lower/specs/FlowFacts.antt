@@ -6,7 +6,7 @@ use Rattle.tta_program.specs.declared.step.Step.TheVariants.{If, Goto, Invoke}
 use Rattle.tta_program.specs.declared.program.Proc.{Proc}
 use Rattle.tta_program.specs.Program.{Program}
 use Rattle.tta_program.specs.Sequential.{step_at}
-use Rattle.tta_lower.specs.Liveness.{Span, Has, Homes, Reached, LiveBefore, LiveAfter, Touches, is_plain}
+use Rattle.tta_lower.specs.Liveness.{Block, Has, Homes, Reached, LiveBefore, LiveAfter, Touches, is_plain}
 
 -- ---- blocks
 
@@ -32,24 +32,24 @@ pub record IsRun (p : Program) (owner first last : ℕ) : Type 0 where
   pub ends : Reached p owner (last + 1) → IsFirst p owner (last + 1)
 
 -- some block holds a step of a procedure
-pub record Holds (blocks : List Span) (owner i : ℕ) : Type 0 where
-  pub block : Span
+pub record Holds (blocks : List Block) (owner i : ℕ) : Type 0 where
+  pub block : Block
   pub has : Has blocks block
   pub mine : block.owner ≡ owner
   pub low : block.first ≤ i
   pub high : i ≤ block.last
 
 -- one block stands before another in the text
-abbrev pub StandsBefore : Span → Span → Type 0
+abbrev pub StandsBefore : Block → Block → Type 0
 StandsBefore a b = (a.owner < b.owner) ⊎ ((a.owner ≡ b.owner) × (a.last < b.first))
 
 -- the blocks of a program: runs, in the order of the text, that hold each step to which paths come
-pub record AreBlocks (p : Program) (blocks : List Span) : Type 0 where
-  pub sound : (b : Span) → Has blocks b → IsRun p b.owner b.first b.last
-  pub rising : (j k : ℕ) (a b : Span) → j < k → slice_get blocks j ≡ Some a → slice_get blocks k ≡ Some b → StandsBefore a b
+pub record AreBlocks (p : Program) (blocks : List Block) : Type 0 where
+  pub sound : (b : Block) → Has blocks b → IsRun p b.owner b.first b.last
+  pub rising : (j k : ℕ) (a b : Block) → j < k → slice_get blocks j ≡ Some a → slice_get blocks k ≡ Some b → StandsBefore a b
   pub covers : (owner i : ℕ) (q : Proc) → slice_get p.procs owner ≡ Some q → Reached p owner i → Holds blocks owner i
   pub there : (owner i : ℕ) → Reached p owner i → (q : Proc) → slice_get p.procs owner ≡ Some q → i < length q.steps
-  pub owned : (b : Span) → Has blocks b → b.owner < length p.procs
+  pub owned : (b : Block) → Has blocks b → b.owner < length p.procs
 
 -- ---- homes
 

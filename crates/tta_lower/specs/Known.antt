@@ -1,5 +1,5 @@
 -- What is known of blocks, homes and liveness, by what is answered of them.
-use Rattle.std.specs.Prelude.{ℕ, Bool, ◌&&◌, nat_lt, if◌then◌else◌, List, map, Option, Some, None}
+use Rattle.std.specs.Prelude.{ℕ, Bool, ◌&&◌, nat_lt, if◌then◌else◌, List, Option, Some, None}
 use Rattle.tta_program.specs.Program.{Program}
 use Rattle.tta_program.specs.Rules.{IsProgram}
 use Rattle.tta_flow.specs.declared.flow.Block.{Block}
@@ -11,17 +11,9 @@ use Rattle.tta_alloc.specs.declared.home.Home.TheVariants.{Reg, Slot}
 use Rattle.tta_alloc.specs.declared.homes.Homes.{Homes}
 use Rattle.tta_alloc.specs.Homes.{home_of}
 use Rattle.tta_alloc.specs.Allotted.{AreAllotted}
-use Rattle.tta_lower.specs.declared.part.Span.{Span}
+use Rattle.tta_lower.specs.Liveness.{Known}
 use Rattle.tta_lower.specs.Layout.{vars_of}
 use Rattle.tta_lower.specs.Law.{IsKnown}
-
--- a block as lowering takes it
-abbrev pub span_of : Block → Span
-span_of b = record { owner = b.owner; first = b.first; last = b.last }
-
--- blocks as lowering takes them
-abbrev pub spans : List Block → List Span
-spans blocks = map span_of blocks
 
 -- the home register that a home is, if it is one
 abbrev pub reg_of : Home → Option ℕ
@@ -41,8 +33,12 @@ module _ (p : Program) where
   abbrev pub after_by : Live → (owner at x : ℕ) → Bool
   after_by l owner at x = nat_lt x (vars_of p owner) && live_after l owner at x
 
+-- what blocks, homes and liveness answer
+abbrev pub known_by : Program → List Block → Live → Homes → Known
+known_by p blocks l h = record { blocks = blocks; home = home_by p h; first = first_by p l; after = after_by p l }
+
 -- all that lowering has to know follows from what blocks, liveness and homes answer
 abbrev pub AnswersKnow : Type 0
 AnswersKnow =
     (p : Program) (homes : ℕ) (blocks : List Block) (l : Live) (h : Homes) → IsProgram p → IsFlow p blocks → IsLive p l → AreAllotted p homes h
-    → IsKnown p homes (spans blocks) (home_by p h) (first_by p l) (after_by p l)
+    → IsKnown p homes (known_by p blocks l h)

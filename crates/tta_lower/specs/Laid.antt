@@ -2,7 +2,7 @@
 use Rattle.std.specs.Prelude.{◌≡◌, ◌≢◌, ◌≤◌, ◌<◌, ◌+◌, ◌==◌, ◌-◌, ◌&&◌, ◌++◌, ◌∷◌, [], ℕ, Bool, false, List, Some, slice_get, filter, length, slice_index}
 use Rattle.std.specs.Option.{option_map_or}
 use Rattle.std.specs.List.{list_any}
-use Rattle.tta_lower.specs.Liveness.{Homes, Span}
+use Rattle.tta_lower.specs.Liveness.{Homes, Block}
 use Rattle.tta_lower.specs.Lower.{numbers, Part, Entry, Steps, Returned}
 use Rattle.tta_program.specs.declared.step.Step.{Step}
 use Rattle.tta_program.specs.declared.step.Step.TheVariants.{Invoke}
@@ -65,13 +65,13 @@ test_of live_first live_after (Steps b) = live_after b.owner b.last
 test_of live_first live_after (Returned b d callee) = live_after b.owner b.last
 
 -- the steps of a block are there
-pub record IsSpan (p : Program) (b : Span) : Type 0 where
+pub record IsSpan (p : Program) (b : Block) : Type 0 where
   pub owner : b.owner < length p.procs
   pub ordered : b.first ≤ b.last
   pub within : (q : Proc) → slice_get p.procs b.owner ≡ Some q → b.last < length q.steps
 
 -- the procedures, steps and variables that a return names are there, and the callee is not main
-pub record IsBack (p : Program) (b : Span) (d callee : ℕ) : Type 0 where
+pub record IsBack (p : Program) (b : Block) (d callee : ℕ) : Type 0 where
   pub owner : b.owner < length p.procs
   pub called : callee < length p.procs
   pub other : callee ≢ p.main

@@ -1,9 +1,9 @@
 -- What holds of the register code of every program.
-use Rattle.std.specs.Prelude.{ℕ, ◌+◌, ◌*◌, ◌≤◌, Bool, List, length}
+use Rattle.std.specs.Prelude.{ℕ, ◌+◌, ◌*◌, ◌≤◌, Bool, length}
 use Rattle.tta_ops.specs.Units.{Units}
 use Rattle.tta_program.specs.Program.{Program, step_count}
 use Rattle.tta_program.specs.Rules.{IsProgram}
-use Rattle.tta_lower.specs.Liveness.{Span, Homes, IsFlow, IsHomes}
+use Rattle.tta_lower.specs.Liveness.{Known, IsFlow, IsHomes}
 use Rattle.tta_lower.specs.Lower.{Part, parts, block_of, lowered, Answers}
 use Rattle.tta_rcode.specs.Counts.{names, Need, asks, assigns_block, weight}
 use Rattle.tta_lower.specs.Counts.{traffic, asks_part, assigns_part}
@@ -14,27 +14,25 @@ use Rattle.tta_lower.specs.Keeps.{KeepsMeaning}
 use Rattle.tta_lower.specs.Members.{In}
 
 -- what is known of a program's blocks, homes and liveness, for so many home registers
-pub record IsKnown (p : Program) (homes : ℕ) (blocks : List Span) (home : Homes) (live_first : (owner x : ℕ) → Bool) (live_after : (owner at x : ℕ) → Bool) : Type 0 where
-  pub flow : IsFlow p blocks
-  pub apart : IsHomes p home
-  pub answers : Answers p blocks home live_first live_after homes
+pub record IsKnown (p : Program) (homes : ℕ) (known : Known) : Type 0 where
+  pub flow : IsFlow p known.blocks
+  pub apart : IsHomes p known.home
+  pub answers : Answers p known homes
 
 -- The code has the program's meaning and is closed; each block names slots, asks for operations and assigns at most as
 -- often as the part that it stands for; and there are few blocks of little weight.
-pub record IsRegisterCode (u : Units) (p : Program) (blocks : List Span) (home : Homes) (live_first : (owner x : ℕ) → Bool)
-    (live_after : (owner at x : ℕ) → Bool) (homes frame_words : ℕ) : Type 0 where
-  pub keeps : KeepsMeaning u p (lowered p blocks live_first home live_after homes)
-  pub closed : frame_need p ≤ frame_words → IsClosed u (lowered p blocks live_first home live_after homes) homes frame_words
-  pub slots : (x : Part) → In x (parts p blocks live_first) → names (block_of p blocks live_first home live_after homes x) ≤ traffic p home live_first x
-  pub asked : (wanted : Need → Bool) (x : Part) → In x (parts p blocks live_first)
-      → asks u wanted (block_of p blocks live_first home live_after homes x) ≤ asks_part u wanted p home x
-  pub assigned : (x : Part) → In x (parts p blocks live_first) → assigns_block (block_of p blocks live_first home live_after homes x) ≤ assigns_part p home live_first x
-  pub few : length (parts p blocks live_first) ≤ 2 * step_count p + 3 * length p.procs
-  pub light : weight (lowered p blocks live_first home live_after homes) ≤ 32 * step_count p + 8 * (arg_count p + var_count p) + 16 * length p.procs
+pub record IsRegisterCode (u : Units) (p : Program) (known : Known) (homes frame_words : ℕ) : Type 0 where
+  pub keeps : KeepsMeaning u p (lowered p known homes)
+  pub closed : frame_need p ≤ frame_words → IsClosed u (lowered p known homes) homes frame_words
+  pub slots : (x : Part) → In x (parts p known.blocks known.first) → names (block_of p known homes x) ≤ traffic p known.home known.first x
+  pub asked : (wanted : Need → Bool) (x : Part) → In x (parts p known.blocks known.first)
+      → asks u wanted (block_of p known homes x) ≤ asks_part u wanted p known.home x
+  pub assigned : (x : Part) → In x (parts p known.blocks known.first) → assigns_block (block_of p known homes x) ≤ assigns_part p known.home known.first x
+  pub few : length (parts p known.blocks known.first) ≤ 2 * step_count p + 3 * length p.procs
+  pub light : weight (lowered p known homes) ≤ 32 * step_count p + 8 * (arg_count p + var_count p) + 16 * length p.procs
 
 -- the law: it follows from what is known of blocks, homes and liveness
 abbrev pub LowersWell : Type 0
 LowersWell =
-    (u : Units) (p : Program) (blocks : List Span) (home : Homes) (live_first : (owner x : ℕ) → Bool) (live_after : (owner at x : ℕ) → Bool)
-    (homes frame_words : ℕ) → IsProgram p → IsFlow p blocks → IsHomes p home → Answers p blocks home live_first live_after homes
-    → IsRegisterCode u p blocks home live_first live_after homes frame_words
+    (u : Units) (p : Program) (known : Known) (homes frame_words : ℕ) → IsProgram p → IsFlow p known.blocks → IsHomes p known.home
+    → Answers p known homes → IsRegisterCode u p known homes frame_words

@@ -8,7 +8,7 @@ use Rattle.tta_program.specs.declared.step.Step.TheVariants.{Copy, Apply, Load, 
 use Rattle.tta_program.specs.declared.program.Proc.{Proc}
 use Rattle.tta_program.specs.Program.{Program}
 use Rattle.tta_program.specs.Sequential.{step_at}
-pub use Rattle.tta_lower.specs.declared.part.Span.{Span}
+pub use Rattle.tta_flow.specs.declared.flow.Block.{Block}
 
 -- ---- steps
 
@@ -97,12 +97,12 @@ pub data Reached (p : Program) (owner : ℕ) : ℕ → Type 0 where
 -- ---- blocks
 
 -- a block is one of some blocks
-abbrev pub Has : List Span → Span → Type 0
+abbrev pub Has : List Block → Block → Type 0
 Has blocks b = (k : ℕ) × (slice_get blocks k ≡ Some b)
 
 -- the block of a procedure that begins with a step
-pub record Begins (blocks : List Span) (owner first : ℕ) : Type 0 where
-  pub block : Span
+pub record Begins (blocks : List Block) (owner first : ℕ) : Type 0 where
+  pub block : Block
   pub has : Has blocks block
   pub owned : block.owner ≡ owner
   pub from : block.first ≡ first
@@ -120,14 +120,14 @@ pub record StepThere (p : Program) (owner at : ℕ) : Type 0 where
 
 -- What the simulation needs of blocks: only the last step of a block does more than go on; a block begins at each
 -- procedure's first step and at each step to which a block's last one leads; and all their steps are reached.
-pub record IsFlow (p : Program) (blocks : List Span) : Type 0 where
-  pub rises : (b : Span) → Has blocks b → b.first ≤ b.last
-  pub plain : (b : Span) → Has blocks b → (i : ℕ) → b.first ≤ i → i < b.last → PlainAt p b.owner i
-  pub last : (b : Span) → Has blocks b → StepThere p b.owner b.last
+pub record IsFlow (p : Program) (blocks : List Block) : Type 0 where
+  pub rises : (b : Block) → Has blocks b → b.first ≤ b.last
+  pub plain : (b : Block) → Has blocks b → (i : ℕ) → b.first ≤ i → i < b.last → PlainAt p b.owner i
+  pub last : (b : Block) → Has blocks b → StepThere p b.owner b.last
   pub entry : (owner : ℕ) (q : Proc) → slice_get p.procs owner ≡ Some q → Begins blocks owner 0
-  pub onward : (b : Span) → Has blocks b → (st : Step) (to : ℕ) → step_at p b.owner b.last ≡ Some st → leads st b.last to ≡ true
+  pub onward : (b : Block) → Has blocks b → (st : Step) (to : ℕ) → step_at p b.owner b.last ≡ Some st → leads st b.last to ≡ true
       → Begins blocks b.owner to
-  pub reached : (b : Span) → Has blocks b → (i : ℕ) → b.first ≤ i → i ≤ b.last → Reached p b.owner i
+  pub reached : (b : Block) → Has blocks b → (i : ℕ) → b.first ≤ i → i ≤ b.last → Reached p b.owner i
 
 -- ---- homes
 
@@ -150,3 +150,16 @@ pub record IsHomes (p : Program) (home : Homes) : Type 0 where
   pub entry : (owner x y k : ℕ) → LiveBefore p owner x 0 → LiveBefore p owner y 0 → home owner x ≡ Some k → home owner y ≡ Some k → x ≡ y
   pub saved : (owner at callee x : ℕ) (d : Option ℕ) (args : List Src) → Reached p owner at → step_at p owner at ≡ Some (Invoke d callee args)
       → LiveAfter p owner x at → d ≢ Some x → home owner x ≡ None
+
+-- ---- all of it
+
+-- what lowering is told of a program
+pub record Known : Type 0 where
+  -- its blocks in the order of its text
+  pub blocks : List Block
+  -- the home of each of its variables
+  pub home : Homes
+  -- whether a variable is live at a procedure's entry
+  pub first : (owner x : ℕ) → Bool
+  -- whether a variable is live after a step
+  pub after : (owner at x : ℕ) → Bool

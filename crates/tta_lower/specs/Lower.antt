@@ -12,7 +12,7 @@ use Rattle.tta_rcode.specs.declared.code.RStep.TheVariants as rstep
 use Rattle.tta_rcode.specs.declared.code.Exit.TheVariants as exit
 use Rattle.tta_rcode.specs.declared.code.RBlock.{RBlock}
 use Rattle.tta_rcode.specs.declared.code.Rir.{Rir}
-use Rattle.tta_lower.specs.Liveness.{Span, Has, Homes, LiveBefore, LiveAfter}
+use Rattle.tta_lower.specs.Liveness.{Block, Has, Known, LiveBefore, LiveAfter}
 pub use Rattle.tta_lower.specs.declared.part.Part.{Part}
 pub use Rattle.tta_lower.specs.declared.part.Part.TheVariants.{Entry, Steps, Returned}
 use Rattle.tta_lower.specs.Layout.{vars_of, value_slot, place, code_from, exit_for, keeps_ra, sets_from}
@@ -35,21 +35,21 @@ abbrev pub code_order : Program → List ℕ
 code_order p = p.main ∷ filter (λ o. not (o == p.main)) (numbers 0 (length p.procs))
 
 -- the blocks of a procedure
-abbrev pub spans_of : List Span → ℕ → List Span
+abbrev pub spans_of : List Block → ℕ → List Block
 spans_of blocks owner = filter (λ b. b.owner == owner) blocks
 
 -- ---- parts
 
 -- the part after a step, where that is a call with a destination
-abbrev pub return_after : Span → Option Step → List Part
+abbrev pub return_after : Block → Option Step → List Part
 return_after b (Some (Invoke (Some d) callee args)) = Returned b d callee ∷ []
 return_after b step = []
 
 -- the parts of a block
-abbrev pub span_parts : Program → Span → List Part
+abbrev pub span_parts : Program → Block → List Part
 span_parts p b = Steps b ∷ return_after b (step_at p b.owner b.last)
 
-module _ (p : Program) (blocks : List Span) (live_first : (owner x : ℕ) → Bool) where
+module _ (p : Program) (blocks : List Block) (live_first : (owner x : ℕ) → Bool) where
   -- whether a procedure has an entry block: main has one only where a variable is live there
   abbrev pub has_entry : ℕ → Bool
   has_entry owner = not (owner == p.main) || list_any (live_first owner) (numbers 0 (vars_of p owner))
@@ -74,7 +74,7 @@ module _ (p : Program) (blocks : List Span) (live_first : (owner x : ℕ) → Bo
   procs_before owner (o ∷ os) = if o == owner then [] else o ∷ procs_before owner os
 
   -- the blocks that end before a step
-  abbrev pub spans_before : ℕ → List Span → List Span
+  abbrev pub spans_before : ℕ → List Block → List Block
   spans_before at [] = []
   spans_before at (b ∷ bs) = if nat_lt b.last at then b ∷ spans_before at bs else []
 
@@ -86,43 +86,43 @@ module _ (p : Program) (blocks : List Span) (live_first : (owner x : ℕ) → Bo
   abbrev pub number_of : (owner at : ℕ) → ℕ
   number_of owner at = entry_number owner + length (entry_parts owner) + length (flat_map (span_parts p) (spans_before at (spans_of blocks owner)))
 
-  -- ---- blocks of register code
+-- ---- blocks of register code
 
-  module _ (home : Homes) (live_after : (owner at x : ℕ) → Bool) (homes : ℕ) where
-    -- whether a variable that passes a test has a home register
-    abbrev pub is_home_of : (owner : ℕ) → (test : ℕ → Bool) → ℕ → ℕ → Bool
-    is_home_of owner test k x = test x && option_map_or (λ h. h == k) (home owner x) false
+module _ (p : Program) (known : Known) (homes : ℕ) where
+  -- whether a variable that passes a test has a home register
+  abbrev pub is_home_of : (owner : ℕ) → (test : ℕ → Bool) → ℕ → ℕ → Bool
+  is_home_of owner test k x = test x && option_map_or (λ h. h == k) (known.home owner x) false
 
-    -- the home registers of the variables that pass a test, rising
-    abbrev pub homes_of : (owner : ℕ) → (test : ℕ → Bool) → List ℕ
-    homes_of owner test = filter (λ k. list_any (is_home_of owner test k) (numbers 0 (vars_of p owner))) (numbers 0 homes)
+  -- the home registers of the variables that pass a test, rising
+  abbrev pub homes_of : (owner : ℕ) → (test : ℕ → Bool) → List ℕ
+  homes_of owner test = filter (λ k. list_any (is_home_of owner test k) (numbers 0 (vars_of p owner))) (numbers 0 homes)
 
-    -- the home registers that stay after some steps; none stays after a call
-    abbrev pub live_past : Span → Step → List ℕ
-    live_past b (Invoke d callee args) = []
-    live_past b step = homes_of b.owner (live_after b.owner b.last)
+  -- the home registers that stay after some steps; none stays after a call
+  abbrev pub live_past : Block → Step → List ℕ
+  live_past b (Invoke d callee args) = []
+  live_past b step = homes_of b.owner (known.after b.owner b.last)
 
-    -- the block of a part
-    abbrev pub block_of : Part → RBlock
-    block_of (Entry owner) = record {
-      steps = keeps_ra p home owner ++ sets_from p home (live_first owner) owner 0 (vars_of p owner);
-      exit = exit.Next;
-      live_out = homes_of owner (live_first owner);
-    }
-    block_of (Steps b) = record {
-      steps = code_from p home b.owner b.first (b.last + 1 - b.first);
-      exit = option_map_or (exit_for p home number_of entry_number b.owner) (step_at p b.owner b.last) exit.Halt;
-      live_out = option_map_or (live_past b) (step_at p b.owner b.last) [];
-    }
-    block_of (Returned b d callee) = record {
-      steps = rstep.Copy (place p home b.owner d) (rsrc.At (Frame (value_slot p callee))) ∷ [];
-      exit = exit.Next;
-      live_out = homes_of b.owner (live_after b.owner b.last);
-    }
+  -- the block of a part
+  abbrev pub block_of : Part → RBlock
+  block_of (Entry owner) = record {
+    steps = keeps_ra p known.home owner ++ sets_from p known.home (known.first owner) owner 0 (vars_of p owner);
+    exit = exit.Next;
+    live_out = homes_of owner (known.first owner);
+  }
+  block_of (Steps b) = record {
+    steps = code_from p known.home b.owner b.first (b.last + 1 - b.first);
+    exit = option_map_or (exit_for p known.home (number_of p known.blocks known.first) (entry_number p known.blocks known.first) b.owner) (step_at p b.owner b.last) exit.Halt;
+    live_out = option_map_or (live_past b) (step_at p b.owner b.last) [];
+  }
+  block_of (Returned b d callee) = record {
+    steps = rstep.Copy (place p known.home b.owner d) (rsrc.At (Frame (value_slot p callee))) ∷ [];
+    exit = exit.Next;
+    live_out = homes_of b.owner (known.after b.owner b.last);
+  }
 
-    -- the register code of the program
-    abbrev pub lowered : Rir
-    lowered = record { blocks = map block_of parts }
+  -- the register code of the program
+  abbrev pub lowered : Rir
+  lowered = record { blocks = map block_of (parts p known.blocks known.first) }
 
 -- how many steps of the program a part stands for
 abbrev pub steps_in : Part → ℕ
@@ -132,12 +132,12 @@ steps_in part = 0
 -- ---- what the order of the blocks is
 
 -- a block of some ends before each of the others begins
-abbrev pub EndsBefore : Span → List Span → Type 0
+abbrev pub EndsBefore : Block → List Block → Type 0
 EndsBefore b [] = ⊤
 EndsBefore b (c ∷ cs) = (b.last < c.first) × EndsBefore b cs
 
 -- the blocks of a procedure stand in the order of their steps
-abbrev pub InOrder : List Span → Type 0
+abbrev pub InOrder : List Block → Type 0
 InOrder [] = ⊤
 InOrder (b ∷ bs) = EndsBefore b bs × InOrder bs
 
@@ -145,10 +145,10 @@ InOrder (b ∷ bs) = EndsBefore b bs × InOrder bs
 
 -- The blocks of each procedure stand in order, the answers on liveness are right at each entry and at the end of each
 -- block, and the home registers are so many.
-pub record Answers (p : Program) (blocks : List Span) (home : Homes) (live_first : (owner x : ℕ) → Bool) (live_after : (owner at x : ℕ) → Bool) (homes : ℕ) : Type 0 where
-  pub order : (owner : ℕ) → InOrder (spans_of blocks owner)
-  pub first_only : (owner x : ℕ) → live_first owner x ≡ true → LiveBefore p owner x 0
-  pub first_all : (owner x : ℕ) → LiveBefore p owner x 0 → live_first owner x ≡ true
-  pub after_only : (b : Span) → Has blocks b → (x : ℕ) → live_after b.owner b.last x ≡ true → LiveAfter p b.owner x b.last
-  pub after_all : (b : Span) → Has blocks b → (x : ℕ) → LiveAfter p b.owner x b.last → live_after b.owner b.last x ≡ true
-  pub few : (owner x k : ℕ) → home owner x ≡ Some k → k < homes
+pub record Answers (p : Program) (known : Known) (homes : ℕ) : Type 0 where
+  pub order : (owner : ℕ) → InOrder (spans_of known.blocks owner)
+  pub first_only : (owner x : ℕ) → known.first owner x ≡ true → LiveBefore p owner x 0
+  pub first_all : (owner x : ℕ) → LiveBefore p owner x 0 → known.first owner x ≡ true
+  pub after_only : (b : Block) → Has known.blocks b → (x : ℕ) → known.after b.owner b.last x ≡ true → LiveAfter p b.owner x b.last
+  pub after_all : (b : Block) → Has known.blocks b → (x : ℕ) → LiveAfter p b.owner x b.last → known.after b.owner b.last x ≡ true
+  pub few : (owner x k : ℕ) → known.home owner x ≡ Some k → k < homes

@@ -7,12 +7,8 @@ use Rattle.tta_lower.specs.declared.numbers.Numbers.{Numbers}
 use Rattle.tta_lower.specs.Liveness.{Homes}
 use Rattle.tta_lower.specs.Lower.{Part}
 use Rattle.tta_lower.specs.Known.{home_by, first_by, after_by}
-use Rattle.tta_lower.specs.Tables.{AreFirsts, number_in}
+use Rattle.tta_lower.specs.Tables.{number_in}
 use Rattle.tta_lower.specs.Laid.{test_of, block_by}
-
--- the slots are those of the program's frames
-abbrev pub IsLaid : Plan → Type 0
-IsLaid s = AreFirsts s.p.now s.firsts.now
 
 -- where the variables are kept
 abbrev pub homes_in : Plan → Homes

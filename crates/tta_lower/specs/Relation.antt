@@ -1,5 +1,5 @@
 -- How a state of a program's run and a state of its register code's run stand to each other where a block begins.
-use Rattle.std.specs.Prelude.{◌≡◌, ◌≢◌, ℕ, ◌+◌, ◌<◌, ◌≤◌, Bool, true, List, [], ◌∷◌, Option, Some, ⊤, length, slice_get, slice_index}
+use Rattle.std.specs.Prelude.{◌≡◌, ◌≢◌, ℕ, ◌+◌, ◌<◌, ◌≤◌, true, List, [], ◌∷◌, Option, Some, ⊤, length, slice_get, slice_index}
 use Rattle.tta_program.specs.declared.operand.Src.{Src}
 use Rattle.tta_program.specs.declared.step.Step.TheVariants.{Invoke}
 use Rattle.tta_program.specs.declared.program.Proc.{Proc}
@@ -8,7 +8,7 @@ use Rattle.tta_program.specs.Sequential as program
 use Rattle.tta_program.specs.Sequential.{Frame, Outcome, step_at}
 use Rattle.tta_rcode.specs.declared.code.Rir.{Rir}
 use Rattle.tta_rcode.specs.Meaning.{State, Kept, Return, found, plain, word}
-use Rattle.tta_lower.specs.Liveness.{LiveBefore, LiveAfter, Span, Has, Homes}
+use Rattle.tta_lower.specs.Liveness.{Known, LiveBefore, LiveAfter, Block, Has, Homes}
 use Rattle.tta_lower.specs.Layout.{vars_of, params_of, back_slot, value_slot, var_slot, InFrame, place}
 use Rattle.tta_lower.specs.Shape.{Counts, EntryFor}
 
@@ -62,10 +62,10 @@ Saved p f frame at d = (x : ℕ) → LiveAfter p f.proc x at → d ≢ Some x �
 
 -- ---- calls that are under way
 
-module _ (p : Program) (blocks : List Span) (number : ℕ → ℕ → ℕ) where
+module _ (p : Program) (blocks : List Block) (number : ℕ → ℕ → ℕ) where
   -- a call of the procedure `callee` is under way here: it ends a block, and the slots hold what is needed after it
   pub record IsCaller (frame : List (ℕ × Kept)) (callee : ℕ) (f : Frame) : Type 0 where
-    pub block : Span
+    pub block : Block
     pub has : Has blocks block
     pub owned : block.owner ≡ f.proc
     pub last : block.last ≡ f.at
@@ -96,22 +96,22 @@ module _ (p : Program) (blocks : List Span) (number : ℕ → ℕ → ℕ) where
 
 -- ---- where a block begins
 
-module _ (p : Program) (blocks : List Span) (home : Homes) (live : ℕ → ℕ → Bool) (r : Rir) (number : ℕ → ℕ → ℕ) (entry : ℕ → ℕ) (before : Counts) where
+module _ (p : Program) (known : Known) (r : Rir) (number : ℕ → ℕ → ℕ) (entry : ℕ → ℕ) (before : Counts) where
   -- at the block that stands for the steps of the program that come next
   pub record AtBlock (f : Frame) (rest : List Frame) (at : ℕ) (regs : List (ℕ × ℕ)) (frame : List (ℕ × Kept)) : Type 0 where
-    pub block : Span
-    pub has : Has blocks block
+    pub block : Block
+    pub has : Has known.blocks block
     pub owned : block.owner ≡ f.proc
     pub first : block.first ≡ f.at
     pub here : at ≡ number f.proc f.at
     pub size : length f.vars ≡ vars_of p f.proc
-    pub held : HeldBefore p home f regs frame f.at
-    pub back : KeepsBack p blocks number frame f.proc rest
-    pub callers : Callers p blocks number frame f.proc rest
+    pub held : HeldBefore p known.home f regs frame f.at
+    pub back : KeepsBack p known.blocks number frame f.proc rest
+    pub callers : Callers p known.blocks number frame f.proc rest
 
   -- at the entry block of the procedure that was called: the parameters are in their slots, all other variables are 0
   pub record AtEntry (f : Frame) (rest : List Frame) (at : ℕ) (frame : List (ℕ × Kept)) (ra : Option ℕ) : Type 0 where
-    pub entry_block : EntryFor p blocks home live r number entry before f.proc
+    pub entry_block : EntryFor p known r number entry before f.proc
     pub proc : Proc
     pub is : slice_get p.procs f.proc ≡ Some proc
     pub first : f.at ≡ 0
@@ -119,13 +119,13 @@ module _ (p : Program) (blocks : List Span) (home : Homes) (live : ℕ → ℕ �
     pub size : length f.vars ≡ vars_of p f.proc
     pub params : (x : ℕ) → x < params_of p f.proc → plain (found (var_slot p f.proc x) frame) ≡ Some (slice_index f.vars x)
     pub zeros : (x : ℕ) → params_of p f.proc ≤ x → slice_index f.vars x ≡ 0
-    pub address : HasBack p blocks number ra rest
-    pub callers : Callers p blocks number frame f.proc rest
+    pub address : HasBack p known.blocks number ra rest
+    pub callers : Callers p known.blocks number frame f.proc rest
 
   -- at the return block after a call: the program has assigned the returned value, which the code finds in its slot
   pub record AtReturn (f : Frame) (rest : List Frame) (at : ℕ) (frame : List (ℕ × Kept)) : Type 0 where
-    pub block : Span
-    pub has : Has blocks block
+    pub block : Block
+    pub has : Has known.blocks block
     pub owned : block.owner ≡ f.proc
     pub last : block.last + 1 ≡ f.at
     pub d : ℕ
@@ -136,8 +136,8 @@ module _ (p : Program) (blocks : List Span) (home : Homes) (live : ℕ → ℕ �
     pub size : length f.vars ≡ vars_of p f.proc
     pub saved : Saved p f frame block.last (Some d)
     pub value : plain (found (value_slot p callee) frame) ≡ Some (slice_index f.vars d)
-    pub back : KeepsBack p blocks number frame f.proc rest
-    pub callers : Callers p blocks number frame f.proc rest
+    pub back : KeepsBack p known.blocks number frame f.proc rest
+    pub callers : Callers p known.blocks number frame f.proc rest
 
   -- one of the three
   pub data Stands (f : Frame) (rest : List Frame) (at : ℕ) (regs : List (ℕ × ℕ)) (frame : List (ℕ × Kept)) (ra : Option ℕ) : Type 0 where

@@ -26,7 +26,7 @@ use Rattle.tta_lower.specs.Lower.{Part, Entry, Steps, Returned, owner_of, parts,
 use Rattle.tta_lower.specs.Counts.{traffic, asks_part, assigns_part}
 use Rattle.tta_lower.specs.Keeps.{KeepsMeaning}
 use Rattle.tta_lower.specs.Members.{In, Rises}
-use Rattle.tta_lower.specs.Known.{spans, first_by, home_by, after_by}
+use Rattle.tta_lower.specs.Known.{first_by, home_by, known_by}
 
 -- ---- the home registers that keep their words after a block
 
@@ -60,8 +60,8 @@ pub record StandsFor (p : Program) (home : HomesType) (first : (owner x : ℕ) �
 -- program only outputs constants and halts it is one block.
 pub record IsCodeOf (p : Program) (blocks : List Block) (l : Live) (h : Homes) (frame_words : ℕ) (r : Rir) : Type 0 where
   pub room : frame_need p ≤ frame_words
-  pub is : r ≡ lowered p (spans blocks) (first_by p l) (home_by p h) (after_by p l) (count_of h)
-  pub stands : AllPairs (StandsFor p (home_by p h) (first_by p l)) (parts p (spans blocks) (first_by p l)) r.blocks
+  pub is : r ≡ lowered p (known_by p blocks l h) (count_of h)
+  pub stands : AllPairs (StandsFor p (home_by p h) (first_by p l)) (parts p blocks (first_by p l)) r.blocks
   pub closed : (u : Units) → IsClosed u r (count_of h) frame_words
   pub keeps : (u : Units) → KeepsMeaning u p r
   pub few : length r.blocks ≤ 2 * step_count p + 3 * length p.procs

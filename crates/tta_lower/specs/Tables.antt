@@ -10,7 +10,7 @@ use Rattle.tta_program.specs.Rules.{is_src}
 use Rattle.tta_program.specs.Program.{Program}
 use Rattle.tta_lower.specs.declared.numbers.Numbers.{Numbers}
 use Rattle.tta_lower.specs.Layout.{vars_of, base, own}
-use Rattle.tta_lower.specs.Liveness.{Span}
+use Rattle.tta_lower.specs.Liveness.{Block}
 use Rattle.tta_lower.specs.Lower.{Part, Entry, Steps, Returned, spans_of}
 
 -- ---- frames
@@ -55,12 +55,12 @@ row_of rows o = option_map_or (λ row. row.items) (slice_get rows o) []
 -- ---- the blocks of each procedure
 
 -- a block was put to those of its procedure
-pub record Added (b : Span) (old new : List (Vec Span)) : Type 0 where
+pub record Added (b : Block) (old new : List (Vec Block)) : Type 0 where
   pub size : length new ≡ length old
   pub rows : (o : ℕ) → o < length old → row_of new o ≡ row_of old o ++ (if b.owner == o then b ∷ [] else [])
 
 -- each row has the blocks of its procedure
-pub record IsSplit (procs : ℕ) (blocks : List Span) (table : List (Vec Span)) : Type 0 where
+pub record IsSplit (procs : ℕ) (blocks : List Block) (table : List (Vec Block)) : Type 0 where
   pub size : length table ≡ procs
   pub rows : (o : ℕ) → o < procs → row_of table o ≡ spans_of blocks o
 
@@ -72,7 +72,7 @@ number_in rows owner at = slice_index (row_of rows owner) at
 
 -- the block of steps with an owner and a first step, and the entry of a procedure, stand once among some parts
 pub record StandOnce (parts : List Part) : Type 0 where
-  pub steps : (j k : ℕ) (b c : Span) → slice_get parts j ≡ Some (Steps b) → slice_get parts k ≡ Some (Steps c) → b.owner ≡ c.owner → b.first ≡ c.first → j ≡ k
+  pub steps : (j k : ℕ) (b c : Block) → slice_get parts j ≡ Some (Steps b) → slice_get parts k ≡ Some (Steps c) → b.owner ≡ c.owner → b.first ≡ c.first → j ≡ k
   pub entries : (j k o : ℕ) → slice_get parts j ≡ Some (Entry o) → slice_get parts k ≡ Some (Entry o) → j ≡ k
 
 -- there is a number for each step
@@ -92,6 +92,6 @@ IsWritten (Returned b d callee) number old new = new ≡ old
 pub record HasNumbers (p : Program) (parts : List Part) (n : Numbers) (count : ℕ) : Type 0 where
   pub room : HasRoom p n.rows.items
   pub size : length n.entries.items ≡ length p.procs
-  pub steps : (k : ℕ) (b : Span) (q : Proc) → k < count → slice_get parts k ≡ Some (Steps b) → slice_get p.procs b.owner ≡ Some q → b.first < length q.steps
+  pub steps : (k : ℕ) (b : Block) (q : Proc) → k < count → slice_get parts k ≡ Some (Steps b) → slice_get p.procs b.owner ≡ Some q → b.first < length q.steps
       → number_in n.rows.items b.owner b.first ≡ k
   pub entries : (k o : ℕ) → k < count → slice_get parts k ≡ Some (Entry o) → o < length p.procs → slice_index n.entries.items o ≡ k

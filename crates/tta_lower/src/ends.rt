@@ -3,17 +3,16 @@
 ghost use Rattle.std.specs.Prelude.{◌≡◌, ◌<◌, ◌≤◌, ◌+◌, ℕ, true, length, slice_index};
 ghost use Rattle.tta_program.specs.declared.step.Step.{Step};
 ghost use Rattle.tta_lower.specs.Tables.{fits, number_in};
-ghost use Rattle.tta_lower.specs.Plan.{IsLaid, homes_in};
+ghost use Rattle.tta_lower.specs.Plan.{homes_in};
 ghost use Rattle.tta_lower.specs.Layout.{exit_for};
 
 use crate::numbers::{Numbers, number};
-use crate::plan::{Plan, source_of};
+use crate::plan::{Plan, back_slot, source_of};
 use tta_program::Step;
 use tta_rcode::Exit;
 
 /// How a block with a last step ends.
 pub fn exit_of(plan: &Plan<'_>, numbers: &Numbers, owner: u32, step: &Step) -> Exit
-    requires laid { IsLaid plan.now }
     requires there { owner < length plan.now.p.now.procs }
     requires fits { fits plan.now.p.now owner step.now ≡ true }
     requires entries { length numbers.now.entries.items ≡ length plan.now.p.now.procs }
@@ -41,7 +40,6 @@ pub fn exit_of(plan: &Plan<'_>, numbers: &Numbers, owner: u32, step: &Step) -> E
 
 /// How a block ends whose last step returns.
 fn back_of(plan: &Plan<'_>, numbers: &Numbers, owner: u32) -> Exit
-    requires laid { IsLaid plan.now }
     requires there { owner < length plan.now.p.now.procs }
     ensures { result ≡ exit_for plan.now.p.now (homes_in plan.now)
         (number_in numbers.now.rows.items) (slice_index numbers.now.entries.items) owner Step.End }
@@ -51,7 +49,7 @@ fn back_of(plan: &Plan<'_>, numbers: &Numbers, owner: u32) -> Exit
         Exit::Halt
     } else {
         Exit::Back {
-            slot: plan.firsts[owner as usize] - 2,
+            slot: back_slot(plan, owner),
         }
     }
 }

@@ -2,7 +2,7 @@
 
 ghost use Rattle.std.specs.Prelude.{◌≡◌, ◌<◌, ◌≤◌, ◌+◌, ◌++◌, ℕ, Bool, length, OnOk, [], if◌then◌else◌};
 ghost use Rattle.tta_lower.specs.Known.{first_by};
-ghost use Rattle.tta_lower.specs.Plan.{IsLaid, homes_in};
+ghost use Rattle.tta_lower.specs.Plan.{homes_in};
 ghost use Rattle.tta_lower.specs.Layout.{vars_of, params_of, sets, sets_from};
 
 use crate::part::Part;
@@ -18,7 +18,6 @@ pub fn set_variable(
     params: u32,
     x: u32,
 ) -> Result<(), AllocError>
-    requires laid { IsLaid plan.now }
     requires there { owner < length plan.now.p.now.procs }
     requires within { x < vars_of plan.now.p.now owner }
     requires params { params ≡ params_of plan.now.p.now owner }
@@ -48,7 +47,6 @@ fn set_if(
     x: u32,
     is_live: bool,
 ) -> Result<(), AllocError>
-    requires laid { IsLaid plan.now }
     requires there { owner < length plan.now.p.now.procs }
     requires within { x < vars_of plan.now.p.now owner }
     requires params { params ≡ params_of plan.now.p.now owner }
@@ -63,7 +61,6 @@ fn set_if(
 
 /// What sets the variables that are live at an entry.
 pub fn set_live(into: &mut Vec<RStep>, plan: &Plan<'_>, owner: u32) -> Result<(), AllocError>
-    requires laid { IsLaid plan.now }
     requires there { owner < length plan.now.p.now.procs }
     ensures { OnOk result (into.new.items ≡ into.old.items
         ++ sets_from plan.now.p.now (homes_in plan.now)

@@ -20,9 +20,8 @@ mod tests;
 
 pub use error::LowerError;
 pub use law::{answers_know, lowers_well};
-pub use part::{Part, Span};
+pub use part::Part;
 pub use parts::all_parts;
-pub use plan::Plan;
 pub use register_code::lower;
 /// The types of the register code that `lower` makes.
 pub use tta_rcode::{Exit, Place, RBlock, RSrc, RStep, Rir};

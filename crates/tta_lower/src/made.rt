@@ -6,7 +6,7 @@ ghost use Rattle.tta_program.specs.declared.step.Step.{Step};
 ghost use Rattle.tta_program.specs.Sequential.{step_at};
 ghost use Rattle.tta_alloc.specs.Homes.{count_of};
 ghost use Rattle.tta_lower.specs.Tables.{fits};
-ghost use Rattle.tta_lower.specs.Plan.{IsLaid, homes_in, live_in, block_in};
+ghost use Rattle.tta_lower.specs.Plan.{homes_in, live_in, block_in};
 ghost use Rattle.tta_lower.specs.Layout.{vars_of, keeps_ra};
 ghost use Rattle.tta_lower.specs.Lower.{Entry, Steps, Returned};
 ghost use Rattle.tta_lower.specs.Laid.{stays_after, IsPart, AreParts};
@@ -15,17 +15,17 @@ use crate::ends::exit_of;
 use crate::entry::set_live;
 use crate::kept::kept_homes;
 use crate::numbers::Numbers;
-use crate::part::{Part, Span};
-use crate::plan::{Plan, place_of};
+use crate::part::Part;
+use crate::plan::{Plan, back_slot, place_of, value_slot};
 use crate::row::{lower_steps, step_there};
 use std::alloc::{AllocError, Global};
+use tta_flow::Block;
 use tta_list::Items;
 use tta_program::Step;
 use tta_rcode::{Exit, Place, RBlock, RSrc, RStep};
 
 /// The return address is kept, but in main.
 fn keep_ra(into: &mut Vec<RStep>, plan: &Plan<'_>, owner: u32) -> Result<(), AllocError>
-    requires laid { IsLaid plan.now }
     requires there { owner < length plan.now.p.now.procs }
     ensures { OnOk result (into.new.items
         ≡ into.old.items ++ keeps_ra plan.now.p.now (homes_in plan.now) owner) }
@@ -33,7 +33,7 @@ fn keep_ra(into: &mut Vec<RStep>, plan: &Plan<'_>, owner: u32) -> Result<(), All
     let p = plan.p;
     if owner != p.main {
         into.push(RStep::SaveRa {
-            slot: plan.firsts[owner as usize] - 2,
+            slot: back_slot(plan, owner),
         })?;
     }
     Ok(())
@@ -46,7 +46,6 @@ fn entry_block(
     numbers: &Numbers,
     owner: u32,
 ) -> Result<RBlock, AllocError>
-    requires laid { IsLaid plan.now }
     requires there { owner < length plan.now.p.now.procs }
     ensures { IfOk result (λ r. r ≡ block_in plan.now numbers.now (Entry owner)) }
 {
@@ -66,11 +65,10 @@ fn return_block(
     alloc: Global,
     plan: &Plan<'_>,
     numbers: &Numbers,
-    b: Span,
+    b: Block,
     d: u32,
     callee: u32,
 ) -> Result<RBlock, AllocError>
-    requires laid { IsLaid plan.now }
     requires there { b.owner < length plan.now.p.now.procs }
     requires called { callee < length plan.now.p.now.procs }
     requires other { callee ≢ plan.now.p.now.main }
@@ -78,7 +76,7 @@ fn return_block(
     ensures { IfOk result (λ r. r ≡ block_in plan.now numbers.now (Returned b d callee)) }
 {
     let place = place_of(plan, b.owner, d);
-    let s = RSrc::At(Place::Frame(plan.firsts[callee as usize] - 1));
+    let s = RSrc::At(Place::Frame(value_slot(plan, callee)));
     let mut steps = Vec::new(alloc);
     steps.push(RStep::Copy { d: place, s })?;
     let live_out = kept_homes(alloc, plan, Part::Returned(b, d, callee))?;
@@ -90,7 +88,7 @@ fn return_block(
 }
 
 /// The home registers that keep their words after a last step; none does after a call.
-fn kept_after(alloc: Global, plan: &Plan<'_>, b: Span, step: &Step) -> Result<Vec<u32>, AllocError>
+fn kept_after(alloc: Global, plan: &Plan<'_>, b: Block, step: &Step) -> Result<Vec<u32>, AllocError>
     requires there { b.owner < length plan.now.p.now.procs }
     ensures { IfOk result (λ kept. kept.items
         ≡ stays_after (homes_in plan.now) (vars_of plan.now.p.now b.owner)
@@ -107,9 +105,8 @@ fn steps_block(
     alloc: Global,
     plan: &Plan<'_>,
     numbers: &Numbers,
-    b: Span,
+    b: Block,
 ) -> Result<RBlock, AllocError>
-    requires laid { IsLaid plan.now }
     requires there { b.owner < length plan.now.p.now.procs }
     requires entries { length numbers.now.entries.items ≡ length plan.now.p.now.procs }
     requires ordered { b.first ≤ b.last }
@@ -138,7 +135,6 @@ fn block_for(
     numbers: &Numbers,
     part: Part,
 ) -> Result<RBlock, AllocError>
-    requires laid { IsLaid plan.now }
     requires entries { length numbers.now.entries.items ≡ length plan.now.p.now.procs }
     requires part { IsPart plan.now.p.now part }
     requires fits { (owner at : ℕ) (st : Step) → step_at plan.now.p.now owner at ≡ Some st
@@ -159,7 +155,6 @@ pub fn blocks_for(
     numbers: &Numbers,
     parts: &[Part],
 ) -> Result<Vec<RBlock>, AllocError>
-    requires laid { IsLaid plan.now }
     requires entries { length numbers.now.entries.items ≡ length plan.now.p.now.procs }
     requires parts { AreParts plan.now.p.now parts.now }
     requires fits { (owner at : ℕ) (st : Step) → step_at plan.now.p.now owner at ≡ Some st

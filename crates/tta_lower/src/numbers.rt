@@ -3,8 +3,9 @@
 ghost use Rattle.std.specs.Prelude.{◌≡◌, ◌<◌, ◌≤◌, ◌==◌, ◌^◌, ℕ, Some, length, slice_get, slice_index, slice_set, IfOk, if◌then◌else◌};
 ghost use Rattle.tta_lower.specs.Tables.{StandOnce, HasNumbers, HasRoom, IsWritten, row_of, number_in};
 
-use crate::part::{Part, Span};
+use crate::part::Part;
 use std::alloc::{AllocError, Global};
+use tta_flow::Block;
 use tta_program::Program;
 
 /// The numbers of blocks: by procedure and first step those that hold steps, and by procedure those
@@ -46,7 +47,7 @@ fn write(row: &mut Vec<u32>, at: u32, number: u32)
 }
 
 /// Writes the number of a block at its first step.
-fn write_row(rows: &mut Vec<Vec<u32>>, b: Span, number: u32)
+fn write_row(rows: &mut Vec<Vec<u32>>, b: Block, number: u32)
     ensures size { length rows.new.items ≡ length rows.old.items }
     ensures rows { (o : ℕ) → row_of rows.new.items o ≡ (if b.owner == o
         then slice_set (row_of rows.old.items o) b.first number else row_of rows.old.items o) }

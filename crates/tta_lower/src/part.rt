@@ -3,21 +3,15 @@
 ghost use Rattle.std.specs.Prelude.{◌≡◌};
 ghost use Rattle.tta_lower.specs.Lower.{owner_of};
 
-/// A block of a program: the steps from the first to the last of a procedure.
-#[derive(Clone, Copy)]
-pub struct Span {
-    pub owner: u32,
-    pub first: u32,
-    pub last: u32,
-}
+use tta_flow::Block;
 
 /// What a block of register code stands for: the entry of a procedure, some steps, or the return
 /// from a call that ends some steps, with its destination and its callee.
 #[derive(Clone, Copy)]
 pub enum Part {
     Entry(u32),
-    Steps(Span),
-    Returned(Span, u32, u32),
+    Steps(Block),
+    Returned(Block, u32, u32),
 }
 
 /// The procedure of a part.

@@ -1,12 +1,12 @@
 //! Where the variables of a program are kept, and which are live.
 
-ghost use Rattle.std.specs.Prelude.{◌≡◌, ◌<◌, ◌+◌, ℕ, true, length};
+ghost use Rattle.std.specs.Prelude.{◌≡◌, ◌≢◌, ◌<◌, ◌+◌, ℕ, true, length};
 ghost use Rattle.tta_program.specs.Rules.{is_src};
 ghost use Rattle.tta_lower.specs.Known.{home_by, first_by, after_by};
 ghost use Rattle.tta_lower.specs.Tables.{AreFirsts};
 ghost use Rattle.tta_lower.specs.Laid.{test_of};
 ghost use Rattle.tta_lower.specs.Lower.{owner_of};
-ghost use Rattle.tta_lower.specs.Layout.{vars_of, params_of, place, source, var_slot};
+ghost use Rattle.tta_lower.specs.Layout.{vars_of, params_of, place, source, var_slot, back_slot, value_slot};
 
 use crate::part::Part;
 use tta_alloc::{Home, Homes};
@@ -15,13 +15,14 @@ use tta_program::{Program, Src};
 use tta_rcode::{Place, RSrc};
 
 /// A program with what is known of it: its homes, which of its variables are live where, and for
-/// each procedure the slot of its first variable.
+/// each procedure the slot of its first variable, as its frames are laid.
 #[derive(Drop)]
 pub struct Plan<'a> {
     pub p: &'a Program,
     pub live: &'a Live,
     pub homes: &'a Homes,
     pub firsts: &'a [u32],
+    ghost laid: { AreFirsts p.now firsts.now },
 }
 
 /// The home register of a variable, if it has one.
@@ -37,7 +38,6 @@ pub fn home(plan: &Plan<'_>, owner: u32, x: u32) -> Option<u32>
 
 /// Where a variable is kept.
 pub fn place_of(plan: &Plan<'_>, owner: u32, x: u32) -> Place
-    requires laid { AreFirsts plan.now.p.now plan.now.firsts.now }
     requires there { owner < length plan.now.p.now.procs }
     requires within { x < vars_of plan.now.p.now owner }
     ensures { result ≡ place plan.now.p.now (home_by plan.now.p.now plan.now.homes.now) owner x }
@@ -50,7 +50,6 @@ pub fn place_of(plan: &Plan<'_>, owner: u32, x: u32) -> Place
 
 /// The slot of a variable.
 pub fn slot_of(plan: &Plan<'_>, owner: u32, x: u32) -> u32
-    requires laid { AreFirsts plan.now.p.now plan.now.firsts.now }
     requires there { owner < length plan.now.p.now.procs }
     requires within { x < vars_of plan.now.p.now owner }
     ensures { result ≡ var_slot plan.now.p.now owner x }
@@ -58,9 +57,26 @@ pub fn slot_of(plan: &Plan<'_>, owner: u32, x: u32) -> u32
     plan.firsts[owner as usize] + x
 }
 
+/// The slot for the return address of a procedure other than main.
+pub fn back_slot(plan: &Plan<'_>, owner: u32) -> u32
+    requires there { owner < length plan.now.p.now.procs }
+    requires other { owner ≢ plan.now.p.now.main }
+    ensures { result ≡ back_slot plan.now.p.now owner }
+{
+    plan.firsts[owner as usize] - 2
+}
+
+/// The slot for the value that a procedure other than main returns.
+pub fn value_slot(plan: &Plan<'_>, owner: u32) -> u32
+    requires there { owner < length plan.now.p.now.procs }
+    requires other { owner ≢ plan.now.p.now.main }
+    ensures { result ≡ value_slot plan.now.p.now owner }
+{
+    plan.firsts[owner as usize] - 1
+}
+
 /// What an operand becomes.
 pub fn source_of(plan: &Plan<'_>, owner: u32, s: Src) -> RSrc
-    requires laid { AreFirsts plan.now.p.now plan.now.firsts.now }
     requires there { owner < length plan.now.p.now.procs }
     requires within { is_src (vars_of plan.now.p.now owner) s ≡ true }
     ensures { result ≡ source plan.now.p.now (home_by plan.now.p.now plan.now.homes.now) owner s }
@@ -71,6 +87,14 @@ pub fn source_of(plan: &Plan<'_>, owner: u32, s: Src) -> RSrc
     }
 }
 
+/// Whether a variable is live at the entry of a procedure.
+pub fn is_live_first(p: &Program, live: &Live, owner: u32, x: u32) -> bool
+    requires within { x < vars_of p.now owner }
+    ensures { result ≡ first_by p.now live.now owner x }
+{
+    live.before(owner, 0, x)
+}
+
 /// Whether a variable is live where a part ends; at an entry, where it begins.
 pub fn is_live(plan: &Plan<'_>, part: Part, x: u32) -> bool
     requires within { x < vars_of plan.now.p.now (owner_of part) }
@@ -78,7 +102,7 @@ pub fn is_live(plan: &Plan<'_>, part: Part, x: u32) -> bool
         (after_by plan.now.p.now plan.now.live.now) part x }
 {
     match part {
-        Part::Entry(owner) => plan.live.before(owner, 0, x),
+        Part::Entry(owner) => is_live_first(plan.p, plan.live, owner, x),
         Part::Steps(b) | Part::Returned(b, _, _) => plan.live.after(b.owner, b.last, x),
     }
 }

@@ -6,10 +6,8 @@ ghost use Rattle.tta_flow.specs.Blocks.{IsFlow};
 ghost use Rattle.tta_flow.specs.Live.{IsLive};
 ghost use Rattle.tta_alloc.specs.Homes.{count_of};
 ghost use Rattle.tta_alloc.specs.Allotted.{AreAllotted};
-ghost use Rattle.tta_lower.specs.Known.{spans, first_by, after_by};
-ghost use Rattle.tta_lower.specs.Law.{IsKnown};
+ghost use Rattle.tta_lower.specs.Known.{known_by};
 ghost use Rattle.tta_lower.specs.Lower.{lowered};
-ghost use Rattle.tta_lower.specs.Plan.{IsLaid, homes_in};
 ghost use Rattle.tta_lower.specs.Statement.{IsCodeOf};
 ghost use Rattle.tta_lower.specs.Statement.{IsCause};
 
@@ -55,16 +53,15 @@ pub fn lower(
 
 /// The register code of a program whose frames are laid.
 fn code_of(alloc: Global, plan: &Plan<'_>, blocks: &[Block]) -> Result<Rir, AllocError>
-    requires laid { IsLaid plan.now }
     requires sound { IsProgram plan.now.p.now }
-    requires known { IsKnown plan.now.p.now (count_of plan.now.homes.now) (spans blocks.now)
-        (homes_in plan.now) (first_by plan.now.p.now plan.now.live.now)
-        (after_by plan.now.p.now plan.now.live.now) }
-    ensures { IfOk result (λ r. r ≡ lowered plan.now.p.now (spans blocks.now)
-        (first_by plan.now.p.now plan.now.live.now) (homes_in plan.now)
-        (after_by plan.now.p.now plan.now.live.now) (count_of plan.now.homes.now)) }
+    requires flow { IsFlow plan.now.p.now blocks.now }
+    requires live { IsLive plan.now.p.now plan.now.live.now }
+    requires homes { AreAllotted plan.now.p.now (count_of plan.now.homes.now) plan.now.homes.now }
+    ensures { IfOk result (λ r. r ≡ lowered plan.now.p.now
+        (known_by plan.now.p.now blocks.now plan.now.live.now plan.now.homes.now)
+        (count_of plan.now.homes.now)) }
 {
-    let parts = all_parts(alloc, plan, blocks)?;
+    let parts = all_parts(alloc, plan.p, plan.live, blocks)?;
     let numbers = numbers_of(alloc, plan.p, parts.as_slice())?;
     let blocks = blocks_for(alloc, plan, &numbers, parts.as_slice())?;
     Ok(Rir {

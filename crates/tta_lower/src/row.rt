@@ -8,18 +8,17 @@ ghost use Rattle.tta_program.specs.Rules.{is_src, is_step};
 ghost use Rattle.tta_program.specs.Sequential.{step_at};
 ghost use Rattle.tta_lower.specs.Liveness.{is_plain};
 ghost use Rattle.tta_lower.specs.Tables.{uses_below, fits};
-ghost use Rattle.tta_lower.specs.Plan.{IsLaid, homes_in};
+ghost use Rattle.tta_lower.specs.Plan.{homes_in};
 ghost use Rattle.tta_lower.specs.Layout.{vars_of, place, source, passes, gives, steps_for, code_from};
 
-use crate::part::Span;
-use crate::plan::{Plan, place_of, slot_of, source_of};
+use crate::plan::{Plan, place_of, slot_of, source_of, value_slot};
 use std::alloc::AllocError;
+use tta_flow::Block;
 use tta_program::{Program, Src, Step};
 use tta_rcode::{Place, RSrc, RStep};
 
 /// What a step becomes that only goes on.
 pub fn plain_step(plan: &Plan<'_>, owner: u32, step: &Step) -> Option<RStep>
-    requires laid { IsLaid plan.now }
     requires there { owner < length plan.now.p.now.procs }
     requires vars { uses_below (vars_of plan.now.p.now owner) step.now ≡ true }
     ensures { MatchOption result (is_plain step.now ≡ false)
@@ -69,7 +68,6 @@ pub fn pass_args(
     callee: u32,
     args: &[Src],
 ) -> Result<(), AllocError>
-    requires laid { IsLaid plan.now }
     requires there { owner < length plan.now.p.now.procs }
     requires called { callee < length plan.now.p.now.procs }
     requires vars { list_all (is_src (vars_of plan.now.p.now owner)) args.now ≡ true }
@@ -88,14 +86,13 @@ pub fn pass_args(
 
 /// The returned value goes to its slot; main returns none.
 pub fn give(into: &mut Vec<RStep>, plan: &Plan<'_>, owner: u32, s: RSrc) -> Result<(), AllocError>
-    requires laid { IsLaid plan.now }
     requires there { owner < length plan.now.p.now.procs }
     ensures { OnOk result (into.new.items ≡ into.old.items
         ++ gives plan.now.p.now (homes_in plan.now) owner s) }
 {
     let p = plan.p;
     if owner != p.main {
-        let d = Place::Frame(plan.firsts[owner as usize] - 1);
+        let d = Place::Frame(value_slot(plan, owner));
         into.push(RStep::Copy { d, s })?;
     }
     Ok(())
@@ -108,7 +105,6 @@ pub fn lower_step(
     owner: u32,
     step: &Step,
 ) -> Result<(), AllocError>
-    requires laid { IsLaid plan.now }
     requires there { owner < length plan.now.p.now.procs }
     requires fits { fits plan.now.p.now owner step.now ≡ true }
     ensures { OnOk result (into.new.items ≡ into.old.items
@@ -133,7 +129,6 @@ fn push_plain(
     owner: u32,
     step: &Step,
 ) -> Result<(), AllocError>
-    requires laid { IsLaid plan.now }
     requires there { owner < length plan.now.p.now.procs }
     requires vars { uses_below (vars_of plan.now.p.now owner) step.now ≡ true }
     requires plain { is_plain step.now ≡ true }
@@ -148,8 +143,7 @@ fn push_plain(
 
 /// What the steps of a block become.
 #[tactic(auto, using(crate::proofs::Rows::row_more))]
-pub fn lower_steps(into: &mut Vec<RStep>, plan: &Plan<'_>, b: Span) -> Result<(), AllocError>
-    requires laid { IsLaid plan.now }
+pub fn lower_steps(into: &mut Vec<RStep>, plan: &Plan<'_>, b: Block) -> Result<(), AllocError>
     requires there { b.owner < length plan.now.p.now.procs }
     requires ordered { b.first ≤ b.last }
     requires within { (q : Proc) → slice_get plan.now.p.now.procs b.owner ≡ Some q

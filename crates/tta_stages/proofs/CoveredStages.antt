@@ -7,7 +7,7 @@ use Rattle.tta_connect.specs.declared.choice.Choice.{Choice}
 use Rattle.tta_program.specs.Program.{Program}
 use Rattle.tta_moves.specs.declared.items.BlockList.{BlockList}
 use Rattle.tta_lower.specs.Lower.{lowered}
-use Rattle.tta_lower.specs.Known.{spans, home_by, first_by, after_by}
+use Rattle.tta_lower.specs.Known.{known_by}
 use Rattle.tta_select.specs.Select.{selected}
 use Rattle.tta_moves.specs.declared.items.Placed.{Placed}
 use Rattle.tta_link.specs.Linked.{IsLinked}
@@ -71,7 +71,7 @@ module _ (u : Units) (m : Machine) (c : Choice) (p : Program) (r : Lowered) (is 
   selected_are lists same =
       same
       ∙ ap (selected m c u)
-      (is.code.is ∙ ap (lowered p (spans r.flow.blocks) (first_by p r.live) (home_by p r.homes) (after_by p r.live)) is.allotted.count)
+      (is.code.is ∙ ap (lowered p (known_by p r.flow.blocks r.live r.homes)) is.allotted.count)
 
   -- they are the program's
   pub are_selected : (lists : List BlockList) → lists ≡ selected_of u m c p r → AreSelected u m c p lists

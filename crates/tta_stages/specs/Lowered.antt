@@ -4,7 +4,7 @@ use Rattle.tta_program.specs.Program.{Program}
 use Rattle.tta_flow.specs.Blocks.{IsFlow}
 use Rattle.tta_flow.specs.Live.{IsLive}
 use Rattle.tta_alloc.specs.Allotted.{AreAllotted}
-use Rattle.tta_lower.specs.Known.{spans, first_by}
+use Rattle.tta_lower.specs.Known.{first_by}
 use Rattle.tta_lower.specs.Lower.{parts}
 use Rattle.tta_lower.specs.Statement.{IsCodeOf}
 use Rattle.tta_stages.specs.declared.lowered.Lowered.{Lowered}
@@ -18,5 +18,5 @@ pub record IsLoweredAs (p : Program) (homes frame_words : ℕ) (r : Lowered) : T
   pub lives : IsLive p r.live
   pub intervals : AreIntervals p r.intervals
   pub allotted : AreAllotted p homes r.homes
-  pub parts : r.parts.items ≡ parts p (spans r.flow.blocks) (first_by p r.live)
+  pub parts : r.parts.items ≡ parts p r.flow.blocks (first_by p r.live)
   pub code : IsCodeOf p r.flow.blocks r.live r.homes frame_words r.code

@@ -7,7 +7,7 @@ use Rattle.tta_arch.specs.Machine.{Machine}
 use Rattle.tta_program.specs.Program.{Program}
 use Rattle.tta_rcode.specs.declared.code.RBlock.{RBlock}
 use Rattle.tta_moves.specs.declared.items.Placed.{Placed}
-use Rattle.tta_lower.specs.declared.part.Span.{Span}
+use Rattle.tta_flow.specs.declared.flow.Block.{Block}
 use Rattle.tta_lower.specs.declared.part.Part.{Part}
 use Rattle.tta_lower.specs.declared.part.Part.TheVariants.{Entry, Steps, Returned}
 use Rattle.tta_printed.specs.Printed.{proc_name}
@@ -18,12 +18,12 @@ use Rattle.tta_stages.specs.StepText.{steps_text, exit_text}
 -- ---- headings
 
 -- the procedure of some steps, and their lines, the first and the last
-unfoldable pub lines_text : Program → Span → List ℕ
+unfoldable pub lines_text : Program → Block → List ℕ
 lines_text p b =
     proc_name p.main b.owner ++ (count_text (codes " lines ") (line_at p b.owner b.first) ++ count_text (codes " ") (line_at p b.owner b.last))
 
 -- the procedure of the step to which a call returns, and its line
-unfoldable pub return_text : Program → Span → List ℕ
+unfoldable pub return_text : Program → Block → List ℕ
 return_text p b = proc_name p.main b.owner ++ count_text (codes " line ") (line_at p b.owner b.last)
 
 -- what a block stands for: the entry of a procedure, some steps, or the return from a call

@@ -6,7 +6,7 @@ use Rattle.tta_connect.specs.declared.choice.Choice.{Choice}
 use Rattle.tta_connect.specs.Coverage.{IsChoice}
 use Rattle.tta_program.specs.Program.{Program}
 use Rattle.tta_moves.specs.declared.items.BlockList.{BlockList}
-use Rattle.tta_lower.specs.Known.{spans, home_by, first_by, after_by}
+use Rattle.tta_lower.specs.Known.{known_by}
 use Rattle.tta_link.specs.Linked.{IsLinked}
 use Rattle.tta_compose.specs.Compiler.{raw}
 use Rattle.tta_compose.specs.Direct.{is_direct, list_of_direct}
@@ -25,7 +25,7 @@ use Rattle.tta_stages.specs.Planned.{ArePlanned}
 
 -- the lists that are selected for the register code of a program
 abbrev pub selected_of : Units → Machine → Choice → Program → Lowered → List BlockList
-selected_of u m c p r = raw u m c p (spans r.flow.blocks) (home_by p r.homes) (first_by p r.live) (after_by p r.live)
+selected_of u m c p r = raw u m c p (known_by p r.flow.blocks r.live r.homes)
 
 -- the lists are those of the register code, from the selected ones to those that are placed
 abbrev pub AreCoveredLists : Units → Machine → Choice → Program → Lowered → Planned → Type 0

@@ -3,10 +3,7 @@
 ghost use Rattle.std.specs.Prelude.{◌≡◌, IfOk, IfErr};
 ghost use Rattle.tta_program.specs.Rules.{IsProgram};
 ghost use Rattle.tta_flow.specs.Blocks.{IsFlow};
-ghost use Rattle.tta_flow.specs.Live.{IsLive};
-ghost use Rattle.tta_alloc.specs.Homes.{count_of};
-ghost use Rattle.tta_alloc.specs.Allotted.{AreAllotted};
-ghost use Rattle.tta_lower.specs.Known.{spans, first_by};
+ghost use Rattle.tta_lower.specs.Known.{first_by};
 ghost use Rattle.tta_lower.specs.Lower.{parts};
 ghost use Rattle.tta_lower.specs.Statement.{IsCause};
 ghost use Rattle.tta_stages.specs.Lowered.{IsLoweredAs};
@@ -16,7 +13,7 @@ use std::alloc::{AllocError, Global};
 use tta_alloc::Homes;
 use tta_build::{Sharing, homes_by};
 use tta_flow::{Flow, Live};
-use tta_lower::{LowerError, Part, Plan, all_parts, lower};
+use tta_lower::{LowerError, Part, all_parts, lower};
 use tta_program::Program;
 use tta_rcode::Rir;
 
@@ -38,27 +35,13 @@ pub struct Lowered {
 }
 
 /// The parts of a program in the order of their code. It fails only where there is no memory.
-fn parts_of(
-    alloc: Global,
-    p: &Program,
-    flow: &Flow,
-    live: &Live,
-    homes: &Homes,
-) -> Result<Vec<Part>, AllocError>
+fn parts_of(alloc: Global, p: &Program, flow: &Flow, live: &Live) -> Result<Vec<Part>, AllocError>
     requires program { IsProgram p.now }
     requires flow { IsFlow p.now flow.now.blocks }
-    requires live { IsLive p.now live.now }
-    requires homes { AreAllotted p.now (count_of homes.now) homes.now }
     ensures { IfOk result (λ all. all.items
-        ≡ parts p.now (spans flow.now.blocks) (first_by p.now live.now)) }
+        ≡ parts p.now flow.now.blocks (first_by p.now live.now)) }
 {
-    let plan = Plan {
-        p,
-        live,
-        homes,
-        firsts: &[],
-    };
-    let all = all_parts(alloc, &plan, flow.blocks.as_slice())?;
+    let all = all_parts(alloc, p, live, flow.blocks.as_slice())?;
     Ok(all)
 }
 
@@ -80,7 +63,7 @@ pub fn lower_program(
     let intervals = Intervals::of(alloc, p, &flow, &live)?;
     let kept = homes_by(alloc, p, &flow, &live, homes, sharing)?;
     let code = lower(alloc, p, &flow, &live, &kept, frame_words)?;
-    let parts = parts_of(alloc, p, &flow, &live, &kept)?;
+    let parts = parts_of(alloc, p, &flow, &live)?;
     Ok(Lowered {
         flow,
         live,

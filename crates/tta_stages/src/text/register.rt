@@ -11,7 +11,8 @@ use crate::text::program::line_at;
 use crate::text::steps::{On, push_exit, push_rsteps};
 use crate::text::words::{push_block, push_count, push_home, push_proc};
 use std::alloc::AllocError;
-use tta_lower::{Part, Span};
+use tta_flow::Block;
+use tta_lower::Part;
 use tta_moves::Placed;
 use tta_ops::UnitSet;
 use tta_program::Program;
@@ -28,7 +29,7 @@ pub struct Ranges<'a> {
 
 /// Puts the procedure of some steps, and their lines, the first and the last.
 #[tactic(auto, unfolding(crate::specs::RegisterText::lines_text))]
-fn push_lines(out: &mut Vec<u8>, p: &Program, b: Span) -> Result<(), AllocError>
+fn push_lines(out: &mut Vec<u8>, p: &Program, b: Block) -> Result<(), AllocError>
     ensures { OnOk result (out.new.items ≡ out.old.items ++ lines_text p.now b) }
 {
     push_proc(out, p.main, b.owner)?;
@@ -38,7 +39,7 @@ fn push_lines(out: &mut Vec<u8>, p: &Program, b: Span) -> Result<(), AllocError>
 
 /// Puts the procedure of the step to which a call returns, and its line.
 #[tactic(auto, unfolding(crate::specs::RegisterText::return_text))]
-fn push_return(out: &mut Vec<u8>, p: &Program, b: Span) -> Result<(), AllocError>
+fn push_return(out: &mut Vec<u8>, p: &Program, b: Block) -> Result<(), AllocError>
     ensures { OnOk result (out.new.items ≡ out.old.items ++ return_text p.now b) }
 {
     push_proc(out, p.main, b.owner)?;
@@ -54,7 +55,7 @@ fn push_entry(out: &mut Vec<u8>, p: &Program, owner: u32) -> Result<(), AllocErr
 }
 
 /// Puts some steps.
-fn push_steps(out: &mut Vec<u8>, p: &Program, b: Span) -> Result<(), AllocError>
+fn push_steps(out: &mut Vec<u8>, p: &Program, b: Block) -> Result<(), AllocError>
     ensures { OnOk result (out.new.items ≡ out.old.items
         ++ (codes " steps of " ++ lines_text p.now b)) }
 {
@@ -63,7 +64,7 @@ fn push_steps(out: &mut Vec<u8>, p: &Program, b: Span) -> Result<(), AllocError>
 }
 
 /// Puts the return from a call.
-fn push_returned(out: &mut Vec<u8>, p: &Program, b: Span) -> Result<(), AllocError>
+fn push_returned(out: &mut Vec<u8>, p: &Program, b: Block) -> Result<(), AllocError>
     ensures { OnOk result (out.new.items ≡ out.old.items
         ++ (codes " return to " ++ return_text p.now b)) }
 {

@@ -7,5 +7,5 @@ use Rattle.tta_lower.proofs.parts.is_any_live.Given as goal
 
 abbrev pub invariant-loop-x : goal.invariant-loop-x
 invariant-loop-x l =
-    list_any (first_by l.plan.p.now l.plan.live.now l.owner) (numbers 0 (vars_of l.plan.p.now l.owner))
-    ≡ list_any (first_by l.plan.p.now l.plan.live.now l.owner) (numbers l.x (vars_of l.plan.p.now l.owner - l.x))
+    list_any (first_by l.p l.live l.owner) (numbers 0 (vars_of l.p l.owner))
+    ≡ list_any (first_by l.p l.live l.owner) (numbers l.x (vars_of l.p l.owner - l.x))
