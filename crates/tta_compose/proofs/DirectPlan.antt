@@ -42,8 +42,8 @@ use Rattle.tta_compose.specs.Planned.{IsListOf, ArePlanned, HasForms}
 use Rattle.tta_compose.specs.Packed.{homes_on, IsPlan}
 use Rattle.tta_compose.proofs.Directly.{direct_lowers, direct_is_list, direct_means, only_one}
 use Rattle.tta_compose.proofs.Pairs.{is_alone}
-use Rattle.tta_compose.proofs.Planning.{in_get}
 use Rattle.tta_compose.proofs.NoVariables.{any_allotted}
+use Rattle.tta_lower.proofs.Lists.{has-in as in_get}
 
 -- ---- the forms: words go to control and to a trigger alone
 

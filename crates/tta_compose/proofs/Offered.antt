@@ -1,10 +1,9 @@
 -- Register code of a program asks for nothing but what the program asks for.
-use Rattle.std.proofs.Common.{◌≡◌, ℕ, zero, suc, ◌+◌, ◌-◌, Bool, true, false, List, [], ◌∷◌, ◌++◌, Option, Some, None, refl, ◌∙◌, slice_get}
+use Rattle.std.proofs.Common.{◌≡◌, ℕ, zero, suc, ◌+◌, ◌-◌, Bool, true, false, List, [], ◌∷◌, Option, Some, None, refl, slice_get}
 use Rattle.std.specs.Prelude.{if◌then◌else◌, ◌==◌}
 use Rattle.std.specs.Option.{option_map_or}
 use Rattle.std.specs.List.{list_all}
-use Rattle.std.proofs.lemmas.List.Folds.{list_all-append}
-use Rattle.tta_list.proofs.Lists.{list_all_one}
+use Rattle.tta_list.proofs.Lists.{list_all_one, and_both as both}
 use Rattle.tta_ops.specs.Units.{Units}
 use Rattle.tta_arch.specs.Machine.{Machine}
 use Rattle.tta_connect.specs.declared.choice.Choice.{Choice}
@@ -25,9 +24,6 @@ use Rattle.tta_rcode.specs.declared.code.Exit.TheVariants as exit
 use Rattle.tta_lower.specs.Layout.{vars_of, place, steps_for, passes, gives, code_from, exit_for, keeps_ra, sets, sets_from, back}
 use Rattle.tta_select.specs.Needs.{op_of_step, op_of_exit, is_offered}
 use Rattle.tta_compose.specs.Needs.{need_of, are_offered}
-
-both : {A : Type 0} (t : A → Bool) (xs ys : List A) → list_all t xs ≡ true → list_all t ys ≡ true → list_all t (xs ++ ys) ≡ true
-both t xs ys a b = list_all-append t xs ys ∙ (rw (a, b) refl)
 
 module _ (u : Units) (m : Machine) (c : Choice) (p : Program) (known : Known) where
   -- a step of register code that needs only what is offered

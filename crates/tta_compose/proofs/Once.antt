@@ -1,5 +1,5 @@
 -- Blocks, liveness and homes of a program are there once.
-use Rattle.std.proofs.Common.{◌≡◌, ◌<◌, ◌≤◌, inl, inr, ℕ, zero, suc, Bool, true, false, List, [], ◌∷◌, Some, refl, sym, ap, subst, ◌∙◌, arith, slice_get}
+use Rattle.std.proofs.Common.{◌≡◌, ◌<◌, ◌≤◌, inl, inr, ℕ, zero, suc, List, [], ◌∷◌, Some, refl, sym, ap, subst, ◌∙◌, arith, slice_get}
 use Rattle.std.specs.Prelude.{◌↔◌}
 use Rattle.tta_program.specs.declared.program.Proc.{Proc}
 use Rattle.tta_flow.specs.declared.flow.Block.{Block}
@@ -12,6 +12,8 @@ use Rattle.tta_alloc.specs.Intervals.{IsBefore, AreTaken}
 use Rattle.tta_alloc.specs.Scan.{scan}
 use Rattle.tta_alloc.specs.Homes.{home_of}
 use Rattle.tta_compose.specs.Once.{OneFlow, OneLiveness, OneSlots}
+use Rattle.tta_alloc.proofs.TurnLemmas.{never_before}
+use Rattle.tta_list.proofs.Tests.{same_bool}
 
 -- ---- lists in a strict order
 
@@ -80,11 +82,6 @@ one_flow p a b flow other =
 
 -- ---- liveness
 
-same_bool : (a b : Bool) → (a ≡ true → b ≡ true) → (b ≡ true → a ≡ true) → a ≡ b
-same_bool true b to from = sym (to refl)
-same_bool false true to from = from refl
-same_bool false false to from = refl
-
 pub one_liveness : OneLiveness
 one_liveness p k l live other owner step x q there small = (
   same_bool (live_before k owner step x) (live_before l owner step x)
@@ -96,12 +93,6 @@ one_liveness p k l live other owner step x q there small = (
 )
 
 -- ---- homes
-
-never_before : (a b : Interval) → IsBefore a b → IsBefore b a → ⊥
-never_before a b (inl e) (inl f) = omega (arith, e, f)
-never_before a b (inl e) (inr f) = let o = f.0 in omega (arith, e, o)
-never_before a b (inr e) (inl f) = let o = e.0 in omega (arith, f, o)
-never_before a b (inr e) (inr f) = let x = e.1 in let y = f.1 in omega (arith, x, y)
 
 one_taken : (q : Proc) (a b : List Interval) → AreTaken q a → AreTaken q b → a ≡ b
 one_taken q a b are other =

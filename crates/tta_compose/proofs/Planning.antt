@@ -23,7 +23,6 @@ use Rattle.tta_optim.specs.Kept.{is_address}
 use Rattle.tta_optim.specs.Kept as kept
 use Rattle.tta_lower.specs.declared.part.Part.{Part}
 use Rattle.tta_rcode.specs.declared.code.RBlock.{RBlock}
-use Rattle.tta_lower.specs.Members.{In}
 use Rattle.tta_lower.specs.Liveness.{Known}
 use Rattle.tta_lower.specs.Lower.{parts, block_of}
 use Rattle.tta_select.specs.Select.{list_of}
@@ -38,11 +37,7 @@ use Rattle.tta_compose.specs.Compiler.{IsPair, AreStandIns, raw}
 use Rattle.tta_compose.specs.Planned.{IsListOf, ArePlanned, ListsPlanned}
 use Rattle.tta_compose.proofs.Composed.{code, law, given, pairs_length}
 use Rattle.tta_compose.proofs.Apart.{trigger_apart, frame_apart, home_apart}
-
-pub in_get : {A : Type 0} (xs : List A) (k : ℕ) (x : A) → slice_get xs k ≡ Some x → In x xs
-in_get [] k x e = absurd cc
-in_get (y ∷ xs) zero x e = inl cc
-in_get (y ∷ xs) (suc k) x e = inr (in_get xs k x e)
+use Rattle.tta_lower.proofs.Lists.{has-in as in_get}
 
 -- ---- addresses
 

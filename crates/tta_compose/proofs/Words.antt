@@ -1,10 +1,9 @@
 -- The constants of a program's register code are words.
-use Rattle.std.proofs.Common.{◌≡◌, ◌+◌, ◌-◌, ℕ, zero, suc, Bool, true, false, List, [], ◌∷◌, ◌++◌, Option, Some, None, refl, ◌∙◌, length}
+use Rattle.std.proofs.Common.{◌≡◌, ◌+◌, ◌-◌, ℕ, zero, suc, Bool, true, false, List, [], ◌∷◌, Option, Some, None, refl, length}
 use Rattle.std.specs.Prelude.{if◌then◌else◌, ◌==◌, ◌&&◌, nat_lt, is_none}
 use Rattle.std.specs.Option.{option_map_or}
 use Rattle.std.specs.List.{list_all}
 use Rattle.std.proofs.lemmas.Bool.{and_parts}
-use Rattle.std.proofs.lemmas.List.Folds.{list_all-append}
 use Rattle.tta_program.specs.declared.operand.Src.{Src}
 use Rattle.tta_program.specs.declared.operand.Src.TheVariants.{Var, Word}
 use Rattle.tta_program.specs.declared.step.Step.{Step}
@@ -25,9 +24,7 @@ use Rattle.tta_lower.specs.Lower.{block_of, number_of, entry_number}
 use Rattle.tta_lower.specs.Layout.{vars_of, params_of, value_slot, var_slot, place, source, steps_for, passes, gives, code_from, exit_for, keeps_ra, sets, first_value, sets_from, back}
 use Rattle.tta_lower.proofs.Steps.{step_of}
 use Rattle.tta_select.specs.Needs.{word_src, word_step, word_exit}
-
-both : {A : Type 0} (t : A → Bool) (xs ys : List A) → list_all t xs ≡ true → list_all t ys ≡ true → list_all t (xs ++ ys) ≡ true
-both t xs ys a b = list_all-append t xs ys ∙ (rw (a, b) refl)
+use Rattle.tta_list.proofs.Lists.{and_both as both}
 
 module _ (p : Program) (known : Known) where
   word_of : (owner vars : ℕ) (s : Src) → is_src vars s ≡ true → word_src (source p known.home owner s) ≡ true

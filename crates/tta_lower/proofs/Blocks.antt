@@ -16,10 +16,11 @@ use Rattle.tta_lower.specs.Relation.{running, going, HeldBefore, KeepsBack, Call
 use Rattle.tta_lower.proofs.Steps.{step_of}
 use Rattle.tta_lower.proofs.Callers.{outside, callers-stay}
 use Rattle.tta_lower.proofs.Runs.{plain-run, PlainRun, AllMade, OneWaits}
-use Rattle.tta_lower.proofs.Exits.{drop-there, code_from-more, wait}
+use Rattle.tta_lower.proofs.Exits.{code_from-more, wait}
 use Rattle.tta_lower.proofs.Frames.{frame-by-vars, back-own}
 use Rattle.tta_lower.proofs.Walks.{Walked, Over, walked-after, WalkFrom}
 use Rattle.tta_lower.proofs.Legs.{last-step}
+use Rattle.tta_list.proofs.Lists.{drop-there}
 
 module _ (u : Units) (p : Program) (known : Known) (r : Rir) (number : ℕ → ℕ → ℕ) (entry : ℕ → ℕ) (before : Counts)
     (flow : IsFlow p known.blocks) (homes : IsHomes p known.home) (sound : IsProgram p) (lowered : IsLowered p known r number entry before) where

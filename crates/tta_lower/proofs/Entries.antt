@@ -28,7 +28,7 @@ use Rattle.tta_lower.specs.Relation.{running, going, HeldBefore, KeepsBack, HasB
 use Rattle.tta_lower.proofs.Lookups.{word-same, found-same, found-other, found-stay}
 use Rattle.tta_lower.proofs.Steps.{step_of}
 use Rattle.tta_lower.proofs.Callers.{outside, callers-stay, live-below, vars-are}
-use Rattle.tta_lower.proofs.Exits.{drop-there, fall}
+use Rattle.tta_lower.proofs.Exits.{fall}
 use Rattle.tta_lower.proofs.Passing.{copy-place}
 use Rattle.tta_lower.proofs.Frames.{frame-by-vars, other-own, not-main, back-own, enter-length, enter-zero}
 use Rattle.tta_rcode.specs.declared.code.Place.{Place}
@@ -37,6 +37,7 @@ use Rattle.std.proofs.lemmas.Bool.{eqb-true}
 use Rattle.tta_lower.proofs.Walks.{Walked, walked-after, walked-code}
 use Rattle.tta_lower.proofs.Blocks.{walk-from}
 use Rattle.tta_lower.proofs.SettingUp.{set-up}
+use Rattle.tta_list.proofs.Lists.{drop-there}
 
 -- the return address is kept in a slot
 save-ra : (u : Units) (at : ℕ) (regs : List (ℕ × ℕ)) (frame : List (ℕ × Kept)) (ra : Option ℕ) (memory input output : List ℕ) (slot to : ℕ) → ra ≡ Some to

@@ -1,5 +1,5 @@
 -- How a block ends, exit by exit.
-use Rattle.std.proofs.Common.{◌≡◌, ◌+◌, ◌++◌, ◌∷◌, [], ℕ, zero, suc, List, Option, Some, true, false, drop, slice_get, refl, sym, ap, ◌∙◌, arith, add-zero, append_assoc}
+use Rattle.std.proofs.Common.{◌≡◌, ◌+◌, ◌++◌, ◌∷◌, [], ℕ, zero, suc, List, Option, Some, true, false, refl, sym, ap, ◌∙◌, arith, add-zero, append_assoc}
 use Rattle.std.specs.Option.{option_map_or}
 use Rattle.tta_ops.specs.Units.{Units}
 use Rattle.tta_program.specs.declared.operand.Rel.{Rel}
@@ -13,16 +13,6 @@ use Rattle.tta_rcode.specs.Meaning.{State, Kept, Return, found, operand, steps_o
 use Rattle.tta_lower.specs.Liveness.{Homes}
 use Rattle.tta_lower.specs.Layout.{steps_for, code_from}
 use Rattle.tta_lower.specs.Relation.{going}
-
--- what stands at a place begins the rest of the list
-pub drop-there : {A : Type 0} (xs : List A) (k : ℕ) (x : A) → slice_get xs k ≡ Some x → drop k xs ≡ x ∷ drop (k + 1) xs
-drop-there [] k x is = cc
-drop-there (y ∷ ys) zero x is =
-    let same : y ≡ x = cc in
-    rw same refl
-drop-there (y ∷ ys) (suc k) x is =
-    let e : suc k + 1 ≡ suc (k + 1) = omega arith in
-    rw e (drop-there ys k x is)
 
 -- the code of one step more
 pub code_from-more : (p : Program) (home : Homes) (owner at n : ℕ) (st : Step) → step_at p owner (at + n) ≡ Some st

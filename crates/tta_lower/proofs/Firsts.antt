@@ -3,8 +3,7 @@ use Rattle.std.proofs.Common.{◌≡◌, ◌<◌, ◌≤◌, ◌+◌, ◌*◌, �
 use Rattle.std.specs.Prelude.{if◌then◌else◌}
 use Rattle.std.proofs.lemmas.Bool.{eqb-true, cases_eq}
 use Rattle.std.proofs.lemmas.List.{length_push, get_or_append_left, get_or_at}
-use Rattle.std.specs.Option.{option_map_or}
-use Rattle.std.proofs.lemmas.Option.{slice_get-get_or, slice_get_within}
+use Rattle.std.proofs.lemmas.Option.{slice_get-get_or}
 use Rattle.tta_list.proofs.Lists.{all_one, some_within}
 use Rattle.tta_program.specs.declared.program.Proc.{Proc}
 use Rattle.tta_program.specs.Program.{Program}
@@ -15,6 +14,7 @@ use Rattle.tta_lower.specs.Tables.{AreFirsts}
 use Rattle.tta_lower.specs.Laid.{AreLaid}
 use Rattle.tta_lower.proofs.Shutting.{main_among, all-slots, main-there}
 use Rattle.tta_lower.proofs.Callers.{vars-are}
+use Rattle.tta_program.proofs.Mains.{main-below}
 
 -- ---- the need
 
@@ -182,13 +182,6 @@ lay-room p procs firsts next o q s laid lt is =
     let size : length procs ≡ length p.procs = ap length s.same in
     let few = frame-few p o q s.sound (proc-at p procs o q s lt is) (omega (arith, lt, size)) in
     omega (arith, few, laid.free)
-
--- main is there
-pub main-below : (p : Program) → IsProgram p → p.main < length p.procs
-main-below p sound = by (slice_get p.procs p.main) refl sound.main where
-  by : (q : Option Proc) → slice_get p.procs p.main ≡ q → option_map_or (λ q. q.params == 0) q false ≡ true → p.main < length p.procs
-  by None is none = cc
-  by (Some q) is none = slice_get_within p.procs p.main q is
 
 -- all frames are laid, and the next slot is the need
 pub lay-end : (p : Program) (procs : List Proc) (firsts : List ℕ) (next o : ℕ) → Seen p procs → AreLaid p firsts next o → o ≡ length procs

@@ -2,6 +2,8 @@
 use Rattle.std.proofs.Common.{◌≡◌, ◌≤◌, ◌+◌, ◌-◌, ◌++◌, ◌∷◌, [], ℕ, zero, suc, Bool, List, Option, Some, None, true, false, refl, sym, ap, ◌∙◌, subst, arith, append_assoc, append-nil}
 use Rattle.std.specs.Prelude.{if◌then◌else◌}
 use Rattle.std.specs.Option.{option_map_or}
+use Rattle.tta_list.proofs.Prefixes.{prefix_chain as prefix-more}
+use Rattle.tta_list.specs.Prefix.{IsPrefixOf}
 use Rattle.tta_list.specs.Iterate.{iterate}
 use Rattle.tta_ops.specs.Units.{Units}
 use Rattle.tta_program.specs.declared.step.Step.{Step}
@@ -9,16 +11,11 @@ use Rattle.tta_program.specs.declared.step.Step.TheVariants.{Copy, Apply, Load, 
 use Rattle.tta_program.specs.Program.{Program}
 use Rattle.tta_program.specs.Sequential.{State, Frame, Outcome, Running, Halted, Waiting, step_at, holds, operand, next, next_of, go_on, carry_out, goes_through, waits, returns, take_value, assigns, goes_to}
 use Rattle.tta_rcode.specs.Meaning.{is_running}
-use Rattle.tta_lower.specs.Keeps.{IsPrefixOf}
 use Rattle.tta_lower.proofs.Runs.{iterate-add}
 
 -- a list begins itself
 pub prefix-same : (xs ys : List ℕ) → ys ≡ xs → IsPrefixOf xs ys
 prefix-same xs ys e = ([], e ∙ sym (append-nil xs))
-
--- a list begins what it is a prefix of
-pub prefix-more : (xs ys zs : List ℕ) → IsPrefixOf xs ys → IsPrefixOf ys zs → IsPrefixOf xs zs
-prefix-more xs ys zs a b = (a.0 ++ b.0, b.1 ∙ ap (λ l. l ++ b.0) a.1 ∙ append_assoc xs a.0 b.0)
 
 module _ (u : Units) (p : Program) where
   value-output : (s : State) (g : Frame) (rest : List Frame) (v : ℕ) (step : Option Step) → (take_value s g rest v step).output ≡ s.output

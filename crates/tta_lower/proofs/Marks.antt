@@ -8,6 +8,7 @@ use Rattle.tta_lower.specs.Lower.{numbers}
 use Rattle.tta_lower.specs.Tables.{marked}
 use Rattle.tta_lower.specs.Laid.{is_kept_by, kept_one, kept_by}
 use Rattle.tta_lower.proofs.Counted.{numbers-more}
+use Rattle.tta_list.proofs.Tests.{or_none}
 
 -- at first nothing is marked
 pub unmarked : (n k : ℕ) (marks : List Bool) → marks ≡ replicate n false → k < n → marked marks k ≡ false
@@ -22,11 +23,6 @@ IsMarkedTo home vars owner test x marks = (k : ℕ) → k < length marks
 or_more : (a b c : Bool) → ((a || b) || c) ≡ (a || (b || c))
 or_more true b c = refl
 or_more false b c = refl
-
--- a test or false
-or_none : (a : Bool) → (a || false) ≡ a
-or_none true = refl
-or_none false = refl
 
 -- false or a test
 or_front : (a b : Bool) → a ≡ false → (a || b) ≡ b

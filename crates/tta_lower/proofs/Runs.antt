@@ -1,5 +1,5 @@
 -- Several steps that only go on.
-use Rattle.std.proofs.Common.{◌≡◌, ◌<◌, ◌≤◌, ◌+◌, ◌++◌, ◌∷◌, [], ℕ, zero, suc, List, Option, Some, true, length, refl, ap, ◌∙◌, arith, add-zero}
+use Rattle.std.proofs.Common.{◌≡◌, ◌<◌, ◌≤◌, ◌+◌, ◌++◌, ◌∷◌, [], ℕ, zero, suc, List, Option, Some, true, length, refl, ap, ◌∙◌, arith}
 use Rattle.std.proofs.lemmas.Bool.{eq-eqb}
 use Rattle.tta_list.specs.Iterate.{iterate}
 use Rattle.tta_ops.specs.Units.{Units}
@@ -21,13 +21,6 @@ use Rattle.tta_lower.proofs.Plain.{PlainStep, GoesOn, Waits, Went, plain-step}
 pub iterate-first : {S : Type 0} (n : ℕ) (f : S → S) (s : S) → iterate (suc n) f s ≡ iterate n f (f s)
 iterate-first zero f s = refl
 iterate-first (suc n) f s = ap f (iterate-first n f s)
-
--- some steps, and then others
-pub iterate-add : {S : Type 0} (n m : ℕ) (f : S → S) (s : S) → iterate (n + m) f s ≡ iterate m f (iterate n f s)
-iterate-add n zero f s = ap (λ k. iterate k f s) (add-zero n)
-iterate-add n (suc m) f s =
-    let e : n + suc m ≡ suc (n + m) = omega arith in
-    ap (λ k. iterate k f s) e ∙ ap f (iterate-add n m f s)
 
 -- a plain step leads to the next one
 pub plain-leads : (st : Step) (at : ℕ) → is_plain st ≡ true → leads st at (at + 1) ≡ true

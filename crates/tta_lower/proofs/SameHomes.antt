@@ -27,6 +27,8 @@ use Rattle.tta_lower.specs.Known.{reg_of, home_by, AnswersKnow}
 use Rattle.tta_lower.proofs.SameSteps.{same_reads, same_assigned}
 use Rattle.tta_lower.proofs.SamePaths.{passes_at, reached_from, live_to, live_from, after_to, after_from}
 use Rattle.tta_lower.proofs.SameBlocks.{are_blocks}
+use Rattle.tta_alloc.proofs.HolderLemmas.{reg_slot}
+use Rattle.tta_list.proofs.Tests.{is_below as small}
 
 -- a variable of a procedure that is there
 pub record Owned (p : Program) (owner x : ℕ) : Type 0 where
@@ -41,18 +43,12 @@ owned p owner x e = on (slice_get p.procs owner) refl e where
   on None is f = let z : x < 0 = grind (arith, nat_tests) in absurd (omega arith)
   on (Some q) is f = record { proc = q; is = is; below = grind (arith, nat_tests) }
 
--- a number below another passes the test
-small : (x n : ℕ) → x < n → nat_lt x n ≡ true
-small x n e = grind (arith, nat_tests)
-
 -- a home that is a register
 reg_is : (h : Home) (k : ℕ) → reg_of h ≡ Some k → h ≡ Reg k
 reg_is (Reg j) k e = let z : j ≡ k = cc in ap (λ (n : ℕ). Reg n) z
 reg_is (Slot x) k e = absurd cc
 
 -- a register is no slot
-reg_slot : {A : Type 0} (j x : ℕ) → Reg j ≡ Slot x → A
-reg_slot j x e = absurd cc
 
 module _ (p : Program) (rules : IsProgram p) (homes : ℕ) (h : Homes) (allotted : AreAllotted p homes h) where
   -- a variable's home, if it is a register

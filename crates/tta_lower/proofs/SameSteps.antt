@@ -10,18 +10,7 @@ use Rattle.tta_program.specs.declared.step.Step.TheVariants.{Copy, Apply, Load, 
 use Rattle.tta_flow.specs.Steps as flow
 use Rattle.tta_lower.specs.Liveness as lower
 use Rattle.tta_lower.specs.FlowFacts.{names_step}
-
--- a test or false
-or_none : (b : Bool) → (b || false) ≡ b
-or_none true = refl
-or_none false = refl
-
--- two tests in another order
-or_swap : (a b : Bool) → (a || b) ≡ (b || a)
-or_swap true true = refl
-or_swap true false = refl
-or_swap false true = refl
-or_swap false false = refl
+use Rattle.tta_list.proofs.Tests.{or_none, or_other as or_swap}
 
 -- four tests in another order
 or_four : (a b c d : Bool) → (a || b || c || d) ≡ (a || (b || (d || c)))

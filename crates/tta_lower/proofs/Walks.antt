@@ -11,7 +11,7 @@ use Rattle.tta_rcode.specs.Meaning.{State, Kept, walk, is_running}
 use Rattle.tta_lower.specs.Liveness.{Known}
 use Rattle.tta_lower.specs.Shape.{Counts}
 use Rattle.tta_lower.specs.Relation.{running, going, AtBlock, Stands}
-use Rattle.tta_lower.proofs.Runs.{iterate-add}
+use Rattle.tta_list.proofs.Iterated.{iterate-add}
 
 module _ (u : Units) (p : Program) (known : Known) (r : Rir) (number : ℕ → ℕ → ℕ) (entry : ℕ → ℕ) (before : Counts) where
   -- a run of the program comes, in one step or more, to a state that stands beside one of the register code

@@ -1,11 +1,11 @@
 -- How many blocks there are, and what they weigh.
-use Rattle.std.proofs.Common.{◌≡◌, ◌<◌, ◌≤◌, ◌+◌, ◌-◌, ◌*◌, ◌==◌, ◌&&◌, ◌++◌, ◌∷◌, [], ℕ, zero, suc, Bool, List, Option, Some, None, true, false, length, map, slice_get, nat_lt, is_none, is_some, refl, sym, ap, ◌∙◌, subst, arith, inl, inr, add-zero, append_assoc, length-append}
+use Rattle.std.proofs.Common.{◌≡◌, ◌<◌, ◌≤◌, ◌+◌, ◌-◌, ◌*◌, ◌==◌, ◌&&◌, ◌++◌, ◌∷◌, [], ℕ, zero, suc, Bool, List, Option, Some, None, true, false, length, slice_get, nat_lt, is_none, is_some, refl, sym, ap, ◌∙◌, subst, arith, inl, inr, add-zero, append_assoc, length-append}
 use Rattle.std.specs.Prelude.{if◌then◌else◌}
 use Rattle.std.specs.Option.{option_map_or}
 use Rattle.std.specs.List.{flat_map, sum_by}
 use Rattle.std.proofs.lemmas.Bool.{eqb-true, false≢true}
 use Rattle.std.proofs.lemmas.List.Sums.{sum_by-cons, sum_by-append}
-use Rattle.tta_list.proofs.Lists.{slice_get-back, some_within}
+use Rattle.tta_list.proofs.Lists.{slice_get-back, some_within, sum_by-map as sum-mapped, length_ones as length-sum}
 use Rattle.tta_program.specs.declared.operand.Src.{Src}
 use Rattle.tta_program.specs.declared.step.Step.{Step}
 use Rattle.tta_program.specs.declared.step.Step.TheVariants.{Copy, Apply, Load, Take, Store, Put, If, Goto, When, Invoke, Return, Halt, End}
@@ -30,17 +30,7 @@ use Rattle.tta_lower.proofs.Sums.{sum-flat_map, code-order-sum}
 use Rattle.tta_lower.proofs.Placed.{main-below, span-rises, span-below, steps_of_proc}
 use Rattle.tta_lower.proofs.StepSums.{over-more, block-sum, entry-sum}
 
--- a sum over a list that was mapped
-sum-mapped : {A B : Type 0} (f : B → ℕ) (g : A → B) (xs : List A) → sum_by f (map g xs) ≡ sum_by (λ x. f (g x)) xs
-sum-mapped f g [] = refl
-sum-mapped f g (x ∷ xs) = sum_by-cons f (g x) (map g xs) ∙ ap (λ n. f (g x) + n) (sum-mapped f g xs) ∙ sym (sum_by-cons (λ x. f (g x)) x xs)
-
 -- a list's length as a sum
-length-sum : {A : Type 0} (xs : List A) → length xs ≡ sum_by (λ x. 1) xs
-length-sum [] = refl
-length-sum (x ∷ xs) =
-    let rest = length-sum xs in
-    rw (sum_by-cons (λ x. 1) x xs) (omega (arith, rest))
 
 module _ (p : Program) (home : Homes) (g : Step → ℕ) where
   over-add : (owner at n m : ℕ) → over_steps p home g owner at (n + m) ≡ over_steps p home g owner at n + over_steps p home g owner (at + n) m

@@ -1,6 +1,7 @@
 -- Whole runs.
 use Rattle.std.proofs.Common.{◌≡◌, ◌≤◌, ◌+◌, ◌*◌, ◌∷◌, [], ℕ, zero, suc, List, Option, None, true, false, refl, sym, ap, ◌∙◌, subst, arith, inl, inr}
 use Rattle.std.proofs.lemmas.Bool.{cases_lt, false≢true}
+use Rattle.tta_list.specs.Prefix.{IsPrefixOf}
 use Rattle.tta_list.specs.Iterate.{iterate}
 use Rattle.tta_ops.specs.Units.{Units}
 use Rattle.tta_program.specs.Program.{Program, step_count}
@@ -12,11 +13,12 @@ use Rattle.tta_rcode.specs.Meaning.{Kept, is_running, leg, rrun}
 use Rattle.tta_lower.specs.Liveness.{Known, IsFlow, IsHomes}
 use Rattle.tta_lower.specs.Shape.{Counts, IsLowered}
 use Rattle.tta_lower.specs.Relation.{running, going, Stands}
-use Rattle.tta_lower.specs.Keeps.{IsPrefixOf, EndAlike, KeepsMeaning}
-use Rattle.tta_lower.proofs.Runs.{iterate-add}
+use Rattle.tta_lower.specs.Keeps.{EndAlike, KeepsMeaning}
 use Rattle.tta_lower.proofs.Walks.{Walked, GoOn, Over}
 use Rattle.tta_lower.proofs.Entries.{one-leg, starts}
-use Rattle.tta_lower.proofs.Growing.{prefix-same, later-output, later-end}
+use Rattle.tta_lower.proofs.Growing.{later-output, later-end}
+use Rattle.tta_list.proofs.Iterated.{iterate-add}
+use Rattle.tta_lower.proofs.Growing.{prefix-same}
 
 -- a run that has ended stays
 leg-stays : (u : Units) (r : Rir) (at : ℕ) (regs : List (ℕ × ℕ)) (frame : List (ℕ × Kept)) (ra : Option ℕ) (memory input output : List ℕ) (outcome : Outcome)

@@ -1,15 +1,12 @@
 -- When register code has the meaning of a program.
 use Rattle.std.specs.Prelude.{◌≡◌, ℕ, ◌+◌, ◌*◌, true, false, List, ◌++◌}
+use Rattle.tta_list.specs.Prefix.{IsPrefixOf}
 use Rattle.tta_ops.specs.Units.{Units}
 use Rattle.tta_program.specs.Program.{Program, step_count}
 use Rattle.tta_program.specs.Sequential as program
 use Rattle.tta_program.specs.Sequential.{Outcome, Running, Halted, Waiting, seq}
 use Rattle.tta_rcode.specs.declared.code.Rir.{Rir}
 use Rattle.tta_rcode.specs.Meaning.{State, is_running, rrun}
-
--- a list begins another
-abbrev pub IsPrefixOf : (prefix whole : List ℕ) → Type 0
-IsPrefixOf prefix whole = (rest : List ℕ) × (whole ≡ prefix ++ rest)
 
 -- two runs have the same outcome, data, output and rest of the input
 pub record EndAlike (s : program.State) (t : State) : Type 0 where

@@ -1,9 +1,9 @@
 use Rattle.std.proofs.Common.{◌<◌, ◌∙◌, arith}
 use Rattle.tta_lower.specs.Known.{first_by}
 use Rattle.tta_lower.proofs.Facts.{span-is}
-use Rattle.tta_lower.proofs.Firsts.{main-below}
 use Rattle.tta_lower.proofs.Split.{row-read, row-spans, main-first, others-more, others-none}
 use Rattle.tta_lower.proofs.parts.all_parts.Goals as goal
+use Rattle.tta_program.proofs.Mains.{main-below}
 
 pub push_proc-requires-clause-spans : goal.push_proc-requires-clause-spans
 push_proc-requires-clause-spans c =
