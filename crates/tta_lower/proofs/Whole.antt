@@ -16,9 +16,8 @@ use Rattle.tta_lower.specs.Relation.{running, going, Stands}
 use Rattle.tta_lower.specs.Keeps.{EndAlike, KeepsMeaning}
 use Rattle.tta_lower.proofs.Walks.{Walked, GoOn, Over}
 use Rattle.tta_lower.proofs.Entries.{one-leg, starts}
-use Rattle.tta_lower.proofs.Growing.{later-output, later-end}
+use Rattle.tta_lower.proofs.Growing.{prefix-same, later-output, later-end}
 use Rattle.tta_list.proofs.Iterated.{iterate-add}
-use Rattle.tta_lower.proofs.Growing.{prefix-same}
 
 -- a run that has ended stays
 leg-stays : (u : Units) (r : Rir) (at : ℕ) (regs : List (ℕ × ℕ)) (frame : List (ℕ × Kept)) (ra : Option ℕ) (memory input output : List ℕ) (outcome : Outcome)
