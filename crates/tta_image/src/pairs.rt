@@ -40,22 +40,17 @@ fn read_pairs(
     requires { 8 * count ≤ length bytes.now }
     ensures { Answers result (decoded_pairs words count 0 0 bytes.now) }
 {
-    // What was taken so far is dropped by name, so that a way out is left with nothing.
     let mut init = Items::new(alloc);
     let mut rest = bytes;
     let mut least: u64 = 0;
     for place in 0..count {
         let datum = datum_in(rest);
         if is_out(datum.address, least, words) {
-            drop(init);
             return Err(ImageRefusal::Data.of_word(place, 0));
         }
         rest = &rest[8..];
         least = u64::from(datum.address) + 1;
-        let Ok(()) = init.push(datum) else {
-            drop(init);
-            return Err(ImageError::NoMemory);
-        };
+        init.push(datum)?;
     }
     Ok(init)
 }

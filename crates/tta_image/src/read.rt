@@ -36,17 +36,11 @@ fn read_word(
     ensures { Answers result (decoded_word target.now.machine.now target.now.layout.now word
         (drop at (bits_in bytes.now))) }
 {
-    let i = match read_instruction(alloc, target.machine, target.layout, bytes, at, word) {
-        Ok(i) => i,
-        Err(e) => return Err(e),
-    };
-    match legal(target.machine, target.net, &i) {
-        Ok(()) => Ok(i),
-        Err(_) => {
-            drop(i);
-            Err(ImageRefusal::Illegal.of_word(word, 0))
-        }
+    let i = read_instruction(alloc, target.machine, target.layout, bytes, at, word)?;
+    if legal(target.machine, target.net, &i).is_err() {
+        return Err(ImageRefusal::Illegal.of_word(word, 0));
     }
+    Ok(i)
 }
 
 /// Whether a bit is set after so many others, of which fewer than a byte are left.
@@ -72,25 +66,14 @@ fn read_words(
     ensures { Answers result (decoded_words target.now.machine.now target.now.layout.now count 0
         (bits_in bytes.now)) }
 {
-    // What was taken so far is dropped by name, so that a way out is left with nothing.
     let mut words = Items::new(alloc);
     let mut at: usize = 0;
     for word in 0..count {
-        let i = match read_word(alloc, target, bytes, at, word) {
-            Ok(i) => i,
-            Err(e) => {
-                drop(words);
-                return Err(e);
-            }
-        };
-        let Ok(()) = words.push(i) else {
-            drop(words);
-            return Err(ImageError::NoMemory);
-        };
+        let i = read_word(alloc, target, bytes, at, word)?;
+        words.push(i)?;
         at += target.layout.width as usize;
     }
     if has_set_bit(bytes, at) {
-        drop(words);
         return Err(ImageRefusal::Padding.of_all());
     }
     Ok(words)
@@ -122,24 +105,13 @@ fn read_whole(
     let m = target.machine;
     // An address has at most 16 bits by the rules of a machine, so the words are few.
     let _control = &m.control;
-    let count = match read_header(m, target.layout.width(), digest, bytes) {
-        Ok(count) => count,
-        Err(e) => return Err(e),
-    };
-    let init = match read_data(alloc, m, bytes) {
-        Ok(init) => init,
-        Err(e) => return Err(e),
-    };
-    match read_words(alloc, target, body_of(bytes), count) {
-        Ok(words) => Ok(Whole {
-            code: Code { words },
-            init,
-        }),
-        Err(e) => {
-            drop(init);
-            Err(e)
-        }
-    }
+    let count = read_header(m, target.layout.width(), digest, bytes)?;
+    let init = read_data(alloc, m, bytes)?;
+    let words = read_words(alloc, target, body_of(bytes), count)?;
+    Ok(Whole {
+        code: Code { words },
+        init,
+    })
 }
 
 /// The code of an image, or why the bytes are none: the first refusal of the header, else of the
@@ -156,21 +128,12 @@ pub fn read_image(
     ensures refused { IfErr result
         (λ e. e ≢ NoMemory → IsNoImage m.now digest.now bytes.now) }
 {
-    // What was taken so far is dropped by name, so that a way out is left with nothing.
-    let Ok(layout) = Layout::of(alloc, m) else {
-        return Err(ImageError::NoMemory);
-    };
-    let Ok(net) = Net::of(alloc, m) else {
-        drop(layout);
-        return Err(ImageError::NoMemory);
-    };
+    let layout = Layout::of(alloc, m)?;
+    let net = Net::of(alloc, m)?;
     let target = ImageTarget {
         machine: m,
         layout: &layout,
         net: &net,
     };
-    let whole = read_whole(alloc, bytes, &target, digest);
-    drop(layout);
-    drop(net);
-    whole
+    read_whole(alloc, bytes, &target, digest)
 }

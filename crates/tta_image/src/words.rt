@@ -196,21 +196,11 @@ fn read_slots(
     ensures { Answers result (decoded_slots m.now word.number word.taken 0 layout.now.buses
         (drop at (bits_in bytes.now))) }
 {
-    // What was taken so far is dropped by name, so that a way out is left with nothing.
     let mut moves = Items::new(alloc);
     let mut at = at;
     for (bus, fields) in layout.buses.as_slice().iter().enumerate() {
-        let slot = match read_bus(m, fields, bytes, at, word, bus as u8) {
-            Ok(slot) => slot,
-            Err(e) => {
-                drop(moves);
-                return Err(e);
-            }
-        };
-        let Ok(()) = moves.push(slot) else {
-            drop(moves);
-            return Err(ImageError::NoMemory);
-        };
+        let slot = read_bus(m, fields, bytes, at, word, bus as u8)?;
+        moves.push(slot)?;
         at += fields.width as usize;
     }
     Ok(moves)

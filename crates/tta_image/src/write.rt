@@ -235,15 +235,8 @@ fn pack_words(
         starts: &starts,
     };
     let mut sink = BitSink::new(alloc);
-    let written = push_words(&codes, m, &mut sink, words);
-    drop(starts);
-    match written {
-        Ok(()) => sink.into_bytes(),
-        Err(e) => {
-            drop(sink);
-            Err(e)
-        }
-    }
+    push_words(&codes, m, &mut sink, words)?;
+    sink.into_bytes()
 }
 
 /// The image of code with data: a header with the digest of the machine's text, the data if any,
@@ -261,29 +254,16 @@ pub fn write_image(
 {
     // The sources and destinations of a bus are in order by the rules of a machine.
     let _control = &m.control;
-    // What was taken so far is dropped by name, so that a way out is left with nothing.
     let layout = Layout::of(alloc, m)?;
-    let width = layout.width;
-    let body = pack_words(alloc, &layout, m, whole.code.words.as_slice());
-    drop(layout);
-    let Ok(body) = body else {
-        return Err(AllocError);
-    };
+    let body = pack_words(alloc, &layout, m, whole.code.words.as_slice())?;
     let mut bytes = Vec::new(alloc);
-    let written = push_parts(
+    push_parts(
         &mut bytes,
-        width,
+        layout.width,
         count_words(&whole.code, m),
         digest,
         whole.init.as_slice(),
         body.as_slice(),
-    );
-    drop(body);
-    match written {
-        Ok(()) => Ok(bytes),
-        Err(e) => {
-            drop(bytes);
-            Err(e)
-        }
-    }
+    )?;
+    Ok(bytes)
 }

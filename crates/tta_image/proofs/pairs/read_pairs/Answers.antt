@@ -1,7 +1,5 @@
-use Rattle.std.proofs.Common.{◌≡◌, suc, ◌+◌, ◌-◌, ◌*◌, ◌≤◌, length, List, ℕ, drop, refl, sym, ap, ◌∙◌, arith}
+use Rattle.std.proofs.Common.{◌≡◌, suc, ◌+◌, ◌-◌, ◌*◌, length, List, ℕ, drop, refl, sym, ap, ◌∙◌, arith}
 use Rattle.std.proofs.lemmas.List.{drop-drop, length-drop, take_rest}
-use Rattle.tta_image.specs.Reading.{decoded_pairs}
-use Rattle.tta_image.proofs.Walks.{with_front}
 use Rattle.tta_image.proofs.PairsDecoded.{pairs_on, pairs_refused, pairs_end}
 use Rattle.tta_image.proofs.pairs.read_pairs.Goals as goal
 
@@ -21,7 +19,7 @@ loop-place-preserved c =
       rest = past ∙ ap (λ (l : List ℕ). drop 8 l) c.loop-place.invariant.rest ∙ drop-drop 8 (8 * place) bytes ∙ ap (λ (n : ℕ). drop n bytes) next;
       decoded =
           pairs_on c.args.words (c.args.count - place) (c.args.count - (place + 1)) place c.loop-place.least _ c.from-least.result c.loop-place.rest.now _ c.datum_in-datum.result c.loop-place.init _ _ left
-          c.datum_in-datum.ensures (sym c.is_out.ensures ∙ c.if-is_out.false) c.in-Ok.ensures.ok c.from-least.ensures refl past c.loop-place.invariant.decoded;
+          c.datum_in-datum.ensures (sym c.is_out.ensures ∙ c.if-is_out.false) c.in_ok-push.ensures.ok c.from-least.ensures refl past c.loop-place.invariant.decoded;
     }
 
 pub returns : goal.returns

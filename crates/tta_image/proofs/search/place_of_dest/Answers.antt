@@ -1,4 +1,4 @@
-use Rattle.std.proofs.Common.{ℕ, sym}
+use Rattle.std.proofs.Common.{sym}
 use Rattle.std.proofs.lemmas.Bool.{ltb-true}
 use Rattle.tta_arch.specs.Fields.{same_dest}
 use Rattle.tta_image.specs.Ranks.{dest_rank}
