@@ -29,6 +29,12 @@ pub record IsGrouped (m : Machine) (list l : BlockList) : Type 0 where
   pub first : IsReordered m list groups
   pub next : (l ≡ groups) ⊎ IsReordered m groups l
 
+-- a list is what another becomes by the passes alone, in an order by items, or in one by groups
+abbrev pub IsIn : Order → Machine → (list l : BlockList) → Type 0
+IsIn Plain m list l = l ≡ optimised m list
+IsIn Items m list l = IsReordered m list l
+IsIn Groups m list l = IsGrouped m list l
+
 -- a list comes of another as it is, by items after the passes, or by groups
 abbrev pub Comes : Machine → Order → (list l : BlockList) → Type 0
 Comes m Plain list l = l ≡ optimised m list

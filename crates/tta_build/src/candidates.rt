@@ -1,16 +1,13 @@
 //! The lists that may be placed for a block.
 
 ghost use Rattle.std.specs.Prelude.{◌≡◌, true, IfOk, OnOk, IfSome};
-ghost use Rattle.tta_connect.specs.Net.{IsNetOf};
-ghost use Rattle.tta_connect.specs.Coverage.{IsChoice};
 ghost use Rattle.tta_moves.specs.Slots.{is_list};
-ghost use Rattle.tta_build.specs.Ways.{IsReordered, IsGrouped};
+ghost use Rattle.tta_build.specs.Ways.{IsReordered, IsGrouped, IsIn};
 ghost use Rattle.tta_build.specs.Ways.{AddsCandidates, IsMadeOf, AreOfBlock};
 
 use crate::adding::{push_one, push_some, served_by};
 use std::alloc::{AllocError, Global};
-use tta_arch::Machine;
-use tta_connect::{Choice, Net};
+use tta_connect::{Covered, Joined};
 use tta_moves::BlockList;
 use tta_optim::Passes;
 use tta_order::{Orders, Rule};
@@ -81,38 +78,18 @@ impl Candidates {
         &mut self,
         alloc: Global,
         list: &BlockList,
-        m: &Machine,
-        net: &Net,
+        on: &Joined<'_>,
     ) -> Result<Option<BlockList>, AllocError>
-        requires net { IsNetOf net.now m.now }
-        requires list { is_list m.now list.now.items ≡ true }
-        ensures { IfOk result (λ o. IfSome o (λ r. IsReordered m.now list.now r)) }
+        requires list { is_list on.now.machine.now list.now.items ≡ true }
+        ensures { IfOk result (λ o. IfSome o (λ r. IsReordered on.now.machine.now list.now r)) }
     {
-        match self.orders.order(alloc, list, m, net, Rule::Items)? {
-            Some(ordered) => Ok(Some(self.passes.optimise(alloc, &ordered, m, net)?)),
+        match self
+            .orders
+            .order(alloc, list, on.machine, on.net, Rule::Items)?
+        {
+            Some(ordered) => Ok(Some(self.passes.optimise(alloc, &ordered, on.machine, on.net)?)),
             None => Ok(None),
         }
-    }
-
-    /// The same of a list of up to so many items that has another order; none of any other. It fails
-    /// only where there is no memory.
-    fn by_few_items(
-        &mut self,
-        alloc: Global,
-        list: &BlockList,
-        most: usize,
-        m: &Machine,
-        net: &Net,
-    ) -> Result<Option<BlockList>, AllocError>
-        requires net { IsNetOf net.now m.now }
-        requires list { is_list m.now list.now.items ≡ true }
-        ensures { IfOk result (λ o. IfSome o (λ r. IsReordered m.now list.now r)) }
-    {
-        let count = list.items.len();
-        if count <= FEWEST_ITEMS || count > most {
-            return Ok(None);
-        }
-        self.by_items(alloc, list, m, net)
     }
 
     /// A list with its groups in order, cycle by cycle, and then its items, after the passes; none
@@ -121,17 +98,18 @@ impl Candidates {
         &mut self,
         alloc: Global,
         list: &BlockList,
-        m: &Machine,
-        net: &Net,
+        on: &Joined<'_>,
     ) -> Result<Option<BlockList>, AllocError>
-        requires net { IsNetOf net.now m.now }
-        requires list { is_list m.now list.now.items ≡ true }
-        ensures { IfOk result (λ o. IfSome o (λ r. IsGrouped m.now list.now r)) }
+        requires list { is_list on.now.machine.now list.now.items ≡ true }
+        ensures { IfOk result (λ o. IfSome o (λ r. IsGrouped on.now.machine.now list.now r)) }
     {
-        match self.orders.order(alloc, list, m, net, Rule::Cycles)? {
+        match self
+            .orders
+            .order(alloc, list, on.machine, on.net, Rule::Cycles)?
+        {
             Some(ordered) => {
-                let grouped = self.passes.optimise(alloc, &ordered, m, net)?;
-                match self.by_items(alloc, &grouped, m, net)? {
+                let grouped = self.passes.optimise(alloc, &ordered, on.machine, on.net)?;
+                match self.by_items(alloc, &grouped, on)? {
                     Some(other) => Ok(Some(other)),
                     None => Ok(Some(grouped)),
                 }
@@ -140,25 +118,28 @@ impl Candidates {
         }
     }
 
-    /// The same of a list of up to so many items that has another order; none of any other. It fails
-    /// only where there is no memory.
-    fn by_few_groups(
+    /// A list of up to so many items in an order, after the passes, if it has another of this kind;
+    /// none of a longer one. It fails only where there is no memory.
+    fn by_few(
         &mut self,
         alloc: Global,
         list: &BlockList,
         most: usize,
-        m: &Machine,
-        net: &Net,
+        order: Order,
+        on: &Joined<'_>,
     ) -> Result<Option<BlockList>, AllocError>
-        requires net { IsNetOf net.now m.now }
-        requires list { is_list m.now list.now.items ≡ true }
-        ensures { IfOk result (λ o. IfSome o (λ r. IsGrouped m.now list.now r)) }
+        requires list { is_list on.now.machine.now list.now.items ≡ true }
+        ensures { IfOk result (λ o. IfSome o (λ r. IsIn order on.now.machine.now list.now r)) }
     {
         let count = list.items.len();
         if count <= FEWEST_ITEMS || count > most {
             return Ok(None);
         }
-        self.by_groups(alloc, list, m, net)
+        match order {
+            Order::Plain => Ok(None),
+            Order::Items => self.by_items(alloc, list, on),
+            Order::Groups => self.by_groups(alloc, list, on),
+        }
     }
 
     /// Adds what a block's list becomes by the passes: as it is, by groups, and by items where it is
@@ -168,22 +149,20 @@ impl Candidates {
         alloc: Global,
         lists: &mut Vec<Candidate>,
         list: &BlockList,
-        m: &Machine,
-        net: &Net,
+        on: &Joined<'_>,
     ) -> Result<(), AllocError>
-        requires net { IsNetOf net.now m.now }
-        requires list { is_list m.now list.now.items ≡ true }
-        ensures { let Adds = AddsCandidates m.now list.now in
+        requires list { is_list on.now.machine.now list.now.items ≡ true }
+        ensures { let Adds = AddsCandidates on.now.machine.now list.now in
             OnOk result (Adds lists.old.items lists.new.items) }
     {
-        let plain = self.passes.optimise(alloc, list, m, net)?;
-        let by_groups = self.by_few_groups(alloc, list, usize::MAX, m, net)?;
+        let plain = self.passes.optimise(alloc, list, on.machine, on.net)?;
+        let by_groups = self.by_few(alloc, list, usize::MAX, Order::Groups, on)?;
         let most = if by_groups.is_some() {
             FEW_ITEMS
         } else {
             MANY_ITEMS
         };
-        let by_items = self.by_few_items(alloc, &plain, most, m, net)?;
+        let by_items = self.by_few(alloc, &plain, most, Order::Items, on)?;
         push_one(lists, false, Order::Plain, plain)?;
         push_some(lists, false, Order::Items, by_items)?;
         push_some(lists, false, Order::Groups, by_groups)?;
@@ -196,15 +175,13 @@ impl Candidates {
         alloc: Global,
         lists: &mut Vec<Candidate>,
         list: &BlockList,
-        m: &Machine,
-        net: &Net,
+        on: &Joined<'_>,
     ) -> Result<(), AllocError>
-        requires net { IsNetOf net.now m.now }
-        requires list { is_list m.now list.now.items ≡ true }
-        ensures { let Adds = AddsCandidates m.now list.now in
+        requires list { is_list on.now.machine.now list.now.items ≡ true }
+        ensures { let Adds = AddsCandidates on.now.machine.now list.now in
             OnOk result (Adds lists.old.items lists.new.items) }
     {
-        let plain = self.passes.optimise(alloc, list, m, net)?;
+        let plain = self.passes.optimise(alloc, list, on.machine, on.net)?;
         push_one(lists, false, Order::Plain, plain)?;
         Ok(())
     }
@@ -216,18 +193,16 @@ impl Candidates {
         &mut self,
         alloc: Global,
         list: &BlockList,
-        m: &Machine,
-        net: &Net,
+        on: &Joined<'_>,
     ) -> Result<Candidate, AllocError>
-        requires net { IsNetOf net.now m.now }
-        requires list { is_list m.now list.now.items ≡ true }
-        ensures { IfOk result (λ c. IsMadeOf m.now true list.now c) }
+        requires list { is_list on.now.machine.now list.now.items ≡ true }
+        ensures { IfOk result (λ c. IsMadeOf on.now.machine.now true list.now c) }
     {
-        if let Some(grouped) = self.by_few_groups(alloc, list, MANY_ITEMS, m, net)? {
+        if let Some(grouped) = self.by_few(alloc, list, MANY_ITEMS, Order::Groups, on)? {
             return Ok(served_by(Order::Groups, grouped));
         }
-        let plain = self.passes.optimise(alloc, list, m, net)?;
-        match self.by_items(alloc, &plain, m, net)? {
+        let plain = self.passes.optimise(alloc, list, on.machine, on.net)?;
+        match self.by_items(alloc, &plain, on)? {
             Some(ordered) => Ok(served_by(Order::Items, ordered)),
             None => Ok(served_by(Order::Plain, plain)),
         }
@@ -240,26 +215,29 @@ impl Candidates {
     pub fn of_block(
         &mut self,
         alloc: Global,
-        m: &Machine,
-        net: &Net,
-        c: &Choice,
+        on: &Covered<'_>,
         b: &BlockList,
     ) -> Result<Vec<Candidate>, AllocError>
-        requires net { IsNetOf net.now m.now }
-        requires choice { IsChoice m.now c.now }
-        requires list { is_list m.now b.now.items ≡ true }
-        ensures { IfOk result (λ lists. AreOfBlock m.now b.now lists.items) }
+        requires list { is_list on.now.machine.now b.now.items ≡ true }
+        ensures { IfOk result (λ lists. AreOfBlock on.now.machine.now b.now lists.items) }
     {
+        let joined = Joined {
+            machine: on.machine,
+            net: on.net,
+        };
         let mut lists = Vec::new(alloc);
-        match self.reloads.reload(alloc, m, net, c, b)? {
+        match self
+            .reloads
+            .reload(alloc, on.machine, on.net, on.choice, b)?
+        {
             Some(served) => {
-                self.add_plain(alloc, &mut lists, b, m, net)?;
-                let other = self.of_served(alloc, &served, m, net)?;
+                self.add_plain(alloc, &mut lists, b, &joined)?;
+                let other = self.of_served(alloc, &served, &joined)?;
                 lists.push(other)?;
                 Ok(lists)
             }
             None => {
-                self.add_own(alloc, &mut lists, b, m, net)?;
+                self.add_own(alloc, &mut lists, b, &joined)?;
                 Ok(lists)
             }
         }

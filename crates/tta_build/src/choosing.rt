@@ -2,8 +2,6 @@
 
 ghost use Rattle.std.specs.Prelude.{◌≡◌, ◌<◌, if◌then◌else◌, nat_lt, true, length, IfOk};
 ghost use Rattle.std.specs.List.{list_all};
-ghost use Rattle.tta_connect.specs.Net.{IsNetOf};
-ghost use Rattle.tta_connect.specs.Coverage.{IsChoice};
 ghost use Rattle.tta_moves.specs.Slots.{is_list};
 ghost use Rattle.tta_build.specs.Candidates.{AreChosen};
 ghost use Rattle.tta_build.specs.Ways.{IsFitOf, IsKept, IsChosenBy, AreWays};
@@ -11,7 +9,7 @@ ghost use Rattle.tta_build.specs.Ways.{IsFitOf, IsKept, IsChosenBy, AreWays};
 use crate::candidates::{Candidate, Candidates, Way};
 use std::alloc::{AllocError, Global};
 use tta_arch::Machine;
-use tta_connect::{Choice, Net};
+use tta_connect::{Covered, Joined};
 use tta_moves::{BlockList, Placed};
 use tta_sched::Placer;
 
@@ -38,14 +36,12 @@ fn fit_of(
     alloc: Global,
     placer: &mut Placer,
     c: &Candidate,
-    m: &Machine,
-    net: &Net,
+    on: &Joined<'_>,
 ) -> Result<Chosen, AllocError>
-    requires net { IsNetOf net.now m.now }
-    requires list { is_list m.now c.now.list.items ≡ true }
-    ensures { IfOk result (λ r. IsFitOf m.now c.now r) }
+    requires list { is_list on.now.machine.now c.now.list.items ≡ true }
+    ensures { IfOk result (λ r. IsFitOf on.now.machine.now c.now r) }
 {
-    let placed = placer.place(alloc, &c.list, m, net)?;
+    let placed = placer.place(alloc, &c.list, on.machine, on.net)?;
     Ok(Chosen { way: c.way, placed })
 }
 
@@ -55,17 +51,15 @@ fn shortest(
     alloc: Global,
     placer: &mut Placer,
     lists: &[Candidate],
-    m: &Machine,
-    net: &Net,
+    on: &Joined<'_>,
 ) -> Result<Chosen, AllocError>
-    requires net { IsNetOf net.now m.now }
-    requires lists { list_all (λ c. is_list m.now c.list.items) lists.now ≡ true }
+    requires lists { list_all (λ c. is_list on.now.machine.now c.list.items) lists.now ≡ true }
     requires some { 0 < length lists.now }
-    ensures { IfOk result (λ r. IsKept m.now lists.now r) }
+    ensures { IfOk result (λ r. IsKept on.now.machine.now lists.now r) }
 {
-    let mut best = fit_of(alloc, placer, &lists[0], m, net)?;
+    let mut best = fit_of(alloc, placer, &lists[0], on)?;
     for k in 1..lists.len() {
-        let other = fit_of(alloc, placer, &lists[k], m, net)?;
+        let other = fit_of(alloc, placer, &lists[k], on)?;
         best = shorter(best, other);
     }
     Ok(best)
@@ -90,18 +84,18 @@ impl Chooser {
     fn place(
         &mut self,
         alloc: Global,
-        m: &Machine,
-        net: &Net,
-        c: &Choice,
+        on: &Covered<'_>,
         b: &BlockList,
     ) -> Result<Chosen, AllocError>
-        requires net { IsNetOf net.now m.now }
-        requires choice { IsChoice m.now c.now }
-        requires list { is_list m.now b.now.items ≡ true }
-        ensures { IfOk result (λ r. IsChosenBy m.now b.now r.way r.placed) }
+        requires list { is_list on.now.machine.now b.now.items ≡ true }
+        ensures { IfOk result (λ r. IsChosenBy on.now.machine.now b.now r.way r.placed) }
     {
-        let lists = self.candidates.of_block(alloc, m, net, c, b)?;
-        let r = shortest(alloc, &mut self.placer, lists.as_slice(), m, net);
+        let lists = self.candidates.of_block(alloc, on, b)?;
+        let joined = Joined {
+            machine: on.machine,
+            net: on.net,
+        };
+        let r = shortest(alloc, &mut self.placer, lists.as_slice(), &joined);
         // Dropped here as a whole, so that no part of it is left to drop at the end.
         drop(lists);
         r
@@ -113,18 +107,14 @@ fn place_each(
     alloc: Global,
     chooser: &mut Chooser,
     blocks: &[BlockList],
-    m: &Machine,
-    net: &Net,
-    c: &Choice,
+    on: &Covered<'_>,
 ) -> Result<Vec<Placed>, AllocError>
-    requires net { IsNetOf net.now m.now }
-    requires choice { IsChoice m.now c.now }
-    requires lists { list_all (λ b. is_list m.now b.items) blocks.now ≡ true }
-    ensures { IfOk result (λ ps. AreChosen m.now blocks.now ps.items) }
+    requires lists { list_all (λ b. is_list on.now.machine.now b.items) blocks.now ≡ true }
+    ensures { IfOk result (λ ps. AreChosen on.now.machine.now blocks.now ps.items) }
 {
     let mut ps = Vec::new(alloc);
     for b in blocks {
-        let Chosen { placed, .. } = chooser.place(alloc, m, net, c, b)?;
+        let Chosen { placed, .. } = chooser.place(alloc, on, b)?;
         ps.push(placed)?;
     }
     Ok(ps)
@@ -135,17 +125,13 @@ fn place_each(
 pub fn place_chosen(
     alloc: Global,
     blocks: &[BlockList],
-    m: &Machine,
-    net: &Net,
-    c: &Choice,
+    on: &Covered<'_>,
 ) -> Result<Vec<Placed>, AllocError>
-    requires net { IsNetOf net.now m.now }
-    requires choice { IsChoice m.now c.now }
-    requires lists { list_all (λ b. is_list m.now b.items) blocks.now ≡ true }
-    ensures { IfOk result (λ ps. AreChosen m.now blocks.now ps.items) }
+    requires lists { list_all (λ b. is_list on.now.machine.now b.items) blocks.now ≡ true }
+    ensures { IfOk result (λ ps. AreChosen on.now.machine.now blocks.now ps.items) }
 {
-    let mut chooser = Chooser::new(alloc, m, c.hub)?;
-    let ps = place_each(alloc, &mut chooser, blocks, m, net, c);
+    let mut chooser = Chooser::new(alloc, on.machine, on.choice.hub)?;
+    let ps = place_each(alloc, &mut chooser, blocks, on);
     // Dropped here as a whole, so that no part of it is left to drop at the end.
     drop(chooser);
     ps
@@ -156,18 +142,14 @@ fn way_of_each(
     alloc: Global,
     chooser: &mut Chooser,
     blocks: &[BlockList],
-    m: &Machine,
-    net: &Net,
-    c: &Choice,
+    on: &Covered<'_>,
 ) -> Result<Vec<Way>, AllocError>
-    requires net { IsNetOf net.now m.now }
-    requires choice { IsChoice m.now c.now }
-    requires lists { list_all (λ b. is_list m.now b.items) blocks.now ≡ true }
-    ensures { IfOk result (λ ws. AreWays m.now blocks.now ws.items) }
+    requires lists { list_all (λ b. is_list on.now.machine.now b.items) blocks.now ≡ true }
+    ensures { IfOk result (λ ws. AreWays on.now.machine.now blocks.now ws.items) }
 {
     let mut ways = Vec::new(alloc);
     for b in blocks {
-        let Chosen { way, placed } = chooser.place(alloc, m, net, c, b)?;
+        let Chosen { way, placed } = chooser.place(alloc, on, b)?;
         drop(placed);
         ways.push(way)?;
     }
@@ -179,17 +161,13 @@ fn way_of_each(
 pub fn chosen_ways(
     alloc: Global,
     blocks: &[BlockList],
-    m: &Machine,
-    net: &Net,
-    c: &Choice,
+    on: &Covered<'_>,
 ) -> Result<Vec<Way>, AllocError>
-    requires net { IsNetOf net.now m.now }
-    requires choice { IsChoice m.now c.now }
-    requires lists { list_all (λ b. is_list m.now b.items) blocks.now ≡ true }
-    ensures { IfOk result (λ ws. AreWays m.now blocks.now ws.items) }
+    requires lists { list_all (λ b. is_list on.now.machine.now b.items) blocks.now ≡ true }
+    ensures { IfOk result (λ ws. AreWays on.now.machine.now blocks.now ws.items) }
 {
-    let mut chooser = Chooser::new(alloc, m, c.hub)?;
-    let ways = way_of_each(alloc, &mut chooser, blocks, m, net, c);
+    let mut chooser = Chooser::new(alloc, on.machine, on.choice.hub)?;
+    let ways = way_of_each(alloc, &mut chooser, blocks, on);
     // Dropped here as a whole, so that no part of it is left to drop at the end.
     drop(chooser);
     ways

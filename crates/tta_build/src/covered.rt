@@ -4,7 +4,6 @@ ghost use Rattle.std.specs.Prelude.{◌≡◌, true, false, None, IfOk, IfErr};
 ghost use Rattle.tta_ops.specs.Set.{stated};
 ghost use Rattle.tta_arch.specs.Rules.{IsMachine};
 ghost use Rattle.tta_arch.specs.Over.{StandsOver};
-ghost use Rattle.tta_connect.specs.Net.{IsNetOf};
 ghost use Rattle.tta_connect.specs.Coverage.{failed_rule};
 ghost use Rattle.tta_program.specs.Rules.{IsProgram};
 ghost use Rattle.tta_compose.specs.Needs.{are_offered};
@@ -13,13 +12,12 @@ ghost use Rattle.tta_build.specs.Parts.{IsCodeFor};
 ghost use Rattle.tta_build.specs.Statement.{HasCause, unsupplied};
 
 use crate::error::BuildError;
-use crate::homing::{Covered, placements};
+use crate::homing::placements;
 use crate::linking::link_placed;
 use crate::needs::unoffered;
 use std::alloc::Global;
-use tta_arch::Machine;
 use tta_code::Code;
-use tta_connect::{CoverError, Net, cover};
+use tta_connect::{CoverError, Covered, Joined, cover};
 use tta_ops::UnitSet;
 use tta_program::Program;
 
@@ -76,29 +74,27 @@ fn code_by(
 /// The code of a program that is no direct pair with the machine.
 pub fn covered_code(
     alloc: Global,
-    m: &Machine,
-    net: &Net,
+    on: &Joined<'_>,
     p: &Program,
     units: &UnitSet,
 ) -> Result<Code, BuildError>
-    requires machine { IsMachine m.now }
+    requires machine { IsMachine on.now.machine.now }
     requires program { IsProgram p.now }
-    requires over { StandsOver (stated unit_meaning units.now) m.now }
-    requires net { IsNetOf net.now m.now }
-    requires other { is_direct m.now p.now ≡ false }
+    requires over { StandsOver (stated unit_meaning units.now) on.now.machine.now }
+    requires other { is_direct on.now.machine.now p.now ≡ false }
     ensures code { let U = stated unit_meaning units.now in
-        IfOk result (λ code. IsCodeFor U m.now p.now code) }
+        IfOk result (λ code. IsCodeFor U on.now.machine.now p.now code) }
     ensures cause { let U = stated unit_meaning units.now in
-        IfErr result (λ e. HasCause U m.now p.now e) }
+        IfErr result (λ e. HasCause U on.now.machine.now p.now e) }
 {
-    match cover(alloc, m) {
+    match cover(alloc, on.machine) {
         Ok(choice) => {
-            let on = Covered {
-                machine: m,
-                net,
+            let covered = Covered {
+                machine: on.machine,
+                net: on.net,
                 choice: &choice,
             };
-            let code = code_by(alloc, &on, p, units);
+            let code = code_by(alloc, &covered, p, units);
             // Dropped here as a whole, so that no part of it is left to drop at the end.
             drop(choice);
             code

@@ -3,7 +3,6 @@
 ghost use Rattle.std.specs.Prelude.{◌≡◌, true, IfOk, IfErr};
 ghost use Rattle.tta_ops.specs.Units.{Units};
 ghost use Rattle.tta_arch.specs.Rules.{IsMachine};
-ghost use Rattle.tta_connect.specs.Net.{IsNetOf};
 ghost use Rattle.tta_program.specs.Rules.{IsProgram};
 ghost use Rattle.tta_compose.specs.Direct.{is_direct};
 ghost use Rattle.tta_build.specs.Parts.{AreDirect, IsCodeFor};
@@ -16,7 +15,7 @@ use crate::register::{Sharing, register_code};
 use std::alloc::{AllocError, Global};
 use tta_arch::Machine;
 use tta_code::Code;
-use tta_connect::Net;
+use tta_connect::Joined;
 use tta_lower::LowerError;
 use tta_moves::BlockList;
 use tta_program::Program;
@@ -45,17 +44,18 @@ fn lists_of(alloc: Global, m: &Machine, p: &Program) -> Result<Vec<BlockList>, A
 }
 
 /// The code of a direct pair.
-pub fn direct_code(alloc: Global, m: &Machine, net: &Net, p: &Program) -> Result<Code, BuildError>
-    requires machine { IsMachine m.now }
+pub fn direct_code(alloc: Global, on: &Joined<'_>, p: &Program) -> Result<Code, BuildError>
+    requires machine { IsMachine on.now.machine.now }
     requires program { IsProgram p.now }
-    requires net { IsNetOf net.now m.now }
-    requires direct { is_direct m.now p.now ≡ true }
-    ensures code { IfOk result (λ code. (u : Units) → IsCodeFor u m.now p.now code) }
-    ensures cause { IfErr result (λ e. (u : Units) → HasCause u m.now p.now e) }
+    requires direct { is_direct on.now.machine.now p.now ≡ true }
+    ensures code { let M = on.now.machine.now in
+        IfOk result (λ code. (u : Units) → IsCodeFor u M p.now code) }
+    ensures cause { let M = on.now.machine.now in
+        IfErr result (λ e. (u : Units) → HasCause u M p.now e) }
 {
-    let lists = lists_of(alloc, m, p)?;
-    let ps = place_all(alloc, lists.as_slice(), m, net)?;
-    let code = link_placed(alloc, ps.as_slice(), m);
+    let lists = lists_of(alloc, on.machine, p)?;
+    let ps = place_all(alloc, lists.as_slice(), on)?;
+    let code = link_placed(alloc, ps.as_slice(), on.machine);
     // Dropped here as a whole, so that no part of it is left to drop at the end.
     drop(ps);
     code

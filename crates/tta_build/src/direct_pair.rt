@@ -2,7 +2,6 @@
 
 ghost use Rattle.std.specs.Prelude.{◌≡◌, true};
 ghost use Rattle.std.specs.List.{list_all};
-ghost use Rattle.tta_connect.specs.Net.{IsNetOf};
 ghost use Rattle.tta_program.specs.Rules.{is_end};
 ghost use Rattle.tta_program.specs.Direct.{only_constants};
 ghost use Rattle.tta_select.specs.Select.{trigger_at};
@@ -12,7 +11,7 @@ ghost use Rattle.tta_compose.specs.Direct.{constant_of, is_brought};
 ghost use Rattle.tta_compose.specs.Direct.{is_constant_or_halt, is_direct_proc, is_direct};
 
 use tta_arch::{Dest, Machine, Op, Source};
-use tta_connect::{Net, anywhere};
+use tta_connect::{Joined, anywhere};
 use tta_moves::{ItemSource, is_joined};
 use tta_program::{Proc, Program, Src, Step};
 
@@ -40,31 +39,28 @@ fn constant_of(step: &Step) -> Option<u32>
 }
 
 /// Whether some bus joins a word to the trigger port of the unit that offers `out`.
-fn brings(m: &Machine, net: &Net, word: u32) -> bool
-    requires { IsNetOf net.now m.now }
-    ensures { result ≡ brings m.now word }
+fn brings(on: &Joined<'_>, word: u32) -> bool
+    ensures { result ≡ brings on.now.machine.now word }
 {
     let src = ItemSource::Port(Source::Value(word));
-    is_joined(m, net, src, output_of(m), None)
+    is_joined(on.machine, on.net, src, output_of(on.machine), None)
 }
 
 /// Whether the constant of a step, if it outputs one, is brought to the output.
-fn is_brought(m: &Machine, net: &Net, step: &Step) -> bool
-    requires { IsNetOf net.now m.now }
-    ensures { result ≡ is_brought m.now step.now }
+fn is_brought(on: &Joined<'_>, step: &Step) -> bool
+    ensures { result ≡ is_brought on.now.machine.now step.now }
 {
     match constant_of(step) {
-        Some(word) => brings(m, net, word),
+        Some(word) => brings(on, word),
         None => true,
     }
 }
 
 /// Whether the constant of each step, if it outputs one, is brought to the output.
-fn are_brought(m: &Machine, net: &Net, steps: &[Step]) -> bool
-    requires { IsNetOf net.now m.now }
-    ensures { result ≡ list_all (is_brought m.now) steps.now }
+fn are_brought(on: &Joined<'_>, steps: &[Step]) -> bool
+    ensures { result ≡ list_all (is_brought on.now.machine.now) steps.now }
 {
-    steps.iter().all(|step| is_brought(m, net, step))
+    steps.iter().all(|step| is_brought(on, step))
 }
 
 /// Whether a step is one of those that a direct pair's program may have before `end`.
@@ -95,28 +91,25 @@ fn only_constants(steps: &[Step]) -> bool
 }
 
 /// Whether a procedure only outputs constants that are brought to the output, and halts.
-fn is_direct_proc(m: &Machine, net: &Net, q: &Proc) -> bool
-    requires { IsNetOf net.now m.now }
-    ensures { result ≡ is_direct_proc m.now q.now }
+fn is_direct_proc(on: &Joined<'_>, q: &Proc) -> bool
+    ensures { result ≡ is_direct_proc on.now.machine.now q.now }
 {
-    only_constants(q.steps.as_slice()) && are_brought(m, net, q.steps.as_slice())
+    only_constants(q.steps.as_slice()) && are_brought(on, q.steps.as_slice())
 }
 
 /// Whether each procedure does.
-fn are_direct_procs(m: &Machine, net: &Net, procs: &[Proc]) -> bool
-    requires { IsNetOf net.now m.now }
-    ensures { result ≡ list_all (is_direct_proc m.now) procs.now }
+fn are_direct_procs(on: &Joined<'_>, procs: &[Proc]) -> bool
+    ensures { result ≡ list_all (is_direct_proc on.now.machine.now) procs.now }
 {
-    procs.iter().all(|q| is_direct_proc(m, net, q))
+    procs.iter().all(|q| is_direct_proc(on, q))
 }
 
 /// Whether a machine and a program are a direct pair: the program is `main` alone, its steps before
 /// `end` only output constants and halt, and some bus joins each constant, as an immediate, to the
 /// trigger port of the unit that offers `out`. Constants to which no path comes are asked too. A
 /// program without constants is direct on every machine. It takes no memory.
-pub fn is_direct(m: &Machine, net: &Net, p: &Program) -> bool
-    requires { IsNetOf net.now m.now }
-    ensures { result ≡ is_direct m.now p.now }
+pub fn is_direct(on: &Joined<'_>, p: &Program) -> bool
+    ensures { result ≡ is_direct on.now.machine.now p.now }
 {
-    p.procs.len() == 1 && are_direct_procs(m, net, p.procs.as_slice())
+    p.procs.len() == 1 && are_direct_procs(on, p.procs.as_slice())
 }

@@ -6,8 +6,6 @@ ghost use Rattle.std.specs.List.{sum_by};
 ghost use Rattle.tta_ops.specs.Set.{stated};
 ghost use Rattle.tta_arch.specs.Rules.{IsMachine};
 ghost use Rattle.tta_arch.specs.Over.{StandsOver};
-ghost use Rattle.tta_connect.specs.Net.{IsNetOf};
-ghost use Rattle.tta_connect.specs.Coverage.{IsChoice};
 ghost use Rattle.tta_link.specs.Blocks.{total_length};
 ghost use Rattle.tta_program.specs.Rules.{IsProgram};
 ghost use Rattle.tta_program.specs.Program.{step_count};
@@ -18,8 +16,7 @@ ghost use Rattle.tta_build.specs.Parts.{IsLowered, AreSelected, ArePlacedFor};
 use crate::choosing::place_chosen;
 use crate::register::{Sharing, register_code, share_alike};
 use std::alloc::{AllocError, Global};
-use tta_arch::Machine;
-use tta_connect::{Choice, Net};
+use tta_connect::{Choice, Covered};
 use tta_lower::LowerError;
 use tta_moves::{BlockList, Placed};
 use tta_ops::UnitSet;
@@ -31,29 +28,20 @@ use tta_select::select;
 /// the shorter code differs little in a long program, and each takes its time.
 pub const FEW_STEPS: usize = 1024;
 
-/// A machine that keeps all rules of coverage, with what joins its parts and what is chosen on it.
-#[derive(Clone, Copy)]
-pub struct Covered<'a> {
-    pub machine: &'a Machine,
-    pub net: &'a Net,
-    pub choice: &'a Choice,
-    ghost net_of: { IsNetOf net.now machine.now },
-    ghost choice_of: { IsChoice machine.now choice.now },
-}
-
 /// The register code of a program for what is chosen on a machine.
 fn lowered_for(
     alloc: Global,
-    m: &Machine,
-    c: &Choice,
+    on: &Covered<'_>,
     p: &Program,
     sharing: Sharing,
 ) -> Result<Rir, LowerError>
-    requires machine { IsMachine m.now }
-    requires choice { IsChoice m.now c.now }
-    ensures code { IfOk result (λ r. IsLowered p.now (length c.now.homes) m.now.frame_words r) }
-    ensures cause { IfErr result (λ e. IsCause p.now m.now.frame_words e) }
+    requires machine { IsMachine on.now.machine.now }
+    ensures code { let M = on.now.machine.now in
+        IfOk result (λ r. IsLowered p.now (length on.now.choice.now.homes) M.frame_words r) }
+    ensures cause { IfErr result (λ e. IsCause p.now on.now.machine.now.frame_words e) }
 {
+    let m = on.machine;
+    let c = on.choice;
     let homes = c.homes.len() as u32;
     let code = register_code(alloc, p, homes, m.frame_words, sharing)?;
     Ok(code)
@@ -76,7 +64,7 @@ fn selected_lists(
         IfOk result (λ ls. AreSelected U on.now.machine.now on.now.choice.now p.now ls.items) }
     ensures cause { IfErr result (λ e. IsCause p.now on.now.machine.now.frame_words e) }
 {
-    let code = lowered_for(alloc, on.machine, on.choice, p, sharing)?;
+    let code = lowered_for(alloc, on, p, sharing)?;
     let lists = select(alloc, &code, on.machine, on.net, on.choice, units)?;
     Ok(lists)
 }
@@ -99,7 +87,7 @@ fn placements_by(
     ensures cause { IfErr result (λ e. IsCause p.now on.now.machine.now.frame_words e) }
 {
     let lists = selected_lists(alloc, on, p, units, sharing)?;
-    let ps = place_chosen(alloc, lists.as_slice(), on.machine, on.net, on.choice)?;
+    let ps = place_chosen(alloc, lists.as_slice(), on)?;
     Ok(ps)
 }
 

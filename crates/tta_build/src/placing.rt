@@ -2,14 +2,12 @@
 
 ghost use Rattle.std.specs.Prelude.{◌≡◌, true, IfOk};
 ghost use Rattle.std.specs.List.{list_all};
-ghost use Rattle.tta_connect.specs.Net.{IsNetOf};
 ghost use Rattle.tta_moves.specs.Slots.{is_list};
 ghost use Rattle.tta_compose.specs.Linking.{AreFirstFits};
 ghost use Rattle.tta_compose.specs.Room.{AreRoomy};
 
 use std::alloc::{AllocError, Global};
-use tta_arch::Machine;
-use tta_connect::Net;
+use tta_connect::Joined;
 use tta_moves::{BlockList, Placed};
 use tta_sched::Placer;
 
@@ -18,17 +16,15 @@ fn place_each(
     alloc: Global,
     placer: &mut Placer,
     lists: &[BlockList],
-    m: &Machine,
-    net: &Net,
+    on: &Joined<'_>,
 ) -> Result<Vec<Placed>, AllocError>
-    requires net { IsNetOf net.now m.now }
-    requires lists { list_all (λ b. is_list m.now b.items) lists.now ≡ true }
-    ensures first { IfOk result (λ ps. AreFirstFits m.now lists.now ps.items) }
-    ensures roomy { IfOk result (λ ps. AreRoomy m.now lists.now ps.items) }
+    requires lists { list_all (λ b. is_list on.now.machine.now b.items) lists.now ≡ true }
+    ensures first { IfOk result (λ ps. AreFirstFits on.now.machine.now lists.now ps.items) }
+    ensures roomy { IfOk result (λ ps. AreRoomy on.now.machine.now lists.now ps.items) }
 {
     let mut ps = Vec::new(alloc);
     for b in lists {
-        let p = placer.place(alloc, b, m, net)?;
+        let p = placer.place(alloc, b, on.machine, on.net)?;
         ps.push(p)?;
     }
     Ok(ps)
@@ -38,16 +34,14 @@ fn place_each(
 pub fn place_all(
     alloc: Global,
     lists: &[BlockList],
-    m: &Machine,
-    net: &Net,
+    on: &Joined<'_>,
 ) -> Result<Vec<Placed>, AllocError>
-    requires net { IsNetOf net.now m.now }
-    requires lists { list_all (λ b. is_list m.now b.items) lists.now ≡ true }
-    ensures first { IfOk result (λ ps. AreFirstFits m.now lists.now ps.items) }
-    ensures roomy { IfOk result (λ ps. AreRoomy m.now lists.now ps.items) }
+    requires lists { list_all (λ b. is_list on.now.machine.now b.items) lists.now ≡ true }
+    ensures first { IfOk result (λ ps. AreFirstFits on.now.machine.now lists.now ps.items) }
+    ensures roomy { IfOk result (λ ps. AreRoomy on.now.machine.now lists.now ps.items) }
 {
-    let mut placer = Placer::new(alloc, m)?;
-    let ps = place_each(alloc, &mut placer, lists, m, net);
+    let mut placer = Placer::new(alloc, on.machine)?;
+    let ps = place_each(alloc, &mut placer, lists, on);
     // Dropped here as a whole, so that no part of it is left to drop at the end.
     drop(placer);
     ps

@@ -4,7 +4,6 @@ ghost use Rattle.std.specs.Prelude.{◌≡◌, None, IfOk, IfErr};
 ghost use Rattle.tta_ops.specs.Set.{stated};
 ghost use Rattle.tta_arch.specs.Rules.{IsMachine};
 ghost use Rattle.tta_arch.specs.Over as arch;
-ghost use Rattle.tta_connect.specs.Net.{IsNetOf};
 ghost use Rattle.tta_program.specs.Rules.{IsProgram};
 ghost use Rattle.tta_program.specs.Over as program;
 ghost use Rattle.tta_program.specs.Program.{first_outside};
@@ -19,7 +18,7 @@ use crate::error::BuildError;
 use std::alloc::Global;
 use tta_arch::Machine;
 use tta_code::{Code, Whole};
-use tta_connect::Net;
+use tta_connect::{Joined, Net};
 use tta_ops::UnitSet;
 use tta_program::Program;
 
@@ -38,26 +37,19 @@ pub fn keep_rules(m: &Machine, p: &Program)
     let _main = &p.main;
 }
 
-/// The code of a program for a machine.
-fn code_of(
-    alloc: Global,
-    m: &Machine,
-    net: &Net,
-    p: &Program,
-    units: &UnitSet,
-) -> Result<Code, BuildError>
-    requires over { arch.StandsOver (stated unit_meaning units.now) m.now }
-    requires net { IsNetOf net.now m.now }
+/// The code of a program for a machine with its net.
+fn code_of(alloc: Global, on: &Joined<'_>, p: &Program, units: &UnitSet) -> Result<Code, BuildError>
+    requires over { arch.StandsOver (stated unit_meaning units.now) on.now.machine.now }
     ensures code { let U = stated unit_meaning units.now in
-        IfOk result (λ code. IsCodeFor U m.now p.now code) }
+        IfOk result (λ code. IsCodeFor U on.now.machine.now p.now code) }
     ensures cause { let U = stated unit_meaning units.now in
-        IfErr result (λ e. HasCause U m.now p.now e) }
+        IfErr result (λ e. HasCause U on.now.machine.now p.now e) }
 {
-    keep_rules(m, p);
-    if is_direct(m, net, p) {
-        return direct_code(alloc, m, net, p);
+    keep_rules(on.machine, p);
+    if is_direct(on, p) {
+        return direct_code(alloc, on, p);
     }
-    covered_code(alloc, m, net, p, units)
+    covered_code(alloc, on, p, units)
 }
 
 /// Code for a machine that does what a program does: from every memory, for every input and for
@@ -78,7 +70,11 @@ pub fn build(alloc: Global, m: &Machine, p: &Program, units: &UnitSet) -> Result
     ensures cause { IfErr result (λ e. HasCause (stated unit_meaning units.now) m.now p.now e) }
 {
     let net = Net::of(alloc, m)?;
-    let code = code_of(alloc, m, &net, p, units)?;
+    let on = Joined {
+        machine: m,
+        net: &net,
+    };
+    let code = code_of(alloc, &on, p, units)?;
     let init = data_in_order(alloc, p)?;
     Ok(Built {
         whole: Whole { code, init },

@@ -11,7 +11,7 @@ loop-b-preserved c =
     record {
       count = more_count c.loop-b.ps.items c.push.new.self.items c.in_ok-placed.field-0.placed c.loop-b.b-index c.in_ok-push.ensures.items c.loop-b.invariant.count;
       each = rw c.in_ok-push.ensures.items
-          (one_more (λ b p. IsChosen c.args.m.now b p) c.args.blocks.now c.loop-b.ps.items c.b-item.result c.in_ok-placed.field-0.placed c.loop-b.invariant.each here c.in_ok-placed.ensures.chosen);
+          (one_more (λ b p. IsChosen c.args.on.now.machine.now b p) c.args.blocks.now c.loop-b.ps.items c.b-item.result c.in_ok-placed.field-0.placed c.loop-b.invariant.each here c.in_ok-placed.ensures.chosen);
     }
 
 pub returns : goal.returns

@@ -6,5 +6,5 @@ use Rattle.tta_build.proofs.choosing.place_each.Given as goal
 abbrev pub invariant-loop-b : goal.invariant-loop-b
 invariant-loop-b l = record {
   count : length l.ps.items ≡ l.b-index;
-  each : SoFar (λ b p. IsChosen l.m b p) l.blocks l.ps.items;
+  each : SoFar (λ b p. IsChosen l.on.machine.now b p) l.blocks l.ps.items;
 }

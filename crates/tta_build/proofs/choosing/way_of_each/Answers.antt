@@ -15,7 +15,7 @@ loop-b-preserved c =
     record {
       count = more_count c.loop-b.ways.items c.push.new.self.items c.in_ok-way.field-0.way c.loop-b.b-index c.in_ok-push.ensures.items c.loop-b.invariant.count;
       each = rw c.in_ok-push.ensures.items
-          (along_more (λ (b : BlockList) (w : Way). (p : Placed) × IsChosenBy c.args.m.now b w p) c.args.blocks.now c.loop-b.ways.items c.b-item.result c.in_ok-way.field-0.way
+          (along_more (λ (b : BlockList) (w : Way). (p : Placed) × IsChosenBy c.args.on.now.machine.now b w p) c.args.blocks.now c.loop-b.ways.items c.b-item.result c.in_ok-way.field-0.way
           c.loop-b.invariant.each here (c.in_ok-way.field-0.placed, c.in_ok-way.ensures));
     }
 

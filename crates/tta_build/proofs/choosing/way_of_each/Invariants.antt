@@ -9,5 +9,5 @@ use Rattle.tta_build.proofs.choosing.way_of_each.Given as goal
 abbrev pub invariant-loop-b : goal.invariant-loop-b
 invariant-loop-b l = record {
   count : length l.ways.items ≡ l.b-index;
-  each : Along (λ (b : BlockList) (w : Way). (p : Placed) × IsChosenBy l.m b w p) l.blocks l.ways.items;
+  each : Along (λ (b : BlockList) (w : Way). (p : Placed) × IsChosenBy l.on.machine.now b w p) l.blocks l.ways.items;
 }

@@ -9,22 +9,24 @@ use Rattle.tta_build.proofs.Placements.{is_code, is_cause}
 use Rattle.tta_build.proofs.Directs.{are_lists, can_link, ok_for, err_for}
 use Rattle.tta_build.proofs.direct.direct_code.Goals as goal
 
-pub place_all-requires-clause-lists : goal.place_all-requires-clause-lists
-place_all-requires-clause-lists c =
-    let m = c.args.m.now in
-    subst (λ (l : List BlockList). list_all (λ (b : BlockList). is_list m b.items) l ≡ true) (sym c.as_slice.ensures.value)
-    (are_lists m c.args.p.now c.in_ok-lists.lists.items c.requires.machine c.requires.program c.requires.direct c.in_ok-lists.ensures)
+pub place_all-requires : goal.place_all-requires
+place_all-requires c =
+    let m = c.args.on.now.machine.now in
+    record {
+      lists = subst (λ (l : List BlockList). list_all (λ (b : BlockList). is_list m b.items) l ≡ true) (sym c.as_slice.ensures.value)
+          (are_lists m c.args.p.now c.in_ok-lists.lists.items c.requires.machine c.requires.program c.requires.direct c.in_ok-lists.ensures);
+    }
 
 pub link_placed-code-requires : goal.link_placed-code-requires
 link_placed-code-requires c =
-    let m = c.args.m.now in
+    let m = c.args.on.now.machine.now in
     let lists = c.in_ok-lists.lists.items in
     let are = subst (λ (l : List BlockList). AreRoomy m l c.in_ok-ps.ps.items) c.as_slice.ensures.value c.in_ok-ps.ensures.roomy in
     subst (AreBlocks m) (sym c.as_slice-2.ensures.value) (can_link m c.args.p.now lists c.in_ok-lists.ensures c.in_ok-ps.ps.items are.respected)
 
 pub returns-clause-code : goal.returns-clause-code
 returns-clause-code c =
-    let m = c.args.m.now in
+    let m = c.args.on.now.machine.now in
     let lists = c.in_ok-lists.lists.items in
     let ps = c.in_ok-ps.ps.items in
     let fits = subst (λ (l : List BlockList). AreFirstFits m l ps) c.as_slice.ensures.value c.in_ok-ps.ensures.first in
@@ -35,7 +37,7 @@ returns-clause-code c =
 
 pub returns-clause-cause : goal.returns-clause-cause
 returns-clause-cause c =
-    let m = c.args.m.now in
+    let m = c.args.on.now.machine.now in
     let lists = c.in_ok-lists.lists.items in
     let ps = c.in_ok-ps.ps.items in
     let fits = subst (λ (l : List BlockList). AreFirstFits m l ps) c.as_slice.ensures.value c.in_ok-ps.ensures.first in

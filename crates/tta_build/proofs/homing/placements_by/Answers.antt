@@ -7,13 +7,15 @@ use Rattle.tta_build.specs.Candidates.{AreChosen}
 use Rattle.tta_build.proofs.CoveredCode.{selected_lists, placed_for}
 use Rattle.tta_build.proofs.homing.placements_by.Goals as goal
 
-pub place_chosen-requires-clause-lists : goal.place_chosen-requires-clause-lists
-place_chosen-requires-clause-lists g c =
+pub place_chosen-requires : goal.place_chosen-requires
+place_chosen-requires g c =
     let U = stated (λ v. (goal.OpUnit-dyn g v).unit_meaning v.1) c.args.units.now in
     let m = c.args.on.now.machine.now in
-    subst (λ (l : List BlockList). list_all (λ (b : BlockList). is_list m b.items) l ≡ true) (sym c.as_slice.ensures.value)
-    (selected_lists U m c.args.on.now.choice.now c.args.p.now c.requires.machine c.requires.over c.args.on.now.choice_of c.requires.program c.requires.offered
-    c.in_ok-lists.lists.items c.in_ok-lists.ensures.lists)
+    record {
+      lists = subst (λ (l : List BlockList). list_all (λ (b : BlockList). is_list m b.items) l ≡ true) (sym c.as_slice.ensures.value)
+          (selected_lists U m c.args.on.now.choice.now c.args.p.now c.requires.machine c.requires.over c.args.on.now.choice_of c.requires.program c.requires.offered
+          c.in_ok-lists.lists.items c.in_ok-lists.ensures.lists);
+    }
 
 pub returns-clause-placed : goal.returns-clause-placed
 returns-clause-placed g c =

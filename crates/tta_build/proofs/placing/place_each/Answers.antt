@@ -13,11 +13,11 @@ loop-b-preserved c =
     record {
       count = more_count c.loop-b.ps.items c.push.new.self.items c.in_ok-p.p c.loop-b.b-index c.in_ok-push.ensures.items c.loop-b.invariant.count;
       first = rw c.in_ok-push.ensures.items
-          (one_more (λ b p. IsFirstFit c.args.m.now b.items p) c.args.lists.now c.loop-b.ps.items c.b-item.result c.in_ok-p.p c.loop-b.invariant.first here c.in_ok-p.ensures.first);
+          (one_more (λ b p. IsFirstFit c.args.on.now.machine.now b.items p) c.args.lists.now c.loop-b.ps.items c.b-item.result c.in_ok-p.p c.loop-b.invariant.first here c.in_ok-p.ensures.first);
       respects = rw c.in_ok-push.ensures.items
-          (one_more (λ b p. Respects c.args.m.now b.items p) c.args.lists.now c.loop-b.ps.items c.b-item.result c.in_ok-p.p c.loop-b.invariant.respects here c.in_ok-p.ensures.respects);
+          (one_more (λ b p. Respects c.args.on.now.machine.now b.items p) c.args.lists.now c.loop-b.ps.items c.b-item.result c.in_ok-p.p c.loop-b.invariant.respects here c.in_ok-p.ensures.respects);
       room = rw c.in_ok-push.ensures.items
-          (one_more (λ b p. HasRoom c.args.m.now b.items p) c.args.lists.now c.loop-b.ps.items c.b-item.result c.in_ok-p.p c.loop-b.invariant.room here c.in_ok-p.ensures.room);
+          (one_more (λ b p. HasRoom c.args.on.now.machine.now b.items p) c.args.lists.now c.loop-b.ps.items c.b-item.result c.in_ok-p.p c.loop-b.invariant.room here c.in_ok-p.ensures.room);
     }
 
 pub returns-clause-first : goal.returns-clause-first

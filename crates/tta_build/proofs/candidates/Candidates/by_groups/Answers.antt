@@ -8,7 +8,7 @@ use Rattle.tta_build.proofs.candidates.Candidates.by_groups.Goals as goal
 
 pub returns-in-Some-2 : goal.returns-in-Some-2
 returns-in-Some-2 c =
-    let m = c.args.m.now in
+    let m = c.args.on.now.machine.now in
     let list = c.args.list.now in
     let grouped = c.in_ok-grouped-in-Some.grouped in
     let stands = subst (λ (o : Option BlockList). IfSome o (λ r. IsStandIn m list r)) c.in-Some.is c.in_ok-ordered.ensures in
@@ -18,7 +18,7 @@ returns-in-Some-2 c =
 
 pub returns-in-Some : goal.returns-in-Some
 returns-in-Some c =
-    let m = c.args.m.now in
+    let m = c.args.on.now.machine.now in
     let list = c.args.list.now in
     let grouped = c.in_ok-grouped-in-Some.grouped in
     let stands = subst (λ (o : Option BlockList). IfSome o (λ r. IsStandIn m list r)) c.in-Some.is c.in_ok-ordered.ensures in

@@ -7,7 +7,7 @@ use Rattle.tta_build.proofs.candidates.Candidates.of_block.Goals as goal
 
 pub returns-in_ok-push-in-Some : goal.returns-in_ok-push-in-Some
 returns-in_ok-push-in-Some c =
-    let m = c.args.m.now in
+    let m = c.args.on.now.machine.now in
     let b = c.args.b.now in
     let stands = subst (λ (o : Option BlockList). IfSome o (λ r. IsStandIn m b r)) c.in-Some.is c.in_ok-served.ensures in
     more_candidates m b c.in-Some.served c.new-lists.result.items c.add_plain.new.lists.items c.push.new.self.items c.in_ok-other-in-Some.other stands c.new-lists.ensures.items
@@ -15,4 +15,4 @@ returns-in_ok-push-in-Some c =
 
 pub returns-in_ok-add_own-in-None : goal.returns-in_ok-add_own-in-None
 returns-in_ok-add_own-in-None c =
-    own_candidates c.args.m.now c.args.b.now c.new-lists.result.items c.add_own.new.lists.items c.new-lists.ensures.items c.in_ok-add_own-in-None.ensures
+    own_candidates c.args.on.now.machine.now c.args.b.now c.new-lists.result.items c.add_own.new.lists.items c.new-lists.ensures.items c.in_ok-add_own-in-None.ensures

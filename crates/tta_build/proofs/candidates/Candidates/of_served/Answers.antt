@@ -7,14 +7,14 @@ use Rattle.tta_build.proofs.candidates.Candidates.of_served.Goals as goal
 
 pub returns-in-Some : goal.returns-in-Some
 returns-in-Some c =
-    let m = c.args.m.now in
+    let m = c.args.on.now.machine.now in
     let list = c.args.list.now in
     let grouped = subst (λ (o : Option BlockList). IfSome o (λ r. IsGrouped m list r)) c.in-Some.is c.in_ok-grouped.ensures in
     served_groups m list c.in-Some.grouped c.served_by.result grouped c.served_by.ensures
 
 pub returns-in-Some-2 : goal.returns-in-Some-2
 returns-in-Some-2 c =
-    let m = c.args.m.now in
+    let m = c.args.on.now.machine.now in
     let plain = c.in_ok-plain.plain in
     let fit = c.in_ok-plain.ensures in
     let ordered = subst (λ (o : Option BlockList). IfSome o (λ r. IsReordered m plain r)) c.in-Some-2.is c.in_ok-ordered.ensures in
@@ -23,4 +23,4 @@ returns-in-Some-2 c =
 pub returns-in-None : goal.returns-in-None
 returns-in-None c =
     let fit = c.in_ok-plain.ensures in
-    served_plain c.args.m.now c.args.list.now c.in_ok-plain.plain c.served_by-in-None.result fit.are fit.live c.served_by-in-None.ensures
+    served_plain c.args.on.now.machine.now c.args.list.now c.in_ok-plain.plain c.served_by-in-None.result fit.are fit.live c.served_by-in-None.ensures

@@ -8,10 +8,10 @@ use Rattle.tta_build.proofs.choosing.Chooser.place.Goals as goal
 
 pub shortest-r-requires-clause-lists : goal.shortest-r-requires-clause-lists
 shortest-r-requires-clause-lists c =
-    subst (λ (cs : List Candidate). list_all (λ (x : Candidate). is_list c.args.m.now x.list.items) cs ≡ true) (sym c.as_slice.ensures.value)
-    (candidates_lists c.args.m.now c.args.b.now c.in_ok-lists.lists.items c.in_ok-lists.ensures c.requires.list)
+    subst (λ (cs : List Candidate). list_all (λ (x : Candidate). is_list c.args.on.now.machine.now x.list.items) cs ≡ true) (sym c.as_slice.ensures.value)
+    (candidates_lists c.args.on.now.machine.now c.args.b.now c.in_ok-lists.lists.items c.in_ok-lists.ensures c.requires.list)
 
 pub returns : goal.returns
 returns c =
-    chosen_of c.args.m.now c.args.b.now c.in_ok-lists.lists.items c.as_slice.result.now c.shortest-r.result c.in_ok-lists.ensures c.as_slice.ensures.value
+    chosen_of c.args.on.now.machine.now c.args.b.now c.in_ok-lists.lists.items c.as_slice.result.now c.shortest-r.result c.in_ok-lists.ensures c.as_slice.ensures.value
     c.shortest-r.ensures
