@@ -1,6 +1,5 @@
 -- What is told of the blocks of a run.
-use Rattle.std.specs.Prelude.{◌≡◌, ℕ, List, [], ◌++◌, slice_get, codes}
-use Rattle.std.specs.Option.{option_map_or}
+use Rattle.std.specs.Prelude.{◌≡◌, ℕ, List, ◌++◌, codes}
 use Rattle.std.specs.List.{flat_map}
 use Rattle.tta_arch.specs.Machine.{Machine}
 use Rattle.tta_program.specs.Program.{Program}
@@ -11,13 +10,9 @@ use Rattle.tta_profile.specs.Counts.{Counts}
 use Rattle.tta_profile.specs.Report.{cycles_sum, share_text, uses_text}
 use Rattle.tta_stages.specs.declared.stages.Stages.{Stages}
 use Rattle.tta_stages.specs.Words.{block_name}
-use Rattle.tta_stages.specs.RegisterText.{part_text, range_at}
+use Rattle.tta_stages.specs.RegisterText.{part_at, range_at}
 use Rattle.tta_blocks.specs.declared.costly.Spent.{Spent}
 use Rattle.tta_blocks.specs.Spent.{sum_at, IsCostliestFirst}
-
--- what the block of a number stands for: some steps with their lines, the entry of a procedure, or the return from a call
-abbrev pub part_at : Program → List Part → (k : ℕ) → List ℕ
-part_at p parts k = option_map_or (part_text p) (slice_get parts k) []
 
 -- a block: what it stands for, where its code is, and how many cycles were spent in it
 unfoldable pub block_line : Counts → (whole : ℕ) → Program → List Part → (starts : List ℕ) → List Placed → (k : ℕ) → List ℕ

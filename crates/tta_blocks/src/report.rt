@@ -1,24 +1,13 @@
 //! What is told of the blocks of a run, as text.
 
 ghost use Rattle.std.specs.Prelude.{◌≡◌, ◌≤◌, ◌++◌, length, All, OnOk};
-ghost use Rattle.tta_blocks.specs.Report.{part_at, block_line, blocks_text, told_text};
+ghost use Rattle.tta_blocks.specs.Report.{block_line, blocks_text, told_text};
 
 use crate::blocks::{Blocks, sum_at};
 use crate::costly::Spent;
 use std::alloc::AllocError;
 use tta_profile::{Profiled, push_share, push_uses};
-use tta_stages::{push_block, push_part, push_range_at};
-
-/// Puts what the block of a number stands for, if there is one.
-fn push_part_at(out: &mut Vec<u8>, blocks: &Blocks<'_>, k: usize) -> Result<(), AllocError>
-    ensures { OnOk result (out.new.items ≡ out.old.items
-        ++ part_at blocks.now.program.now blocks.now.parts.now k) }
-{
-    match blocks.parts.get(k) {
-        Some(part) => push_part(out, blocks.program, *part),
-        None => Ok(()),
-    }
-}
+use tta_stages::{push_block, push_part_at, push_range_at};
 
 /// Puts a block: what it stands for, where its code is, and how many cycles were spent in it.
 #[tactic(auto, unfolding(crate::specs::Report::block_line))]
@@ -31,12 +20,11 @@ fn push_line(
     requires few { length profiled.now.counts.now.executed ≤ 65536 }
     ensures { OnOk result (out.new.items ≡ out.old.items
         ++ block_line profiled.now.counts.now profiled.now.whole blocks.now.program.now
-            blocks.now.parts.now
-        blocks.now.starts.now blocks.now.placed.now k) }
+            blocks.now.parts.now blocks.now.starts.now blocks.now.placed.now k) }
 {
     out.extend_from_slice(b"block ")?;
     push_block(out, k as u128)?;
-    push_part_at(out, blocks, k)?;
+    push_part_at(out, blocks.program, blocks.parts, k)?;
     push_range_at(out, blocks.starts, blocks.placed, k)?;
     out.extend_from_slice(b" spent ")?;
     push_share(out, sum_at(profiled.counts, blocks, k), profiled.whole)?;

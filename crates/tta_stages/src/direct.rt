@@ -3,7 +3,6 @@
 ghost use Rattle.std.specs.Prelude.{◌≡◌, true, IfOk, IfErr};
 ghost use Rattle.tta_ops.specs.Units.{Units};
 ghost use Rattle.tta_arch.specs.Rules.{IsMachine};
-ghost use Rattle.tta_connect.specs.Net.{IsNetOf};
 ghost use Rattle.tta_program.specs.Rules.{IsProgram};
 ghost use Rattle.tta_compose.specs.Direct.{is_direct};
 ghost use Rattle.tta_build.specs.Statement.{HasCause};
@@ -15,7 +14,7 @@ use crate::stages::Stages;
 use std::alloc::{AllocError, Global};
 use tta_arch::Machine;
 use tta_build::{BuildError, Sharing, link_placed, place_all};
-use tta_connect::Net;
+use tta_connect::Joined;
 use tta_lower::LowerError;
 use tta_program::Program;
 use tta_select::select_direct;
@@ -41,20 +40,18 @@ fn direct_lowered(alloc: Global, m: &Machine, p: &Program) -> Result<Lowered, Al
 /// The one list of a direct pair, and its placement. It fails only where there is no memory.
 fn direct_planned(
     alloc: Global,
-    m: &Machine,
-    net: &Net,
+    on: &Joined<'_>,
     p: &Program,
     code: &Lowered,
 ) -> Result<Planned, AllocError>
-    requires machine { IsMachine m.now }
+    requires machine { IsMachine on.now.machine.now }
     requires program { IsProgram p.now }
-    requires net { IsNetOf net.now m.now }
-    requires direct { is_direct m.now p.now ≡ true }
+    requires direct { is_direct on.now.machine.now p.now ≡ true }
     requires code { IsDirectLowered p.now code.now }
-    ensures { IfOk result (λ r. AreDirectLists m.now p.now r) }
+    ensures { IfOk result (λ r. AreDirectLists on.now.machine.now p.now r) }
 {
-    let selected = select_direct(alloc, &code.code, m)?;
-    let placed = place_all(alloc, selected.as_slice(), m, net)?;
+    let selected = select_direct(alloc, &code.code, on.machine)?;
+    let placed = place_all(alloc, selected.as_slice(), on)?;
     Ok(Planned {
         selected,
         trails: Vec::new(alloc),
@@ -63,22 +60,18 @@ fn direct_planned(
 }
 
 /// The stages of a direct pair.
-pub fn direct_stages(
-    alloc: Global,
-    m: &Machine,
-    net: &Net,
-    p: &Program,
-) -> Result<Stages, BuildError>
-    requires machine { IsMachine m.now }
+pub fn direct_stages(alloc: Global, on: &Joined<'_>, p: &Program) -> Result<Stages, BuildError>
+    requires machine { IsMachine on.now.machine.now }
     requires program { IsProgram p.now }
-    requires net { IsNetOf net.now m.now }
-    requires direct { is_direct m.now p.now ≡ true }
-    ensures stages { IfOk result (λ r. (u : Units) → AreDirectStages u m.now p.now r) }
-    ensures cause { IfErr result (λ e. (u : Units) → HasCause u m.now p.now e) }
+    requires direct { is_direct on.now.machine.now p.now ≡ true }
+    ensures stages { let M = on.now.machine.now in
+        IfOk result (λ r. (u : Units) → AreDirectStages u M p.now r) }
+    ensures cause { let M = on.now.machine.now in
+        IfErr result (λ e. (u : Units) → HasCause u M p.now e) }
 {
-    let lowered = direct_lowered(alloc, m, p)?;
-    let planned = direct_planned(alloc, m, net, p, &lowered)?;
-    match link_placed(alloc, planned.placed.as_slice(), m) {
+    let lowered = direct_lowered(alloc, on.machine, p)?;
+    let planned = direct_planned(alloc, on, p, &lowered)?;
+    match link_placed(alloc, planned.placed.as_slice(), on.machine) {
         Ok(code) => Ok(Stages {
             choice: None,
             lowered,

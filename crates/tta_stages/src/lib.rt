@@ -5,7 +5,6 @@
 #![tactic(auto)]
 
 mod body;
-mod covered;
 mod direct;
 mod intervals;
 mod listed;
@@ -23,5 +22,5 @@ pub use passed::Passed;
 pub use planned::Planned;
 pub use stages::{Stages, stages_of};
 pub use starts::block_starts;
-pub use text::{push_block, push_part, push_range_at, tell_stages};
+pub use text::{push_block, push_part_at, push_range_at, tell_stages};
 pub use trail::{Ordered, Round, Trail};

@@ -4,7 +4,6 @@ ghost use Rattle.std.specs.Prelude.{◌≡◌, ◌≤◌, if◌then◌else◌, n
 ghost use Rattle.tta_ops.specs.Set.{stated};
 ghost use Rattle.tta_arch.specs.Rules.{IsMachine};
 ghost use Rattle.tta_arch.specs.Over.{StandsOver};
-ghost use Rattle.tta_connect.specs.Coverage.{IsChoice};
 ghost use Rattle.tta_program.specs.Rules.{IsProgram};
 ghost use Rattle.tta_lower.specs.Statement.{IsCause};
 ghost use Rattle.tta_link.specs.Blocks.{total_length};
@@ -12,13 +11,11 @@ ghost use Rattle.tta_compose.specs.Needs.{are_offered};
 ghost use Rattle.tta_stages.specs.Lowered.{IsLoweredAs};
 ghost use Rattle.tta_stages.specs.Stages.{AreCoveredLists, AreListed};
 
-use crate::covered::Covered;
 use crate::lowered::{Lowered, lower_program};
 use crate::planned::{Planned, plan_lists};
 use std::alloc::{AllocError, Global};
-use tta_arch::Machine;
 use tta_build::{Sharing, is_small, total_length};
-use tta_connect::Choice;
+use tta_connect::Covered;
 use tta_lower::LowerError;
 use tta_ops::UnitSet;
 use tta_program::Program;
@@ -37,17 +34,18 @@ pub struct Listed {
 /// in this way.
 fn lowered_for(
     alloc: Global,
-    m: &Machine,
-    c: &Choice,
+    on: &Covered<'_>,
     p: &Program,
     sharing: Sharing,
 ) -> Result<Lowered, LowerError>
-    requires machine { IsMachine m.now }
+    requires machine { IsMachine on.now.machine.now }
     requires program { IsProgram p.now }
-    requires choice { IsChoice m.now c.now }
-    ensures code { IfOk result (λ r. IsLoweredAs p.now (length c.now.homes) m.now.frame_words r) }
-    ensures cause { IfErr result (λ e. IsCause p.now m.now.frame_words e) }
+    ensures code { let M = on.now.machine.now in
+        IfOk result (λ r. IsLoweredAs p.now (length on.now.choice.now.homes) M.frame_words r) }
+    ensures cause { IfErr result (λ e. IsCause p.now on.now.machine.now.frame_words e) }
 {
+    let m = on.machine;
+    let c = on.choice;
     let homes = c.homes.len() as u32;
     let lowered = lower_program(alloc, p, homes, m.frame_words, sharing)?;
     Ok(lowered)
@@ -73,7 +71,7 @@ fn planned_for(
         (λ r. AreCoveredLists U on.now.machine.now on.now.choice.now p.now code.now r) }
 {
     let selected = select(alloc, &code.code, on.machine, on.net, on.choice, units)?;
-    let all = plan_lists(alloc, on.machine, on.net, on.choice, selected)?;
+    let all = plan_lists(alloc, on, selected)?;
     Ok(all)
 }
 
@@ -94,7 +92,7 @@ fn listed_by(
         IfOk result (λ r. AreListed U on.now.machine.now on.now.choice.now p.now r) }
     ensures cause { IfErr result (λ e. IsCause p.now on.now.machine.now.frame_words e) }
 {
-    let lowered = lowered_for(alloc, on.machine, on.choice, p, sharing)?;
+    let lowered = lowered_for(alloc, on, p, sharing)?;
     let planned = planned_for(alloc, on, p, &lowered, units)?;
     Ok(Listed { lowered, planned })
 }

@@ -4,7 +4,6 @@ ghost use Rattle.std.specs.Prelude.{◌≡◌, true, false, None, Ok, Err, IfOk,
 ghost use Rattle.tta_ops.specs.Set.{stated};
 ghost use Rattle.tta_arch.specs.Rules.{IsMachine};
 ghost use Rattle.tta_arch.specs.Over.{StandsOver};
-ghost use Rattle.tta_connect.specs.Net.{IsNetOf};
 ghost use Rattle.tta_connect.specs.Coverage.{failed_rule};
 ghost use Rattle.tta_program.specs.Rules.{IsProgram};
 ghost use Rattle.tta_compose.specs.Needs.{are_offered};
@@ -12,7 +11,6 @@ ghost use Rattle.tta_compose.specs.Direct.{is_direct};
 ghost use Rattle.tta_build.specs.Statement.{HasCause, unsupplied};
 ghost use Rattle.tta_stages.specs.Stages.{AreStages, AreCoveredStages, ArePassages, staged};
 
-use crate::covered::Covered;
 use crate::direct::direct_stages;
 use crate::listed::{Listed, listed_for};
 use crate::lowered::Lowered;
@@ -21,7 +19,7 @@ use std::alloc::Global;
 use tta_arch::Machine;
 use tta_build::{BuildError, is_direct, link_placed, unoffered};
 use tta_code::Code;
-use tta_connect::{Choice, CoverError, Net, cover};
+use tta_connect::{Choice, CoverError, Covered, Joined, Net, cover};
 use tta_ops::UnitSet;
 use tta_program::Program;
 
@@ -129,29 +127,27 @@ fn with_choice(choice: Choice, passages: Result<Passages, BuildError>) -> Result
 /// The stages of a pair that is no direct one.
 fn covered_stages(
     alloc: Global,
-    m: &Machine,
-    net: &Net,
+    on: &Joined<'_>,
     p: &Program,
     units: &UnitSet,
 ) -> Result<Stages, BuildError>
-    requires machine { IsMachine m.now }
+    requires machine { IsMachine on.now.machine.now }
     requires program { IsProgram p.now }
-    requires over { StandsOver (stated unit_meaning units.now) m.now }
-    requires net { IsNetOf net.now m.now }
-    requires other { is_direct m.now p.now ≡ false }
+    requires over { StandsOver (stated unit_meaning units.now) on.now.machine.now }
+    requires other { is_direct on.now.machine.now p.now ≡ false }
     ensures stages { let U = stated unit_meaning units.now in
-        IfOk result (λ r. AreCoveredStages U m.now p.now r) }
+        IfOk result (λ r. AreCoveredStages U on.now.machine.now p.now r) }
     ensures cause { let U = stated unit_meaning units.now in
-        IfErr result (λ e. HasCause U m.now p.now e) }
+        IfErr result (λ e. HasCause U on.now.machine.now p.now e) }
 {
-    match cover(alloc, m) {
+    match cover(alloc, on.machine) {
         Ok(choice) => {
-            let on = Covered {
-                machine: m,
-                net,
+            let covered = Covered {
+                machine: on.machine,
+                net: on.net,
                 choice: &choice,
             };
-            let passages = passages_by(alloc, &on, p, units);
+            let passages = passages_by(alloc, &covered, p, units);
             with_choice(choice, passages)
         }
         Err(CoverError::Rule(rule)) => Err(BuildError::NotCovered { rule }),
@@ -175,8 +171,12 @@ pub fn stages_of(
 {
     keep_rules(m, p);
     let net = Net::of(alloc, m)?;
-    if is_direct(m, &net, p) {
-        return direct_stages(alloc, m, &net, p);
+    let on = Joined {
+        machine: m,
+        net: &net,
+    };
+    if is_direct(&on, p) {
+        return direct_stages(alloc, &on, p);
     }
-    covered_stages(alloc, m, &net, p, units)
+    covered_stages(alloc, &on, p, units)
 }

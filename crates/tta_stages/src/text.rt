@@ -11,6 +11,6 @@ mod told;
 mod variables;
 mod words;
 
-pub use register::{push_part, push_range_at};
+pub use register::{push_part_at, push_range_at};
 pub use told::tell_stages;
 pub use words::push_block;

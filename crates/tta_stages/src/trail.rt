@@ -2,17 +2,14 @@
 
 ghost use Rattle.std.specs.Prelude.{◌≡◌, true, length, IfOk, IfSome};
 ghost use Rattle.std.specs.List.{list_all};
-ghost use Rattle.tta_connect.specs.Net.{IsNetOf};
-ghost use Rattle.tta_connect.specs.Coverage.{IsChoice};
 ghost use Rattle.tta_moves.specs.Slots.{is_list};
 ghost use Rattle.tta_optim.specs.Kept.{IsStandIn};
 ghost use Rattle.tta_stages.specs.Trail.{IsOrdered, IsRound, IsTrail, AreTrails, last_of};
 
 use crate::passed::{Passed, pass_list};
 use std::alloc::{AllocError, Global};
-use tta_arch::Machine;
 use tta_build::{Order, Way};
-use tta_connect::{Choice, Net};
+use tta_connect::{Covered, Joined};
 use tta_moves::BlockList;
 use tta_order::{Orders, Rule};
 use tta_reload::reload;
@@ -56,26 +53,24 @@ impl Trail {
 /// there is no memory.
 fn round_of(
     alloc: Global,
-    m: &Machine,
-    net: &Net,
+    on: &Joined<'_>,
     list: &BlockList,
     ordered: Option<Ordered>,
 ) -> Result<Round, AllocError>
-    requires net { IsNetOf net.now m.now }
-    requires list { is_list m.now list.now.items ≡ true }
-    requires ordered { IsOrdered m.now list.now ordered }
-    ensures { IfOk result (λ r. IsRound m.now list.now r) }
+    requires list { is_list on.now.machine.now list.now.items ≡ true }
+    requires ordered { IsOrdered on.now.machine.now list.now ordered }
+    ensures { IfOk result (λ r. IsRound on.now.machine.now list.now r) }
 {
     match ordered {
         Some(o) => {
-            let passed = pass_list(alloc, m, net, &o.list)?;
+            let passed = pass_list(alloc, on, &o.list)?;
             Ok(Round {
                 ordered: Some(o),
                 passed,
             })
         }
         None => {
-            let passed = pass_list(alloc, m, net, list)?;
+            let passed = pass_list(alloc, on, list)?;
             Ok(Round {
                 ordered: None,
                 passed,
@@ -127,19 +122,17 @@ impl Tracer {
     fn ordered(
         &mut self,
         alloc: Global,
-        m: &Machine,
-        net: &Net,
+        on: &Joined<'_>,
         list: &BlockList,
         by: Order,
     ) -> Result<Option<Ordered>, AllocError>
-        requires net { IsNetOf net.now m.now }
-        requires list { is_list m.now list.now.items ≡ true }
-        ensures { IfOk result (λ o. IsOrdered m.now list.now o) }
+        requires list { is_list on.now.machine.now list.now.items ≡ true }
+        ensures { IfOk result (λ o. IsOrdered on.now.machine.now list.now o) }
     {
         let Some(rule) = rule_of(by) else {
             return Ok(None);
         };
-        match self.orders.order(alloc, list, m, net, rule)? {
+        match self.orders.order(alloc, list, on.machine, on.net, rule)? {
             Some(other) => Ok(Some(Ordered { by, list: other })),
             None => Ok(None),
         }
@@ -150,17 +143,15 @@ impl Tracer {
     fn first(
         &mut self,
         alloc: Global,
-        m: &Machine,
-        net: &Net,
+        on: &Joined<'_>,
         list: &BlockList,
         way: Way,
     ) -> Result<Round, AllocError>
-        requires net { IsNetOf net.now m.now }
-        requires list { is_list m.now list.now.items ≡ true }
-        ensures { IfOk result (λ r. IsRound m.now list.now r) }
+        requires list { is_list on.now.machine.now list.now.items ≡ true }
+        ensures { IfOk result (λ r. IsRound on.now.machine.now list.now r) }
     {
-        let ordered = self.ordered(alloc, m, net, list, first_order(way.order))?;
-        let round = round_of(alloc, m, net, list, ordered)?;
+        let ordered = self.ordered(alloc, on, list, first_order(way.order))?;
+        let round = round_of(alloc, on, list, ordered)?;
         Ok(round)
     }
 
@@ -169,18 +160,16 @@ impl Tracer {
     fn second(
         &mut self,
         alloc: Global,
-        m: &Machine,
-        net: &Net,
+        on: &Joined<'_>,
         list: &BlockList,
         way: Way,
     ) -> Result<Option<Round>, AllocError>
-        requires net { IsNetOf net.now m.now }
-        requires list { is_list m.now list.now.items ≡ true }
-        ensures { IfOk result (λ o. IfSome o (λ r. IsRound m.now list.now r)) }
+        requires list { is_list on.now.machine.now list.now.items ≡ true }
+        ensures { IfOk result (λ o. IfSome o (λ r. IsRound on.now.machine.now list.now r)) }
     {
-        match self.ordered(alloc, m, net, list, second_order(way.order))? {
+        match self.ordered(alloc, on, list, second_order(way.order))? {
             Some(ordered) => {
-                let round = round_of(alloc, m, net, list, Some(ordered))?;
+                let round = round_of(alloc, on, list, Some(ordered))?;
                 Ok(Some(round))
             }
             None => Ok(None),
@@ -192,18 +181,16 @@ impl Tracer {
     fn rounds(
         &mut self,
         alloc: Global,
-        m: &Machine,
-        net: &Net,
+        on: &Joined<'_>,
         list: &BlockList,
         way: Way,
     ) -> Result<(Round, Option<Round>), AllocError>
-        requires net { IsNetOf net.now m.now }
-        requires list { is_list m.now list.now.items ≡ true }
-        ensures { IfOk result (λ r. IsRound m.now list.now r.0
-            × IfSome r.1 (λ next. IsRound m.now r.0.passed.lively next)) }
+        requires list { is_list on.now.machine.now list.now.items ≡ true }
+        ensures { IfOk result (λ r. IsRound on.now.machine.now list.now r.0
+            × IfSome r.1 (λ next. IsRound on.now.machine.now r.0.passed.lively next)) }
     {
-        let first = self.first(alloc, m, net, list, way)?;
-        let second = self.second(alloc, m, net, &first.passed.lively, way)?;
+        let first = self.first(alloc, on, list, way)?;
+        let second = self.second(alloc, on, &first.passed.lively, way)?;
         Ok((first, second))
     }
 
@@ -212,20 +199,20 @@ impl Tracer {
     pub fn trail(
         &mut self,
         alloc: Global,
-        m: &Machine,
-        net: &Net,
-        c: &Choice,
+        on: &Covered<'_>,
         b: &BlockList,
         way: Way,
     ) -> Result<Trail, AllocError>
-        requires net { IsNetOf net.now m.now }
-        requires choice { IsChoice m.now c.now }
-        requires list { is_list m.now b.now.items ≡ true }
-        ensures { IfOk result (λ t. IsTrail m.now b.now t) }
+        requires list { is_list on.now.machine.now b.now.items ≡ true }
+        ensures { IfOk result (λ t. IsTrail on.now.machine.now b.now t) }
     {
-        match served(alloc, m, net, c, b, way.served)? {
+        let joined = Joined {
+            machine: on.machine,
+            net: on.net,
+        };
+        match served(alloc, on, b, way.served)? {
             Some(list) => {
-                let (first, second) = self.rounds(alloc, m, net, &list, way)?;
+                let (first, second) = self.rounds(alloc, &joined, &list, way)?;
                 Ok(Trail {
                     served: Some(list),
                     first,
@@ -233,7 +220,7 @@ impl Tracer {
                 })
             }
             None => {
-                let (first, second) = self.rounds(alloc, m, net, b, way)?;
+                let (first, second) = self.rounds(alloc, &joined, b, way)?;
                 Ok(Trail {
                     served: None,
                     first,
@@ -248,21 +235,17 @@ impl Tracer {
     pub fn trails_of(
         &mut self,
         alloc: Global,
-        m: &Machine,
-        net: &Net,
-        c: &Choice,
+        on: &Covered<'_>,
         lists: &[BlockList],
         ways: &[Way],
     ) -> Result<Vec<Trail>, AllocError>
-        requires net { IsNetOf net.now m.now }
-        requires choice { IsChoice m.now c.now }
-        requires lists { list_all (λ b. is_list m.now b.items) lists.now ≡ true }
+        requires lists { list_all (λ b. is_list on.now.machine.now b.items) lists.now ≡ true }
         requires ways { length ways.now ≡ length lists.now }
-        ensures { IfOk result (λ ts. AreTrails m.now lists.now ts.items) }
+        ensures { IfOk result (λ ts. AreTrails on.now.machine.now lists.now ts.items) }
     {
         let mut trails = Vec::new(alloc);
         for k in 0..lists.len() {
-            let trail = self.trail(alloc, m, net, c, &lists[k], ways[k])?;
+            let trail = self.trail(alloc, on, &lists[k], ways[k])?;
             trails.push(trail)?;
         }
         Ok(trails)
@@ -273,20 +256,16 @@ impl Tracer {
 /// memory.
 fn served(
     alloc: Global,
-    m: &Machine,
-    net: &Net,
-    c: &Choice,
+    on: &Covered<'_>,
     b: &BlockList,
     serves: bool,
 ) -> Result<Option<BlockList>, AllocError>
-    requires net { IsNetOf net.now m.now }
-    requires choice { IsChoice m.now c.now }
-    requires list { is_list m.now b.now.items ≡ true }
-    ensures { IfOk result (λ o. IfSome o (λ r. IsStandIn m.now b.now r)) }
+    requires list { is_list on.now.machine.now b.now.items ≡ true }
+    ensures { IfOk result (λ o. IfSome o (λ r. IsStandIn on.now.machine.now b.now r)) }
 {
     if !serves {
         return Ok(None);
     }
-    let list = reload(alloc, m, net, c, b)?;
+    let list = reload(alloc, on.machine, on.net, on.choice, b)?;
     Ok(list)
 }

@@ -1,9 +1,9 @@
 //! The blocks of code, with what each stands for.
 
-ghost use Rattle.std.specs.Prelude.{◌≡◌, ◌++◌, [], OnOk};
-ghost use Rattle.tta_stages.specs.RegisterText.{part_at, named_text};
+ghost use Rattle.std.specs.Prelude.{◌≡◌, ◌++◌, OnOk};
+ghost use Rattle.tta_stages.specs.RegisterText.{named_text};
 
-use crate::text::register::push_part;
+use crate::text::register::push_part_at;
 use crate::text::words::push_block;
 use std::alloc::AllocError;
 use tta_arch::Machine;
@@ -19,17 +19,6 @@ pub struct Of<'a> {
     pub parts: &'a [Part],
 }
 
-/// Puts what the block of a number stands for, if there is one.
-fn push_part_at(out: &mut Vec<u8>, of: &Of<'_>, k: usize) -> Result<(), AllocError>
-    ensures { OnOk result (out.new.items ≡ out.old.items
-        ++ part_at of.now.p.now of.now.parts.now k) }
-{
-    match of.parts.get(k) {
-        Some(part) => push_part(out, of.p, *part),
-        None => Ok(()),
-    }
-}
-
 /// Puts the name of a block of code, and what it stands for.
 #[tactic(auto, unfolding(crate::specs::RegisterText::named_text))]
 pub fn push_named(out: &mut Vec<u8>, of: &Of<'_>, k: usize) -> Result<(), AllocError>
@@ -37,5 +26,5 @@ pub fn push_named(out: &mut Vec<u8>, of: &Of<'_>, k: usize) -> Result<(), AllocE
         ++ named_text of.now.p.now of.now.parts.now k) }
 {
     push_block(out, k as u128)?;
-    push_part_at(out, of, k)
+    push_part_at(out, of.p, of.parts, k)
 }

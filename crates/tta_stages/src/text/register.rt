@@ -3,7 +3,7 @@
 ghost use Rattle.std.specs.Prelude.{◌≡◌, ◌++◌, codes, OnOk};
 ghost use Rattle.tta_ops.specs.Set.{stated};
 ghost use Rattle.tta_stages.specs.Words.{home_text};
-ghost use Rattle.tta_stages.specs.RegisterText.{lines_text, return_text, part_text, range_text};
+ghost use Rattle.tta_stages.specs.RegisterText.{lines_text, return_text, part_text, part_at, range_text};
 ghost use Rattle.tta_stages.specs.RegisterText.{range_at, code_heading, homes_text, rblock_text};
 ghost use Rattle.tta_stages.specs.RegisterText.{rblock_at, code_text, register_text};
 
@@ -73,13 +73,28 @@ fn push_returned(out: &mut Vec<u8>, p: &Program, b: Block) -> Result<(), AllocEr
 }
 
 /// Puts what a block stands for: the entry of a procedure, some steps, or the return from a call.
-pub fn push_part(out: &mut Vec<u8>, p: &Program, part: Part) -> Result<(), AllocError>
+fn push_part(out: &mut Vec<u8>, p: &Program, part: Part) -> Result<(), AllocError>
     ensures { OnOk result (out.new.items ≡ out.old.items ++ part_text p.now part) }
 {
     match part {
         Part::Entry(owner) => push_entry(out, p, owner),
         Part::Steps(b) => push_steps(out, p, b),
         Part::Returned(b, _, _) => push_returned(out, p, b),
+    }
+}
+
+/// Puts the same of the block of a number, if there is one.
+pub fn push_part_at(
+    out: &mut Vec<u8>,
+    p: &Program,
+    parts: &[Part],
+    k: usize,
+) -> Result<(), AllocError>
+    ensures { OnOk result (out.new.items ≡ out.old.items ++ part_at p.now parts.now k) }
+{
+    match parts.get(k) {
+        Some(part) => push_part(out, p, *part),
+        None => Ok(()),
     }
 }
 

@@ -8,17 +8,19 @@ use Rattle.tta_build.proofs.Directs.{are_lists}
 use Rattle.tta_stages.proofs.DirectStages.{direct_lists}
 use Rattle.tta_stages.proofs.direct.direct_planned.Goals as goal
 
-pub place_all-requires-clause-lists : goal.place_all-requires-clause-lists
-place_all-requires-clause-lists c =
-    let m = c.args.m.now in
+pub place_all-requires : goal.place_all-requires
+place_all-requires c =
+    let m = c.args.on.now.machine.now in
     let p = c.args.p.now in
-    subst (λ (l : List BlockList). list_all (λ (b : BlockList). is_list m b.items) l ≡ true) (sym c.as_slice.ensures.value)
-    (are_lists m p c.in_ok-selected.selected.items c.requires.machine c.requires.program c.requires.direct
-    (direct_lists m p c.args.code.now c.requires.program c.requires.direct c.requires.code c.in_ok-selected.selected.items c.in_ok-selected.ensures.one))
+    record {
+      lists = subst (λ (l : List BlockList). list_all (λ (b : BlockList). is_list m b.items) l ≡ true) (sym c.as_slice.ensures.value)
+          (are_lists m p c.in_ok-selected.selected.items c.requires.machine c.requires.program c.requires.direct
+          (direct_lists m p c.args.code.now c.requires.program c.requires.direct c.requires.code c.in_ok-selected.selected.items c.in_ok-selected.ensures.one));
+    }
 
 pub returns : goal.returns
 returns c =
-    let m = c.args.m.now in
+    let m = c.args.on.now.machine.now in
     let p = c.args.p.now in record {
       selected = (direct_lists m p c.args.code.now c.requires.program c.requires.direct c.requires.code c.in_ok-selected.selected.items c.in_ok-selected.ensures.one).are;
       trails = c.new.ensures.items;

@@ -6,12 +6,12 @@ use Rattle.tta_stages.proofs.listed.lowered_for.Goals as goal
 
 pub overflow_cast-homes : goal.overflow_cast-homes
 overflow_cast-homes c =
-    let few = few_homes c.args.m.now c.args.c.now c.requires.machine c.requires.choice in
+    let few = few_homes c.args.on.now.machine.now c.args.on.now.choice.now c.requires.machine c.args.on.now.choice_of in
     let size = c.len-homes.ensures in omega (arith, few, size)
 
 pub returns-clause-code : goal.returns-clause-code
 returns-clause-code c =
     let Within : ℕ → Type 0 = λ n. IsLoweredAs c.args.p.now c.len-homes.result n c.in_ok-lowered.lowered in
     let within = subst Within (ap (λ (x : Machine). x.frame_words) c.m.view_is) c.in_ok-lowered.ensures.code in
-    let Given : ℕ → Type 0 = λ n. IsLoweredAs c.args.p.now n c.args.m.now.frame_words c.in_ok-lowered.lowered in
+    let Given : ℕ → Type 0 = λ n. IsLoweredAs c.args.p.now n c.args.on.now.machine.now.frame_words c.in_ok-lowered.lowered in
     subst Given c.len-homes.ensures within

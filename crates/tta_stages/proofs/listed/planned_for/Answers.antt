@@ -14,16 +14,18 @@ select-requires-clause-fits g c =
     blocks_fit U m c.args.on.now.choice.now p c.requires.machine c.requires.over c.args.on.now.choice_of c.requires.program c.requires.offered
     c.args.code.now.code (is_lowered p (length c.args.on.now.choice.now.homes) m.frame_words c.args.code.now c.requires.code)
 
-pub plan_lists-requires-clause-lists : goal.plan_lists-requires-clause-lists
-plan_lists-requires-clause-lists g c =
+pub plan_lists-requires : goal.plan_lists-requires
+plan_lists-requires g c =
     let U = stated (λ v. (goal.OpUnit-dyn g v).unit_meaning v.1) c.args.units.now in
     let m = c.args.on.now.machine.now in
     let p = c.args.p.now in
     let is = is_lowered p (length c.args.on.now.choice.now.homes) m.frame_words c.args.code.now c.requires.code in
-    selected_lists U m c.args.on.now.choice.now p c.requires.machine c.requires.over c.args.on.now.choice_of c.requires.program c.requires.offered
-    c.in_ok-selected.selected.items
-    (selected_of U m c.args.on.now.choice.now p c.requires.machine c.requires.over c.args.on.now.choice_of c.requires.program c.requires.offered
-    c.args.code.now.code c.in_ok-selected.selected.items is c.in_ok-selected.ensures.lists)
+    record {
+      lists = selected_lists U m c.args.on.now.choice.now p c.requires.machine c.requires.over c.args.on.now.choice_of c.requires.program c.requires.offered
+          c.in_ok-selected.selected.items
+          (selected_of U m c.args.on.now.choice.now p c.requires.machine c.requires.over c.args.on.now.choice_of c.requires.program c.requires.offered
+          c.args.code.now.code c.in_ok-selected.selected.items is c.in_ok-selected.ensures.lists);
+    }
 
 pub returns : goal.returns
 returns g c =

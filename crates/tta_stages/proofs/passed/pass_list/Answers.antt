@@ -19,5 +19,5 @@ returns c =
       bypassed = list_is c.in_ok-bypassed.bypassed list _ one.are one.live;
       shared = list_is c.in_ok-shared.shared list _ two.are live;
       lively = list_is c.in_ok-lively.lively list _
-          (three.are ∙ ap (λ (l : List (ℕ × ℕ)). dead_items c.args.m.now l c.in_ok-shared.shared.items) live) (three.live ∙ live);
+          (three.are ∙ ap (λ (l : List (ℕ × ℕ)). dead_items c.args.on.now.machine.now l c.in_ok-shared.shared.items) live) (three.live ∙ live);
     }

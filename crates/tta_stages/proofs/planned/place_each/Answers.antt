@@ -15,7 +15,7 @@ use Rattle.tta_stages.proofs.planned.place_each.Goals as goal
 pub place-requires-clause-list : goal.place-requires-clause-list
 place-requires-clause-list c =
     rw c.last.ensures
-    (list_all_one (λ (b : BlockList). is_list c.args.m.now b.items) (lasts_of c.args.trails.now) c.loop-trail.trail-index (last_of c.trail-item.result) c.requires.lists
+    (list_all_one (λ (b : BlockList). is_list c.args.on.now.machine.now b.items) (lasts_of c.args.trails.now) c.loop-trail.trail-index (last_of c.trail-item.result) c.requires.lists
     (last_there c.args.trails.now c.loop-trail.trail-index c.trail-item.result (slice_get_read c.args.trails.now (length c.args.trails.now) c.loop-trail.trail-index c.trail-item.result refl (omega arith) c.trail-item.is)))
 
 pub loop-trail-preserved : goal.loop-trail-preserved
@@ -26,11 +26,11 @@ loop-trail-preserved c =
     record {
       count = more_count c.loop-trail.placed.items c.push.new.self.items c.in_ok-p.p c.loop-trail.trail-index c.in_ok-push.ensures.items c.loop-trail.invariant.count;
       first = rw c.in_ok-push.ensures.items
-          (one_more (λ b p. IsFirstFit c.args.m.now b.items p) (lasts_of c.args.trails.now) c.loop-trail.placed.items c.last.result.now c.in_ok-p.p c.loop-trail.invariant.first here c.in_ok-p.ensures.first);
+          (one_more (λ b p. IsFirstFit c.args.on.now.machine.now b.items p) (lasts_of c.args.trails.now) c.loop-trail.placed.items c.last.result.now c.in_ok-p.p c.loop-trail.invariant.first here c.in_ok-p.ensures.first);
       respects = rw c.in_ok-push.ensures.items
-          (one_more (λ b p. Respects c.args.m.now b.items p) (lasts_of c.args.trails.now) c.loop-trail.placed.items c.last.result.now c.in_ok-p.p c.loop-trail.invariant.respects here c.in_ok-p.ensures.respects);
+          (one_more (λ b p. Respects c.args.on.now.machine.now b.items p) (lasts_of c.args.trails.now) c.loop-trail.placed.items c.last.result.now c.in_ok-p.p c.loop-trail.invariant.respects here c.in_ok-p.ensures.respects);
       room = rw c.in_ok-push.ensures.items
-          (one_more (λ b p. HasRoom c.args.m.now b.items p) (lasts_of c.args.trails.now) c.loop-trail.placed.items c.last.result.now c.in_ok-p.p c.loop-trail.invariant.room here c.in_ok-p.ensures.room);
+          (one_more (λ b p. HasRoom c.args.on.now.machine.now b.items p) (lasts_of c.args.trails.now) c.loop-trail.placed.items c.last.result.now c.in_ok-p.p c.loop-trail.invariant.room here c.in_ok-p.ensures.room);
     }
 
 pub returns-clause-first : goal.returns-clause-first

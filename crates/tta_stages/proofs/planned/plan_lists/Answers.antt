@@ -9,16 +9,18 @@ use Rattle.tta_stages.specs.Trail.{AreTrails, lasts_of}
 use Rattle.tta_stages.proofs.Trails.{all_lists}
 use Rattle.tta_stages.proofs.planned.plan_lists.Goals as goal
 
-pub placements-requires-clause-lists : goal.placements-requires-clause-lists
-placements-requires-clause-lists c =
-    let m = c.args.m.now in
+pub placements-requires : goal.placements-requires
+placements-requires c =
+    let m = c.args.on.now.machine.now in
     let trails = subst (λ (ls : List BlockList). AreTrails m ls c.in_ok-trails.trails.items) c.as_slice.ensures.value c.in_ok-trails.ensures in
-    subst (λ (ts : List Trail). list_all (λ (b : BlockList). is_list m b.items) (lasts_of ts) ≡ true) (sym c.as_slice-2.ensures.value)
-    (all_lists m c.args.selected.items c.in_ok-trails.trails.items trails c.requires.lists)
+    record {
+      lists = subst (λ (ts : List Trail). list_all (λ (b : BlockList). is_list m b.items) (lasts_of ts) ≡ true) (sym c.as_slice-2.ensures.value)
+          (all_lists m c.args.selected.items c.in_ok-trails.trails.items trails c.requires.lists);
+    }
 
 pub returns : goal.returns
 returns c =
-    let m = c.args.m.now in record {
+    let m = c.args.on.now.machine.now in record {
       selected = refl;
       trails = subst (λ (ls : List BlockList). AreTrails m ls c.in_ok-trails.trails.items) c.as_slice.ensures.value c.in_ok-trails.ensures;
       first = subst (λ (ts : List Trail). AreFirstFits m (lasts_of ts) c.in_ok-placed.placed.items) c.as_slice-2.ensures.value c.in_ok-placed.ensures.first;

@@ -14,7 +14,7 @@ loop-k-preserved c =
     record {
       count = more_count c.loop-k.trails.items c.push.new.self.items c.in_ok-trail.trail c.loop-k.k c.in_ok-push.ensures.items c.loop-k.invariant.count;
       each = rw c.in_ok-push.ensures.items
-          (along_more (λ (b : BlockList) (t : Trail). IsTrail c.args.m.now b t) c.args.lists.now c.loop-k.trails.items c.index-lists-k.result c.in_ok-trail.trail
+          (along_more (λ (b : BlockList) (t : Trail). IsTrail c.args.on.now.machine.now b t) c.args.lists.now c.loop-k.trails.items c.index-lists-k.result c.in_ok-trail.trail
           c.loop-k.invariant.each here c.in_ok-trail.ensures);
     }
 

@@ -8,5 +8,5 @@ use Rattle.tta_stages.proofs.trail.Tracer.trails_of.Given as goal
 abbrev pub invariant-loop-k : goal.invariant-loop-k
 invariant-loop-k l = record {
   count : length l.trails.items ≡ l.k;
-  each : Along (λ (b : BlockList) (t : Trail). IsTrail l.m b t) l.lists l.trails.items;
+  each : Along (λ (b : BlockList) (t : Trail). IsTrail l.on.machine.now b t) l.lists l.trails.items;
 }
