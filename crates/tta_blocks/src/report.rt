@@ -20,7 +20,7 @@ fn push_line(
     requires few { length profiled.now.counts.now.executed ≤ 65536 }
     ensures { OnOk result (out.new.items ≡ out.old.items
         ++ block_line profiled.now.counts.now profiled.now.whole blocks.now.program.now
-            blocks.now.parts.now blocks.now.starts.now blocks.now.placed.now k) }
+        blocks.now.parts.now blocks.now.starts.now blocks.now.placed.now k) }
 {
     out.extend_from_slice(b"block ")?;
     push_block(out, k as u128)?;
