@@ -1,9 +1,7 @@
 -- Operations that take a word of the input.
-use Rattle.std.proofs.Common.{◌≡◌, ℕ, List, [], ◌∷◌, Option, sym, ap, arith}
+use Rattle.std.proofs.Common.{◌≡◌, ℕ, List, [], ◌∷◌, Option, sym, ap}
 use Rattle.std.specs.Prelude.{slice_get, slice_index}
 use Rattle.std.specs.Option.{unwrap_or}
-use Rattle.tta_arch.specs.Effects.{takes}
-use Rattle.tta_list.specs.Input.{left}
 
 -- what takes nothing leaves the input
 

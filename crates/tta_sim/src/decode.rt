@@ -243,10 +243,7 @@ fn line(alloc: Global, m: &Machine, back: u32, i: &Instruction) -> Result<Line, 
         controls: Items::new(alloc),
         quiet: true,
     };
-    let Ok(()) = add_moves(&mut line, m, back, i) else {
-        drop(line);
-        return Err(AllocError);
-    };
+    add_moves(&mut line, m, back, i)?;
     line.quiet = is_quiet(&line.starts, &line.controls);
     Ok(line)
 }
@@ -275,10 +272,7 @@ pub fn decode(alloc: Global, m: &Machine, code: &Code) -> Result<Items<Line>, Al
     let mut lines = Items::new(alloc);
     let mut back = 1 + u32::from(m.control.delay);
     for i in code.words.as_slice() {
-        let Ok(()) = add_line(&mut lines, alloc, m, back, i) else {
-            drop(lines);
-            return Err(AllocError);
-        };
+        add_line(&mut lines, alloc, m, back, i)?;
         back += 1;
     }
     Ok(lines)

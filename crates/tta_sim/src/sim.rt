@@ -60,9 +60,7 @@ fn region_of(alloc: Global, m: &Machine) -> Result<Region, AllocError>
     ensures none { IfOk result (λ r. AreResultsOf [] 0 (units_of 0 m.now r)) }
 {
     let longest = longest(alloc, m.units.len())?;
-    let Ok(region) = Region::new(alloc, longest.as_slice()) else {
-        return Err(AllocError);
-    };
+    let region = Region::new(alloc, longest.as_slice())?;
     Ok(region)
 }
 
@@ -85,10 +83,7 @@ impl Sim {
         ensures loaded { IfOk result (λ r. IsRunOf m.now code.now r) }
     {
         let state = SimState::load(alloc, m, code, memory)?;
-        let Ok(region) = region_of(alloc, m) else {
-            drop(state);
-            return Err(AllocError);
-        };
+        let region = region_of(alloc, m)?;
         Ok(Sim { state, region })
     }
 

@@ -80,19 +80,10 @@ impl SimState {
             → StandsWith r h (start m.now memory.items input)) }
         ensures loaded { IfOk result (λ h. IsStateOf m.now code.now h) }
     {
-        // What was taken so far is dropped by name, so that a way out is left with nothing.
-        let Ok(store) = Store::unset(alloc, m.frame_words as usize, memory) else {
-            return Err(AllocError);
-        };
-        let Ok(lines) = decode(alloc, m, code) else {
-            drop(store);
-            return Err(AllocError);
-        };
-        let Ok(buffers) = CycleBuffers::none(alloc) else {
-            drop(store);
-            drop(lines);
-            return Err(AllocError);
-        };
+        let frame_words = m.frame_words as usize;
+        let lines = decode(alloc, m, code)?;
+        let buffers = CycleBuffers::none(alloc)?;
+        let store = Store::unset(alloc, frame_words, memory)?;
         let control = Control::first();
         let run = Run {
             store,

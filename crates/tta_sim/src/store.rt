@@ -32,16 +32,8 @@ impl Store {
         ensures memory { IfOk result (λ s. s.memory.items ≡ memory.items) }
         ensures frame { IfOk result (λ s. s.frame.items ≡ replicate frame_words 0) }
     {
-        // What was taken so far is dropped by name, so that a way out is left with nothing.
-        let Ok(places) = Places::unset(alloc) else {
-            drop(memory);
-            return Err(AllocError);
-        };
-        let Ok(frame) = zeros(alloc, frame_words) else {
-            drop(memory);
-            drop(places);
-            return Err(AllocError);
-        };
+        let places = Places::unset(alloc)?;
+        let frame = zeros(alloc, frame_words)?;
         Ok(Store {
             places,
             cycle: 0,
@@ -64,19 +56,9 @@ pub struct CycleBuffers {
 impl CycleBuffers {
     /// Nothing is done yet.
     pub fn none(alloc: Global) -> Result<Self, AllocError> {
-        // What was taken so far is dropped by name, so that a way out is left with nothing.
-        let Ok(writes) = Short::new(alloc) else {
-            return Err(AllocError);
-        };
-        let Ok(starts) = Short::new(alloc) else {
-            drop(writes);
-            return Err(AllocError);
-        };
-        let Ok(dues) = Short::new(alloc) else {
-            drop(writes);
-            drop(starts);
-            return Err(AllocError);
-        };
+        let writes = Short::new(alloc)?;
+        let starts = Short::new(alloc)?;
+        let dues = Short::new(alloc)?;
         Ok(CycleBuffers {
             writes,
             starts,

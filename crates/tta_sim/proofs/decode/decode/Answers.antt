@@ -8,7 +8,7 @@ loop-i-preserved c =
     let m = c.args.m.now in
     let before = c.loop-i.lines in
     let i = c.i-item.result in
-    let added = c.in-Ok.ensures
+    let added = c.in_ok-add_line.ensures
     ∙ ap (λ n. before ++ line_of m n i ∷ []) c.loop-i.invariant.back
     ∙ ap (λ x. before ++ line_of m (1 + m.control.delay + c.loop-i.i-index) x ∷ []) c.i-item.is in
     record {

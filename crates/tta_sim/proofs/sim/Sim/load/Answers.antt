@@ -5,9 +5,9 @@ use Rattle.tta_sim.proofs.sim.Sim.load.Goals as goal
 
 pub returns-clause-start : goal.returns-clause-start
 returns-clause-start c = λ input.
-    own_stands c.args.m.now c.args.code.now c.in_ok-state.state c.in-Ok.region c.in-Ok.ensures.units (start c.args.m.now c.args.memory.items input)
-    (c.in_ok-state.ensures.start (units_of 0 c.args.m.now c.in-Ok.region) input c.in-Ok.ensures.none)
+    own_stands c.args.m.now c.args.code.now c.in_ok-state.state c.in_ok-region.region c.in_ok-region.ensures.units (start c.args.m.now c.args.memory.items input)
+    (c.in_ok-state.ensures.start (units_of 0 c.args.m.now c.in_ok-region.region) input c.in_ok-region.ensures.none)
 
 pub returns-clause-loaded : goal.returns-clause-loaded
 returns-clause-loaded c =
-    own_run c.args.m.now c.args.code.now c.in_ok-state.state c.in-Ok.region c.in-Ok.ensures.units c.in_ok-state.ensures.loaded c.in-Ok.ensures.has_units
+    own_run c.args.m.now c.args.code.now c.in_ok-state.state c.in_ok-region.region c.in_ok-region.ensures.units c.in_ok-state.ensures.loaded c.in_ok-region.ensures.has_units
