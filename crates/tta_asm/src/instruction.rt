@@ -61,13 +61,7 @@ fn moves_of(
 {
     let mut moves = Items::new(alloc);
     for (bus, slot) in slots.iter().enumerate() {
-        let action = match slot_move(target, labels, bus as u8, slot) {
-            Ok(action) => action,
-            Err(e) => {
-                drop(moves);
-                return Err(e);
-            }
-        };
+        let action = slot_move(target, labels, bus as u8, slot)?;
         moves.push(action)?;
     }
     Ok(moves)
@@ -151,11 +145,6 @@ pub fn instruction_of(
         (option_map long_seen long.entry)) }
 {
     let moves = all_moves(alloc, target, labels, at.line, slots)?;
-    match longs_of(target, labels, &long) {
-        Ok(long) => checked(target, at, Instruction { moves, long }),
-        Err(e) => {
-            drop(moves);
-            Err(e)
-        }
-    }
+    let long = longs_of(target, labels, &long)?;
+    checked(target, at, Instruction { moves, long })
 }

@@ -111,11 +111,6 @@ pub fn collect_labels(alloc: Global, text: &[u8], count: usize) -> Result<Names<
     let mut words = Vec::new(alloc);
     let mut pieces = Pieces::behind(text, count, &mut words)?;
     let mut labels = Names::new(alloc);
-    match add_labels(alloc, &mut labels, &mut pieces, &mut words) {
-        Ok(()) => Ok(labels),
-        Err(e) => {
-            drop(labels);
-            Err(e)
-        }
-    }
+    add_labels(alloc, &mut labels, &mut pieces, &mut words)?;
+    Ok(labels)
 }

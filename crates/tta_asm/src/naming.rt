@@ -129,13 +129,8 @@ pub fn all_parts(alloc: Global, m: &Machine) -> Result<Names<Part>, AllocError>
     ensures { IfOk result (λ names. NameTheSame names (parts_of m.now)) }
 {
     let mut names = Names::new(alloc);
-    match add_all_parts(alloc, &mut names, m) {
-        Ok(()) => Ok(names),
-        Err(e) => {
-            drop(names);
-            Err(e)
-        }
-    }
+    add_all_parts(alloc, &mut names, m)?;
+    Ok(names)
 }
 
 /// Declares the names of all operations of a unit after the others.
@@ -163,13 +158,8 @@ fn ops_of(alloc: Global, unit: &Unit, units: &UnitSet) -> Result<Names<u8>, Allo
         (ops_of (stated unit_meaning units.now) unit.now)) }
 {
     let mut names = Names::new(alloc);
-    match add_ops(alloc, &mut names, unit, units) {
-        Ok(()) => Ok(names),
-        Err(e) => {
-            drop(names);
-            Err(e)
-        }
-    }
+    add_ops(alloc, &mut names, unit, units)?;
+    Ok(names)
 }
 
 /// The operations of each unit of a machine by their names.
@@ -180,13 +170,7 @@ pub fn all_ops(alloc: Global, m: &Machine, units: &UnitSet) -> Result<Items<Name
 {
     let mut all = Items::new(alloc);
     for unit in units_of(m) {
-        let ops = match ops_of(alloc, unit, units) {
-            Ok(ops) => ops,
-            Err(e) => {
-                drop(all);
-                return Err(e);
-            }
-        };
+        let ops = ops_of(alloc, unit, units)?;
         all.push(ops)?;
     }
     Ok(all)

@@ -27,13 +27,8 @@ impl NameTable {
         ensures { IfOk result (IsTableOf (stated unit_meaning units.now) m.now) }
     {
         let parts = all_parts(alloc, m)?;
-        match all_ops(alloc, m, units) {
-            Ok(ops) => Ok(NameTable { parts, ops }),
-            Err(e) => {
-                drop(parts);
-                Err(e)
-            }
-        }
+        let ops = all_ops(alloc, m, units)?;
+        Ok(NameTable { parts, ops })
     }
 
     /// The part that has this name.

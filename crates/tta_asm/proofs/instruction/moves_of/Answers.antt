@@ -1,4 +1,5 @@
 use Rattle.std.proofs.Common.{None, map, length-append, arith}
+use Rattle.std.proofs.lemmas.Result.{err_from_is_err_and}
 use Rattle.tta_ops.specs.Set.{stated}
 use Rattle.tta_asm.specs.declared.forms.SlotForm.{SlotForm}
 use Rattle.tta_asm.specs.Assembly.{moves_of}
@@ -12,15 +13,16 @@ loop-bus-preserved g c =
     let none : SlotForm = record { line = 0; action = None } in
     record {
       count = let was = c.loop-bus.invariant.count in rw c.in_ok-push.ensures.ok (rw length-append (omega arith));
-      read = slot_read U c.args.target.now.machine.now c.args.labels.now c.args.slots.now c.loop-bus.bus none c.loop-bus.moves c.push.new.self c.in-Ok.action
+      read = slot_read U c.args.target.now.machine.now c.args.labels.now c.args.slots.now c.loop-bus.bus none c.loop-bus.moves c.push.new.self c.in_ok-action.action
           (moves_of U c.args.target.now.machine.now c.args.labels.now 0 (map slot_seen c.args.slots.now))
-          c.loop-bus-test.true c.in-Ok.ensures c.in_ok-push.ensures.ok c.loop-bus.invariant.read;
+          c.loop-bus-test.true c.in_ok-action.ensures c.in_ok-push.ensures.ok c.loop-bus.invariant.read;
     }
 
-pub returns-in-Err-clause-answer : goal.returns-in-Err-clause-answer
-returns-in-Err-clause-answer g c =
+pub returns-in_err-action-clause-answer : goal.returns-in_err-action-clause-answer
+returns-in_err-action-clause-answer g c =
     let U = stated (λ v. (goal.OpUnit-dyn g v).unit_meaning v.1) c.args.target.now.units.now in
     let none : SlotForm = record { line = 0; action = None } in
-    slot_refused U c.args.target.now.machine.now c.args.labels.now c.args.slots.now c.loop-bus.bus none c.loop-bus.moves c.in-Err.e
+    let error = err_from_is_err_and c.from_residual.result c.from_residual.ensures.1 in
+    rw (error.1, error.2) (slot_refused U c.args.target.now.machine.now c.args.labels.now c.args.slots.now c.loop-bus.bus none c.loop-bus.moves c.in_err-action.field-0.0
     (moves_of U c.args.target.now.machine.now c.args.labels.now 0 (map slot_seen c.args.slots.now))
-    c.loop-bus-test.true c.in-Err.ensures c.loop-bus.invariant.read
+    c.loop-bus-test.true c.in_err-action.ensures c.loop-bus.invariant.read)

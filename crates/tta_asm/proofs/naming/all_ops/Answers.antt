@@ -15,8 +15,8 @@ loop-unit-preserved g c =
     c.loop-unit-test.true c.unit-item.is in
     record {
       count = let was = c.loop-unit.invariant.count in rw c.in_ok-push.ensures.ok (rw length-append (omega arith));
-      ops = units_more U c.args.m.now c.loop-unit.all c.push.new.self c.in-Ok.ops c.unit-item.result c.loop-unit.unit-index c.in_ok-push.ensures.ok
-          c.loop-unit.invariant.count there c.in-Ok.ensures c.loop-unit.invariant.ops;
+      ops = units_more U c.args.m.now c.loop-unit.all c.push.new.self c.in_ok-ops.ops c.unit-item.result c.loop-unit.unit-index c.in_ok-push.ensures.ok
+          c.loop-unit.invariant.count there c.in_ok-ops.ensures c.loop-unit.invariant.ops;
     }
 
 pub returns-clause-ops : goal.returns-clause-ops
