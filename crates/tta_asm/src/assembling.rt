@@ -72,13 +72,8 @@ fn code_over(
     let mut words = Vec::new(alloc);
     let mut pieces = Pieces::behind(text, count, &mut words)?;
     let mut draft = Draft::new(alloc);
-    match take_rest(alloc, target, labels, &mut pieces, &mut words, &mut draft) {
-        Ok(()) => Ok(Code { words: draft.words }),
-        Err(e) => {
-            drop(draft);
-            Err(e)
-        }
-    }
+    take_rest(alloc, target, labels, &mut pieces, &mut words, &mut draft)?;
+    Ok(Code { words: draft.words })
 }
 
 /// The code of a text after so many pieces, or its first refusal.
@@ -103,13 +98,8 @@ fn data_of(alloc: Global, text: &[u8], m: &Machine) -> Result<Items<Datum>, AsmE
     let mut words = Vec::new(alloc);
     let mut pieces = Pieces::new(text);
     let mut init = Items::new(alloc);
-    match take_data(m.data_words, &mut pieces, &mut words, &mut init) {
-        Ok(()) => Ok(init),
-        Err(e) => {
-            drop(init);
-            Err(e)
-        }
-    }
+    take_data(m.data_words, &mut pieces, &mut words, &mut init)?;
+    Ok(init)
 }
 
 /// The code of a text with its data, or its first refusal.
