@@ -111,13 +111,8 @@ fn whole_of(alloc: Global, text: &[u8], target: &Target) -> Result<Whole, AsmErr
     ensures legal { IfOk result (λ whole. IsLegalWhole target.now.machine.now whole) }
 {
     let init = data_of(alloc, text, target.machine)?;
-    match code_of(alloc, text, init.len(), target) {
-        Ok(code) => Ok(Whole { code, init }),
-        Err(e) => {
-            drop(init);
-            Err(e)
-        }
-    }
+    let code = code_of(alloc, text, init.len(), target)?;
+    Ok(Whole { code, init })
 }
 
 /// The code of an assembly text of at most 2^24 bytes with its data, over these operation units.
@@ -132,23 +127,12 @@ pub fn assemble(alloc: Global, text: &[u8], m: &Machine, units: &UnitSet) -> Res
     ensures legal { IfOk result (λ whole. IsLegalWhole m.now whole) }
 {
     let net = Net::of(alloc, m)?;
-    match NameTable::of(alloc, m, units) {
-        Ok(table) => {
-            let target = Target {
-                units,
-                machine: m,
-                net: &net,
-                table: &table,
-            };
-            let whole = whole_of(alloc, text, &target);
-            // The whole stands for itself, so both are given back before it is reported.
-            drop(table);
-            drop(net);
-            whole
-        }
-        Err(e) => {
-            drop(net);
-            Err(AsmError::from(e))
-        }
-    }
+    let table = NameTable::of(alloc, m, units)?;
+    let target = Target {
+        units,
+        machine: m,
+        net: &net,
+        table: &table,
+    };
+    whole_of(alloc, text, &target)
 }

@@ -10,9 +10,9 @@ code_of-requires-clause-behind g c =
 -- data that were read ascend
 pub invariant_of-result : goal.invariant_of-result
 invariant_of-result g c =
-    (front_legal c.args.target.now.machine.now (pieces_of c.args.text.now) c.in_ok-init.init c.in-Ok.code c.in_ok-init.ensures.answers c.in-Ok.ensures.legal).rises
+    (front_legal c.args.target.now.machine.now (pieces_of c.args.text.now) c.in_ok-init.init c.in_ok-code.code c.in_ok-init.ensures.answers c.in_ok-code.ensures.legal).rises
 
 -- and lie in the data space
-pub returns-in-Ok-clause-legal : goal.returns-in-Ok-clause-legal
-returns-in-Ok-clause-legal g c =
-    front_legal c.args.target.now.machine.now (pieces_of c.args.text.now) c.in_ok-init.init c.in-Ok.code c.in_ok-init.ensures.answers c.in-Ok.ensures.legal
+pub returns-clause-legal : goal.returns-clause-legal
+returns-clause-legal g c =
+    front_legal c.args.target.now.machine.now (pieces_of c.args.text.now) c.in_ok-init.init c.in_ok-code.code c.in_ok-init.ensures.answers c.in_ok-code.ensures.legal
