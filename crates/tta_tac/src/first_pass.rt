@@ -182,7 +182,7 @@ impl<'t> Draft<'t> {
         requires { self.old.lines ≤ 65535 }
         ensures { draft_seen self.new ≡ labelled (draft_seen self.old) (proc_seen proc.entry) }
     {
-        drop(self.begun.replace(proc));
+        self.begun = Some(proc);
         self.lines += 1;
     }
 

@@ -17,9 +17,7 @@ pub fn has_twice(alloc: Global, words: &[Word]) -> Result<bool, AllocError>
     ensures { IfOk result (λ twice. twice ≡ has_twice (texts words.now)) }
 {
     let mut seen = Names::new(alloc);
-    let twice = sees_twice(alloc, words, &mut seen);
-    drop(seen);
-    twice
+    sees_twice(alloc, words, &mut seen)
 }
 
 /// Whether a name stands twice among words, of which none was seen before.

@@ -69,10 +69,8 @@ fn program_of<'t>(
     ensures read { IfOk result (ProgramText (stated unit_meaning units.now) text.now) }
     ensures refused { IfErr result (HasCause (stated unit_meaning units.now) text.now) }
 {
-    match read_lines(alloc, text, units, draft) {
-        Ok(()) => finish(alloc, draft),
-        Err(error) => Err(error),
-    }
+    read_lines(alloc, text, units, draft)?;
+    finish(alloc, draft)
 }
 
 /// The program of a text. It stands over these operation units. The text has at most 2^24 bytes.
@@ -88,7 +86,5 @@ pub fn read_program(alloc: Global, text: &[u8], units: &UnitSet) -> Result<Progr
     ensures refused { IfErr result (HasCause (stated unit_meaning units.now) text.now) }
 {
     let mut draft = Draft::new(alloc);
-    let program = program_of(alloc, text, units, &mut draft);
-    drop(draft);
-    program
+    program_of(alloc, text, units, &mut draft)
 }
