@@ -51,6 +51,9 @@ module _ (u : Units) (m : Machine) (p q : Program) (rules : IsProgram p) (is : C
     converted = q;
     is = is;
     length = c.length;
+    plain = c.plain;
+    is_plain = c.is_plain;
+    no_longer = c.no_longer;
   }
   cause_so NoMemory c = tt
 

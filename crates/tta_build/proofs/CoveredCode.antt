@@ -39,9 +39,10 @@ use Rattle.tta_compose.proofs.Linking.{lists_link, lists_agree}
 use Rattle.tta_compose.proofs.Room.{lists_fit}
 use Rattle.tta_build.specs.declared.error.BuildError.{BuildError}
 use Rattle.tta_build.specs.declared.error.BuildError.TheVariants as cause
-use Rattle.tta_build.specs.Statement.{IsAccepted, Covered, LacksRoom, HasCause, unsupplied}
+use Rattle.tta_build.specs.declared.register.Sharing.{Sharing}
+use Rattle.tta_build.specs.Statement.{IsAccepted, Covered, unsupplied}
 use Rattle.tta_build.specs.Candidates.{AreChosen}
-use Rattle.tta_build.specs.Parts.{IsLowered, AreSelected, AreListsOf, ArePlacedFor, IsCodeFor, IsLinkCause}
+use Rattle.tta_build.specs.Parts.{IsLowered, IsLoweredBy, AreSelected, AreSelectedBy, AreListsOf, ArePlacedFor, IsCodeFor, IsOverlong, IsCodeCause, IsLinkCause}
 use Rattle.tta_build.proofs.Placements.{IsCodeOf, IsTooLong, IsListsCause, is_code, is_cause}
 use Rattle.tta_build.proofs.Shortest.{have_lists}
 
@@ -99,7 +100,13 @@ module _ (u : Units) (m : Machine) (c : Choice) (p : Program) (machine : IsMachi
     are = selected_are r is lists same;
   }
 
-  -- and lists of the machine
+  -- and with homes that are given in a way they are selected by it
+  pub selected_by : (sharing : Sharing) (r : Rir) (lists : List BlockList) → IsLoweredBy sharing p (length c.homes) m.frame_words r → lists ≡ selected m c u r
+      → AreSelectedBy sharing u m c p lists
+  unfolding selected_of
+  selected_by sharing r lists is same = record { of = selected_of r lists is.lowered same; given = is.given }
+
+  -- they are lists of the machine
   pub selected_lists : (lists : List BlockList) → AreSelected u m c p lists → list_all (λ (b : BlockList). is_list m b.items) lists ≡ true
   selected_lists lists of =
       let known = answers_know p (length c.homes) of.blocks of.live of.kept program of.flow of.lives of.allotted in
@@ -177,7 +184,7 @@ module _ (u : Units) (m : Machine) (c : Choice) (p : Program) (lists : List Bloc
   }
 
   -- and where it is too long, it has no more words than the pair's room
-  room_for : is_direct m p ≡ false → failed_rule m ≡ None → unsupplied u m p ≡ None → (words have : ℕ) → IsTooLong m lists words have → LacksRoom u m p words have
+  room_for : is_direct m p ≡ false → failed_rule m ≡ None → unsupplied u m p ≡ None → (words have : ℕ) → IsTooLong m lists words have → IsOverlong u m p words have
   room_for other kept supplied words have is =
       let fits = lists_fit u m c p (known_by p of.blocks of.live of.kept) lists is.placements pair_of known_of stand_in is.roomy in
       let same = is.length in record {
@@ -188,14 +195,14 @@ module _ (u : Units) (m : Machine) (c : Choice) (p : Program) (lists : List Bloc
         length = record { lists = lists; placements = is.placements; plan = plan; first = is.first; cycles = same };
       }
 
-  -- so what their linking answers is what is answered for the pair
+  -- so what their linking answers is code for the pair, or why it has none
   ok_of : is_direct m p ≡ false → failed_rule m ≡ None → unsupplied u m p ≡ None → (r : Result Code BuildError)
       → IfOk r (λ code. IsCodeOf m lists code) → IfOk r (λ code. IsCodeFor u m p code)
   ok_of other kept supplied (Ok code) is = code_for other kept supplied code is
   ok_of other kept supplied (Err e) is = tt
 
   err_of : is_direct m p ≡ false → failed_rule m ≡ None → unsupplied u m p ≡ None → (r : Result Code BuildError)
-      → IfErr r (λ e. IsListsCause m lists e) → IfErr r (λ e. HasCause u m p e)
+      → IfErr r (λ e. IsListsCause m lists e) → IfErr r (λ e. IsCodeCause u m p e)
   err_of other kept supplied (Ok code) is = tt
   err_of other kept supplied (Err (cause.CodeFull words have)) is = room_for other kept supplied words have is
   err_of other kept supplied (Err cause.NoMemory) is = tt
@@ -210,13 +217,13 @@ module _ (u : Units) (m : Machine) (c : Choice) (p : Program) (ps qs : List Plac
   are_blocks =
       subst (AreBlocks m) (sym same) (can_link u m c p for.lists machine over choice program offers for.are ps for.roomy.respected)
 
-  -- and what is linked from them is answered for the pair
+  -- what is linked from them is code for the pair, and why nothing is linked is why there is none
   pub ok_for : is_direct m p ≡ false → failed_rule m ≡ None → unsupplied u m p ≡ None → (r : Result Code BuildError)
       → IfOk r (λ code. IsLinked m code qs) → IfOk r (λ code. IsLegalCode m code) → IfOk r (λ code. IsCodeFor u m p code)
   ok_for other kept supplied r linked legal =
       ok_of u m c p for.lists machine over choice program offers for.are other kept supplied r (is_code m for.lists ps qs r for.first for.roomy same linked legal)
 
   pub err_for : is_direct m p ≡ false → failed_rule m ≡ None → unsupplied u m p ≡ None → (r : Result Code BuildError)
-      → IfErr r (λ e. IsLinkCause m qs e) → IfErr r (λ e. HasCause u m p e)
+      → IfErr r (λ e. IsLinkCause m qs e) → IfErr r (λ e. IsCodeCause u m p e)
   err_for other kept supplied r cause =
       err_of u m c p for.lists machine over choice program offers for.are other kept supplied r (is_cause m for.lists ps qs r for.first for.roomy same cause)

@@ -36,6 +36,7 @@ use Rattle.tta_compose.proofs.Directly.{direct_lowers, direct_is_list, direct_li
 use Rattle.tta_compose.proofs.DirectPlan.{direct_plan}
 use Rattle.tta_build.specs.declared.error.BuildError.{BuildError}
 use Rattle.tta_build.specs.declared.error.BuildError.TheVariants as cause
+use Rattle.tta_build.specs.Plain.{OfDirect}
 use Rattle.tta_build.specs.Statement.{Direct, LacksRoom, HasCause}
 use Rattle.tta_build.specs.Parts.{IsLowered, AreDirect, IsCodeFor}
 use Rattle.tta_build.proofs.Placements.{IsCodeOf, IsTooLong, IsListsCause}
@@ -142,7 +143,7 @@ code_for u m p lists code machine program direct of is = record {
       (subst (λ (x : List BlockList). AreRespected m x is.placements) of.are is.roomy.respected) is.linked is.legal laid;
 }
 
--- where the code is too long, it has no more words than the pair's room
+-- where the code is too long, it has no more words than the pair's room; and it is the plain code
 pub room_for : (u : Units) (m : Machine) (p : Program) (lists : List BlockList) → IsMachine m → IsProgram p → is_direct m p ≡ true → AreDirect m p lists
     → (words have : ℕ) → IsTooLong m lists words have → LacksRoom u m p words have
 room_for u m p lists machine program direct of words have is =
@@ -159,6 +160,9 @@ room_for u m p lists machine program direct of words have is =
         first = subst (λ (x : List BlockList). AreFirstFits m x is.placements) of.are is.first;
         cycles = same;
       };
+      plain = is.placements;
+      is_plain = OfDirect direct (subst (λ (x : List BlockList). AreFirstFits m x is.placements) of.are is.first);
+      no_longer = omega (arith, same);
     }
 
 -- so what is linked from its placement is answered for the pair

@@ -7,6 +7,7 @@ pub mod Sorted
 pub mod Placements
 pub mod Along
 pub mod Shortest
+pub mod NoLonger
 pub mod Standing
 pub mod CoveredCode
 pub mod Directs

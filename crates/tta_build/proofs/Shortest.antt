@@ -31,7 +31,8 @@ pub record IsPlacedBy (m : Machine) (l : BlockList) (p : Placed) : Type 0 where
 
 -- ---- one list more
 
-both_more : (R : BlockList → Placed → Type 0) (lists : List BlockList) (ps : List Placed) (b : BlockList) (p : Placed) → length ps ≡ length lists → SoFar R lists ps
+-- a relation of lists to placements, with one more of both
+pub both_more : (R : BlockList → Placed → Type 0) (lists : List BlockList) (ps : List Placed) (b : BlockList) (p : Placed) → length ps ≡ length lists → SoFar R lists ps
     → R b p → SoFar R (lists ++ b ∷ []) (ps ++ p ∷ [])
 both_more R lists ps b p same so r k c q at is = by (slice_get-push lists b k c at) (slice_get-push ps p k q is) where
   by : (slice_get lists k ≡ Some c) ⊎ ((k ≡ length lists) × (b ≡ c)) → (slice_get ps k ≡ Some q) ⊎ ((k ≡ length ps) × (p ≡ q)) → R c q
@@ -227,7 +228,8 @@ pub record HaveLists (m : Machine) (blocks : List BlockList) (ps : List Placed) 
   pub first : AreFirstFits m lists ps
   pub roomy : AreRoomy m lists ps
 
-one_first : (R : BlockList → Placed → Type 0) (lists : List BlockList) (ps : List Placed) (b : BlockList) (p : Placed) → R b p → SoFar R lists ps
+-- so far a relation holds where it holds of the first of both and of the rest
+pub one_first : (R : BlockList → Placed → Type 0) (lists : List BlockList) (ps : List Placed) (b : BlockList) (p : Placed) → R b p → SoFar R lists ps
     → SoFar R (b ∷ lists) (p ∷ ps)
 one_first R lists ps b p r so zero c q e f =
     let same : b ≡ c = cc in

@@ -1,11 +1,15 @@
--- For which pairs `build` has code: where a pair is accepted and has room, nothing but memory can be wanting.
-use Rattle.std.specs.Prelude.{◌≡◌, ◌≤◌, ◌^◌}
+-- For which pairs `build` has code: where a pair is accepted and has room, or its plain code fits, nothing but memory can be
+-- wanting.
+use Rattle.std.specs.Prelude.{◌≡◌, ◌≤◌, ◌^◌, List}
 use Rattle.tta_ops.specs.Units.{Units}
 use Rattle.tta_arch.specs.Machine.{Machine}
 use Rattle.tta_program.specs.Program.{Program}
+use Rattle.tta_moves.specs.declared.items.Placed.{Placed}
+use Rattle.tta_link.specs.Blocks.{total_length}
 use Rattle.tta_compose.specs.Room.{room_on}
 use Rattle.tta_build.specs.declared.error.BuildError.{BuildError}
 use Rattle.tta_build.specs.declared.error.BuildError.TheVariants.{NoMemory}
+use Rattle.tta_build.specs.Plain.{IsPlainCode}
 use Rattle.tta_build.specs.Statement.{IsAccepted, HasCause}
 
 -- a pair is accepted, and the machine has as many addresses as the program's code takes words at most
@@ -16,3 +20,12 @@ pub record IsRoomy (u : Units) (m : Machine) (p : Program) : Type 0 where
 -- such a pair has code, unless memory runs out: no other error has its cause
 abbrev pub BuildCompletes : Type 0
 BuildCompletes = (u : Units) (m : Machine) (p : Program) (e : BuildError) → IsRoomy u m p → HasCause u m p e → e ≡ NoMemory
+
+-- a pair is accepted, and the machine has as many addresses as the plain code of the program takes words
+pub record PlainFits (u : Units) (m : Machine) (p : Program) : Type 0 where
+  pub accepted : IsAccepted u m p
+  pub fits : (plain : List Placed) → IsPlainCode u m p plain → total_length plain ≤ 2 ^ m.control.address
+
+-- such a pair has code, unless memory runs out: no other error has its cause
+abbrev pub BuildCompletesPlainly : Type 0
+BuildCompletesPlainly = (u : Units) (m : Machine) (p : Program) (e : BuildError) → PlainFits u m p → HasCause u m p e → e ≡ NoMemory

@@ -1,16 +1,19 @@
 -- What `build_converted` answers: code of the converted program, which does what the program does.
-use Rattle.std.specs.Prelude.{◌≡◌, ℕ, ◌<◌, ◌≤◌, ◌^◌, ◌*◌, length}
+use Rattle.std.specs.Prelude.{◌≡◌, ℕ, ◌<◌, ◌≤◌, ◌^◌, ◌*◌, List, length}
 use Rattle.tta_ops.specs.Units.{Units}
 use Rattle.tta_arch.specs.Machine.{Machine}
 use Rattle.tta_program.specs.Program.{Program, step_count}
 use Rattle.tta_code.specs.Whole.{Whole}
 use Rattle.tta_code.specs.Legal.{IsLegalWhole}
 use Rattle.tta_agree.specs.Agrees.{Agrees, AgreesAt}
+use Rattle.tta_moves.specs.declared.items.Placed.{Placed}
+use Rattle.tta_link.specs.Blocks.{total_length}
 use Rattle.tta_compose.specs.Room.{room_on}
 use Rattle.tta_compose.specs.Packed.{IsPacked, IsLength}
 use Rattle.tta_ifconv.specs.Converted.{Converted}
 use Rattle.tta_build.specs.declared.error.BuildError.{BuildError}
 use Rattle.tta_build.specs.declared.error.BuildError.TheVariants.{NotCovered, NoUnit, FrameFull, CodeFull, NoMemory}
+use Rattle.tta_build.specs.Plain.{IsPlainCode}
 use Rattle.tta_build.specs.Statement.{IsAccepted, BreaksRule, LacksUnit, LacksFrames}
 use Rattle.tta_build.specs.Completes.{IsRoomy}
 
@@ -26,8 +29,8 @@ pub record IsBuiltConverted (u : Units) (m : Machine) (p : Program) (whole : Who
   pub packed : IsPacked u m converted whole.code
   pub room : length whole.code.words ≤ room_on m p
 
--- Packed code of the converted program of a pair that is accepted has more instructions than the machine has addresses, and
--- no more than the room of the program itself.
+-- Packed code of the converted program of a pair that is accepted has more instructions than the machine has addresses; and
+-- it has no more than the room of the program itself, and no more than the plain code of the converted program.
 pub record LacksConvertedRoom (u : Units) (m : Machine) (p : Program) (words have : ℕ) : Type 0 where
   pub accepted : IsAccepted u m p
   pub addresses : have ≡ 2 ^ m.control.address
@@ -36,6 +39,9 @@ pub record LacksConvertedRoom (u : Units) (m : Machine) (p : Program) (words hav
   pub converted : Program
   pub is : Converted p converted
   pub length : IsLength u m converted words
+  pub plain : List Placed
+  pub is_plain : IsPlainCode u m converted plain
+  pub no_longer : words ≤ total_length plain
 
 -- why there is no code: what `build` says of the program, but for the length of the code
 abbrev pub HasConvertedCause : Units → Machine → Program → BuildError → Type 0

@@ -1,3 +1,4 @@
+pub mod Plain
 pub mod Statement
 pub mod Errors
 pub mod Candidates

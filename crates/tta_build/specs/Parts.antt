@@ -28,9 +28,13 @@ use Rattle.tta_compose.specs.Direct.{list_of_direct}
 use Rattle.tta_compose.specs.Planned.{HasForms}
 use Rattle.tta_compose.specs.Linking.{AreFirstFits}
 use Rattle.tta_compose.specs.Room.{AreRoomy, room_on}
-use Rattle.tta_compose.specs.Packed.{IsPacked}
+use Rattle.tta_compose.specs.Packed.{IsPacked, IsLength}
 use Rattle.tta_build.specs.declared.error.BuildError.{BuildError}
 use Rattle.tta_build.specs.declared.error.BuildError.TheVariants.{CodeFull, NoMemory}
+use Rattle.tta_build.specs.declared.register.Sharing.{Sharing}
+use Rattle.tta_build.specs.Sharing.{AreGivenBy}
+use Rattle.tta_build.specs.Candidates.{AreChosen}
+use Rattle.tta_build.specs.Plain.{IsPlain}
 use Rattle.tta_build.specs.Statement.{IsAccepted}
 
 -- Register code of a program, by blocks, liveness and homes that are the program's, for so many home registers.
@@ -43,6 +47,11 @@ pub record IsLowered (p : Program) (homes frame_words : ℕ) (r : Rir) : Type 0 
   pub allotted : AreAllotted p homes kept
   pub code : IsCodeOf p blocks live kept frame_words r
 
+-- Register code of a program, whose home registers are given in this way.
+pub record IsLoweredBy (sharing : Sharing) (p : Program) (homes frame_words : ℕ) (r : Rir) : Type 0 where
+  pub lowered : IsLowered p homes frame_words r
+  pub given : AreGivenBy sharing p homes lowered.kept
+
 -- The lists that are selected for a program, by blocks, liveness and homes that are the program's; the frames have room.
 pub record AreSelected (u : Units) (m : Machine) (c : Choice) (p : Program) (lists : List BlockList) : Type 0 where
   pub blocks : List Block
@@ -53,6 +62,23 @@ pub record AreSelected (u : Units) (m : Machine) (c : Choice) (p : Program) (lis
   pub allotted : AreAllotted p (length c.homes) kept
   pub room : frame_need p ≤ m.frame_words
   pub are : lists ≡ raw u m c p (known_by p blocks live kept)
+
+-- The lists that are selected for a program, whose home registers are given in this way.
+pub record AreSelectedBy (sharing : Sharing) (u : Units) (m : Machine) (c : Choice) (p : Program) (lists : List BlockList) : Type 0 where
+  pub of : AreSelected u m c p lists
+  pub given : AreGivenBy sharing p (length c.homes) of.kept
+
+-- Placements that are chosen for such lists.
+pub record AreChosenBy (sharing : Sharing) (u : Units) (m : Machine) (c : Choice) (p : Program) (placements : List Placed) : Type 0 where
+  pub lists : List BlockList
+  pub selected : AreSelectedBy sharing u m c p lists
+  pub chosen : AreChosen m lists placements
+
+-- Placements are together no longer than plain ones.
+pub record AreNoLonger (u : Units) (m : Machine) (c : Choice) (p : Program) (placements : List Placed) : Type 0 where
+  pub plain : List Placed
+  pub is : IsPlain u m c p plain
+  pub no_longer : total_length placements ≤ total_length plain
 
 -- The lists that are placed for a program: each may be placed for the selected one, and is in all forms.
 pub record AreListsOf (u : Units) (m : Machine) (c : Choice) (p : Program) (lists : List BlockList) : Type 0 where
@@ -87,6 +113,20 @@ pub record IsCodeFor (u : Units) (m : Machine) (p : Program) (code : Code) : Typ
   pub room : length code.words ≤ room_on m p
   pub agrees : (init : List Datum) → ((memory : List ℕ) → over (laid_by init) memory ≡ over (data_of p) memory)
       → Agrees u m p (record { code = code; init = init })
+
+-- Packed code of a pair that is accepted has more instructions than the machine has addresses, and no more than its room.
+pub record IsOverlong (u : Units) (m : Machine) (p : Program) (words have : ℕ) : Type 0 where
+  pub accepted : IsAccepted u m p
+  pub addresses : have ≡ 2 ^ m.control.address
+  pub more : have < words
+  pub room : words ≤ room_on m p
+  pub length : IsLength u m p words
+
+-- why the lists of a pair have no code: it is too long; being out of memory needs no cause
+abbrev pub IsCodeCause : Units → Machine → Program → BuildError → Type 0
+IsCodeCause u m p (CodeFull words have) = IsOverlong u m p words have
+IsCodeCause u m p NoMemory = Unit {0}
+IsCodeCause u m p e = ⊥
 
 -- Why placed lists were not linked: they take more words than the machine has addresses, and the error has these two
 -- numbers; being out of memory needs no cause.

@@ -1,5 +1,5 @@
 -- What `build` answers: code that does what the program does, or why there is none.
-use Rattle.std.specs.Prelude.{◌≡◌, ℕ, ◌<◌, ◌≤◌, ◌^◌, Bool, true, false, Option, Some, None, is_some, option_map, slice_index, length}
+use Rattle.std.specs.Prelude.{◌≡◌, ℕ, ◌<◌, ◌≤◌, ◌^◌, Bool, true, false, List, Option, Some, None, is_some, option_map, slice_index, length}
 use Rattle.std.specs.Option.{option_map_or}
 use Rattle.tta_ops.specs.Units.{Units}
 use Rattle.tta_arch.specs.declared.parts.Op.{Op}
@@ -13,10 +13,13 @@ use Rattle.tta_program.specs.Sizes.{frame_need}
 use Rattle.tta_code.specs.Whole.{Whole}
 use Rattle.tta_code.specs.Legal.{IsLegalWhole}
 use Rattle.tta_agree.specs.Agrees.{Agrees}
+use Rattle.tta_moves.specs.declared.items.Placed.{Placed}
+use Rattle.tta_link.specs.Blocks.{total_length}
 use Rattle.tta_compose.specs.Needs.{need_of, first_failing}
 use Rattle.tta_compose.specs.Direct.{is_direct}
 use Rattle.tta_compose.specs.Room.{room_on}
 use Rattle.tta_compose.specs.Packed.{IsPacked, IsLength}
+use Rattle.tta_build.specs.Plain.{IsPlainCode}
 use Rattle.tta_build.specs.declared.error.BuildError.{BuildError}
 use Rattle.tta_build.specs.declared.error.BuildError.TheVariants.{NotCovered, NoUnit, FrameFull, CodeFull, NoMemory}
 
@@ -75,13 +78,17 @@ pub record LacksFrames (u : Units) (m : Machine) (p : Program) (need have : ℕ)
   pub there : have ≡ m.frame_words
   pub more : have < need
 
--- packed code of a pair that is accepted has more instructions than the machine has addresses, and no more than its room
+-- Packed code of a pair that is accepted has more instructions than the machine has addresses; and it has no more than the
+-- pair's room, and no more than the plain code, which so does not fit either.
 pub record LacksRoom (u : Units) (m : Machine) (p : Program) (words have : ℕ) : Type 0 where
   pub accepted : IsAccepted u m p
   pub addresses : have ≡ 2 ^ m.control.address
   pub more : have < words
   pub room : words ≤ room_on m p
   pub length : IsLength u m p words
+  pub plain : List Placed
+  pub is_plain : IsPlainCode u m p plain
+  pub no_longer : words ≤ total_length plain
 
 -- why there is no code; being out of memory needs no cause
 abbrev pub HasCause : Units → Machine → Program → BuildError → Type 0

@@ -11,7 +11,8 @@ ghost use Rattle.tta_program.specs.Rules.{IsProgram};
 ghost use Rattle.tta_program.specs.Program.{step_count};
 ghost use Rattle.tta_lower.specs.Statement.{IsCause};
 ghost use Rattle.tta_compose.specs.Needs.{are_offered};
-ghost use Rattle.tta_build.specs.Parts.{IsLowered, AreSelected, ArePlacedFor};
+ghost use Rattle.tta_build.specs.Parts.{IsLoweredBy, AreSelectedBy, AreChosenBy};
+ghost use Rattle.tta_build.specs.Parts.{ArePlacedFor, AreNoLonger};
 
 use crate::choosing::place_chosen;
 use crate::register::{Sharing, register_code, share_alike};
@@ -36,8 +37,8 @@ fn lowered_for(
     sharing: Sharing,
 ) -> Result<Rir, LowerError>
     requires machine { IsMachine on.now.machine.now }
-    ensures code { let M = on.now.machine.now in
-        IfOk result (λ r. IsLowered p.now (length on.now.choice.now.homes) M.frame_words r) }
+    ensures code { let M = on.now.machine.now in IfOk result
+        (λ r. IsLoweredBy sharing p.now (length on.now.choice.now.homes) M.frame_words r) }
     ensures cause { IfErr result (λ e. IsCause p.now on.now.machine.now.frame_words e) }
 {
     let m = on.machine;
@@ -60,8 +61,8 @@ fn selected_lists(
     requires over { StandsOver (stated unit_meaning units.now) on.now.machine.now }
     requires offered { let U = stated unit_meaning units.now in
         are_offered U on.now.machine.now on.now.choice.now p.now ≡ true }
-    ensures lists { let U = stated unit_meaning units.now in
-        IfOk result (λ ls. AreSelected U on.now.machine.now on.now.choice.now p.now ls.items) }
+    ensures lists { let U = stated unit_meaning units.now in IfOk result
+        (λ ls. AreSelectedBy sharing U on.now.machine.now on.now.choice.now p.now ls.items) }
     ensures cause { IfErr result (λ e. IsCause p.now on.now.machine.now.frame_words e) }
 {
     let code = lowered_for(alloc, on, p, sharing)?;
@@ -84,6 +85,8 @@ fn placements_by(
         are_offered U on.now.machine.now on.now.choice.now p.now ≡ true }
     ensures placed { let U = stated unit_meaning units.now in
         IfOk result (λ ps. ArePlacedFor U on.now.machine.now on.now.choice.now p.now ps.items) }
+    ensures by { let U = stated unit_meaning units.now in IfOk result
+        (λ ps. AreChosenBy sharing U on.now.machine.now on.now.choice.now p.now ps.items) }
     ensures cause { IfErr result (λ e. IsCause p.now on.now.machine.now.frame_words e) }
 {
     let lists = selected_lists(alloc, on, p, units, sharing)?;
@@ -154,7 +157,7 @@ fn shorter(first: Vec<Placed>, other: Vec<Placed>) -> Vec<Placed>
 
 /// The placed lists of a program whose needs usable units offer. A small program is tried with home
 /// registers in turn and with the least free ones, where these differ, and the shorter stays; any
-/// other has them in turn.
+/// other has them in turn. So they are never longer than plain ones.
 pub fn placements(
     alloc: Global,
     on: &Covered<'_>,
@@ -168,6 +171,8 @@ pub fn placements(
         are_offered U on.now.machine.now on.now.choice.now p.now ≡ true }
     ensures placed { let U = stated unit_meaning units.now in
         IfOk result (λ ps. ArePlacedFor U on.now.machine.now on.now.choice.now p.now ps.items) }
+    ensures plain { let U = stated unit_meaning units.now in
+        IfOk result (λ ps. AreNoLonger U on.now.machine.now on.now.choice.now p.now ps.items) }
     ensures cause { IfErr result (λ e. IsCause p.now on.now.machine.now.frame_words e) }
 {
     let is_one = has_one_way(alloc, on.choice, p)?;

@@ -1,12 +1,17 @@
 //! Laws of building code. A law is a function that does nothing, and whose contract is the law.
 
-ghost use Rattle.tta_build.specs.Completes.{BuildCompletes};
+ghost use Rattle.tta_build.specs.Completes.{BuildCompletes, BuildCompletesPlainly};
 ghost use Rattle.tta_build.specs.Converted.{ConvertedAgrees, ConvertedCompletes};
 ghost use Rattle.tta_build.specs.Excludes.{CausesExclude, CodeExcludes};
 
 /// A pair that is accepted and has room has code, unless memory runs out.
 pub fn build_completes()
     ensures { BuildCompletes }
+{}
+
+/// A pair that is accepted and whose plain code fits has code, unless memory runs out.
+pub fn build_completes_plainly()
+    ensures { BuildCompletesPlainly }
 {}
 
 /// Code that agrees with the converted program agrees with the program, which makes at most twice as

@@ -30,7 +30,8 @@ pub use direct_pair::is_direct;
 pub use error::BuildError;
 pub use homing::{FEW_STEPS, is_small, total_length};
 pub use laws::{
-    build_completes, build_converted_completes, causes_exclude, code_excludes, converted_agrees,
+    build_completes, build_completes_plainly, build_converted_completes, causes_exclude,
+    code_excludes, converted_agrees,
 };
 pub use linking::link_placed;
 pub use needs::unoffered;

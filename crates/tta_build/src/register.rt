@@ -5,7 +5,7 @@ ghost use Rattle.tta_flow.specs.Blocks.{IsFlow};
 ghost use Rattle.tta_flow.specs.Live.{IsLive};
 ghost use Rattle.tta_alloc.specs.Allotted.{AreAllotted};
 ghost use Rattle.tta_lower.specs.Statement.{IsCause};
-ghost use Rattle.tta_build.specs.Parts.{IsLowered};
+ghost use Rattle.tta_build.specs.Parts.{IsLoweredBy};
 ghost use Rattle.tta_build.specs.Sharing.{AreGivenBy};
 
 use std::alloc::{AllocError, Global};
@@ -53,7 +53,7 @@ pub fn register_code(
     frame_words: u32,
     sharing: Sharing,
 ) -> Result<Rir, LowerError>
-    ensures code { IfOk result (λ r. IsLowered p.now homes frame_words r) }
+    ensures code { IfOk result (λ r. IsLoweredBy sharing p.now homes frame_words r) }
     ensures cause { IfErr result (λ e. IsCause p.now frame_words e) }
 {
     let flow = Flow::of(alloc, p)?;

@@ -1,6 +1,7 @@
 -- The stages of a pair that is no direct one: what they are, and why there is no code.
 use Rattle.std.proofs.Common.{◌≡◌, ◌≤◌, ℕ, Bool, true, false, List, None, Result, Ok, Err, refl, sym, ap, subst, ◌∙◌, length}
 use Rattle.std.specs.Prelude.{IfOk, IfErr, if◌then◌else◌, nat_lt}
+use Rattle.std.proofs.lemmas.List.{length-map}
 use Rattle.tta_ops.specs.Units.{Units}
 use Rattle.tta_arch.specs.Machine.{Machine}
 use Rattle.tta_connect.specs.declared.choice.Choice.{Choice}
@@ -22,15 +23,20 @@ use Rattle.tta_compose.specs.Needs.{are_offered}
 use Rattle.tta_compose.specs.Direct.{is_direct}
 use Rattle.tta_build.specs.declared.error.BuildError.{BuildError}
 use Rattle.tta_build.specs.Statement.{HasCause, unsupplied}
-use Rattle.tta_build.specs.Parts.{IsLowered, AreSelected, ArePlacedFor, IsCodeFor, IsLinkCause}
+use Rattle.tta_build.specs.declared.register.Sharing.TheVariants.{InTurn}
+use Rattle.tta_build.specs.Sharing.{AreGivenBy}
+use Rattle.tta_build.specs.Parts.{IsLowered, AreSelected, ArePlacedFor, AreNoLonger, IsCodeFor, IsLinkCause}
 use Rattle.tta_build.proofs.CoveredCode as covered
+use Rattle.tta_build.proofs.NoLonger.{have_plain, plain_no_longer, kept_no_longer, plain_cause}
 use Rattle.tta_stages.specs.declared.lowered.Lowered.{Lowered}
 use Rattle.tta_stages.specs.declared.listed.Listed.{Listed}
+use Rattle.tta_stages.specs.declared.planned.Planned.{Planned}
 use Rattle.tta_stages.specs.Lowered.{IsLoweredAs}
 use Rattle.tta_stages.specs.declared.stages.Passages.{Passages}
 use Rattle.tta_stages.specs.declared.stages.Stages.{Stages}
 use Rattle.tta_stages.specs.Stages.{selected_of, AreListed, ArePassages, staged, AreCoveredStages}
-use Rattle.tta_stages.specs.Trail.{lasts_of}
+use Rattle.tta_stages.specs.Trail.{last_of, lasts_of}
+use Rattle.tta_stages.specs.Planned.{ArePlanned}
 use Rattle.tta_stages.proofs.Trails.{all_stand, all_forms}
 
 -- what holds of both of two holds of the one that a test picks
@@ -74,7 +80,7 @@ module _ (u : Units) (m : Machine) (c : Choice) (p : Program) (r : Lowered) (is 
       (is.code.is ∙ ap (lowered p (known_by p r.flow.blocks r.live r.homes)) is.allotted.count)
 
   -- they are the program's
-  pub are_selected : (lists : List BlockList) → lists ≡ selected_of u m c p r → AreSelected u m c p lists
+  abbrev pub are_selected : (lists : List BlockList) → lists ≡ selected_of u m c p r → AreSelected u m c p lists
   are_selected lists same = record {
     blocks = r.flow.blocks;
     live = r.live;
@@ -87,6 +93,10 @@ module _ (u : Units) (m : Machine) (c : Choice) (p : Program) (r : Lowered) (is 
   }
 
 -- ---- lists with their placements
+
+-- there is one placement for each of the lists
+short_count : (m : Machine) (lists : List BlockList) (r : Planned) → ArePlanned m lists r → length r.placed.items ≡ length lists
+short_count m lists r are = are.first.count ∙ length-map r.trails.items last_of ∙ are.trails.count
 
 module _ (u : Units) (m : Machine) (c : Choice) (p : Program) where
   -- the placements are the program's
@@ -117,6 +127,21 @@ module _ (u : Units) (m : Machine) (c : Choice) (p : Program) where
       subst (AreListed u m c p) (sym is)
       (either (AreListed u m c p) (nat_lt (total_length other.planned.placed.items) (total_length first.planned.placed.items)) other first two one)
 
+  -- with home registers in turn they are no longer than plain ones
+  pub in_turn : (r : Listed) → AreListed u m c p r → AreGivenBy InTurn p (length c.homes) r.lowered.homes → AreNoLonger u m c p r.planned.placed.items
+  in_turn r are given =
+      let lists = selected_of u m c p r.lowered in
+      plain_no_longer u m c p lists r.planned.placed.items
+      (record { of = are_selected u m c p r.lowered are.lowered lists refl; given = given })
+      (have_plain m lists r.planned.placed.items (short_count m lists r.planned are.planned) are.planned.short)
+
+  -- and so is whichever of two is kept
+  pub kept_short : (first other kept : Listed) → AreListed u m c p first → AreGivenBy InTurn p (length c.homes) first.lowered.homes
+      → kept ≡ (if nat_lt (total_length other.planned.placed.items) (total_length first.planned.placed.items) then other else first)
+      → AreNoLonger u m c p kept.planned.placed.items
+  kept_short first other kept are given is =
+      kept_no_longer u m c p (λ (r : Listed). r.planned.placed.items) first other kept (in_turn first are given) is
+
 -- the code that is linked from them is code for the pair, and why none is linked is why there is none
 module _ (u : Units) (m : Machine) (c : Choice) (p : Program) (r : Listed) (are : AreListed u m c p r) (machine : IsMachine m) (over : StandsOver u m)
     (choice : IsChoice m c) (program : IsProgram p) (offers : are_offered u m c p ≡ true) (other : is_direct m p ≡ false) (kept : failed_rule m ≡ None)
@@ -126,7 +151,8 @@ module _ (u : Units) (m : Machine) (c : Choice) (p : Program) (r : Listed) (are 
       let built : Result Code BuildError = Ok code in
       covered.ok_for u m c p r.planned.placed.items ps machine over choice program offers (placed_for u m c p r are) same other kept supplied built linked legal
 
-  pub cause_for : (e : BuildError) → IsLinkCause m ps e → HasCause u m p e
-  cause_for e cause =
+  pub cause_for : AreNoLonger u m c p r.planned.placed.items → (e : BuildError) → IsLinkCause m ps e → HasCause u m p e
+  cause_for short e cause =
       let built : Result Code BuildError = Err e in
-      covered.err_for u m c p r.planned.placed.items ps machine over choice program offers (placed_for u m c p r are) same other kept supplied built cause
+      plain_cause u m c p r.planned.placed.items ps choice other short same built cause
+      (covered.err_for u m c p r.planned.placed.items ps machine over choice program offers (placed_for u m c p r are) same other kept supplied built cause)

@@ -4,6 +4,7 @@ pub mod Procs
 pub mod Hulls
 pub mod EachProc
 pub mod Trails
+pub mod ShortTrails
 pub mod CoveredStages
 pub mod DirectStages
 pub mod FewCycles

@@ -1,15 +1,10 @@
 -- Trails lead to candidates of their blocks.
-use Rattle.std.proofs.Common.{◌≡◌, ℕ, zero, suc, true, List, [], ◌∷◌, Option, Some, None, refl, sym, ap, ◌∙◌, subst, arith, slice_get}
-use Rattle.std.specs.Prelude.{IfSome, unwrap_or, option_map}
-use Rattle.std.proofs.lemmas.Option.{slice_get-map}
+use Rattle.std.proofs.Common.{◌≡◌, ℕ, zero, suc, List, [], ◌∷◌, Option, Some, None, refl, sym, ap, ◌∙◌, subst, arith, slice_get}
+use Rattle.std.specs.Prelude.{IfSome, unwrap_or}
 use Rattle.std.specs.Option.{option_map_or}
-use Rattle.std.specs.List.{list_all}
-use Rattle.std.proofs.lemmas.Bool.{and_from, and_parts}
 use Rattle.tta_arch.specs.Machine.{Machine}
-use Rattle.tta_list.proofs.Lists.{list_all_one}
 use Rattle.tta_moves.specs.declared.items.Item.{Item}
 use Rattle.tta_moves.specs.declared.items.BlockList.{BlockList}
-use Rattle.tta_moves.specs.Slots.{is_list}
 use Rattle.tta_optim.specs.Kept.{IsStandIn}
 use Rattle.tta_optim.specs.Passes.{share_items, dead_items}
 use Rattle.tta_optim.proofs.StandIns.{stands_itself}
@@ -31,7 +26,7 @@ list_is r b items same live =
     ap (λ (xs : List Item). record { items = xs; live_out = r.live_out }) same ∙ ap (λ (l : List (ℕ × ℕ)). record { items = items; live_out = l }) live
 
 -- the list after the last pass is what the passes make of the list before the first
-passed_is : (m : Machine) (list : BlockList) (r : Passed) → IsPassed m list r → r.lively ≡ optimised m list
+pub passed_is : (m : Machine) (list : BlockList) (r : Passed) → IsPassed m list r → r.lively ≡ optimised m list
 passed_is m list r is =
     is.lively
     ∙ ap (λ (b : BlockList). with_items list (dead_items m list.live_out b.items)) is.shared
@@ -67,10 +62,6 @@ trail_candidate m b t is =
 
 -- ---- the trails of some lists
 
--- the list to which a trail leads stands at its place
-pub last_there : (ts : List Trail) (k : ℕ) (t : Trail) → slice_get ts k ≡ Some t → slice_get (lasts_of ts) k ≡ Some (last_of t)
-last_there ts k t e = slice_get-map last_of ts k ∙ ap (option_map last_of) e
-
 tail_of : (m : Machine) (b : BlockList) (bs : List BlockList) (t : Trail) (ts : List Trail) → AreTrails m (b ∷ bs) (t ∷ ts) → AreTrails m bs ts
 tail_of m b bs t ts are = record { count = let n = are.count in omega arith; each = λ k x y e f. are.each (suc k) x y e f }
 
@@ -90,14 +81,3 @@ all_forms m (b ∷ bs) (t ∷ ts) are zero l e =
     let same : last_of t ≡ l = cc in
     subst (λ (x : BlockList). HasForms m x) same (trail_candidate m b t (are.each 0 b t refl refl)).forms
 all_forms m (b ∷ bs) (t ∷ ts) are (suc k) l e = all_forms m bs ts (tail_of m b bs t ts are) k l e
-
--- and are lists of the machine where the lists are
-pub all_lists : (m : Machine) (bs : List BlockList) (ts : List Trail) → AreTrails m bs ts → list_all (λ (b : BlockList). is_list m b.items) bs ≡ true
-    → list_all (λ (b : BlockList). is_list m b.items) (lasts_of ts) ≡ true
-all_lists m [] [] are lists = refl
-all_lists m [] (t ∷ ts) are lists = let n = are.count in absurd (omega arith)
-all_lists m (b ∷ bs) [] are lists = refl
-all_lists m (b ∷ bs) (t ∷ ts) are lists =
-    and_from (is_list m (last_of t).items) (list_all (λ (x : BlockList). is_list m x.items) (lasts_of ts))
-    ((trail_candidate m b t (are.each 0 b t refl refl)).stands.spare.list (list_all_one (λ (x : BlockList). is_list m x.items) (b ∷ bs) 0 b lists refl))
-    (all_lists m bs ts (tail_of m b bs t ts are) (and_parts (is_list m b.items) (list_all (λ (x : BlockList). is_list m x.items) bs) lists).1)

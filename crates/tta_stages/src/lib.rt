@@ -6,6 +6,7 @@
 
 mod body;
 mod direct;
+mod fitted;
 mod intervals;
 mod listed;
 mod lowered;

@@ -8,6 +8,8 @@ ghost use Rattle.tta_program.specs.Rules.{IsProgram};
 ghost use Rattle.tta_lower.specs.Statement.{IsCause};
 ghost use Rattle.tta_link.specs.Blocks.{total_length};
 ghost use Rattle.tta_compose.specs.Needs.{are_offered};
+ghost use Rattle.tta_build.specs.Parts.{AreNoLonger};
+ghost use Rattle.tta_build.specs.Sharing.{AreGivenBy};
 ghost use Rattle.tta_stages.specs.Lowered.{IsLoweredAs};
 ghost use Rattle.tta_stages.specs.Stages.{AreCoveredLists, AreListed};
 
@@ -42,6 +44,8 @@ fn lowered_for(
     requires program { IsProgram p.now }
     ensures code { let M = on.now.machine.now in
         IfOk result (λ r. IsLoweredAs p.now (length on.now.choice.now.homes) M.frame_words r) }
+    ensures given { let homes = length on.now.choice.now.homes in
+        IfOk result (λ r. AreGivenBy sharing p.now homes r.homes) }
     ensures cause { IfErr result (λ e. IsCause p.now on.now.machine.now.frame_words e) }
 {
     let m = on.machine;
@@ -90,6 +94,8 @@ fn listed_by(
         are_offered U on.now.machine.now on.now.choice.now p.now ≡ true }
     ensures lists { let U = stated unit_meaning units.now in
         IfOk result (λ r. AreListed U on.now.machine.now on.now.choice.now p.now r) }
+    ensures given { let homes = length on.now.choice.now.homes in
+        IfOk result (λ r. AreGivenBy sharing p.now homes r.lowered.homes) }
     ensures cause { IfErr result (λ e. IsCause p.now on.now.machine.now.frame_words e) }
 {
     let lowered = lowered_for(alloc, on, p, sharing)?;
@@ -127,6 +133,8 @@ pub fn listed_for(
         are_offered U on.now.machine.now on.now.choice.now p.now ≡ true }
     ensures lists { let U = stated unit_meaning units.now in
         IfOk result (λ r. AreListed U on.now.machine.now on.now.choice.now p.now r) }
+    ensures plain { let U = stated unit_meaning units.now in let C = on.now.choice.now in IfOk result
+        (λ r. AreNoLonger U on.now.machine.now C p.now r.planned.placed.items) }
     ensures cause { IfErr result (λ e. IsCause p.now on.now.machine.now.frame_words e) }
 {
     let first = listed_by(alloc, on, p, units, Sharing::InTurn)?;

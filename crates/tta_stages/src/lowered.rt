@@ -6,6 +6,7 @@ ghost use Rattle.tta_flow.specs.Blocks.{IsFlow};
 ghost use Rattle.tta_lower.specs.Known.{first_by};
 ghost use Rattle.tta_lower.specs.Lower.{parts};
 ghost use Rattle.tta_lower.specs.Statement.{IsCause};
+ghost use Rattle.tta_build.specs.Sharing.{AreGivenBy};
 ghost use Rattle.tta_stages.specs.Lowered.{IsLoweredAs};
 
 use crate::intervals::Intervals;
@@ -56,6 +57,7 @@ pub fn lower_program(
 ) -> Result<Lowered, LowerError>
     requires program { IsProgram p.now }
     ensures code { IfOk result (λ r. IsLoweredAs p.now homes frame_words r) }
+    ensures given { IfOk result (λ r. AreGivenBy sharing p.now homes r.homes) }
     ensures cause { IfErr result (λ e. IsCause p.now frame_words e) }
 {
     let flow = Flow::of(alloc, p)?;

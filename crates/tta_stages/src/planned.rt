@@ -4,15 +4,13 @@
 ghost use Rattle.std.specs.Prelude.{◌≡◌, true, IfOk};
 ghost use Rattle.std.specs.List.{list_all};
 ghost use Rattle.tta_moves.specs.Slots.{is_list};
-ghost use Rattle.tta_compose.specs.Linking.{AreFirstFits};
-ghost use Rattle.tta_compose.specs.Room.{AreRoomy};
-ghost use Rattle.tta_stages.specs.Trail.{AreTrails, lasts_of};
-ghost use Rattle.tta_stages.specs.Planned.{ArePlanned};
+ghost use Rattle.tta_stages.specs.Planned.{AreFitted, ArePlanned};
 
+use crate::fitted::{Fits, fit_each};
 use crate::trail::{Tracer, Trail};
 use std::alloc::{AllocError, Global};
 use tta_build::chosen_ways;
-use tta_connect::{Covered, Joined};
+use tta_connect::Covered;
 use tta_moves::{BlockList, Placed};
 use tta_sched::Placer;
 
@@ -28,57 +26,21 @@ pub struct Planned {
     pub placed: Vec<Placed>,
 }
 
-/// The trails of lists, for what is chosen on a machine. It fails only where there is no memory.
-fn traced(alloc: Global, on: &Covered<'_>, lists: &[BlockList]) -> Result<Vec<Trail>, AllocError>
+/// The trails of lists with their placements, for what is chosen on a machine. It fails only where
+/// there is no memory.
+fn fits_of(alloc: Global, on: &Covered<'_>, lists: &[BlockList]) -> Result<Fits, AllocError>
     requires lists { list_all (λ b. is_list on.now.machine.now b.items) lists.now ≡ true }
-    ensures { IfOk result (λ ts. AreTrails on.now.machine.now lists.now ts.items) }
+    ensures { IfOk result (λ r. AreFitted on.now.machine.now lists.now r) }
 {
     let ways = chosen_ways(alloc, lists, on)?;
     let mut tracer = Tracer::new(alloc, on.choice.hub)?;
-    let trails = tracer.trails_of(alloc, on, lists, ways.as_slice());
-    // Dropped here as a whole, so that no part of it is left to drop at the end.
-    drop(tracer);
-    drop(ways);
-    trails
-}
-
-/// A first fit of the last list of each trail, by what is lent. It fails only where there is no
-/// memory.
-fn place_each(
-    alloc: Global,
-    placer: &mut Placer,
-    on: &Joined<'_>,
-    trails: &[Trail],
-) -> Result<Vec<Placed>, AllocError>
-    requires lists { let M = on.now.machine.now in
-        list_all (λ b. is_list M b.items) (lasts_of trails.now) ≡ true }
-    ensures first { let M = on.now.machine.now in
-        IfOk result (λ ps. AreFirstFits M (lasts_of trails.now) ps.items) }
-    ensures roomy { let M = on.now.machine.now in
-        IfOk result (λ ps. AreRoomy M (lasts_of trails.now) ps.items) }
-{
-    let mut placed = Vec::new(alloc);
-    for trail in trails {
-        let p = placer.place(alloc, trail.last(), on.machine, on.net)?;
-        placed.push(p)?;
-    }
-    Ok(placed)
-}
-
-/// A first fit of the last list of each trail. It fails only where there is no memory.
-fn placements(alloc: Global, on: &Joined<'_>, trails: &[Trail]) -> Result<Vec<Placed>, AllocError>
-    requires lists { let M = on.now.machine.now in
-        list_all (λ b. is_list M b.items) (lasts_of trails.now) ≡ true }
-    ensures first { let M = on.now.machine.now in
-        IfOk result (λ ps. AreFirstFits M (lasts_of trails.now) ps.items) }
-    ensures roomy { let M = on.now.machine.now in
-        IfOk result (λ ps. AreRoomy M (lasts_of trails.now) ps.items) }
-{
     let mut placer = Placer::new(alloc, on.machine)?;
-    let placed = place_each(alloc, &mut placer, on, trails);
+    let fits = fit_each(alloc, &mut tracer, &mut placer, on, lists, ways.as_slice());
     // Dropped here as a whole, so that no part of it is left to drop at the end.
     drop(placer);
-    placed
+    drop(tracer);
+    drop(ways);
+    fits
 }
 
 /// The trails of selected lists, and their placements. It fails only where there is no memory.
@@ -90,12 +52,7 @@ pub fn plan_lists(
     requires lists { list_all (λ b. is_list on.now.machine.now b.items) selected.items ≡ true }
     ensures { IfOk result (λ r. ArePlanned on.now.machine.now selected.items r) }
 {
-    let joined = Joined {
-        machine: on.machine,
-        net: on.net,
-    };
-    let trails = traced(alloc, on, selected.as_slice())?;
-    let placed = placements(alloc, &joined, trails.as_slice())?;
+    let Fits { trails, placed } = fits_of(alloc, on, selected.as_slice())?;
     Ok(Planned {
         selected,
         trails,

@@ -1,10 +1,10 @@
 //! How the list that is placed for a block came of the selected one.
 
-ghost use Rattle.std.specs.Prelude.{◌≡◌, true, length, IfOk, IfSome};
-ghost use Rattle.std.specs.List.{list_all};
+ghost use Rattle.std.specs.Prelude.{◌≡◌, true, IfOk, IfSome};
 ghost use Rattle.tta_moves.specs.Slots.{is_list};
 ghost use Rattle.tta_optim.specs.Kept.{IsStandIn};
-ghost use Rattle.tta_stages.specs.Trail.{IsOrdered, IsRound, IsTrail, AreTrails, last_of};
+ghost use Rattle.tta_compose.specs.Compiler.{optimised};
+ghost use Rattle.tta_stages.specs.Trail.{IsOrdered, IsRound, IsTrail, last_of};
 
 use crate::passed::{Passed, pass_list};
 use std::alloc::{AllocError, Global};
@@ -229,27 +229,24 @@ impl Tracer {
             }
         }
     }
+}
 
-    /// The trail of each list along its way, for what is chosen on a machine. It fails only where there
-    /// is no memory.
-    pub fn trails_of(
-        &mut self,
-        alloc: Global,
-        on: &Covered<'_>,
-        lists: &[BlockList],
-        ways: &[Way],
-    ) -> Result<Vec<Trail>, AllocError>
-        requires lists { list_all (λ b. is_list on.now.machine.now b.items) lists.now ≡ true }
-        requires ways { length ways.now ≡ length lists.now }
-        ensures { IfOk result (λ ts. AreTrails on.now.machine.now lists.now ts.items) }
-    {
-        let mut trails = Vec::new(alloc);
-        for k in 0..lists.len() {
-            let trail = self.trail(alloc, on, &lists[k], ways[k])?;
-            trails.push(trail)?;
-        }
-        Ok(trails)
-    }
+/// The trail of a block's list by the passes alone. It fails only where there is no memory.
+pub fn plain_trail(alloc: Global, on: &Joined<'_>, b: &BlockList) -> Result<Trail, AllocError>
+    requires list { is_list on.now.machine.now b.now.items ≡ true }
+    ensures trail { IfOk result (λ t. IsTrail on.now.machine.now b.now t) }
+    ensures last { IfOk result (λ t. last_of t ≡ optimised on.now.machine.now b.now) }
+{
+    let passed = pass_list(alloc, on, b)?;
+    let first = Round {
+        ordered: None,
+        passed,
+    };
+    Ok(Trail {
+        served: None,
+        first,
+        second: None,
+    })
 }
 
 /// The list of a block with its loads served, if they are to be. It fails only where there is no

@@ -1,6 +1,7 @@
 use Rattle.std.proofs.Common.{ℕ, ap, subst, arith}
 use Rattle.tta_arch.specs.Machine.{Machine}
 use Rattle.tta_build.proofs.FewHomes.{few_homes}
+use Rattle.tta_build.specs.Sharing.{AreGivenBy}
 use Rattle.tta_stages.specs.Lowered.{IsLoweredAs}
 use Rattle.tta_stages.proofs.listed.lowered_for.Goals as goal
 
@@ -15,3 +16,8 @@ returns-clause-code c =
     let within = subst Within (ap (λ (x : Machine). x.frame_words) c.m.view_is) c.in_ok-lowered.ensures.code in
     let Given : ℕ → Type 0 = λ n. IsLoweredAs c.args.p.now n c.args.on.now.machine.now.frame_words c.in_ok-lowered.lowered in
     subst Given c.len-homes.ensures within
+
+pub returns-clause-given : goal.returns-clause-given
+returns-clause-given c =
+    let Given : ℕ → Type 0 = λ n. AreGivenBy c.args.sharing c.args.p.now n c.in_ok-lowered.lowered.homes in
+    subst Given c.len-homes.ensures c.in_ok-lowered.ensures.given

@@ -35,4 +35,4 @@ returns-in-Err-clause-cause g c =
     let p = c.args.p.now in
     cause_for U m c.args.on.now.choice.now p c.in_ok-listed.listed c.in_ok-listed.ensures.lists c.requires.machine c.requires.over c.args.on.now.choice_of
     c.requires.program c.requires.offered c.requires.other c.requires.kept c.requires.supplied c.as_slice.result.now c.as_slice.ensures.value
-    c.in-Err.error c.in-Err.ensures.cause
+    c.in_ok-listed.ensures.plain c.in-Err.error c.in-Err.ensures.cause
