@@ -2,6 +2,7 @@
 use Rattle.std.proofs.Common.{◌≡◌, ◌≤◌, ◌+◌, ◌-◌, ◌++◌, ◌∷◌, [], ℕ, zero, suc, Bool, List, Option, Some, None, true, false, refl, sym, ap, ◌∙◌, subst, arith, append_assoc, append-nil}
 use Rattle.std.specs.Prelude.{if◌then◌else◌}
 use Rattle.std.specs.Option.{option_map_or}
+use Rattle.tta_list.proofs.Iterated.{iterate-add}
 use Rattle.tta_list.proofs.Prefixes.{prefix_chain as prefix-more}
 use Rattle.tta_list.specs.Prefix.{IsPrefixOf}
 use Rattle.tta_list.specs.Iterate.{iterate}
@@ -11,7 +12,6 @@ use Rattle.tta_program.specs.declared.step.Step.TheVariants.{Copy, Apply, Load, 
 use Rattle.tta_program.specs.Program.{Program}
 use Rattle.tta_program.specs.Sequential.{State, Frame, Outcome, Running, Halted, Waiting, step_at, holds, operand, next, next_of, go_on, carry_out, goes_through, waits, returns, take_value, assigns, goes_to}
 use Rattle.tta_rcode.specs.Meaning.{is_running}
-use Rattle.tta_lower.proofs.Runs.{iterate-add}
 
 -- a list begins itself
 pub prefix-same : (xs ys : List ℕ) → ys ≡ xs → IsPrefixOf xs ys
