@@ -149,7 +149,7 @@ fn push_hot_at(
     ensures { let U = stated unit_meaning units.now in
         OnOk result (out.new.items ≡ out.old.items
         ++ hot_at_text U profiled.now.m.now profiled.now.counts.now profiled.now.words.now
-            profiled.now.whole h) }
+        profiled.now.whole h) }
 {
     match instruction_at(profiled.words, h.address) {
         Some(i) => push_hot(out, units, profiled, h.address, i),
@@ -169,7 +169,7 @@ fn push_hottest(
     ensures { let U = stated unit_meaning units.now in
         OnOk result (out.new.items ≡ out.old.items ++ hottest_text U
         profiled.now.m.now profiled.now.counts.now profiled.now.words.now
-            profiled.now.whole order.now) }
+        profiled.now.whole order.now) }
 {
     for h in order {
         push_hot_at(out, units, profiled, *h)?;
@@ -190,7 +190,7 @@ fn push_told(
     ensures { let U = stated unit_meaning units.now in
         OnOk result (out.new.items ≡ out.old.items ++ told_text U
         profiled.now.m.now profiled.now.words.now profiled.now.counts.now
-            profiled.now.whole order.now) }
+        profiled.now.whole order.now) }
 {
     push_uses(out, profiled)?;
     push_hottest(out, units, profiled, order)
