@@ -2,6 +2,7 @@
 use Rattle.std.proofs.Common.{◌≡◌, ◌≢◌, ℕ, ◌<◌, ◌≤◌, true, false, List, length, Option, Some, None, refl, sym, ◌∙◌, ap, subst, arith, ◌⊎◌, inl, inr}
 use Rattle.std.specs.Prelude.{◌↔◌, slice_get, is_some}
 use Rattle.tta_list.proofs.Lists.{some_within}
+use Rattle.tta_list.proofs.Tests.{some_same}
 use Rattle.tta_program.specs.declared.program.Proc.{Proc}
 use Rattle.tta_alloc.specs.declared.interval.Interval.{Interval}
 use Rattle.tta_alloc.specs.declared.home.Home.{Home}
@@ -15,7 +16,6 @@ use Rattle.tta_alloc.proofs.TakenLemmas.{at_place}
 use Rattle.tta_alloc.proofs.HolderLemmas.{reg_slot}
 use Rattle.tta_alloc.proofs.LawLemmas.{scan_keeps}
 use Rattle.tta_alloc.proofs.HomeLemmas.{scan_given as scan_size}
-use Rattle.tta_flow.proofs.FlowLawLemmas.{some_same}
 
 -- a scan is itself one
 pub scan_allots : (q : Proc) (homes : ℕ) (answer : List Home) → IsScanOf q homes answer → AreAllottedOf q homes answer

@@ -9,8 +9,8 @@ use Rattle.tta_alloc.specs.Scan.{Scan}
 use Rattle.tta_alloc.specs.Law.{stands_at}
 use Rattle.tta_alloc.proofs.TakenLemmas.{count_push}
 use Rattle.tta_alloc.proofs.ListLemmas.{In, in_front, in_last, in_cases}
-use Rattle.tta_flow.proofs.FlowLawLemmas.{some_same}
 use Rattle.tta_list.proofs.Sets.{set_same, set_other}
+use Rattle.tta_list.proofs.Tests.{some_same}
 
 pub record Kept (homes : ℕ) (done : List Interval) (s : Scan) : Type 0 where
   pub holds : (k : ℕ) (h : Interval) → slice_get s.holders k ≡ Some h → (In done h) × (slice_get s.homes h.var ≡ Some (Reg k))

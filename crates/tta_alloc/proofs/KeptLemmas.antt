@@ -2,7 +2,7 @@
 use Rattle.std.proofs.Common.{◌≡◌, ℕ, ◌+◌, ◌<◌, ◌≤◌, ◌/◌, true, false, length, Option, Some, None, refl, sym, ◌∙◌, ap, subst, arith, ◌⊎◌, inl, inr}
 use Rattle.std.specs.Prelude.{◌==◌, ◌||◌, slice_get}
 use Rattle.std.specs.Option.{option_map_or}
-use Rattle.std.proofs.lemmas.Bool.{eqb-true, eq-eqb, or_cases}
+use Rattle.std.proofs.lemmas.Bool.{eqb-true, eq-eqb, or_cases, and_from}
 use Rattle.std.proofs.Math.Bool.{or-true, or-false}
 use Rattle.tta_list.proofs.Tests.{and_left, and_right}
 use Rattle.tta_program.specs.declared.step.Step.{Step}
@@ -17,7 +17,7 @@ use Rattle.tta_alloc.specs.declared.body.Body.{Body}
 use Rattle.tta_alloc.specs.Bodies.{IsKnown, is_held, is_held_over}
 use Rattle.tta_alloc.specs.Intervals.{keeps, keeps_at, IsKept}
 use Rattle.tta_alloc.specs.Together.{AreKept}
-use Rattle.tta_alloc.proofs.WalkLemmas.{both, reached_small}
+use Rattle.tta_alloc.proofs.WalkLemmas.{reached_small}
 
 -- only the step in the next place follows a call
 after_call : (o : Option Step) (at next x : ℕ) → option_map_or (λ s. keeps s x) o false ≡ true
@@ -56,7 +56,7 @@ module _ (b : Body) (h : IsKnown b) (x : ℕ) (small : x < b.q.now.vars) where
   kept_held : (k : IsKept b.q.now x) → is_held b k.at x ≡ true
   kept_held k =
       let next = eqb-true (k.at + 1) k.live.next (sym (after_call (slice_get b.q.now.steps k.at) k.at k.live.next x k.keeps) ∙ k.live.leads) in
-      both (h.whole k.at k.reached) (both ((h.before (k.at + 1) x small).1 (subst (LiveBefore b.q.now.steps x) (sym next) k.live.live)) k.keeps)
+      and_from _ _ (h.whole k.at k.reached) (and_from _ _ ((h.before (k.at + 1) x small).1 (subst (LiveBefore b.q.now.steps x) (sym next) k.live.live)) k.keeps)
 
 -- the row has only variables that are kept, and all that steps below a number keep
 pub record AreHeld (b : Body) (n : ℕ) (kept spare : BitRow) : Type 0 where

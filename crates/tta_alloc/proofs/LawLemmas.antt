@@ -4,6 +4,7 @@ use Rattle.std.specs.Prelude.{slice_get, is_some}
 use Rattle.std.proofs.lemmas.List.{append-nil}
 use Rattle.std.proofs.lemmas.Option.{slice_get_within}
 use Rattle.tta_list.proofs.Lists.{slice_get-longer, slice_get-back, some_within}
+use Rattle.tta_list.proofs.Tests.{some_same}
 use Rattle.tta_alloc.specs.declared.interval.Interval.{Interval}
 use Rattle.tta_alloc.specs.declared.home.Home.{Home}
 use Rattle.tta_alloc.specs.declared.home.Home.TheVariants.{Reg, Slot}
@@ -18,7 +19,6 @@ use Rattle.tta_program.specs.declared.program.Proc.{Proc}
 use Rattle.tta_alloc.proofs.ListLemmas.{In}
 use Rattle.tta_alloc.proofs.HolderLemmas.{Kept, reg_slot}
 use Rattle.tta_alloc.proofs.TakeLemmas.{kept_step}
-use Rattle.tta_flow.proofs.FlowLawLemmas.{some_same}
 use Rattle.tta_flow.proofs.RunLemmas.{two as three}
 
 -- ---- all intervals

@@ -15,8 +15,8 @@ use Rattle.tta_alloc.proofs.TakenLemmas.{count_push}
 use Rattle.tta_alloc.proofs.ListLemmas.{In, in_front, in_cases, count_set, count_all}
 use Rattle.tta_alloc.proofs.ScanLemmas.{free_ended, free_held, free_within}
 use Rattle.tta_alloc.proofs.HolderLemmas.{Kept, reg_slot, reg_same, taken_one}
-use Rattle.tta_flow.proofs.FlowLawLemmas.{some_same}
 use Rattle.tta_list.proofs.Sets.{set_same, set_other}
+use Rattle.tta_list.proofs.Tests.{some_same}
 
 stands : (at : ℕ) (a : Interval) → a.start ≤ at → at ≤ a.end → stands_at at a ≡ true
 stands at a low high = rw (le-leb a.start at low, le-leb at a.end high) refl

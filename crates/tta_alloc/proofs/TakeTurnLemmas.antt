@@ -16,8 +16,8 @@ use Rattle.tta_alloc.proofs.ListLemmas.{In, in_front, in_last, in_cases}
 use Rattle.tta_alloc.proofs.HolderLemmas.{reg_same}
 use Rattle.tta_alloc.proofs.TurnLemmas.{Turned, RegOf, IsFreeFrom, never_before, some_at}
 use Rattle.tta_alloc.proofs.TurnLemmas as turn
-use Rattle.tta_flow.proofs.FlowLawLemmas.{some_same}
 use Rattle.tta_list.proofs.Sets.{set_same, set_other}
+use Rattle.tta_list.proofs.Tests.{some_same}
 
 module _ (q : Proc) (homes : ℕ) (first answer : List Home) (done : List Interval) (from : List ℕ) (new : Interval)
     (h : Turned q homes first answer done from)

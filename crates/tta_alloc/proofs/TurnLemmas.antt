@@ -15,7 +15,7 @@ use Rattle.tta_alloc.proofs.TakenLemmas.{same_interval}
 use Rattle.tta_alloc.proofs.ListLemmas.{In, in_front, in_cases}
 use Rattle.tta_alloc.proofs.HolderLemmas.{reg_slot, reg_same}
 use Rattle.tta_alloc.proofs.Pigeons.{no_more}
-use Rattle.tta_flow.proofs.FlowLawLemmas.{some_same}
+use Rattle.tta_list.proofs.Tests.{some_same}
 
 -- the home of a variable is a register, by one of some intervals, and so it is by the scan
 abbrev pub RegOf : (homes : ℕ) (first : List Home) (done : List Interval) (x : ℕ) (home : Home) → Type 0

@@ -22,8 +22,8 @@ use Rattle.tta_alloc.proofs.LawLemmas.{slots_are, scan_keeps, scan_fresh}
 use Rattle.tta_alloc.proofs.AllotLemmas.{allots}
 use Rattle.tta_alloc.proofs.TurnLemmas.{Turned, never_before, reg_in, turned_rest}
 use Rattle.tta_alloc.proofs.TakeTurnLemmas.{turned_take}
-use Rattle.tta_flow.proofs.FlowLawLemmas.{some_same}
 use Rattle.tta_flow.proofs.RunLemmas.{two as three}
+use Rattle.tta_list.proofs.Tests.{some_same}
 
 -- ---- the intervals before a place
 

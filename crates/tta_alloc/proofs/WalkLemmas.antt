@@ -2,7 +2,7 @@
 use Rattle.std.proofs.Common.{◌≡◌, ◌≢◌, ℕ, zero, suc, ◌+◌, ◌-◌, ◌<◌, ◌≤◌, ◌/◌, Bool, true, false, List, length, Option, Some, None, refl, sym, ◌∙◌, ap, subst, arith, ◌⊎◌, inl, inr, if◌then◌else◌}
 use Rattle.std.specs.Prelude.{◌&&◌, ◌||◌, nat_lt}
 use Rattle.std.specs.Option.{MatchOption}
-use Rattle.std.proofs.lemmas.Bool.{cases_eq, eq-eqb, ne_eqb, or_cases, ltb-true, lt-ltb}
+use Rattle.std.proofs.lemmas.Bool.{cases_eq, eq-eqb, ne_eqb, or_cases, ltb-true, lt-ltb, and_from}
 use Rattle.std.proofs.Math.Bool.{or-true}
 use Rattle.tta_list.proofs.Tests.{and_left, and_right}
 use Rattle.tta_program.specs.declared.step.Step.{Step}
@@ -18,9 +18,6 @@ use Rattle.tta_alloc.specs.Bodies.{IsKnown, at_entry, at_step, counted, Fills}
 use Rattle.tta_alloc.specs.Intervals.{Counts, IsParam, IsLiveAtEntry, IsRead, IsAssigned, IsLiveBefore, IsLiveAfter}
 use Rattle.tta_alloc.specs.Known.{Known}
 use Rattle.tta_alloc.specs.Meetings.{met, or_met, IsSound, Meets}
-
-pub both : {a b : Bool} → a ≡ true → b ≡ true → (a && b) ≡ true
-both {b = b} e f = ap (λ r. r && b) e ∙ f
 
 steps_within : (steps : List Step) → IsClosed steps → (k : ℕ) → Reached steps k → k < length steps
 steps_within steps closed _ Begin = closed.some
@@ -55,7 +52,7 @@ module _ (b : Body) (h : IsKnown b) (x : ℕ) (small : x < b.q.now.vars) where
       ap (λ r. r || false) ((h.before i x small).1 (ReadLater i a.next e a.leads a.live))
 
   at_live : (i : ℕ) → Reached b.q.now.steps i → LiveBefore b.q.now.steps x i → at_step b i x ≡ true
-  at_live i r l = both (h.whole i r) (ap (λ t. t || assigns_at b.q.now.steps i x) ((h.before i x small).1 l))
+  at_live i r l = and_from _ _ (h.whole i r) (ap (λ t. t || assigns_at b.q.now.steps i x) ((h.before i x small).1 l))
 
   step_counted : (i : ℕ) → at_step b i x ≡ true → counted b (i + 1) x ≡ true
   step_counted i e =
@@ -67,9 +64,9 @@ module _ (b : Body) (h : IsKnown b) (x : ℕ) (small : x < b.q.now.vars) where
   counted_whole _ (IsLiveAtEntry l) = ap (λ t. nat_lt x b.q.now.params || t) ((h.before 0 x small).1 l) ∙ or-true (nat_lt x b.q.now.params)
   counted_whole _ (IsRead i r e) = step_counted i (at_live i r (ReadHere i e))
   counted_whole _ (IsAssigned i r e) =
-      step_counted i (both (h.whole i r) (ap (λ t. live_before b.live.now b.owner i x || t) e ∙ or-true (live_before b.live.now b.owner i x)))
+      step_counted i (and_from _ _ (h.whole i r) (ap (λ t. live_before b.live.now b.owner i x || t) e ∙ or-true (live_before b.live.now b.owner i x)))
   counted_whole _ (IsLiveBefore i r l) = step_counted i (at_live i r l)
-  counted_whole _ (IsLiveAfter i r a) = step_counted i (both (h.whole i r) (live_through i (assigns_at b.q.now.steps i x) refl a))
+  counted_whole _ (IsLiveAfter i r a) = step_counted i (and_from _ _ (h.whole i r) (live_through i (assigns_at b.q.now.steps i x) refl a))
 
   entry_counts : at_entry b x ≡ true → Counts b.q.now x 0
   entry_counts e = elim (or_cases (nat_lt x b.q.now.params) (live_before b.live.now b.owner 0 x) e) [

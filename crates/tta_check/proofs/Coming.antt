@@ -2,7 +2,7 @@
 use Rattle.std.proofs.Common.{◌≡◌, ℕ, zero, suc, ◌+◌, ◌≤◌, ◌<◌, Bool, true, false, List, Option, Some, None, refl, ap, sym, subst, ◌∙◌, arith}
 use Rattle.std.specs.Prelude.{◌&&◌, ◌-◌, ◌≢◌, if◌then◌else◌, slice_get}
 use Rattle.std.specs.Option.{option_map_or}
-use Rattle.std.proofs.lemmas.Bool.{eq-eqb}
+use Rattle.std.proofs.lemmas.Bool.{eq-eqb, and_from}
 use Rattle.tta_arch.specs.Machine.{Machine}
 use Rattle.tta_arch.specs.Effects.{Kind, Jumps, Calls, Halts, Target, Reg, Imm, Operand, Trigger, Control, Effect}
 use Rattle.tta_code.specs.declared.code.Instruction.{Instruction}
@@ -33,7 +33,6 @@ use Rattle.tta_check.proofs.Going.{single_goes, two_goes}
 use Rattle.tta_check.proofs.Aims.{only_single}
 use Rattle.tta_check.proofs.Visiting.{IsEntry, IsThere, controller_in, told_code, no_code_in, only_of, free_of}
 use Rattle.tta_check.proofs.Placing.{place_parts}
-use Rattle.tta_list.proofs.Tests.{and_both as both}
 
 -- an instruction that makes control do this, where a jump or call goes to its word
 pub record Mover (m : Machine) (code : Code) (from : ℕ) (c : Kind × ℕ) : Type 0 where
@@ -151,7 +150,7 @@ same_kind_self Halts = refl
 
 under_alike : (u v : Under) → u.left ≡ v.left → u.kind ≡ v.kind → u.word ≡ v.word → same_under (Some u) (Some v) ≡ true
 under_alike u v left kind word =
-    both _ _ (eq-eqb _ _ left) (both _ _ (ap (same_kind u.kind) (sym kind) ∙ same_kind_self u.kind) (eq-eqb _ _ word))
+    and_from _ _ (eq-eqb _ _ left) (and_from _ _ (ap (same_kind u.kind) (sym kind) ∙ same_kind_self u.kind) (eq-eqb _ _ word))
 
 kinds_alike : (x : Target) (v w : Word) (c d : Kind × ℕ) → control_to v x ≡ Some c → control_to w x ≡ Some d → (c.0 ≡ d.0) × (takes_address x ≡ false → c.1 ≡ d.1)
 kinds_alike (Control Jumps) v w c d h k = (cc, λ e. absurd cc)

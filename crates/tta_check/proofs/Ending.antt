@@ -2,6 +2,7 @@
 use Rattle.std.proofs.Common.{◌≡◌, ℕ, Bool, true, false, List, Option, Some, None, refl, ap, sym, subst, ◌∙◌, inl, inr}
 use Rattle.std.specs.Prelude.{◌||◌, is_some, if◌then◌else◌}
 use Rattle.std.specs.Option.{option_map_or}
+use Rattle.std.proofs.lemmas.Bool.{or_right}
 use Rattle.tta_arch.specs.Machine.{Machine}
 use Rattle.tta_arch.specs.Effects.{Effect, Place}
 use Rattle.tta_code.specs.declared.code.Instruction.{Instruction}
@@ -33,13 +34,12 @@ use Rattle.tta_check.proofs.Disagreeing.{words_disagree}
 use Rattle.tta_check.proofs.Lone.{once_operand, once_address}
 use Rattle.tta_check.proofs.Proper.{cell_proper, two_differ}
 use Rattle.tta_check.proofs.Visiting.{IsEntry, IsThere, controller_in, told_code}
-use Rattle.tta_list.proofs.Tests.{or_true}
 
 one_told : (a b : Word) → tells_word (Two a b) a ≡ true
 one_told a b = ap (λ c. c || same_word a b) (same_self a)
 
 other_told : (a b : Word) → tells_word (Two a b) b ≡ true
-other_told a b = or_true (same_word b a) (same_word b b) (same_self b)
+other_told a b = or_right (same_word b a) (same_word b b) (same_self b)
 
 disagrees : (m : Machine) (code : Code) (spots : List Spot) (i : Instruction) (at : Onward) → IsEntry m code spots at → IsThere m code spots i at → code_in (tells at.row) m (is_some at.key.under) i ≡ None
     → aim_of at.row.cells.items (controller (effects_of m i)) ≡ None → Disagree m code at.key.address

@@ -2,7 +2,7 @@
 use Rattle.std.proofs.Common.{◌≡◌, ℕ, zero, suc, ◌+◌, ◌*◌, ◌≤◌, ◌<◌, Bool, true, false, List, [], ◌∷◌, ◌++◌, length, Option, Some, None, refl, ap, sym, ◌∙◌, ◌⊎◌, inl, inr, arith}
 use Rattle.std.specs.Prelude.{◌==◌, ◌||◌, ◌-◌, ◌≢◌, if◌then◌else◌, slice_get, slice_set, option_and_then}
 use Rattle.std.specs.List.{list_any}
-use Rattle.std.proofs.lemmas.Bool.{and_parts, eq-eqb, eqb-true}
+use Rattle.std.proofs.lemmas.Bool.{and_parts, eq-eqb, eqb-true, or_left, and_from}
 use Rattle.std.proofs.lemmas.List.Folds.{list_any-append}
 use Rattle.tta_arch.specs.Effects.{Kind, Jumps, Calls, Halts}
 use Rattle.tta_check.specs.declared.row.Row.{Row}
@@ -16,7 +16,6 @@ use Rattle.tta_check.specs.Weights.{weight}
 use Rattle.tta_check.specs.Tables.{same_kind, same_under, same_key, place_at, row_in, row_at, Sets}
 use Rattle.tta_check.proofs.Putting.{set_get}
 use Rattle.tta_check.proofs.Coming.{same_kind_self as kind_self}
-use Rattle.tta_list.proofs.Tests.{or_left, and_both as both}
 use Rattle.tta_list.proofs.Sets.{set_count}
 
 -- ---- keys
@@ -45,7 +44,7 @@ under_is (Some u) (Some v) h =
 
 under_self : (u : Option Under) → same_under u u ≡ true
 under_self None = refl
-under_self (Some u) = both _ _ (eq-eqb _ _ refl) (both _ _ (kind_self u.kind) (eq-eqb _ _ refl))
+under_self (Some u) = and_from _ _ (eq-eqb _ _ refl) (and_from _ _ (kind_self u.kind) (eq-eqb _ _ refl))
 
 -- keys that a test calls the same are one
 pub key_is : (j k : Key) → same_key j k ≡ true → j ≡ k
@@ -56,7 +55,7 @@ key_is j k h =
       at n u = record { address = n; under = u }
 
 pub key_self : (k : Key) → same_key k k ≡ true
-key_self k = both _ _ (eq-eqb _ _ refl) (under_self k.under)
+key_self k = and_from _ _ (eq-eqb _ _ refl) (under_self k.under)
 
 -- ---- rows that are found
 

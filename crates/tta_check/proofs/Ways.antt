@@ -1,7 +1,7 @@
 -- The ways that control goes from an instruction, and the verdict that it gives.
 use Rattle.std.proofs.Common.{◌≡◌, ◌+◌, Bool, true, false, List, Option, Some, None, refl, ap, sym, subst, ◌∙◌, ◌⊎◌, inl, inr, arith}
 use Rattle.std.specs.Prelude.{◌&&◌}
-use Rattle.std.proofs.lemmas.Bool.{and_parts}
+use Rattle.std.proofs.lemmas.Bool.{and_parts, and_from}
 use Rattle.tta_arch.specs.declared.ends.GuardRef.{GuardRef}
 use Rattle.tta_arch.specs.Machine.{Machine}
 use Rattle.tta_arch.specs.Joins.{is_same, is_same_guard}
@@ -27,7 +27,6 @@ use Rattle.tta_check.proofs.Turning.{leads_on}
 use Rattle.tta_check.proofs.Aims.{only_single}
 use Rattle.tta_check.proofs.Visiting.{IsEntry, IsThere, only_of, free_of, after_of, way_entry}
 use Rattle.tta_arch.proofs.Guards.{same_guard as guard_is, same_guard_itself as guard_self}
-use Rattle.tta_list.proofs.Tests.{and_both as both}
 
 -- a way with the guard that is settled by it
 pub record WayOf (m : Machine) (i : Instruction) (at : Onward) (word : Word) (o : Option Onward) : Type 0 where
@@ -38,7 +37,7 @@ pub record WayOf (m : Machine) (i : Instruction) (at : Onward) (word : Word) (o 
 
 settles_self : (g : Option GuardRef) → settles g (settled g true) true ≡ true
 settles_self None = refl
-settles_self (Some g) = both _ _ (guard_self g) refl
+settles_self (Some g) = and_from _ _ (guard_self g) refl
 
 pub acts_way : (m : Machine) (i : Instruction) (at : Onward) (word : Word) (x : Onward) → IsActs m i at (controller (effects_of m i)) word (Some x) → WayOf m i at word (Some x)
 acts_way m i at word x h = on (controller (effects_of m i)) refl h where
@@ -58,7 +57,7 @@ stays_way m i at word x h = on (controller (effects_of m i)) refl h where
   by e (Some g) is control h = record {
     sense = settled (Some g) false;
     acts = false;
-    settled = ap (λ c. is_settled c (settled (Some g) false) false) control ∙ ap (λ h. settles h (settled (Some g) false) false) is ∙ both _ _ (guard_self g) refl;
+    settled = ap (λ c. is_settled c (settled (Some g) false) false) control ∙ ap (λ h. settles h (settled (Some g) false) false) is ∙ and_from _ _ (guard_self g) refl;
     way = subst (λ c. IsWay m i at (settled (Some g) false) (does word c false) (Some x)) (sym control) h;
   }
 

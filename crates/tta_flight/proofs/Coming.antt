@@ -1,7 +1,7 @@
 -- Which rings have to turn, after each call.
 use Rattle.std.proofs.Common.{◌≡◌, ◌≢◌, ◌<◌, ◌≤◌, ◌+◌, ◌-◌, ℕ, zero, suc, true, false, length, None, Some, refl, ap, sym, ◌∙◌, arith}
 use Rattle.std.specs.Prelude.{◌==◌, ◌||◌, is_some, nat_le, max}
-use Rattle.std.proofs.lemmas.Bool.{eq-eqb, ne_eqb}
+use Rattle.std.proofs.lemmas.Bool.{eq-eqb, ne_eqb, true≢false}
 use Rattle.std.proofs.Math.Bool.{or-true, or-false}
 use Rattle.tta_flight.specs.Marked.{has}
 use Rattle.tta_flight.specs.Rings.{Rings, turns_of, later_in, AreMoving, IsTurned}
@@ -10,9 +10,6 @@ use Rattle.tta_flight.proofs.Cells.{by_unit}
 zero_by : (n : ℕ) → (0 < n → n ≡ 0) → n ≡ 0
 zero_by zero zero_if = refl
 zero_by (suc n) zero_if = zero_if (omega arith)
-
-pub never : {A : Type 0} → true ≡ false → A
-never e = absurd cc
 
 -- ---- a ring that turned
 
@@ -31,7 +28,7 @@ module _ (r new : Rings) (unit : ℕ) (moving : AreMoving r) (there : unit < len
       (λ u other had off. turns_other u other ∙ moving.still u had (sym (has_other u other) ∙ off))
 
   needed_at : (n : ℕ) → turns_of new unit ≡ n → has new.moving unit ≡ true → is_some (later_in new unit (n - 1)) ≡ true
-  needed_at zero none on = never (sym on ∙ has_none none)
+  needed_at zero none on = absurd (true≢false (sym on ∙ has_none none))
   needed_at (suc n) some on =
       let before : turns_of r unit - 1 ≡ suc n - 1 + 1 = omega (arith, some, turns_here) in
       ap is_some (is.later (suc n - 1)) ∙ ap (λ k. is_some (later_in r unit k)) (sym before)
@@ -88,7 +85,7 @@ module _ (r new : Rings) (unit past value : ℕ) (moving : AreMoving r) (there :
 
   still_more : (u : ℕ) → u < length r.rings → has new.moving u ≡ false → turns_of new u ≡ 0
   still_more = by_unit unit (λ u. u < length r.rings → has new.moving u ≡ false → turns_of new u ≡ 0)
-      (λ had off. never (sym (or-true (has r.moving unit)) ∙ ap (λ b. has r.moving unit || b) (sym (eq-eqb unit unit refl)) ∙ sym (sets unit) ∙ off))
+      (λ had off. absurd (true≢false (sym (or-true (has r.moving unit)) ∙ ap (λ b. has r.moving unit || b) (sym (eq-eqb unit unit refl)) ∙ sym (sets unit) ∙ off)))
       (λ u other had off. turns_other u other ∙ moving.still u had
       (sym (or-false (has r.moving u)) ∙ ap (λ b. has r.moving u || b) (sym (ne_eqb unit u (λ same. other (sym same)))) ∙ sym (sets u) ∙ off))
 

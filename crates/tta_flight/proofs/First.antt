@@ -2,12 +2,12 @@
 use Rattle.std.proofs.Common.{◌≡◌, ◌≤◌, ℕ, zero, suc, true, false, List, [], length, Option, None, get_or, refl, sym, ◌∙◌, arith}
 use Rattle.std.specs.Prelude.{if◌then◌else◌, nat_le, replicate}
 use Rattle.std.proofs.lemmas.List.{length-replicate}
+use Rattle.std.proofs.lemmas.Bool.{true≢false}
 use Rattle.tta_flight.specs.declared.ring.Ring.{Ring}
 use Rattle.tta_flight.specs.declared.marked.Marked.{Marked}
 use Rattle.tta_flight.specs.Rings.{Rings, rings_of, IsRegion, place_of, cell_of, ring_of, shown_in, due_in, rings_from, size_of}
 use Rattle.tta_flight.specs.Marked.{has}
 use Rattle.tta_flight.specs.Flight.{StandsFor}
-use Rattle.tta_flight.proofs.Coming.{never}
 use Rattle.tta_flight.proofs.Carved.{carved_from, length-rings_from, shown-rings_from, turns-rings_from}
 
 abbrev pub no_cells : ℕ → List (Option ℕ)
@@ -38,7 +38,7 @@ module _ (ls : List ℕ) (n : ℕ) (moving fresh : Marked) where
       few = omega (arith, units, length-rings_from 0 ls);
       empty = λ u d there soon. none_due n (ring_of first u) d;
       still = λ u there off. turns-rings_from 0 ls u;
-      needed = λ u there on. never (sym on ∙ clear u);
+      needed = λ u there on. absurd (true≢false (sym on ∙ clear u));
     };
   }
 

@@ -6,14 +6,7 @@ use Rattle.std.proofs.lemmas.Bool.{cases_eq, eq-eqb, ne_eqb}
 use Rattle.std.proofs.lemmas.Nat.Bits.{bit_at_or, bit_at-lt, bit_at-pow_same, bit_at-pow_other}
 use Rattle.std.proofs.Common.{get_or-set_same, get_or-set_other}
 use Rattle.std.proofs.Math.Bool.{or-true, or-false}
-
-either_bit : (x y : ℕ) → x < 2 → y < 2 → (max x y == 1) ≡ (x == 1 || y == 1)
-either_bit zero zero hx hy = refl
-either_bit zero (suc zero) hx hy = refl
-either_bit (suc zero) zero hx hy = refl
-either_bit (suc zero) (suc zero) hx hy = refl
-either_bit (suc (suc x)) y hx hy = absurd (omega arith)
-either_bit x (suc (suc y)) hx hy = absurd (omega arith)
+use Rattle.tta_list.proofs.Tests.{either_bit}
 
 pub is_bit-or : (a b k : ℕ) → (bit_at (bit_or a b) k == 1) ≡ (bit_at a k == 1 || bit_at b k == 1)
 is_bit-or a b k = ap (λ n. n == 1) (bit_at_or a b k) ∙ either_bit (bit_at a k) (bit_at b k) (bit_at-lt a k) (bit_at-lt b k)

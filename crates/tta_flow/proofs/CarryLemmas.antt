@@ -1,9 +1,9 @@
 -- A variable is carried backward from a step.
 use Rattle.std.proofs.Common.{◌≡◌, ◌<◌, ℕ, Bool, true, false, List, [], ◌∷◌, ◌++◌, length, refl, sym, ap, ◌∙◌, ◌⊎◌, inl, inr, arith, subst, Vec, Global}
 use Rattle.std.specs.Prelude.{◌==◌, ◌||◌, ◌&&◌, not}
-use Rattle.std.proofs.lemmas.Bool.{eq-eqb, or_cases, eqb-true}
+use Rattle.std.proofs.lemmas.Bool.{eq-eqb, or_cases, eqb-true, not-true}
 use Rattle.std.proofs.Math.Bool.{or-true}
-use Rattle.tta_list.proofs.Tests.{and_left, and_right, not_true}
+use Rattle.tta_list.proofs.Tests.{and_left, and_right}
 use Rattle.tta_program.specs.declared.step.Step.{Step}
 use Rattle.tta_flow.specs.declared.bits.BitRow.{BitRow}
 use Rattle.tta_flow.specs.declared.settle.Settling.{Settling}
@@ -25,7 +25,7 @@ live_within steps x _ (ReadLater i j free e l) = test_within (λ s. follows s i 
 -- and so it is before one that leads there and does not assign it
 passed : (steps : List Step) (at x k : ℕ) → LiveBefore steps x at → passes steps at x k ≡ true → LiveBefore steps x k
 passed steps at x k l e =
-    ReadLater k at (not_true (assigns_at steps k x) (and_right (leads steps k at) _ e)) (and_left (leads steps k at) _ e) l
+    ReadLater k at (not-true (assigns_at steps k x) (and_right (leads steps k at) _ e)) (and_left (leads steps k at) _ e) l
 
 -- ---- one variable
 

@@ -5,6 +5,7 @@ use Rattle.std.specs.Option.{option_map_or}
 use Rattle.std.proofs.lemmas.Bool.{eq-eqb}
 use Rattle.std.proofs.lemmas.Option.{slice_get_within}
 use Rattle.tta_list.proofs.Lists.{some_within}
+use Rattle.tta_list.proofs.Tests.{some_same}
 use Rattle.tta_program.specs.declared.step.Step.{Step}
 use Rattle.tta_program.specs.declared.step.Step.TheVariants.{If, Goto}
 use Rattle.tta_program.specs.declared.program.Proc.{Proc}
@@ -16,9 +17,6 @@ use Rattle.tta_flow.specs.Blocks.{IsFirst, Named, After, IsBlock, Holds, IsFlow,
 use Rattle.tta_flow.specs.Laws.{BeginsWith, FlowLaws}
 use Rattle.tta_flow.proofs.BlockLemmas.{leads_cases}
 use Rattle.tta_flow.proofs.RunLemmas.{two}
-
-pub some_same : {A : Type 0} {x y : A} → Some x ≡ Some y → x ≡ y
-some_same e = cc
 
 -- a branch ends its block
 branch_cuts : (steps : List Step) (i j : ℕ) → branches steps i j ≡ true → cuts_at steps i ≡ true

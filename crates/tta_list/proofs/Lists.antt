@@ -9,7 +9,6 @@ use Rattle.std.proofs.lemmas.List.Folds.{list_all-append}
 use Rattle.std.specs.Option.{option_map_or}
 use Rattle.std.proofs.lemmas.List.Sums.{sum_by-cons}
 use Rattle.std.proofs.lemmas.List.{length-append, append-nil}
-use Rattle.tta_list.proofs.Tests.{or_false}
 use Rattle.std.proofs.lemmas.Grind.{flat_map-append}
 use Rattle.std.specs.Str.{bytes_eq}
 use Rattle.std.proofs.lemmas.Slice.Eq.{bytes_eq-Decides}
@@ -169,7 +168,7 @@ length_more xs x = length-append xs (x ∷ [])
 
 pub any_none : {A : Type 0} (q : A → Bool) (xs : List A) → list_any q xs ≡ false → AllByRecursion (λ x. q x ≡ false) xs
 any_none q [] h = tt
-any_none q (x ∷ xs) h = let p = or_false (q x) _ h in (p.0, any_none q xs p.1)
+any_none q (x ∷ xs) h = let p = or_parts (q x) _ h in (p.0, any_none q xs p.1)
 
 pub map_count : {A B : Type 0} (f : A → B) (xs : List A) → length (map f xs) ≡ length xs
 map_count f [] = refl

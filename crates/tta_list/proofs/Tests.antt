@@ -1,8 +1,9 @@
 -- What tests say: one made of two or more, and one for something that may be missing.
-use Rattle.std.proofs.Common.{◌≡◌, Bool, true, false, Option, Some, None, refl, ℕ, arith, ◌<◌, zero, suc, min, ap, ◌∙◌, sym, nat_lt}
-use Rattle.std.specs.Prelude.{◌&&◌, ◌||◌, is_some, ◌==◌, not, is_none}
+use Rattle.std.proofs.Common.{◌≡◌, Bool, true, false, Option, Some, None, refl, ℕ, arith, ◌<◌, zero, suc, min, max, sym}
+use Rattle.std.specs.Prelude.{◌&&◌, ◌||◌, is_some, ◌==◌, is_none}
 use Rattle.std.specs.Option.{option_or}
-use Rattle.std.proofs.lemmas.Bool.{and_parts, and_from, eq-eqb, lt-ltb}
+use Rattle.std.proofs.lemmas.Bool.{and_parts, and_from, eq-eqb}
+use Rattle.std.proofs.lemmas.Option.{same_Some}
 use Rattle.std.proofs.lemmas.Bool.Decides.{nat_tests}
 
 -- both of two tests that hold together
@@ -33,36 +34,12 @@ pub option_or-none : {A : Type 0} (o p : Option A) → option_or o p ≡ None �
 option_or-none None p e = (refl, e)
 option_or-none (Some x) p e = cc
 
+-- what is there twice is the same
+pub some_same : {A : Type 0} {x y : A} → Some x ≡ Some y → x ≡ y
+some_same {A} {x} {y} e = same_Some x y e
+
 pub eq_same : (n : ℕ) → (n == n) ≡ true
 eq_same n = eq-eqb n n refl
-
-pub or_true : (a b : Bool) → b ≡ true → (a || b) ≡ true
-or_true true b h = refl
-or_true false b h = h
-
-pub or_left : (p q : Bool) → p ≡ true → (p || q) ≡ true
-or_left true q h = refl
-or_left false q h = absurd cc
-
-pub or_false : (a b : Bool) → (a || b) ≡ false → (a ≡ false) × (b ≡ false)
-or_false true b h = absurd cc
-or_false false b h = (refl, h)
-
-pub not_true : (b : Bool) → not b ≡ true → b ≡ false
-not_true true e = cc
-not_true false e = refl
-
--- a test or false
-pub or_none : (a : Bool) → (a || false) ≡ a
-or_none true = refl
-or_none false = refl
-
--- two tests in another order
-pub or_other : (a b : Bool) → (a || b) ≡ (b || a)
-or_other true true = refl
-or_other true false = refl
-or_other false true = refl
-or_other false false = refl
 
 -- such a test does not depend on the order of the two
 pub same_back : (x y : ℕ) → (x == y) ≡ (y == x)
@@ -71,6 +48,7 @@ same_back x y = grind (arith, nat_tests)
 pub false_true : (b : Bool) → b ≡ true → b ≡ false → ⊥
 false_true b e f = cc
 
+-- the test of a bit of both of two numbers, and of either
 pub both_bits : (x y : ℕ) → x < 2 → y < 2 → (min x y == 1) ≡ (x == 1 && y == 1)
 both_bits zero zero hx hy = refl
 both_bits zero (suc zero) hx hy = refl
@@ -79,17 +57,18 @@ both_bits (suc zero) (suc zero) hx hy = refl
 both_bits (suc (suc x)) y hx hy = absurd (omega arith)
 both_bits x (suc (suc y)) hx hy = absurd (omega arith)
 
-pub and_both : (a b : Bool) → a ≡ true → b ≡ true → (a && b) ≡ true
-and_both a b h k = ap (λ x. x && b) h ∙ k
+pub either_bit : (x y : ℕ) → x < 2 → y < 2 → (max x y == 1) ≡ (x == 1 || y == 1)
+either_bit zero zero hx hy = refl
+either_bit zero (suc zero) hx hy = refl
+either_bit (suc zero) zero hx hy = refl
+either_bit (suc zero) (suc zero) hx hy = refl
+either_bit (suc (suc x)) y hx hy = absurd (omega arith)
+either_bit x (suc (suc y)) hx hy = absurd (omega arith)
 
 pub same_bool : (a b : Bool) → (a ≡ true → b ≡ true) → (b ≡ true → a ≡ true) → a ≡ b
 same_bool true b to from = sym (to refl)
 same_bool false true to from = from refl
 same_bool false false to from = refl
-
--- a number that is below another passes the test
-pub is_below : (a b : ℕ) → a < b → nat_lt a b ≡ true
-is_below a b below = lt-ltb a b below
 
 pub offered : (o : Option ℕ) → is_none o ≡ false → (op : ℕ) × (o ≡ Some op)
 offered None e = cc
@@ -97,6 +76,3 @@ offered (Some op) e = (op, refl)
 
 pub equal_is : (a b : ℕ) → (a == b) ≡ true → a ≡ b
 equal_is a b e = grind (arith, nat_tests, e)
-
-pub some_same : {a b : ℕ} → Some a ≡ Some b → a ≡ b
-some_same {a} {b} e = cc

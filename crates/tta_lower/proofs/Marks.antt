@@ -3,12 +3,12 @@ use Rattle.std.proofs.Common.{◌≡◌, ◌<◌, ◌+◌, ◌-◌, ◌∷◌, �
 use Rattle.std.specs.Prelude.{◌||◌}
 use Rattle.std.specs.List.{list_any}
 use Rattle.std.proofs.lemmas.List.{get_or-replicate}
+use Rattle.std.proofs.Math.Bool.{or-false}
 use Rattle.tta_lower.specs.Liveness.{Homes}
 use Rattle.tta_lower.specs.Lower.{numbers}
 use Rattle.tta_lower.specs.Tables.{marked}
 use Rattle.tta_lower.specs.Laid.{is_kept_by, kept_one, kept_by}
 use Rattle.tta_lower.proofs.Counted.{numbers-more}
-use Rattle.tta_list.proofs.Tests.{or_none}
 
 -- at first nothing is marked
 pub unmarked : (n k : ℕ) (marks : List Bool) → marks ≡ replicate n false → k < n → marked marks k ≡ false
@@ -52,7 +52,7 @@ pub marked_all : (home : Homes) (vars owner : ℕ) (test : ℕ → Bool) (x : �
     → (k : ℕ) → k < length marks → marked marks k ≡ kept_one home vars owner test k
 marked_all home vars owner test x marks end to k lt =
     let none : vars - x ≡ 0 = omega (arith, end) in
-    sym (or_none (marked marks k))
+    sym (or-false (marked marks k))
     ∙ ap (λ n. marked marks k || list_any (is_kept_by home owner test k) (numbers x n)) (sym none)
     ∙ to k lt
 

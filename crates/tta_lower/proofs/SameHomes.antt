@@ -2,7 +2,7 @@
 use Rattle.std.proofs.Common.{◌≡◌, ◌≢◌, ◌<◌, ◌+◌, ◌⊎◌, inl, inr, ℕ, Bool, true, false, List, Option, Some, None, refl, sym, ap, subst, ◌∙◌, arith, slice_get}
 use Rattle.std.specs.Prelude.{◌==◌, not, nat_lt, if◌then◌else◌}
 use Rattle.std.specs.Option.{option_map_or}
-use Rattle.std.proofs.lemmas.Bool.{eqb-true, and_parts}
+use Rattle.std.proofs.lemmas.Bool.{eqb-true, and_parts, lt-ltb}
 use Rattle.std.proofs.lemmas.Bool.Decides.{nat_tests}
 use Rattle.tta_program.specs.declared.operand.Src.{Src}
 use Rattle.tta_program.specs.declared.step.Step.TheVariants.{Invoke}
@@ -28,7 +28,6 @@ use Rattle.tta_lower.proofs.SameSteps.{same_reads, same_assigned}
 use Rattle.tta_lower.proofs.SamePaths.{passes_at, reached_from, live_to, live_from, after_to, after_from}
 use Rattle.tta_lower.proofs.SameBlocks.{are_blocks}
 use Rattle.tta_alloc.proofs.HolderLemmas.{reg_slot}
-use Rattle.tta_list.proofs.Tests.{is_below as small}
 
 -- a variable of a procedure that is there
 pub record Owned (p : Program) (owner x : ℕ) : Type 0 where
@@ -161,7 +160,7 @@ answers_know p homes blocks l h rules flow live allotted = record {
         let v = owned p owner x s.0 in
         live_to p owner v.proc v.is x 0 ((live.before owner 0 x v.proc v.is v.below).0 s.1);
     first_all = λ owner x a.
-        let low = small x (vars_of p owner) (live-below p rules owner x 0 a) in
+        let low = lt-ltb x (vars_of p owner) (live-below p rules owner x 0 a) in
         let v = owned p owner x low in
         rw (low, (live.before owner 0 x v.proc v.is v.below).1 (live_from p owner v.proc v.is x 0 a)) refl;
     after_only = λ b has x e.
@@ -169,7 +168,7 @@ answers_know p homes blocks l h rules flow live allotted = record {
         let v = owned p b.owner x s.0 in
         after_to p b.owner v.proc v.is x b.last ((live.after b.owner b.last x v.proc v.is v.below).0 s.1);
     after_all = λ b has x a.
-        let low = small x (vars_of p b.owner) (live-after-below p rules b.owner x b.last a) in
+        let low = lt-ltb x (vars_of p b.owner) (live-after-below p rules b.owner x b.last a) in
         let v = owned p b.owner x low in
         rw (low, (live.after b.owner b.last x v.proc v.is v.below).1 (after_from p b.owner v.proc v.is x b.last a)) refl;
     few = home_few p rules homes h allotted;

@@ -3,6 +3,7 @@ use Rattle.std.proofs.Common.{◌≡◌, ℕ, ◌+◌, Bool, true, false, List, 
 use Rattle.std.specs.Prelude.{◌==◌, ◌||◌, not}
 use Rattle.std.specs.List.{list_any}
 use Rattle.std.specs.Option.{option_map_or}
+use Rattle.std.proofs.Math.Bool.{or-false, or_comm}
 use Rattle.tta_program.specs.declared.operand.Src.{Src}
 use Rattle.tta_program.specs.declared.operand.Src.TheVariants.{Var, Word}
 use Rattle.tta_program.specs.declared.step.Step.{Step}
@@ -10,13 +11,12 @@ use Rattle.tta_program.specs.declared.step.Step.TheVariants.{Copy, Apply, Load, 
 use Rattle.tta_flow.specs.Steps as flow
 use Rattle.tta_lower.specs.Liveness as lower
 use Rattle.tta_lower.specs.FlowFacts.{names_step}
-use Rattle.tta_list.proofs.Tests.{or_none, or_other as or_swap}
 
 -- four tests in another order
 or_four : (a b c d : Bool) → (a || b || c || d) ≡ (a || (b || (d || c)))
 or_four true b c d = refl
 or_four false true c d = refl
-or_four false false c d = or_swap c d
+or_four false false c d = or_comm c d
 
 -- an operand names the same variable
 same_var : (s : Src) (x : ℕ) → flow.is_var s x ≡ lower.is_var x s
@@ -63,16 +63,16 @@ same_assigned End = refl
 
 -- a step leads to the same steps
 pub same_leads : (st : Step) (at to : ℕ) → flow.follows st at to ≡ lower.leads st at to
-same_leads (Copy d s) at to = or_none (at + 1 == to)
-same_leads (Apply d op a b) at to = or_none (at + 1 == to)
-same_leads (Load d a) at to = or_none (at + 1 == to)
-same_leads (Take d) at to = or_none (at + 1 == to)
-same_leads (Store a v) at to = or_none (at + 1 == to)
-same_leads (Put v) at to = or_none (at + 1 == to)
-same_leads (If rel a b target) at to = or_swap (at + 1 == to) (target == to)
+same_leads (Copy d s) at to = or-false (at + 1 == to)
+same_leads (Apply d op a b) at to = or-false (at + 1 == to)
+same_leads (Load d a) at to = or-false (at + 1 == to)
+same_leads (Take d) at to = or-false (at + 1 == to)
+same_leads (Store a v) at to = or-false (at + 1 == to)
+same_leads (Put v) at to = or-false (at + 1 == to)
+same_leads (If rel a b target) at to = or_comm (at + 1 == to) (target == to)
 same_leads (Goto target) at to = refl
-same_leads (When rel a b d s) at to = or_none (at + 1 == to)
-same_leads (Invoke d callee args) at to = or_none (at + 1 == to)
+same_leads (When rel a b d s) at to = or-false (at + 1 == to)
+same_leads (Invoke d callee args) at to = or-false (at + 1 == to)
 same_leads (Return s) at to = refl
 same_leads Halt at to = refl
 same_leads End at to = refl

@@ -3,7 +3,7 @@ use Rattle.std.proofs.Common.{◌≡◌, ◌⊎◌, inl, inr, ℕ, zero, suc, �
 use Rattle.std.specs.Prelude.{slice_get, slice_set, zip}
 use Rattle.std.specs.Option.{option_map_or}
 use Rattle.std.specs.List.{list_any}
-use Rattle.std.proofs.lemmas.Bool.{cases_lt, eq-eqb}
+use Rattle.std.proofs.lemmas.Bool.{cases_lt, eq-eqb, or_right, or_left}
 use Rattle.std.proofs.lemmas.List.Folds.{list_any-append}
 use Rattle.std.proofs.lemmas.Option.{slice_get_past}
 use Rattle.tta_ops.specs.Units.{Units}
@@ -20,7 +20,6 @@ use Rattle.tta_net.proofs.Running.{round_more}
 use Rattle.tta_net.proofs.FirstCluster.{from_zip}
 use Rattle.tta_net.proofs.Resting.{KeepNone, all_keep, rests}
 use Rattle.tta_cores.proofs.Pairs.{made_from as from_map}
-use Rattle.tta_list.proofs.Tests.{or_true as or_right, or_left}
 use Rattle.tta_list.proofs.Sets.{set_count as length_set}
 use Rattle.tta_list.proofs.Lists.{map_count as length_map}
 

@@ -2,7 +2,7 @@
 use Rattle.std.proofs.Common.{◌≡◌, inl, inr, ℕ, zero, suc, ◌+◌, ◌-◌, ◌<◌, ◌≤◌, Bool, true, false, List, [], ◌∷◌, Option, Some, None, refl, sym, ap, subst, ◌∙◌, arith, length, map}
 use Rattle.std.specs.Prelude.{not, ◌==◌, if◌then◌else◌}
 use Rattle.std.specs.Option.{option_map_or}
-use Rattle.std.proofs.lemmas.Bool.{cases_lt}
+use Rattle.std.proofs.lemmas.Bool.{cases_lt, not-true}
 use Rattle.std.proofs.lemmas.Bool.Decides.{nat_tests}
 use Rattle.std.proofs.lemmas.List.{take_all}
 use Rattle.tta_list.specs.Iterate.{iterate}
@@ -27,7 +27,6 @@ use Rattle.tta_overlap.proofs.Zeros.{more}
 use Rattle.tta_overlap.proofs.Listed.{Run, Stands, space_rises}
 use Rattle.tta_overlap.proofs.Onward.{waits_here, streams_here}
 use Rattle.tta_overlap.proofs.InBlock.{Matches, now_at, first_stands, runs, runs_more, runs_out, end_pending, end_kept, end_ports, end_settled, end_memory, end_frame, end_input, end_output}
-use Rattle.tta_list.proofs.Tests.{not_true}
 
 -- a placed list in code, at an address
 pub record Stays (m : Machine) (code : Code) (base len : ℕ) (placed : List Timed) : Type 0 where
@@ -64,7 +63,7 @@ pub record Waits (h : Held) (end : State) : Type 0 where
 
 meaning_at : (u : Units) (m : Machine) (back : ℕ) (ps : List Timed) (h : Held) (k : ℕ) → k < length ps → has_meaning u m back h (effects ps) ≡ true → lacks m (after u m back ps h k) (nth ps k).does ≡ false
 meaning_at u m back [] h k lt e = absurd (omega arith)
-meaning_at u m back (p ∷ ps) h zero lt e = not_true (lacks m h p.does) (and_split (not (lacks m h p.does)) _ e).0
+meaning_at u m back (p ∷ ps) h zero lt e = not-true (lacks m h p.does) (and_split (not (lacks m h p.does)) _ e).0
 meaning_at u m back (p ∷ ps) h (suc k) lt e = meaning_at u m back ps (do_move u m back h p.does) k (omega arith) (and_split (not (lacks m h p.does)) _ e).1
 
 -- ---- where a list waits

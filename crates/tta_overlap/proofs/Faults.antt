@@ -1,8 +1,8 @@
 -- A cycle has no fault, and what control is under way after it.
-use Rattle.tta_overlap.proofs.Tests.{and_false}
 use Rattle.std.proofs.Common.{◌≡◌, ◌≢◌, inl, inr, ℕ, suc, ◌+◌, ◌<◌, true, false, Option, Some, None, refl, sym, ap, subst, ◌∙◌, arith}
 use Rattle.std.specs.Prelude.{slice_get, ◌&&◌, ◌||◌, is_none, is_some}
 use Rattle.std.proofs.lemmas.Bool.Decides.{nat_tests}
+use Rattle.std.proofs.Math.Bool.{and-false}
 use Rattle.tta_arch.specs.Effects.{Kind, Effect, moved, bring, Start, has_result, takes, has_unset_guard, has_unset, is_register, is_port, lacks_operand, control_of, first_some as pick}
 use Rattle.tta_code.specs.Cycle.{State, Running, Waiting, Result', later, port, result_of, read_source, effects_of, reads_unset_register, reads_unset_port, clashes, pending_after, fault_of, lands, acts as act_cycle, waits, or_wait, or_fault, carry_out, next_of, next}
 use Rattle.tta_moves.specs.Meaning.{Held, read_held, exit_after}
@@ -81,7 +81,7 @@ module _ (moment : Now) where
       let now = st.cycle in
       let g : begin + (c + t.does.latency) ≡ s.cycle + t.does.latency = omega arith in
       let free = due_none t.unit (s.cycle + t.does.latency) s.started (rw g at old) in
-      rw free (and_false (has_result t.does.op))
+      rw free (and-false (has_result t.does.op))
 
   pub no_clash : (t : Start) → Has (ts moment) t → clashes s t ≡ false
   no_clash t p =
@@ -112,7 +112,7 @@ module _ (moment : Now) where
   pub no_jump : (is_some (pick control_of (bs moment)) && is_some s.pending) ≡ false
   no_jump = on s.pending refl where
     on : (o : Option machine.Pending) → s.pending ≡ o → (is_some (pick control_of (bs moment)) && is_some o) ≡ false
-    on None e = and_false (is_some (pick control_of (bs moment)))
+    on None e = and-false (is_some (pick control_of (bs moment)))
     on (Some p) e =
         let none : pick chooses (vs moment) ≡ None = pick_none chooses (vs moment) (λ v q.
         let it = item_of moment v q in

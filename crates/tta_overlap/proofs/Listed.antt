@@ -24,8 +24,9 @@ use Rattle.tta_overlap.specs.Overlap.{space_by}
 use Rattle.tta_overlap.proofs.Spaces.{Space, once_noop, triggers_of, trigger_write, out_space}
 use Rattle.tta_overlap.proofs.Touches.{own_later}
 use Rattle.tta_overlap.proofs.Placing as placing
-use Rattle.tta_overlap.proofs.Placing.{Carries, idle, after, or_zero, some_is, none_is, Fits}
+use Rattle.tta_overlap.proofs.Placing.{Carries, idle, after, or_zero, some_is, Fits}
 use Rattle.tta_moves.proofs.Places.{either}
+use Rattle.tta_list.proofs.Tests.{none_from_is_some}
 
 -- a placed list with what it begins with, and code that carries it
 pub record Run : Type 0 where
@@ -108,12 +109,12 @@ module _ (run : Run) where
   pub kept_same : (x : Place) → is_kept x ≡ true → (j : ℕ) → j < n → writes x j ≡ false → value x (suc j) ≡ value x j
   kept_same x kept j lt w =
       rw (after_suc j lt) (kept_after u m back (held_at j) (move_at j) x (f.plain j lt) kept
-      ∙ ap (λ o. or_else o (value x j)) (into_other m back x (move_at j) _ (f.plain j lt) (none_is (write_at x j) w)))
+      ∙ ap (λ o. or_else o (value x j)) (into_other m back x (move_at j) _ (f.plain j lt) (none_from_is_some (write_at x j) w)))
 
   pub port_same : (unit : ℕ) (j : ℕ) → j < n → writes (KeptPort unit) j ≡ false → value (KeptPort unit) (suc j) ≡ value (KeptPort unit) j
   port_same unit j lt w =
       rw (after_suc j lt) (port_after u m back (held_at j) (move_at j) unit (f.plain j lt)
-      ∙ ap (λ o. or_else o (value (KeptPort unit) j)) (shown_other u m (held_at j).memory (held_at j).frame (slice_index (held_at j).rest 0) (held_at j).written unit (move_at j) (moved (read_held (held_at j).written) (move_at j)) (f.plain j lt) (none_is (write_at (KeptPort unit) j) w)))
+      ∙ ap (λ o. or_else o (value (KeptPort unit) j)) (shown_other u m (held_at j).memory (held_at j).frame (slice_index (held_at j).rest 0) (held_at j).written unit (move_at j) (moved (read_held (held_at j).written) (move_at j)) (f.plain j lt) (none_from_is_some (write_at (KeptPort unit) j) w)))
 
   -- whether a move touches a space
   abbrev pub touches : ℕ → ℕ → Bool

@@ -1,9 +1,10 @@
 -- The state after a cycle.
-use Rattle.tta_overlap.proofs.Tests.{and_false, first_false}
+use Rattle.tta_overlap.proofs.Tests.{first_false}
 use Rattle.std.proofs.Common.{◌≡◌, ◌⊎◌, inl, inr, ℕ, suc, ◌+◌, ◌<◌, true, false, List, ◌++◌, Some, None, refl, sym, ap, subst, ◌∙◌, arith, replicate}
 use Rattle.std.specs.Prelude.{slice_get, ◌==◌, ◌&&◌, is_none, fold}
 use Rattle.std.specs.List.{list_any}
 use Rattle.std.proofs.lemmas.Bool.Decides.{nat_tests}
+use Rattle.std.proofs.Math.Bool.{and-false}
 use Rattle.tta_arch.specs.Effects.{Effect, moved, bring, Start, start_of, store_data, store_frame, put_out, takes, take_in, first_some as pick}
 use Rattle.tta_code.specs.Cycle.{State, Running, Waiting, read_source, pending_after, lands, acts as act_cycle, waits, or_wait, or_fault, carry_out, next_of, next}
 use Rattle.tta_moves.specs.Meaning.{read_held}
@@ -29,7 +30,7 @@ module _ (moment : Now) where
 
   -- no word of the input is wanted before the stop
   pub no_want : c < f.stop → waits s (ts moment) ≡ false
-  no_want before = either (is_none (slice_get s.rest 0)) dry (λ e. rw e (and_false (list_any takes (ts moment)))) where
+  no_want before = either (is_none (slice_get s.rest 0)) dry (λ e. rw e (and-false (list_any takes (ts moment)))) where
     takes_not : is_none (slice_get s.rest 0) ≡ true → (t : Start) → Has (ts moment) t → takes t ≡ false
     takes_not e t p =
         let b = start_of_item moment t p in

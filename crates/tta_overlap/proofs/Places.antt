@@ -14,10 +14,11 @@ use Rattle.tta_overlap.proofs.Starts.{kept_cycle, kept_offset, starting_same, Co
 use Rattle.tta_overlap.specs.Overlap.{space_of, space_by}
 use Rattle.tta_overlap.proofs.Spaces.{starts_space}
 use Rattle.tta_overlap.proofs.Touches.{reads_operand, has_operand}
-use Rattle.tta_overlap.proofs.Placing.{some_is, none_is}
+use Rattle.tta_overlap.proofs.Placing.{some_is}
 use Rattle.tta_overlap.proofs.Listed.{n, move_at, cycle_at, held_at, write_at, writes, shows, value, after_suc, show_rises, kept_same, touches, space_cut, cut_at_read, one_writer}
 use Rattle.tta_overlap.proofs.InCycle.{Now, vs, ret, new, item_of, has_item, taken, back_same}
 use Rattle.tta_moves.proofs.Places.{either}
+use Rattle.tta_list.proofs.Tests.{none_from_is_some}
 
 module _ (moment : Now) where
   open moment use {run, c, s, lt, st}
@@ -36,7 +37,7 @@ module _ (moment : Now) where
     here j lj w e = let o = kept_offset m x (move_at run j) _ (f.plain j lj) kept (some_is (write_at run x j) w) in omega arith
 
     other : (v : Effect) (i : ℕ) → i < n run → move_at run i ≡ v → writes run x i ≡ false → puts v ≡ None
-    other v i li q w = subst (λ v'. puts v' ≡ None) q (into_other m (ret moment) x (move_at run i) (moved (read_source s) (move_at run i)) (f.plain i li) (none_is (write_at run x i) w))
+    other v i li q w = subst (λ v'. puts v' ≡ None) q (into_other m (ret moment) x (move_at run i) (moved (read_source s) (move_at run i)) (f.plain i li) (none_from_is_some (write_at run x i) w))
 
     keeps : ((j : ℕ) → j < n run → writes run x j ≡ true → shows run x j ≢ suc c) → lookup (new moment) x ≡ lookup s.written x
     keeps none = kept_cycle m (ret moment) (read_source s) x (vs moment) s.written ∙ ap (λ o. or_else o (lookup s.written x)) (pick_none puts (vs moment) (λ v p.

@@ -39,10 +39,6 @@ pub some_is : (o : Option ℕ) → is_some o ≡ true → o ≡ Some (or_zero o)
 some_is None e = cc
 some_is (Some a) e = refl
 
-pub none_is : (o : Option ℕ) → is_some o ≡ false → o ≡ None
-none_is None e = refl
-none_is (Some a) e = cc
-
 module _ (u : Units) (m : Machine) (back : ℕ) (placed : List Timed) (h : Held) where
   abbrev pub n : ℕ
   n = length placed

@@ -6,6 +6,7 @@ use Rattle.std.specs.Prelude.{slice_get, is_none, option_and_then, ◌==◌, ◌
 use Rattle.std.specs.Option.{option_map_or}
 use Rattle.std.specs.List.{filter_map, cons_option}
 use Rattle.std.proofs.lemmas.Bool.Decides.{nat_tests}
+use Rattle.std.proofs.lemmas.Option.{same_Some}
 use Rattle.tta_arch.specs.declared.parts.Op.{Op}
 use Rattle.tta_arch.specs.declared.parts.Op.TheVariants.{Ldw, Stw, Ldf, Stf, Out, Take, Set}
 use Rattle.tta_arch.specs.declared.parts.UnitOp.{UnitOp}
@@ -17,7 +18,6 @@ use Rattle.tta_moves.specs.Bounds.{Started}
 use Rattle.tta_overlap.proofs.Total.{do_move, total, started_by, wants, writes_by}
 use Rattle.tta_overlap.proofs.Touches.{started_is}
 use Rattle.tta_overlap.proofs.Steps.{offset_of, IsPlain, to_register, to_imm, to_operand, to_trigger, to_jump, to_call, to_halt, starting, bringing}
-use Rattle.tta_overlap.proofs.Starts.{some_inj}
 
 -- each space belongs to one unit
 pub record HasOwners (m : Machine) : Type 0 where
@@ -47,7 +47,7 @@ pub fold_one : {A : Type 0} (f : List ℕ → A → List ℕ) (words : List ℕ)
     → ((i : ℕ) (y : A) → slice_get xs i ≡ Some y → (i ≡ k) ⊎ ((w : List ℕ) → f w y ≡ w)) → fold f words xs ≡ f words x
 fold_one f words [] k x e h = absurd cc
 fold_one f words (y ∷ xs) zero x e h =
-    let same = some_inj y x e in
+    let same = same_Some y x e in
     fold_none f (f words y) xs (λ w z p. elim (h (suc p.0) z p.1) [ inl q ↦ absurd (omega arith) | inr q ↦ q w ]) ∙ ap (f words) same
 fold_one f words (y ∷ xs) (suc k) x e h =
     elim (h 0 y refl) [
@@ -76,7 +76,7 @@ starts_space m written v (Some w) t p e = on v.target p e where
   on _ to_jump e = absurd cc
   on _ to_call e = absurd cc
   on _ to_halt e = absurd cc
-  on _ (to_trigger un k o at lat) e = let same : o ≡ t.does = ap (λ (q : Start). q.does) (some_inj _ t (rw at at e)) in rw (at, same) refl
+  on _ (to_trigger un k o at lat) e = let same : o ≡ t.does = ap (λ (q : Start). q.does) (same_Some _ t (rw at at e)) in rw (at, same) refl
 
 pub data_noop : (o : Op) (t : Start) (w : List ℕ) → t.does.op ≡ o → space_of o ≢ 1 → store_data w t ≡ w
 data_noop Ldw t w e h = rw e refl

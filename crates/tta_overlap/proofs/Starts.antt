@@ -4,6 +4,7 @@ use Rattle.std.specs.Prelude.{slice_index, option_and_then, ◌==◌, is_none, i
 use Rattle.std.specs.Option.{option_map_or}
 use Rattle.std.specs.List.{filter_map}
 use Rattle.std.proofs.lemmas.Bool.Decides.{nat_tests}
+use Rattle.std.proofs.lemmas.Option.{same_Some}
 use Rattle.tta_arch.specs.declared.parts.UnitOp.{UnitOp}
 use Rattle.tta_arch.specs.Machine.{Machine}
 use Rattle.tta_arch.specs.Effects.{Target, Trigger, Effect, Place, KeptReg, KeptImm, KeptOperand, KeptRa, KeptPort, same_place, Written, kept as lookup, Reads, moved, bring, write_of, Start, start_of, operand_of, has_result, result_word, lacks_operand, or_else, first_some as pick}
@@ -139,11 +140,8 @@ coming_is u m s begin c d unit memory frame input written v (Some w) p e same = 
       let value : result_word u s.memory s.frame (slice_index s.rest 0) start o.op ≡ result_word u memory frame input start o.op = same start (rw at refl) in
       rw at (either (has_result o.op) (λ t. rw (t, value) (due_case un unit o.latency s.cycle begin c d (result_word u memory frame input start o.op) e)) (λ t. rw t refl))
 
-pub some_inj : {A : Type 0} (a b : A) → Some a ≡ Some b → a ≡ b
-some_inj a b e = cc
-
 pub due_of : (u : Units) (s : State) (t : Start) (r : Result') → has_result t.does.op ≡ true → result_of u s t ≡ Some r → r.due ≡ s.cycle + t.does.latency
-due_of u s t r has e = sym (ap (λ (q : Result'). q.due) (some_inj _ r (rw has at e)))
+due_of u s t r has e = sym (ap (λ (q : Result'). q.due) (same_Some _ r (rw has at e)))
 
 -- what starts now is due later
 pub starts_later : (u : Units) (m : Machine) (s : State) (written : Written) (v : Effect) (o : Option ℕ) (t : Start) (r : Result') → IsPlain m v.target → starting m written v.target o ≡ Some t → result_of u s t ≡ Some r → s.cycle < r.due
@@ -157,7 +155,7 @@ starts_later u m s written v (Some w) t r p e g = on v.target p e where
   on _ to_call e = cc
   on _ to_halt e = cc
   on _ (to_trigger un k o at lat) e =
-      let same : o ≡ t.does = ap (λ (q : Start). q.does) (some_inj _ t (rw at at e)) in
+      let same : o ≡ t.does = ap (λ (q : Start). q.does) (same_Some _ t (rw at at e)) in
       either (has_result t.does.op)
       (λ has.
       let late = due_of u s t r has g in
@@ -179,7 +177,7 @@ starts_writes m written v (Some w) t p e has = on v.target p e where
   on _ to_call e = absurd cc
   on _ to_halt e = absurd cc
   on _ (to_trigger un k o at lat) e =
-      let whole = some_inj _ t (rw at at e) in
+      let whole = same_Some _ t (rw at at e) in
       let same : o ≡ t.does = ap (λ (q : Start). q.does) whole in
       let unit : un ≡ t.unit = ap (λ (q : Start). q.unit) whole in
       let l : o.latency ≡ t.does.latency = ap (λ (q : UnitOp). q.latency) same in
@@ -192,7 +190,7 @@ starts_writes m written v (Some w) t p e has = on v.target p e where
 pub write_later : (m : Machine) (x : Place) (v : Effect) (a : ℕ) → IsPlain m v.target → offset x (writes_by m v) ≡ Some a → 0 < a
 write_later m x v a p e = on v.target p e where
   step : (b : Bool) (k : ℕ) (rest : Option ℕ) → 0 < k → (rest ≡ Some a → 0 < a) → or_else (if b then Some k else None) rest ≡ Some a → 0 < a
-  step true k rest lt h q = let g : k ≡ a = some_inj k a q in omega arith
+  step true k rest lt h q = let g : k ≡ a = same_Some k a q in omega arith
   step false k rest lt h q = h q
 
   on : (d : Target) → IsPlain m d → offset x (writes_by m (record v { target = d })) ≡ Some a → 0 < a

@@ -2,6 +2,7 @@
 use Rattle.std.proofs.Common.{◌≡◌, ◌⊎◌, inl, inr, ℕ, ◌<◌, Bool, true, false, List, [], ◌∷◌, ◌++◌, Option, Some, None, refl, ap, ◌∙◌, arith}
 use Rattle.std.specs.Prelude.{option_and_then, ◌&&◌, ◌||◌, is_none, if◌then◌else◌}
 use Rattle.std.specs.Option.{option_map_or}
+use Rattle.std.proofs.lemmas.Bool.{or_parts}
 use Rattle.tta_arch.specs.declared.ends.GuardRef.{GuardRef}
 use Rattle.tta_arch.specs.declared.ends.Source.{Source}
 use Rattle.tta_arch.specs.declared.ends.Source.TheVariants as source
@@ -13,7 +14,6 @@ use Rattle.tta_moves.specs.Bounds.{At, Started, Touch, operand_read}
 use Rattle.tta_overlap.proofs.Total.{started_by, reads_by, writes_by}
 use Rattle.tta_overlap.proofs.Steps.{offset, IsPlain, to_register, to_imm, to_operand, to_trigger, to_jump, to_call, to_halt, starting}
 use Rattle.tta_moves.proofs.Places.{same_self, either}
-use Rattle.tta_list.proofs.Tests.{or_false as both_false}
 
 zero_first : (b : Bool) (rest : Option ℕ) → (rest ≡ Some 0) ⊎ (rest ≡ None) → let o = or_else (if b then Some 0 else None) rest in (o ≡ Some 0) ⊎ (o ≡ None)
 zero_first true rest h = inl refl
@@ -160,8 +160,8 @@ lacks_parts m h v l =
     let g = has_unset_guard (read_held h.written) v in
     let s = has_unset (read_held h.written) (λ s. true) v in
     let o = option_map_or (λ b. option_map_or lacks_operand (start_of m h.written b) false) (bring (read_held h.written) v) false in
-    let a = both_false (g || s) o l in
-    let b = both_false g s a.0 in
+    let a = or_parts (g || s) o l in
+    let b = or_parts g s a.0 in
     record { guard = b.0; source = b.1; operand = a.1 }
 
 pub set_guard : (m : Machine) (h : Held) (v : Effect) (g : GuardRef) → lacks m h v ≡ false → v.guard ≡ Some g → is_none (read_held h.written (source.Reg g.file g.index)) ≡ false

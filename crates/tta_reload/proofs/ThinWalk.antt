@@ -5,6 +5,7 @@ use Rattle.std.specs.Option.{option_map_or}
 use Rattle.std.proofs.lemmas.Bool.Decides.{nat_tests}
 use Rattle.std.proofs.lemmas.List.{drop_all}
 use Rattle.std.proofs.lemmas.List.Folds.{list_any-append}
+use Rattle.std.proofs.lemmas.Bool.{and_from}
 use Rattle.tta_arch.specs.Machine.{Machine}
 use Rattle.tta_arch.specs.Effects.{Target}
 use Rattle.tta_moves.specs.declared.items.Item.{Item}
@@ -19,7 +20,6 @@ use Rattle.tta_reload.proofs.Opened.{load_keeps, store_dry}
 use Rattle.tta_reload.proofs.Seen.{stores_is}
 use Rattle.tta_reload.proofs.Nearness.{if_first, if_second}
 use Rattle.tta_reload.proofs.Walks.{split_at}
-use Rattle.tta_list.proofs.Tests.{and_both as both}
 
 -- ---- slots that are stored over, one item more
 
@@ -49,10 +49,10 @@ load_stores m before x v load = on (stored m before x) refl where
 -- an item that stays, and that lets a store go before it
 over_stays : (m : Machine) (v : ℕ) (before : List Item) (x : Item) (xs : List Item) → lets_stay m v x ≡ true → (is_here (stored m before x) v ≡ false → is_over m v (x ∷ before) xs ≡ true) → is_over m v before (x ∷ xs) ≡ true
 over_stays m v before x xs lets more = either (starts m is_load (target_of_item x))
-    (λ load. if_yes _ _ _ load (both _ _ (if_first _ _ _ load lets) (more (load_stores m before x v load))))
+    (λ load. if_yes _ _ _ load (and_from _ _ (if_first _ _ _ load lets) (more (load_stores m before x v load))))
     (λ no_load. if_no _ _ _ no_load (either (is_here (stored m before x) v)
     (λ here. if_yes _ _ _ here refl)
-    (λ away. if_no _ _ _ away (both _ _ (if_second _ _ _ no_load lets) (more away)))))
+    (λ away. if_no _ _ _ away (and_from _ _ (if_second _ _ _ no_load lets) (more away)))))
 
 -- a store that goes
 over_goes : (m : Machine) (v slot : ℕ) (before : List Item) (x : Item) (xs : List Item) → stored m before x ≡ Some slot → is_over m v (x ∷ before) xs ≡ true → is_over m v before (x ∷ xs) ≡ true
@@ -62,7 +62,7 @@ over_goes m v slot before x xs is more =
     let no_load = store_loads_none m (target_of_item x) store in
     if_no _ _ _ no_load (either (is_here (stored m before x) v)
     (λ here. if_yes _ _ _ here refl)
-    (λ away. if_no _ _ _ away (both _ _ (not-false dry) more))) where
+    (λ away. if_no _ _ _ away (and_from _ _ (not-false dry) more))) where
       not-false : {b : Bool} → b ≡ false → not b ≡ true
       not-false e = ap not e
 

@@ -2,7 +2,7 @@
 use Rattle.std.proofs.Common.{◌≡◌, ◌<◌, ◌≤◌, ◌-◌, ◌^◌, ℕ, Bool, true, false, List, [], ◌∷◌, ◌++◌, Option, Some, None, refl, sym, ap, subst, arith, ◌∙◌, length, is_some}
 use Rattle.std.specs.Prelude.{if◌then◌else◌, ◌==◌, nat_le}
 use Rattle.std.specs.List.{flat_map, list_all}
-use Rattle.std.proofs.lemmas.Bool.{and_parts}
+use Rattle.std.proofs.lemmas.Bool.{and_parts, or_right}
 use Rattle.std.proofs.lemmas.Bool.Decides.{nat_tests}
 use Rattle.std.proofs.lemmas.List.Folds.{list_all-append}
 use Rattle.std.proofs.Math.Nat.{pow-le-pow_right}
@@ -46,7 +46,6 @@ use Rattle.tta_select.proofs.Straight.{Neat, neat_ways, neat_merging}
 use Rattle.tta_select.proofs.Control.{block_last, block_short}
 use Rattle.tta_select.proofs.Counted.{homes_counted}
 use Rattle.tta_select.proofs.Triggers.{frame_counted, op_counted}
-use Rattle.tta_list.proofs.Tests.{or_true as or_second}
 
 -- ---- addresses
 
@@ -94,7 +93,7 @@ module _ (m : Machine) (c : Choice) (j : HasJoins m c) (address : 2 ^ m.control.
           old (Reg k) i = refl
           old (Frame f) i =
               let low : f < m.frame_words = grind (arith, nat_tests) in
-              fetch_all u m c j blocks small loads store storing (Closed blocks) closed_ways None f (hub_at m c 1) low (or_second _ _ j.to_one)
+              fetch_all u m c j blocks small loads store storing (Closed blocks) closed_ways None f (hub_at m c 1) low (or_right _ _ j.to_one)
 
           new : (d : RPlace) → is_place_of m c d ≡ true → Closed blocks (merged m c d)
           new (Reg k) i = refl

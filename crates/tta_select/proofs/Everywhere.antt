@@ -2,7 +2,7 @@
 use Rattle.std.proofs.Common.{◌≡◌, ◌<◌, ◌^◌, ℕ, Bool, true, false, List, [], ◌∷◌, ◌++◌, Option, Some, None, refl, arith, length, is_some}
 use Rattle.std.specs.Prelude.{if◌then◌else◌, ◌==◌, ◌||◌, nat_lt}
 use Rattle.std.specs.List.{flat_map, list_all}
-use Rattle.std.proofs.lemmas.Bool.{and_parts}
+use Rattle.std.proofs.lemmas.Bool.{and_parts, or_right}
 use Rattle.std.proofs.lemmas.Bool.Decides.{nat_tests}
 use Rattle.tta_ops.specs.Units.{Units}
 use Rattle.tta_arch.specs.declared.ends.GuardRef.{GuardRef}
@@ -37,7 +37,6 @@ use Rattle.tta_select.specs.Select.{call_of, operand_at, trigger_at, shown_at, h
 use Rattle.tta_select.specs.Relation.{is_place_of, is_src_of}
 use Rattle.tta_select.specs.Needs.{op_of_step, op_of_exit, is_offered, is_step_of, is_exit_of, fits_step, fits_exit, word_src, word_step, word_exit}
 use Rattle.tta_select.specs.Reaches.{guard_by, HasJoins}
-use Rattle.tta_list.proofs.Tests.{or_true as or_second}
 
 -- a constant is a word or the number of a block
 abbrev pub IsValue : (blocks : ℕ) → LongValue → Type 0
@@ -83,7 +82,7 @@ module _ (u : Units) (m : Machine) (c : Choice) (j : HasJoins m c) (blocks : ℕ
   const_to guard v dst is e = p.const guard v dst is (or_middle _ _ _ e)
 
   pub carry_to : (guard : Option GuardRef) (src : ItemSource) (dst : Dest) → IsCarried m c src → joined m (from_hub m c 0) dst guard ≡ true → P (carry m c guard src dst)
-  carry_to guard src dst is e = p.carried guard src dst is (or_second _ _ e)
+  carry_to guard src dst is e = p.carried guard src dst is (or_right _ _ e)
 
   shown_carried : (op : Op) → is_some (offered m c.usable op) ≡ true → has_result op ≡ true → IsCarried m c (shown_at (call_of m c op))
   shown_carried op e has = record { port = source.Shown (call_of m c op).unit; is = refl; hub = j.shown op e has; plain = refl }
@@ -110,8 +109,8 @@ module _ (u : Units) (m : Machine) (c : Choice) (j : HasJoins m c) (blocks : ℕ
 
   pub reaches_all : (guard : Option GuardRef) (o : RSrc) (dst : Dest) → joined m (from_hub m c 0) dst guard ≡ true → reaches m c guard o dst ≡ true
   reaches_all guard (rsrc.Word w) dst e = or_middle _ _ _ e
-  reaches_all guard (rsrc.At (Reg k)) dst e = or_second _ _ e
-  reaches_all guard (rsrc.At (Frame slot)) dst e = or_second _ _ e
+  reaches_all guard (rsrc.At (Reg k)) dst e = or_right _ _ e
+  reaches_all guard (rsrc.At (Frame slot)) dst e = or_right _ _ e
 
   pub value_to : (guard : Option GuardRef) (o : RSrc) (dst : Dest) → is_src_of m c o ≡ true → word_src o ≡ true → joined m (from_hub m c 0) dst guard ≡ true → P (value m c guard o dst)
   value_to guard o dst inside word e = value_all guard o dst inside word (reaches_all guard o dst e)
@@ -196,7 +195,7 @@ module _ (u : Units) (m : Machine) (c : Choice) (j : HasJoins m c) (blocks : ℕ
           p.row (condition m c u rel a b) (constant m c (Some (guard_of_rel m c u rel)) (long.Address to) dest.Jump) (condition_all rel a b e x.0 v.0 y.0 v.1)
           (const_to (Some (guard_of_rel m c u rel)) (long.Address to) dest.Jump low (j.jump_if (is_inverted rel)))
       on (rexit.Invoke to) i e w = let low : to < blocks = grind (arith, nat_tests) in const_to None (long.Address to) dest.Call low j.call
-      on (rexit.Back slot) i e w = let low : slot < m.frame_words = grind (arith, nat_tests) in fetch_all None slot dest.Jump low (or_second _ _ j.jump)
+      on (rexit.Back slot) i e w = let low : slot < m.frame_words = grind (arith, nat_tests) in fetch_all None slot dest.Jump low (or_right _ _ j.jump)
       on rexit.Halt i e w = const_to None (long.Word 0) dest.Halt zero_word j.halt
 
     pub steps_all : (two : is_some (offered m c.usable Stw) ≡ true → ((call_of m c Stw).does.arity == 2) ≡ true) (rs : List RStep) → list_all (fits_step u m c) rs ≡ true → list_all word_step rs ≡ true

@@ -3,7 +3,7 @@ use Rattle.std.proofs.Common.{◌≡◌, ◌<◌, ◌≤◌, ◌+◌, ◌-◌, �
 use Rattle.std.specs.Prelude.{if◌then◌else◌, find, ◌==◌, ◌&&◌, ◌||◌, nat_lt, nat_le, not}
 use Rattle.std.specs.Option.{option_map_or}
 use Rattle.std.specs.List.{list_any, range_with_len}
-use Rattle.std.proofs.lemmas.Bool.{and_parts}
+use Rattle.std.proofs.lemmas.Bool.{and_parts, or_right}
 use Rattle.std.proofs.lemmas.Bool.Decides.{nat_tests}
 use Rattle.std.proofs.lemmas.Option.{slice_get_within}
 use Rattle.tta_arch.specs.declared.parts.Bus.{Bus}
@@ -31,11 +31,10 @@ use Rattle.tta_select.specs.Reaches.{guard_by, HasJoins}
 use Rattle.tta_select.proofs.Offers.{Offered, offered_there, three}
 use Rattle.tta_select.proofs.HomeLists.{Each, each_append, register_at, registers_size}
 use Rattle.tta_select.proofs.Covering.{Hub, hub_there, Guarding, guard_there}
-use Rattle.tta_list.proofs.Tests.{or_true as or_second}
 
 any_weaker : (p q : ℕ → Bool) (xs : List ℕ) → ((x : ℕ) → p x ≡ true → q x ≡ true) → list_any p xs ≡ true → list_any q xs ≡ true
 any_weaker p q [] weaker e = absurd cc
-any_weaker p q (x ∷ xs) weaker e = either (p x) (λ a. let b = weaker x a in rw b refl) (λ a. or_second (q x) _ (any_weaker p q xs weaker (rw a at e)))
+any_weaker p q (x ∷ xs) weaker e = either (p x) (λ a. let b = weaker x a in rw b refl) (λ a. or_right (q x) _ (any_weaker p q xs weaker (rw a at e)))
 
 -- the registers of a file share the same sockets
 into_socket : (m : Machine) (f i : ℕ) (file : File) → slice_get m.files f ≡ Some file → nat_lt i file.size ≡ true → dest_socket m (dest.Reg f i) ≡ Some file.into

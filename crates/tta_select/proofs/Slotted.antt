@@ -4,6 +4,7 @@ use Rattle.std.specs.Prelude.{if◌then◌else◌, find, ◌==◌, ◌&&◌, ◌
 use Rattle.std.specs.List.{list_all, list_any}
 use Rattle.std.proofs.lemmas.Bool.Decides.{nat_tests}
 use Rattle.std.proofs.lemmas.List.Folds.{list_all-append}
+use Rattle.std.proofs.lemmas.Bool.{or_right}
 use Rattle.tta_ops.specs.Units.{Units}
 use Rattle.tta_arch.specs.declared.parts.Template.{Template as Field}
 use Rattle.tta_arch.specs.declared.ends.GuardRef.{GuardRef}
@@ -25,7 +26,7 @@ use Rattle.tta_select.specs.Select.{goes, filled, call_of, trigger_at, hub_at, f
 use Rattle.tta_select.specs.Relation.{is_place_of}
 use Rattle.tta_select.specs.Reaches.{guard_by, HasJoins}
 use Rattle.tta_select.proofs.Everywhere.{IsValue, IsCarried, has_constant, has_carry, IsWays, Merging, fetch_all, value_to, address_all}
-use Rattle.tta_list.proofs.Tests.{eq_same as self_nat, or_true as or_second}
+use Rattle.tta_list.proofs.Tests.{eq_same as self_nat}
 
 -- ---- a template that is found
 
@@ -46,7 +47,7 @@ template_in m dst guard t (x ∷ ts) e = on (joined m (filled x) dst guard) refl
   on true b e ih = let same = some_same e in (subst (λ t. joined m (filled t) dst guard ≡ true) same b, here x t same) where
     here : (x t : Field) → x ≡ t → list_any (fills t.imm t.reg) (x ∷ ts) ≡ true
     here x t same = subst (λ y. list_any (fills y.imm y.reg) (x ∷ ts) ≡ true) same (let a = self_nat x.imm in let b = self_nat x.reg in rw (a, b) refl)
-  on false b e ih = let a = ih e in (a.0, or_second _ _ a.1)
+  on false b e ih = let a = ih e in (a.0, or_right _ _ a.1)
 
 pub template_there : (m : Machine) (c : Choice) (dst : Dest) (guard : Option GuardRef) (t : Field) → long_for m c dst guard ≡ Some t → Template m dst guard t
 template_there m c dst guard t e = let a = template_in m dst guard t m.templates e in record { joins = a.0; there = a.1 }
@@ -124,7 +125,7 @@ module _ (m : Machine) (c : Choice) (j : HasJoins m c) (address : 2 ^ m.control.
     slotted_old (Reg k) i = let low : k < length c.homes = grind (arith, nat_tests) in let e = j.home_one k low in rw e refl
     slotted_old (Frame f) i =
         let low : f < m.frame_words = grind (arith, nat_tests) in
-        fetch_all u m c j blocks small loads store storing Slotted slotted_ways None f (hub_at m c 1) low (or_second _ _ j.to_one)
+        fetch_all u m c j blocks small loads store storing Slotted slotted_ways None f (hub_at m c 1) low (or_right _ _ j.to_one)
 
     slotted_merged : (d : RPlace) → is_place_of m c d ≡ true → Slotted (merged m c d)
     slotted_merged (Reg k) i = let low : k < length c.homes = grind (arith, nat_tests) in let e = j.one_home k low in rw e refl

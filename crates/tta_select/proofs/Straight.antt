@@ -3,7 +3,7 @@ use Rattle.std.proofs.Common.{◌≡◌, ◌<◌, ◌-◌, ◌^◌, ℕ, Bool, t
 use Rattle.std.specs.Prelude.{if◌then◌else◌, find, ◌==◌, ◌&&◌, ◌||◌, not}
 use Rattle.std.specs.Option.{option_map_or}
 use Rattle.std.specs.List.{list_all, list_any}
-use Rattle.std.proofs.lemmas.Bool.{and_parts}
+use Rattle.std.proofs.lemmas.Bool.{and_parts, or_right}
 use Rattle.std.proofs.lemmas.Bool.Decides.{nat_tests}
 use Rattle.tta_ops.specs.Units.{Units}
 use Rattle.tta_arch.specs.declared.parts.Template.{Template as Field}
@@ -36,7 +36,6 @@ use Rattle.tta_select.specs.Needs.{word_src}
 use Rattle.tta_select.specs.Reaches.{guard_by, HasJoins}
 use Rattle.tta_select.proofs.Everywhere.{IsCarried, IsWays, Merging, fetch_all, value_to, address_all, or_middle}
 use Rattle.tta_select.proofs.Slotted.{Route, At_once, By_hub, By_long, By_long_hub, route}
-use Rattle.tta_list.proofs.Tests.{or_true as or_second}
 
 -- ---- lists in a row
 
@@ -250,7 +249,7 @@ module _ (m : Machine) (c : Choice) where
       neat_old (Reg k) i = let low : k < length c.homes = grind (arith, nat_tests) in neat_plain None (from_home m c k) (hub_at m c 1) (j.plain_home k low)
       neat_old (Frame f) i =
           let low : f < m.frame_words = grind (arith, nat_tests) in
-          fetch_all u m c j blocks small loads store storing Neat neat_ways None f (hub_at m c 1) low (or_second _ _ j.to_one)
+          fetch_all u m c j blocks small loads store storing Neat neat_ways None f (hub_at m c 1) low (or_right _ _ j.to_one)
 
       ends_value : (guard : Option GuardRef) (o : RSrc) (dst : Dest) → is_src_of m c o ≡ true → word_src o ≡ true → joined m (from_hub m c 0) dst guard ≡ true → Ends guard dst (value m c guard o dst)
       ends_value guard (rsrc.Word w) dst i word e = let low : w < 2 ^ 32 = grind (arith, nat_tests) in ends_route guard (long.Word w) dst _ (route m c j address blocks guard (long.Word w) dst low (or_middle _ _ _ e))

@@ -17,7 +17,7 @@ use Rattle.tta_sim.specs.Dues.{started_at, IsFittingDue, CanAllBegin, CanBegin, 
 use Rattle.tta_sim.specs.Ready.{Begin, KeepsOthers}
 use Rattle.tta_sim.proofs.Showing.{results_more}
 use Rattle.tta_flight.proofs.Parts.{among as among_units}
-use Rattle.tta_list.proofs.Tests.{equal_is as equal}
+use Rattle.tta_list.proofs.Tests.{equal_is as equal, none_from_is_some}
 
 -- ---- lists
 
@@ -173,11 +173,6 @@ module _ (now : ℕ) (r : Results) (there : AreThere r) (done : List Result') (d
         other_due unit delay less other ∙ was.due unit delay less
         ∙ ap (λ o. option_or (word_due o) (due_in r.rings (r.base + unit) (delay + 1))) (sym (or_none (due_at unit (now + 1 + delay) done)))
 
--- a result that does not clash is due at the time of no other
-none_due : (o : Option ℕ) → is_some o ≡ false → o ≡ None
-none_due None free = refl
-none_due (Some x) free = cc
-
 -- other units' results are none of this one's
 no_result : (now unit due : ℕ) (dues : List Due) → AllByRecursion (λ a. (a.unit == unit) ≡ false) dues → due_at unit due (map (started_at now) dues) ≡ None
 no_result now unit due [] others = refl
@@ -209,7 +204,7 @@ module _ (now : ℕ) (r : Results) (there : AreThere r) (dues : List Due) (can :
             was.due d.unit (d.latency - 1) fits.unit
             ∙ ap (λ n. option_or (word_due (due_at d.unit n (map (started_at now) (take k dues)))) (due_in r.rings (r.base + d.unit) (d.latency - 1 + 1))) then_due
             ∙ ap (λ o. option_or (word_due o) (due_in r.rings (r.base + d.unit) (d.latency - 1 + 1))) alone
-            ∙ ap (λ n. due_in r.rings (r.base + d.unit) n) last ∙ none_due (due_by r d.unit d.latency) free;
+            ∙ ap (λ n. due_in r.rings (r.base + d.unit) n) last ∙ none_from_is_some (due_by r d.unit d.latency) free;
       }
 
   -- one more has begun

@@ -6,8 +6,8 @@ use Rattle.std.specs.List.{filter_map, cons_option, list_any}
 use Rattle.std.proofs.lemmas.List.{take_more, drop_more, length-take-le}
 use Rattle.std.proofs.lemmas.List.Elements.{filter_map-append}
 use Rattle.std.proofs.lemmas.List.Folds.{list_any-append}
+use Rattle.std.proofs.Math.Bool.{or-false, or_comm}
 use Rattle.tta_list.proofs.Lists.{item_there, item_past}
-use Rattle.tta_list.proofs.Tests.{or_none as or_false, or_other as or_swap}
 
 pub filter_map-one : {A B : Type 0} (f : A → Option B) (x : A) → filter_map f (x ∷ []) ≡ option_to_list (f x)
 filter_map-one {A} {B} f x = elim (f x) as (λ o. cons_option o [] ≡ option_to_list o) [ None ↦ refl | Some y ↦ refl ]
@@ -31,8 +31,8 @@ pub any_more : {A : Type 0} (p : A → Bool) (xs : List A) (i : ℕ) (d : A) (ol
     → one ≡ p (get_or xs i d) → new ≡ (one || old) → new ≡ list_any p (take (i + 1) xs)
 any_more p xs i d old one new within before here joined =
     let next = get_or xs i d in
-    joined ∙ ap (λ b. b || old) here ∙ ap (λ b. p next || b) before ∙ or_swap (p next) (list_any p (take i xs))
-    ∙ ap (λ b. list_any p (take i xs) || b) (sym (or_false (p next)))
+    joined ∙ ap (λ b. b || old) here ∙ ap (λ b. p next || b) before ∙ or_comm (p next) (list_any p (take i xs))
+    ∙ ap (λ b. list_any p (take i xs) || b) (sym (or-false (p next)))
     ∙ sym (list_any-append p (take i xs) (next ∷ [])) ∙ ap (list_any p) (sym (take_more xs i d within))
 
 -- a test that the next element does not pass is one of those after it

@@ -2,8 +2,8 @@
 use Rattle.std.proofs.Common.{◌≡◌, ℕ, ◌+◌, ◌≤◌, Bool, true, false, not, List, [], ◌∷◌, ◌++◌, length, map, Option, Some, None, Ok, refl, sym, ◌∙◌, ap, subst, arith, append_assoc}
 use Rattle.std.specs.Prelude.{◌&&◌, ◌==◌, nat_lt, is_some}
 use Rattle.std.specs.List.{list_all, list_any}
-use Rattle.std.proofs.lemmas.Bool.{and_parts, or_parts, or_from, lt-leb, le-ltb, ne_eqb, eqb-false}
-use Rattle.tta_list.proofs.Tests.{none_from_is_some, not_true as not_false}
+use Rattle.std.proofs.lemmas.Bool.{and_parts, or_parts, or_from, lt-leb, le-ltb, ne_eqb, eqb-false, not-true}
+use Rattle.tta_list.proofs.Tests.{none_from_is_some}
 use Rattle.tta_reading.specs.Lines.{Lexeme, Line}
 use Rattle.tta_reading.specs.Names.{Declared, named_in}
 use Rattle.tta_reading.specs.Steps.{◌>>=◌, or_refuse}
@@ -35,7 +35,7 @@ address_free : (init : List DataLine) (datum : DataLine) (more : List DataLine) 
 address_free [] datum more apart = refl
 address_free (d ∷ ds) datum more apart =
     let parts = and_parts (not (list_any (λ e. e.address == d.address) (ds ++ datum ∷ more))) (are_apart (ds ++ datum ∷ more)) apart in
-    or_from (d.address == datum.address) (list_any (λ e. e.address == datum.address) ds) (other ds (not_false (list_any (λ e. e.address == d.address) (ds ++ datum ∷ more)) parts.0)) (address_free ds datum more parts.1) where
+    or_from (d.address == datum.address) (list_any (λ e. e.address == datum.address) ds) (other ds (not-true (list_any (λ e. e.address == d.address) (ds ++ datum ∷ more)) parts.0)) (address_free ds datum more parts.1) where
       other : (es : List DataLine) → list_any (λ e. e.address == d.address) (es ++ datum ∷ more) ≡ false → (d.address == datum.address) ≡ false
       other [] free =
           let first = or_parts (datum.address == d.address) (list_any (λ e. e.address == d.address) more) free in
@@ -63,7 +63,7 @@ module _ (u : Units) where
       let once = or_parts (is_some (named_in d.names name)) (is_twice_after (d.names ++ (name, length d.procs) ∷ []) names)
       (sym (is_twice_more d.names name (length d.procs) names) ∙ k.names) in
       let block = k.procs.0 in
-      let shut : is_some d.begun ≡ false = not_false (is_some d.begun) n.0 in
+      let shut : is_some d.begun ≡ false = not-true (is_some d.begun) n.0 in
       let room = has_room d (line, ProcForm name params) rest k.most in
       let few = le-ltb 8 (length params) block.few in
       record {
@@ -86,7 +86,7 @@ module _ (u : Units) where
   datum_is_taken d line address value rest k nested =
       let datum : DataLine = record { address = address; value = value; line = line } in
       let n = and_parts (not (is_some d.begun)) (are_nested false rest) nested in
-      let shut : is_some d.begun ≡ false = not_false (is_some d.begun) n.0 in
+      let shut : is_some d.begun ≡ false = not-true (is_some d.begun) n.0 in
       let none = none_from_is_some d.begun shut in
       let free = address_free d.init datum (data_said rest) k.apart in
       let room = has_room d (line, DataForm address value) rest k.most in
@@ -162,7 +162,7 @@ module _ (u : Units) where
         let first = and_parts (is_fit u (line, f)) (list_all (is_fit u) rest) k.fit in
         let all = and_parts (not (lacks_op u f) && not (has_wrong_arity u f)) (not (has_many_args f)) first.0 in
         let op = and_parts (not (lacks_op u f)) (not (has_wrong_arity u f)) all.0 in
-        (not_false (lacks_op u f) op.0, not_false (has_wrong_arity u f) op.1, not_false (has_many_args f) all.1)
+        (not-true (lacks_op u f) op.0, not-true (has_wrong_arity u f) op.1, not-true (has_many_args f) all.1)
 
     fit_rest : list_all (is_fit u) rest ≡ true
     fit_rest = (and_parts (is_fit u (line, f)) (list_all (is_fit u) rest) k.fit).1
@@ -257,7 +257,7 @@ module _ (u : Units) where
       → are_nested (is_some d.begun) (said_from line lines) ≡ true → (e : Draft) × (take_lines u line d lines ≡ Ok e)
   unfolding take_line
   lines_are_taken [] line d all k nested =
-      let none = none_from_is_some d.begun (not_false (is_some d.begun) nested) in (d, rw none refl)
+      let none = none_from_is_some d.begun (not-true (is_some d.begun) nested) in (d, rw none refl)
   lines_are_taken ([] ∷ lines) line d all k nested = lines_are_taken lines (line + 1) d all k nested
   lines_are_taken ((key ∷ words) ∷ lines) line d all k nested = by (lines_are_taken lines (line + 1)) (form_of key words) refl where
     by : ((d : Draft) → list_all is_line lines ≡ true → Follows u d (said_from (line + 1) lines)
