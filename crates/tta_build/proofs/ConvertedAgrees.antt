@@ -8,13 +8,14 @@ use Rattle.tta_arch.specs.Machine.{Machine}
 use Rattle.tta_list.specs.Laid.{over}
 use Rattle.tta_program.specs.Program.{Program, step_count, data_of, datum_of}
 use Rattle.tta_program.specs.Sequential.{seq, start}
+use Rattle.tta_program.proofs.Growing.{later_output}
 use Rattle.tta_code.specs.Whole.{Whole}
 use Rattle.tta_agree.specs.Agrees.{Agrees, AgreesAt, program_at}
 use Rattle.tta_ifconv.specs.Converted.{Converted}
 use Rattle.tta_ifconv.specs.Statement.{has_ended, RunAlike, IsAlike}
-use Rattle.tta_ifconv.proofs.Growing.{later-output, later-end}
 use Rattle.tta_ifconv.proofs.Runs.{run_alike}
 use Rattle.tta_ifconv.proofs.Listed.{no_greater}
+use Rattle.tta_ifconv.proofs.Ended.{later-end}
 use Rattle.tta_build.specs.Converted.{ConvertedAgrees}
 
 module _ (u : Units) (m : Machine) (p q : Program) (whole : Whole) (is : Converted p q) (agrees : Agrees u m q whole) where
@@ -86,7 +87,7 @@ module _ (u : Units) (m : Machine) (p q : Program) (whole : Whole) (is : Convert
     output_only = λ memory input n given.
         prefix-more _ _ _ (agrees.output_only memory input n given)
         (prefix-more _ _ _ (subst (λ s. IsPrefixOf s.output (program_at u p memory input (2 * (step_count q * (n + 1)))).output) (at_same memory input (step_count q * (n + 1))) ((alike memory input).output_only (step_count q * (n + 1))))
-        (later-output u p (2 * (step_count q * (n + 1))) (2 * step_count p * (n + 1)) (start p (over (data_of p) memory) input) (steps_fit n)));
+        (later_output u p (2 * (step_count q * (n + 1))) (2 * step_count p * (n + 1)) (start p (over (data_of p) memory) input) (steps_fit n)));
   }
 
 pub converted_agrees_holds : ConvertedAgrees

@@ -9,6 +9,7 @@ use Rattle.tta_program.specs.declared.step.Step.{Step}
 use Rattle.tta_program.specs.declared.step.Step.TheVariants.{Copy, Apply, Load, Take, Store, Put, If, Goto, When, Invoke, Return, Halt, End}
 use Rattle.tta_program.specs.Program.{Program}
 use Rattle.tta_program.specs.Sequential.{State, Frame, Outcome, Running, Halted, Waiting, step_at, holds, operand, next, next_of, go_on, carry_out, goes_through, takes, waits, returns, take_value, assigns, goes_to}
+use Rattle.tta_program.proofs.Growing.{carry_grows}
 use Rattle.tta_cores.specs.Queues.{UsesQueues}
 use Rattle.tta_cores.specs.Programs.{is_waiting, step_of, steps_of}
 
@@ -31,37 +32,6 @@ one_off [] = ([], refl)
 one_off (x ∷ rest) = (x ∷ [], refl)
 
 module _ (u : Units) (p : Program) where
-  -- ---- output
-
-  value_output : (s : State) (g : Frame) (callers : List Frame) (v : ℕ) (step : Option Step) → (take_value s g callers v step).output ≡ s.output
-  value_output s g callers v (Some (Invoke (Some d) callee args)) = refl
-  value_output s g callers v (Some (Invoke None callee args)) = refl
-  value_output s g callers v step = refl
-
-  returns_output : (s : State) (callers : List Frame) (v : ℕ) → (returns p s callers v).output ≡ s.output
-  returns_output s [] v = refl
-  returns_output s (g ∷ callers) v = value_output s g callers v (step_at p g.proc g.at)
-
-  when_output : (s : State) (f : Frame) (callers : List Frame) (d v : ℕ) (b : Bool) → (if b then assigns s f callers d v else goes_to s f callers (f.at + 1)).output ≡ s.output
-  when_output s f callers d v true = refl
-  when_output s f callers d v false = refl
-
-  carry_grows : (s : State) (f : Frame) (callers : List Frame) (step : Step) → IsPrefixOf s.output (carry_out u p s f callers step).output
-  carry_grows s f callers (Copy d v) = prefix_same _ _ refl
-  carry_grows s f callers (Apply d op a b) = prefix_same _ _ refl
-  carry_grows s f callers (Load d a) = prefix_same _ _ refl
-  carry_grows s f callers (Take d) = prefix_same _ _ refl
-  carry_grows s f callers (Store a v) = prefix_same _ _ refl
-  carry_grows s f callers (Put v) = (operand f.vars v ∷ [], refl)
-  carry_grows s f callers (If rel a b to) = prefix_same _ _ refl
-  carry_grows s f callers (Goto to) = prefix_same _ _ refl
-  carry_grows s f callers (When rel a b d v) = prefix_same _ _ (sym (when_output s f callers d (operand f.vars v) (holds u rel (operand f.vars a) (operand f.vars b))))
-  carry_grows s f callers (Invoke d callee args) = prefix_same _ _ refl
-  carry_grows s f callers (Return (Some v)) = prefix_same _ _ (sym (returns_output s callers (operand f.vars v)))
-  carry_grows s f callers (Return None) = prefix_same _ _ (sym (returns_output s callers 0))
-  carry_grows s f callers Halt = prefix_same _ _ refl
-  carry_grows s f callers End = prefix_same _ _ (sym (returns_output s callers 0))
-
   -- ---- input
 
   value_rest : (s : State) (g : Frame) (callers : List Frame) (v : ℕ) (step : Option Step) → (take_value s g callers v step).rest ≡ s.rest

@@ -7,6 +7,7 @@ use Rattle.std.proofs.lemmas.Bool.Decides.{nat_tests}
 use Rattle.std.proofs.lemmas.List.{get_or-set_same, get_or-set_other, length-set}
 use Rattle.tta_list.specs.Iterate.{iterate}
 use Rattle.tta_list.proofs.Lists.{slice_get-back, slice_get-longer}
+use Rattle.tta_list.proofs.Iterated.{iterate-more, iterate-later}
 use Rattle.tta_ops.specs.declared.OpId.{OpId}
 use Rattle.tta_ops.specs.Units.{Units}
 use Rattle.tta_program.specs.declared.operand.Src.{Src}
@@ -22,18 +23,8 @@ use Rattle.tta_program.proofs.Halted.{halted_stays}
 
 -- so a run that has halted has halted later too
 pub halts_later : (u : Units) (p : Program) (k m : ℕ) (s : State) → k ≤ m → (iterate k (next u p) s).outcome ≡ Halted → (iterate m (next u p) s).outcome ≡ Halted
-halts_later u p k zero s le is = subst (λ n. (iterate n (next u p) s).outcome ≡ Halted) (let e : k ≡ zero = omega arith in e) is
-halts_later u p k (suc m) s le is = elim (cases_lt m k) [
-  | inl less ↦ subst (λ n. (iterate n (next u p) s).outcome ≡ Halted) (let e : k ≡ suc m = omega arith in e) is
-  | inr more ↦
-      let here = halts_later u p k m s more is in
-      ap (λ (x : State). x.outcome) (halted_stays u p (iterate m (next u p) s) here) ∙ here
-]
-
--- the first steps, and then the others
-pub iterate_after : {S : Type 0} (m n : ℕ) (f : S → S) (s : S) → iterate (m + n) f s ≡ iterate m f (iterate n f s)
-iterate_after zero n f s = ap (λ k. iterate k f s) (let e : zero + n ≡ n = omega arith in e)
-iterate_after (suc m) n f s = ap (λ k. iterate k f s) (let e : suc m + n ≡ suc (m + n) = omega arith in e) ∙ ap f (iterate_after m n f s)
+halts_later u p k m s le is =
+    ap (λ (x : State). x.outcome) (iterate-later (next u p) k m s le (halted_stays u p (iterate k (next u p) s) is)) ∙ is
 
 -- a state that runs: the step that comes next, the variables, and the rest
 abbrev pub going : (at : ℕ) (vars memory rest output : List ℕ) (steps : ℕ) → State
@@ -153,7 +144,7 @@ module _ (u : Units) (sub : OpId) (body : List Step) (lines : List ℕ) (init : 
   -- one step, and then the others
   stepped : (k : ℕ) (s t : State) → next u p s ≡ t → (iterate k (next u p) t).outcome ≡ Halted → (iterate (suc k) (next u p) s).outcome ≡ Halted
   stepped k s t is halts =
-      ap (λ (x : State). x.outcome) (ap (λ m. iterate m (next u p) s) (let e : suc k ≡ k + 1 = omega arith in e) ∙ iterate_after k 1 (next u p) s ∙ ap (iterate k (next u p)) is)
+      ap (λ (x : State). x.outcome) (ap (λ m. iterate m (next u p) s) (let e : suc k ≡ k + 1 = omega arith in e) ∙ iterate-more k 1 (next u p) s ∙ ap (iterate k (next u p)) is)
       ∙ halts
 
   end : ℕ
@@ -276,5 +267,5 @@ module _ (u : Units) (sub : OpId) (body : List Step) (lines : List ℕ) (init : 
         let rounds = round_goes mild (length body) 9 16 (left 15) (omega arith) (omega arith) (omega arith) (rounds_halt 15 (omega arith)) in
         let here = rounds (1 ∷ 2 ∷ 3 ∷ 4 ∷ 5 ∷ 6 ∷ 7 ∷ 8 ∷ 16 ∷ []) memory input [] 9 refl refl in
         let whole : (iterate (k + 9) (next u p) (start p memory input)).outcome ≡ Halted
-        = ap (λ (x : State). x.outcome) (iterate_after k 9 (next u p) (start p memory input) ∙ ap (iterate k (next u p)) (first_nine memory input)) ∙ here in
+        = ap (λ (x : State). x.outcome) (iterate-more k 9 (next u p) (start p memory input) ∙ ap (iterate k (next u p)) (first_nine memory input)) ∙ here in
         halts_later u p (k + 9) bound (start p memory input) (omega arith) whole

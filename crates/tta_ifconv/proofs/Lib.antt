@@ -3,7 +3,7 @@ pub mod Places
 pub mod Pairs
 pub mod Moved
 pub mod Follows
-pub mod Growing
+pub mod Ended
 pub mod Runs
 pub mod Origins
 pub mod Unique

@@ -4,11 +4,12 @@ use Rattle.tta_list.specs.Prefix.{IsPrefixOf}
 use Rattle.tta_ops.specs.Units.{Units}
 use Rattle.tta_program.specs.Program.{Program}
 use Rattle.tta_program.specs.Sequential.{seq, start, next, enter}
+use Rattle.tta_program.proofs.Growing.{later_output}
 use Rattle.tta_ifconv.specs.Converted.{Converted}
 use Rattle.tta_ifconv.specs.Statement.{has_ended, RunAlike}
-use Rattle.tta_ifconv.proofs.Growing.{later-output, later-end}
 use Rattle.tta_ifconv.proofs.Moved.{moved, Stands, enter_moved}
 use Rattle.tta_ifconv.proofs.Follows.{follows}
+use Rattle.tta_ifconv.proofs.Ended.{later-end}
 use Rattle.tta_list.proofs.Iterated.{iterate-add}
 
 module _ (u : Units) (p q : Program) (is : Converted p q) (memory input : List ℕ) where
@@ -60,8 +61,8 @@ module _ (u : Units) (p q : Program) (is : Converted p q) (memory input : List �
         };
     output = λ n.
         let m = meets n in
-        subst (λ xs. IsPrefixOf (seq u p memory input n).output xs) (sym (ap (λ s. s.output) m.same)) (later-output u p n m.at (start p memory input) m.least);
+        subst (λ xs. IsPrefixOf (seq u p memory input n).output xs) (sym (ap (λ s. s.output) m.same)) (later_output u p n m.at (start p memory input) m.least);
     output_only = λ n.
         let m = meets n in
-        subst (λ xs. IsPrefixOf xs (seq u p memory input (2 * n)).output) (sym (ap (λ s. s.output) m.same)) (later-output u p m.at (2 * n) (start p memory input) m.most);
+        subst (λ xs. IsPrefixOf xs (seq u p memory input (2 * n)).output) (sym (ap (λ s. s.output) m.same)) (later_output u p m.at (2 * n) (start p memory input) m.most);
   }

@@ -14,7 +14,7 @@ pub mod Legs
 pub mod Blocks
 pub mod SettingUp
 pub mod Entries
-pub mod Growing
+pub mod Ended
 pub mod Whole
 pub mod Lists
 pub mod Sums

@@ -7,7 +7,8 @@ use Rattle.tta_ops.specs.Units.{Units}
 use Rattle.tta_program.specs.Program.{Program, step_count}
 use Rattle.tta_program.specs.Rules.{IsProgram}
 use Rattle.tta_program.specs.Sequential as program
-use Rattle.tta_program.specs.Sequential.{Frame, Outcome, Running, Halted, Waiting, enter, next, seq}
+use Rattle.tta_program.specs.Sequential.{Frame, Outcome, Running, enter, next, seq}
+use Rattle.tta_program.proofs.Growing.{later_output}
 use Rattle.tta_rcode.specs.declared.code.Rir.{Rir}
 use Rattle.tta_rcode.specs.Meaning.{Kept, is_running, leg, rrun}
 use Rattle.tta_lower.specs.Liveness.{Known, IsFlow, IsHomes}
@@ -16,8 +17,9 @@ use Rattle.tta_lower.specs.Relation.{running, going, Stands}
 use Rattle.tta_lower.specs.Keeps.{EndAlike, KeepsMeaning}
 use Rattle.tta_lower.proofs.Walks.{Walked, GoOn, Over}
 use Rattle.tta_lower.proofs.Entries.{one-leg, starts}
-use Rattle.tta_lower.proofs.Growing.{prefix-same, later-output, later-end}
+use Rattle.tta_lower.proofs.Ended.{later-end}
 use Rattle.tta_list.proofs.Iterated.{iterate-add}
+use Rattle.tta_list.proofs.Prefixes.{prefix_same}
 
 -- a run that has ended stays
 leg-stays : (u : Units) (r : Rir) (at : ℕ) (regs : List (ℕ × ℕ)) (frame : List (ℕ × Kept)) (ra : Option ℕ) (memory input output : List ℕ) (outcome : Outcome)
@@ -194,22 +196,22 @@ module _ (u : Units) (p : Program) (known : Known) (r : Rir) (number : ℕ → �
     output-at : (m : ℕ) → m ≤ n → Beside memory input n → IsPrefixOf (seq u p memory input m).output (rrun u r memory input n).output
     output-at m le (BothGo a) =
         subst (λ o. IsPrefixOf (seq u p memory input m).output o) (ap (λ s. s.output) a.program ∙ sym (ap (λ s. s.output) a.code))
-        (later-output u p m a.made (program.start p memory input) (omega (arith, le, a.enough)))
+        (later_output u p m a.made (program.start p memory input) (omega (arith, le, a.enough)))
     output-at m le (BothEnded a) = elim (cases_lt m a.made) as (λ c. IsPrefixOf (seq u p memory input m).output (rrun u r memory input n).output) [
       | inl lt ↦
           subst (λ o. IsPrefixOf (seq u p memory input m).output o) (ap (λ s. s.output) a.program ∙ sym (ap (λ s. s.output) a.code))
-          (later-output u p m a.made (program.start p memory input) (omega (arith, lt)))
-      | inr ge ↦ prefix-same (seq u p memory input m).output (rrun u r memory input n).output
-          ((alike a).output ∙ sym (ap (λ s. s.output) (later-end u p a.made m (program.start p memory input) ge (program-ended a))))
+          (later_output u p m a.made (program.start p memory input) (omega (arith, lt)))
+      | inr ge ↦ prefix_same (seq u p memory input m).output (rrun u r memory input n).output
+          (sym ((alike a).output ∙ sym (ap (λ s. s.output) (later-end u p a.made m (program.start p memory input) ge (program-ended a)))))
     ]
 
     output-only : Beside memory input n → IsPrefixOf (rrun u r memory input n).output (seq u p memory input (step_count p * n)).output
     output-only (BothGo a) =
         subst (λ o. IsPrefixOf o (seq u p memory input (step_count p * n)).output) (ap (λ s. s.output) a.program ∙ sym (ap (λ s. s.output) a.code))
-        (later-output u p a.made (step_count p * n) (program.start p memory input) a.few)
+        (later_output u p a.made (step_count p * n) (program.start p memory input) a.few)
     output-only (BothEnded a) =
         subst (λ o. IsPrefixOf o (seq u p memory input (step_count p * n)).output) (ap (λ s. s.output) a.program ∙ sym (ap (λ s. s.output) a.code))
-        (later-output u p a.made (step_count p * n) (program.start p memory input) a.few)
+        (later_output u p a.made (step_count p * n) (program.start p memory input) a.few)
 
   -- register code of this shape has the meaning of its program
   pub keeps-meaning : KeepsMeaning u p r

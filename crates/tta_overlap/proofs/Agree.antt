@@ -1,11 +1,10 @@
 -- Code that holds the placed lists of a program does what the program does.
-use Rattle.std.proofs.Common.{◌≡◌, ◌≢◌, ◌⊎◌, inl, inr, ℕ, zero, suc, ◌+◌, ◌-◌, ◌*◌, ◌<◌, ◌≤◌, ◌^◌, List, ◌++◌, refl, sym, ap, subst, ◌∙◌, arith, lit<, length, replicate}
+use Rattle.std.proofs.Common.{◌≡◌, ◌≢◌, ◌⊎◌, inl, inr, ℕ, suc, ◌+◌, ◌-◌, ◌*◌, ◌<◌, ◌≤◌, ◌^◌, List, ◌++◌, sym, ap, subst, ◌∙◌, arith, length, replicate}
 use Rattle.std.specs.Prelude.{IsTrue}
 use Rattle.std.specs.List.{AllByRecursion}
 use Rattle.std.proofs.Math.Nat.{mul-suc}
 use Rattle.tta_list.proofs.Prefixes.{prefix_same, prefix_chain}
 use Rattle.tta_list.specs.Prefix.{IsPrefixOf}
-use Rattle.tta_list.specs.Iterate.{iterate}
 use Rattle.tta_list.proofs.Lists.{all_append}
 use Rattle.tta_ops.specs.Units.{Units}
 use Rattle.tta_arch.specs.Machine.{Machine}
@@ -14,6 +13,7 @@ use Rattle.tta_list.specs.Laid.{over}
 use Rattle.tta_program.specs.Program.{Program, step_count, data_of}
 use Rattle.tta_program.specs.Sequential as program
 use Rattle.tta_program.specs.Sequential.{seq}
+use Rattle.tta_program.proofs.Halted.{later_end}
 use Rattle.tta_moves.specs.declared.items.BlockList.{BlockList}
 use Rattle.tta_moves.specs.Meaning.{Held}
 use Rattle.tta_list.specs.Legs as legs
@@ -24,43 +24,18 @@ use Rattle.tta_code.specs.declared.code.Code.{Code}
 use Rattle.tta_code.specs.Legal.{is_legal}
 use Rattle.tta_code.specs.Whole.{Whole, data_in}
 use Rattle.tta_code.specs.Cycle as cycle
-use Rattle.tta_code.specs.Cycle.{State, cyc, next}
-use Rattle.tta_agree.specs.Agrees.{AreWords, IsGiven, HaltAlike, WaitAlike, Agrees, program_at}
+use Rattle.tta_code.specs.Cycle.{State, cyc}
+use Rattle.tta_agree.specs.Agrees.{IsGiven, HaltAlike, WaitAlike, Agrees, program_at}
+use Rattle.tta_agree.proofs.Words.{none_words}
 use Rattle.tta_overlap.specs.Means.{Means, MeanAt}
-use Rattle.tta_overlap.proofs.Leg.{iterate_add}
 use Rattle.tta_overlap.proofs.Row.{IsRow, HasHalted, HasStopped, Tracks, goes, halts, stops}
 use Rattle.tta_overlap.proofs.Runs.{Reached, reach}
 use Rattle.tta_overlap.proofs.Over.{output_stays, over_stays, over_same, output_before}
 
--- ---- programs that are over
-
-module _ (u : Units) (p : Program) (s : program.State) where
-  abbrev steps : ℕ → program.State
-  steps n = iterate n (program.next u p) s
-
-  stays : (o : program.Outcome) → o ≢ program.Running → (t : program.State) → t.outcome ≡ o → program.next u p t ≡ t
-  unfolding program.next
-  stays program.Running h t e = absurd (h refl)
-  stays program.Halted h t e = rw e refl
-  stays program.Waiting h t e = rw e refl
-
-  stays_more : (b : ℕ) (t : program.State) → t.outcome ≢ program.Running → iterate b (program.next u p) t ≡ t
-  stays_more zero t h = refl
-  stays_more (suc b) t h = ap (program.next u p) (stays_more b t h) ∙ stays t.outcome h t refl
-
-  -- a program that is over stays where it is
-  pub program_stays : (a b : ℕ) → a ≤ b → (steps a).outcome ≢ program.Running → steps b ≡ steps a
-  program_stays a b le h =
-      ap steps (let g : b ≡ a + (b - a) = omega arith in g) ∙ iterate_add (program.next u p) a (b - a) s ∙ stays_more (b - a) (steps a) h
-
 -- ---- what is given
 
-zeros_are : (z : ℕ) → AreWords (replicate z 0)
-zeros_are zero = tt
-zeros_are (suc z) = (lit< tt, zeros_are z)
-
 more_given : (m : Machine) (memory input : List ℕ) (z : ℕ) → IsGiven m memory input → IsGiven m memory (input ++ replicate z 0)
-more_given m memory input z g = record { size = g.size; words = g.words; inputs = all_append (λ (w : ℕ). w < 2 ^ 32) input (replicate z 0) g.inputs (zeros_are z) }
+more_given m memory input z g = record { size = g.size; words = g.words; inputs = all_append (λ (w : ℕ). w < 2 ^ 32) input (replicate z 0) g.inputs (none_words z) }
 
 -- ---- both runs
 
@@ -166,7 +141,7 @@ module _ (u : Units) (m : Machine) (rules : IsMachine m) (p : Program) (code : C
   program_bound n over =
       let e : n + 1 ≡ suc n = omega arith in
       let g = ap (λ (k : ℕ). step_count p * k) e ∙ mul-suc (step_count p) n in
-      program_stays u p (program.start p memory input) (step_count p * n) (step_count p * (n + 1)) (omega arith) over
+      later_end u p (step_count p * n) (step_count p * (n + 1)) (program.start p memory input) (omega arith) over
 
   halts_only_is : (n : ℕ) → (cyc_at n).outcome ≡ cycle.Halted → HaltAlike (seq_at (step_count p * (n + 1))) (cyc_at n)
   halts_only_is n e = on (there n).tracks where

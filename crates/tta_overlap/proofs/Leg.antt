@@ -1,10 +1,9 @@
 -- A leg of lists against cycles: at least one, and at most as many as its blocks have instructions.
-use Rattle.std.proofs.Common.{◌≡◌, ◌≢◌, ℕ, zero, suc, ◌+◌, Bool, true, false, List, [], ◌∷◌, Option, Some, None, refl, sym, ap, subst, ◌∙◌, arith, map}
+use Rattle.std.proofs.Common.{◌≡◌, ◌≢◌, ℕ, suc, ◌+◌, Bool, true, false, List, [], ◌∷◌, Option, Some, None, refl, sym, ap, subst, ◌∙◌, arith, map}
 use Rattle.std.proofs.lemmas.Bool.{and_parts}
 use Rattle.std.specs.Prelude.{slice_index, length, not, ◌&&◌, ◌||◌, ◌==◌, if◌then◌else◌, option_map}
 use Rattle.std.proofs.lemmas.Bool.Decides.{nat_tests}
 use Rattle.std.proofs.lemmas.List.{append-nil}
-use Rattle.tta_list.specs.Iterate.{iterate}
 use Rattle.tta_arch.specs.Machine.{Machine}
 use Rattle.tta_arch.specs.Effects.{Effect}
 use Rattle.tta_ops.specs.Units.{Units}
@@ -89,7 +88,3 @@ block_at_is (a ∷ addr) word block e = on (a == word && not (length addr == 0))
   on true q o p e ih = let z : 0 ≡ block = cc in subst (λ (i : ℕ). slice_index (a ∷ addr) i ≡ word) z (let t = (and_parts (a == word) (not (length addr == 0)) q).0 in let g : a ≡ word = grind (arith, nat_tests) in g)
   on false q None p e ih = absurd cc
   on false q (Some i) p e ih = let z : suc i ≡ block = cc in subst (λ (j : ℕ). slice_index (a ∷ addr) j ≡ word) z (ih i p)
-
-pub iterate_add : {S : Type 0} (f : S → S) (a b : ℕ) (s : S) → iterate (a + b) f s ≡ iterate b f (iterate a f s)
-iterate_add f a zero s = ap (λ (n : ℕ). iterate n f s) (let g : a + 0 ≡ a = omega arith in g)
-iterate_add f a (suc b) s = ap (λ (n : ℕ). iterate n f s) (let g : a + suc b ≡ suc (a + b) = omega arith in g) ∙ ap f (iterate_add f a b s)

@@ -1,22 +1,19 @@
 -- A run that is over stays where it is, and what was output stays.
-use Rattle.std.proofs.Common.{◌≡◌, ◌≢◌, ◌⊎◌, inl, inr, ℕ, zero, suc, ◌+◌, ◌-◌, ◌≤◌, Bool, true, false, List, [], ◌∷◌, ◌++◌, Option, Some, None, refl, sym, ap, subst, ◌∙◌, arith}
+use Rattle.std.proofs.Common.{◌≡◌, ◌≢◌, ◌⊎◌, inl, inr, ℕ, zero, suc, ◌+◌, ◌-◌, ◌≤◌, Bool, true, false, List, ◌++◌, Option, Some, None, refl, sym, ap, subst, arith}
 use Rattle.std.specs.Prelude.{slice_get, fold, if◌then◌else◌, ◌==◌}
-use Rattle.std.proofs.lemmas.List.{append_assoc, append-nil}
 use Rattle.std.proofs.lemmas.Bool.{cases_lt}
 use Rattle.tta_list.specs.Iterate.{iterate}
 use Rattle.tta_ops.specs.Units.{Units}
-use Rattle.tta_arch.specs.declared.parts.Op.{Op}
-use Rattle.tta_arch.specs.declared.parts.Op.TheVariants.{Ldw, Stw, Ldf, Stf, Out, Take, Set}
 use Rattle.tta_arch.specs.Machine.{Machine}
 use Rattle.tta_arch.specs.Effects.{Kind, Jumps, Calls, Halts, Effect, Written, Brought, Start, start_of, bring, write_of, put_out, first_some, control_of}
 use Rattle.std.specs.List.{filter_map}
 use Rattle.tta_list.proofs.Prefixes.{prefix_same, prefix_chain}
 use Rattle.tta_list.specs.Prefix.{IsPrefixOf}
+use Rattle.tta_list.proofs.Iterated.{iterate-add, iterate-later}
 use Rattle.tta_arch.proofs.Outputs.{puts_prefix}
 use Rattle.tta_code.specs.declared.code.Instruction.{Instruction}
 use Rattle.tta_code.specs.declared.code.Code.{Code}
 use Rattle.tta_code.specs.Cycle.{State, Outcome, Running, Halted, Waiting, Fault, Pending, lands, takes_effect, acts, or_fault, or_wait, carry_out, next_of, next, effects_of, read_source, fault_of, waits, pending_after}
-use Rattle.tta_overlap.proofs.Leg.{iterate_add}
 
 -- ---- prefixes
 
@@ -85,7 +82,7 @@ module _ (u : Units) (m : Machine) (code : Code) (s : State) where
   -- what was output stays
   pub output_stays : (a b : ℕ) → a ≤ b → IsPrefixOf (at a).output (at b).output
   output_stays a b le = subst (λ (n : ℕ). IsPrefixOf (at a).output (at n).output) (sum_is a b le)
-      (subst (λ (t : State). IsPrefixOf (at a).output t.output) (sym (iterate_add (next u m code) a (b - a) s)) (later_prefix a (b - a)))
+      (subst (λ (t : State). IsPrefixOf (at a).output t.output) (sym (iterate-add a (b - a) (next u m code) s)) (later_prefix a (b - a)))
 
   stays : (o : Outcome) → o ≢ Running → (t : State) → t.outcome ≡ o → next u m code t ≡ t
   unfolding next
@@ -94,13 +91,9 @@ module _ (u : Units) (m : Machine) (code : Code) (s : State) where
   stays Waiting h t e = rw e refl
   stays (Fault number cycle) h t e = rw e refl
 
-  stays_more : (b : ℕ) (t : State) → t.outcome ≢ Running → iterate b (next u m code) t ≡ t
-  stays_more zero t h = refl
-  stays_more (suc b) t h = ap (next u m code) (stays_more b t h) ∙ stays t.outcome h t refl
-
   -- a run that is over stays where it is
   pub over_stays : (a b : ℕ) → a ≤ b → (at a).outcome ≢ Running → at b ≡ at a
-  over_stays a b le h = ap at (sym (sum_is a b le)) ∙ iterate_add (next u m code) a (b - a) s ∙ stays_more (b - a) (at a) h
+  over_stays a b le h = iterate-later (next u m code) a b s le (stays (at a).outcome h (at a) refl)
 
   -- two moments at which it is over are one
   pub over_same : (a b : ℕ) → (at a).outcome ≢ Running → (at b).outcome ≢ Running → at a ≡ at b

@@ -18,6 +18,7 @@ use Rattle.tta_moves.specs.declared.items.Placed.{Placed}
 use Rattle.tta_moves.specs.declared.items.BlockList.{BlockList}
 use Rattle.tta_moves.specs.Meaning.{Exit, Next, Leaves, Waits as Stops, is_waiting, Held, means}
 use Rattle.tta_list.specs.Legs.{Leave, ToBlock, ToNowhere, Run, Running, Halted, Waiting, Undefined, leg}
+use Rattle.tta_list.proofs.Iterated.{iterate-add}
 use Rattle.tta_moves.specs.Runs.{block_at, restart, leave_of, go_list}
 use Rattle.tta_overlap.specs.Overlap.{IsPlaced}
 use Rattle.tta_overlap.proofs.Total.{do_moves, has_meaning, waits_at}
@@ -28,7 +29,7 @@ use Rattle.tta_overlap.proofs.Block.{Stays, effects, leaves, Ends, Waits, block_
 use Rattle.tta_overlap.proofs.Edges.{restarts}
 use Rattle.tta_overlap.proofs.Placed.{effects_are, effects_take, stays_placed}
 use Rattle.tta_overlap.proofs.Padded.{pad, some_or_none, all_same, all_wait, all_runs, meaning_same, meaning_padded}
-use Rattle.tta_overlap.proofs.Leg.{es_of, padded, went, go_pad, go_is, onto, leg_onto, list_means, block_at_is, iterate_add, pad_none}
+use Rattle.tta_overlap.proofs.Leg.{es_of, padded, went, go_pad, go_is, onto, leg_onto, list_means, block_at_is, pad_none}
 
 -- the blocks of a program in code: each as it was placed, one after another from the first address to the last
 pub record IsRow (m : Machine) (code : Code) (addr : List ℕ) (lists : List BlockList) : Type 0 where
@@ -169,7 +170,7 @@ module _ (u : Units) (m : Machine) (rules : IsMachine m) (code : Code) (legal : 
         let c : slice_index addr (suc k + length bs) ≡ slice_index addr (k + length (b ∷ bs)) = ap (slice_index addr) (let g : suc k + length bs ≡ k + length (b ∷ bs) = omega arith in g) in
         omega arith;
     tracks =
-        subst (Tracks addr (leg go k (b ∷ bs) h)) (sym (iterate_add (next u m code) len left.cycles s ∙ ap (run left.cycles) is))
+        subst (Tracks addr (leg go k (b ∷ bs) h)) (sym (iterate-add len left.cycles (next u m code) s ∙ ap (run left.cycles) is))
         (subst (λ (r : Run Held). Tracks addr r (run left.cycles s')) (sym same) left.tracks);
   }
 

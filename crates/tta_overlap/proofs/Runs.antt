@@ -14,6 +14,7 @@ use Rattle.tta_code.specs.Cycle.{State, next}
 use Rattle.tta_moves.specs.declared.items.BlockList.{BlockList}
 use Rattle.tta_moves.specs.Meaning.{Next, Waits as Stops, is_waiting, Held, does_all, means}
 use Rattle.tta_list.specs.Legs.{Leave, ToNext, ToBlock, ToHalt, ToWait, ToNowhere, Run, Running, Halted, Waiting, Undefined, leg, next_leg}
+use Rattle.tta_list.proofs.Iterated.{iterate-add}
 use Rattle.tta_moves.specs.Runs.{restart, leave_of, go_list}
 use Rattle.tta_overlap.proofs.Total.{do_moves, waits_at}
 use Rattle.std.proofs.lemmas.List.{length-drop}
@@ -21,7 +22,7 @@ use Rattle.std.proofs.lemmas.Bool.{cases_lt}
 use Rattle.std.proofs.Math.Nat.{mul-suc}
 use Rattle.tta_moves.specs.Runs.{lrun}
 use Rattle.tta_overlap.proofs.Padded.{pad}
-use Rattle.tta_overlap.proofs.Leg.{es_of, padded, went, nowhere, go_pad, go_is, go_not, onto, leg_onto, iterate_add}
+use Rattle.tta_overlap.proofs.Leg.{es_of, padded, went, nowhere, go_pad, go_is, go_not, onto, leg_onto}
 use Rattle.tta_overlap.proofs.Padded.{all_wait}
 use Rattle.tta_overlap.proofs.Row.{IsRow, Goes, Tracks, goes, halts, stops, Left, leg_runs}
 
@@ -172,7 +173,7 @@ module _ (u : Units) (m : Machine) (rules : IsMachine m) (code : Code) (legal : 
           most = let a = r.most in let b = mul-suc (length code.words) n in let d = left.most in omega arith;
           least = λ e'. let a = r.least e in let b = left.least in omega arith;
           tracks = subst (λ (q : Run Held). Tracks addr q (cycles_at (r.cycles + left.cycles))) (sym is)
-              (subst (Tracks addr (leg (go_list u m addr) k bs (lists_at n).state)) (sym (iterate_add (next u m code) r.cycles left.cycles (machine.start m memory input))) left.tracks);
+              (subst (Tracks addr (leg (go_list u m addr) k bs (lists_at n).state)) (sym (iterate-add r.cycles left.cycles (next u m code) (machine.start m memory input))) left.tracks);
           more = λ e' z. is_padded z ∙ leg_pad u m addr bs k z (lists_at n).state g.opens (sym (ap (λ (q : Run Held). q.outcome) is) ∙ e') ∙ ap (padded_run z) (sym is);
         }
 
