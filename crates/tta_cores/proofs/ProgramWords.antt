@@ -1,6 +1,6 @@
 -- What a program keeps and outputs are words, where it is given words.
 use Rattle.std.proofs.Common.{◌≡◌, ℕ, zero, suc, ◌+◌, ◌-◌, ◌<◌, ◌^◌, ◌&&◌, Bool, true, false, List, [], ◌∷◌, ◌++◌, length, map, drop, replicate, Option, Some, None, refl, arith}
-use Rattle.std.specs.Prelude.{if◌then◌else◌, slice_get, slice_set, slice_index, nat_lt}
+use Rattle.std.specs.Prelude.{if◌then◌else◌, slice_get, slice_index, nat_lt}
 use Rattle.std.specs.Option.{option_map_or}
 use Rattle.std.specs.List.{list_all, AllByRecursion}
 use Rattle.std.proofs.lemmas.Bool.{ltb-true, and_parts}
@@ -12,11 +12,12 @@ use Rattle.tta_program.specs.declared.step.Step.{Step}
 use Rattle.tta_program.specs.declared.step.Step.TheVariants.{Copy, Apply, Load, Take, Store, Put, If, Goto, When, Invoke, Return, Halt, End}
 use Rattle.tta_program.specs.declared.program.Proc.{Proc}
 use Rattle.tta_program.specs.declared.program.DataLine.{DataLine}
-use Rattle.tta_list.specs.Laid.{Laid, over}
+use Rattle.tta_list.specs.Laid.{over}
 use Rattle.tta_program.specs.Program.{Program, data_of, datum_of}
 use Rattle.tta_program.specs.Rules.{IsProgram, IsProc, is_src, is_step, is_call, is_datum}
 use Rattle.tta_program.specs.Sequential.{State, Frame, Outcome, Running, Halted, Waiting, step_at, holds, operand, enter, next, next_of, go_on, carry_out, goes_through, waits, returns, take_value, assigns, goes_to}
 use Rattle.tta_agree.specs.Agrees.{AreWords}
+use Rattle.tta_agree.proofs.Words.{set_words, none_words, laid_words}
 
 -- ---- lists of words
 
@@ -28,28 +29,14 @@ index_word [] k all = no_word
 index_word (w ∷ ws) zero all = all.0
 index_word (w ∷ ws) (suc k) all = index_word ws k all.1
 
-pub set_words : (ws : List ℕ) (k v : ℕ) → AreWords ws → v < 2 ^ 32 → AreWords (slice_set ws k v)
-set_words [] k v all one = tt
-set_words (w ∷ ws) zero v all one = (one, all.1)
-set_words (w ∷ ws) (suc k) v all one = (all.0, set_words ws k v all.1 one)
-
 pub drop_words : (n : ℕ) (ws : List ℕ) → AreWords ws → AreWords (drop n ws)
 drop_words zero ws all = all
 drop_words (suc n) [] all = tt
 drop_words (suc n) (w ∷ ws) all = drop_words n ws all.1
 
-none_words : (n : ℕ) → AreWords (replicate n 0)
-none_words zero = tt
-none_words (suc n) = (no_word, none_words n)
-
 pub prefix_words : (xs ys : List ℕ) → AreWords (xs ++ ys) → AreWords xs
 prefix_words [] ys all = tt
 prefix_words (x ∷ xs) ys all = (all.0, prefix_words xs ys all.1)
-
--- data are laid over words
-laid_words : (laid : Laid) (memory : List ℕ) → AllByRecursion (λ d. d.1 < 2 ^ 32) laid → AreWords memory → AreWords (over laid memory)
-laid_words [] memory all words = words
-laid_words (d ∷ laid) memory all words = laid_words laid (slice_set memory d.0 d.1) all.1 (set_words memory d.0 d.1 words all.0)
 
 data_words : (init : List DataLine) → list_all is_datum init ≡ true → AllByRecursion (λ (d : ℕ × ℕ). d.1 < 2 ^ 32) (map datum_of init)
 data_words [] all = tt

@@ -1,6 +1,6 @@
 -- Code that is linked from the placed lists of a program agrees with the program.
-use Rattle.std.proofs.Common.{ℕ, zero, suc, ◌<◌, ◌≤◌, ◌^◌, true, false, List, [], ◌∷◌, ◌∙◌, arith, lit<}
-use Rattle.std.specs.Prelude.{slice_set, ◌&&◌, nat_le}
+use Rattle.std.proofs.Common.{ℕ, ◌<◌, ◌≤◌, ◌^◌, true, false, List, ◌∙◌, arith, lit<}
+use Rattle.std.specs.Prelude.{◌&&◌, nat_le}
 use Rattle.std.specs.List.{AllByRecursion}
 use Rattle.std.proofs.lemmas.Bool.{and_parts}
 use Rattle.std.proofs.lemmas.Bool.Decides.{nat_tests}
@@ -8,10 +8,11 @@ use Rattle.std.proofs.Math.Pow.{pow_mono}
 use Rattle.tta_ops.specs.Units.{Units}
 use Rattle.tta_arch.specs.Machine.{Machine}
 use Rattle.tta_arch.specs.Rules.{IsMachine, is_from_to, is_socket, is_port_socket}
-use Rattle.tta_list.specs.Laid.{Laid, over}
+use Rattle.tta_list.specs.Laid.{over}
 use Rattle.tta_program.specs.Program.{Program, data_of}
 use Rattle.tta_code.specs.Whole.{Whole}
-use Rattle.tta_agree.specs.Agrees.{AreWords, IsGiven, Agrees}
+use Rattle.tta_agree.specs.Agrees.{IsGiven, Agrees}
+use Rattle.tta_agree.proofs.Words.{laid_words}
 use Rattle.tta_moves.specs.declared.items.BlockList.{BlockList}
 use Rattle.tta_moves.specs.declared.items.Placed.{Placed}
 use Rattle.tta_link.specs.Linked.{starts_from}
@@ -22,17 +23,8 @@ use Rattle.tta_list.proofs.Sets.{over-length as size_over}
 
 -- ---- what is laid over a memory
 
-words_set : (xs : List ℕ) (i v : ℕ) → AreWords xs → v < 2 ^ 32 → AreWords (slice_set xs i v)
-words_set [] i v h w = h
-words_set (x ∷ xs) zero v h w = (w, h.1)
-words_set (x ∷ xs) (suc i) v h w = (h.0, words_set xs i v h.1 w)
-
-words_over : (laid : Laid) (memory : List ℕ) → AreWords memory → AllByRecursion (λ (d : ℕ × ℕ). d.1 < 2 ^ 32) laid → AreWords (over laid memory)
-words_over [] memory h w = h
-words_over (d ∷ laid) memory h w = words_over laid (slice_set memory d.0 d.1) (words_set memory d.0 d.1 h w.0) w.1
-
 given_over : (m : Machine) (p : Program) → AllByRecursion (λ (d : ℕ × ℕ). d.1 < 2 ^ 32) (data_of p) → (memory input : List ℕ) → IsGiven m memory input → IsGiven m (over (data_of p) memory) input
-given_over m p w memory input g = record { size = size_over (data_of p) memory ∙ g.size; words = words_over (data_of p) memory g.words w; inputs = g.inputs }
+given_over m p w memory input g = record { size = size_over (data_of p) memory ∙ g.size; words = laid_words (data_of p) memory w g.words; inputs = g.inputs }
 
 -- ---- addresses
 

@@ -1,5 +1,5 @@
 -- How the endings of the parts of `sample` make its own.
-use Rattle.std.proofs.Common.{◌≡◌, ◌≤◌, ℕ, zero, suc, ◌+◌, ◌*◌, Bool, true, false, List, [], length, refl, sym, ap, ◌∙◌, subst, arith}
+use Rattle.std.proofs.Common.{◌≡◌, ◌≤◌, ℕ, ◌+◌, ◌*◌, Bool, true, false, List, [], length, refl, sym, ap, ◌∙◌, subst, arith}
 use Rattle.std.proofs.lemmas.List.{length-replicate}
 use Rattle.tta_print.specs.Lines.{lines_text}
 use Rattle.tta_ops.specs.Units.{Units}
@@ -9,7 +9,8 @@ use Rattle.tta_program.specs.Program.{Program, data_of}
 use Rattle.tta_program.specs.Sequential as program
 use Rattle.tta_code.specs.Whole.{Whole, data_in}
 use Rattle.tta_code.specs.Cycle as cycle
-use Rattle.tta_agree.specs.Agrees.{HaltAlike, IsGiven, AreWords}
+use Rattle.tta_agree.specs.Agrees.{HaltAlike, IsGiven}
+use Rattle.tta_agree.proofs.Words.{none_words}
 use Rattle.tta_tacrun.specs.Run as sequential
 use Rattle.tta_sim.specs.Held as simulated
 use Rattle.tta_build.specs.Statement.{IsBuilt}
@@ -45,13 +46,8 @@ has_cycled u m whole bound memory none new words waits kept =
     let same = subst (λ l. Keeps (cycles.meaning_of u m whole.code) (simulated.Stands new) bound (cycle.start m (over (data_in whole) l) []) words waits) none kept in
     record { comes = same.comes; output = same.output }
 
--- a data space of 0 in each word can be given
-zeros_are_words : (n : ℕ) → AreWords (zeros n)
-zeros_are_words zero = tt
-zeros_are_words (suc n) = (omega arith, zeros_are_words n)
-
 pub zeros_given : (m : Machine) → IsGiven m (zeros m.data_words) []
-zeros_given m = record { size = length-replicate m.data_words 0; words = zeros_are_words m.data_words; inputs = tt }
+zeros_given m = record { size = length-replicate m.data_words 0; words = none_words m.data_words; inputs = tt }
 
 -- a code's run whose state has halted stands for it
 code_stands : (waits : Bool) (h : simulated.Held) (t : cycle.State) → t.outcome ≡ cycle.Halted → cycles.ComesTo waits h t → simulated.Stands h t
