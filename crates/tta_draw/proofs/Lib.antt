@@ -1,4 +1,3 @@
-mod Pieces
 mod Rows
 mod Plain
 pub mod Knowing

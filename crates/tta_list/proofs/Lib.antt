@@ -3,3 +3,4 @@ pub mod Tests
 pub mod Sets
 pub mod Iterated
 pub mod Prefixes
+pub mod Results

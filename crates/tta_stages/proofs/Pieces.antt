@@ -2,11 +2,6 @@
 use Rattle.std.proofs.Common.{◌≡◌, ℕ, List, ◌++◌}
 use Rattle.std.specs.Prelude.{Result, Ok, Err, OnOk, is_ok, if◌then◌else◌}
 
--- what follows where a call has not failed
-pub onward : {T E : Type 0} {P Q : Type 0} (r : Result T E) → (P → Q) → OnOk r P → OnOk r Q
-onward (Ok v) f p = f p
-onward (Err e) f p = p
-
 -- a piece was put, if the call has not failed
 pub where_put : {T E : Type 0} (r : Result T E) (old new a : List ℕ) → new ≡ (if is_ok r then old ++ a else old) → OnOk r (new ≡ old ++ a)
 where_put (Ok v) old new a is = is

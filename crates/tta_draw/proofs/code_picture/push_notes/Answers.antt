@@ -1,9 +1,9 @@
 use Rattle.std.proofs.Common.{List, ℕ, ◌++◌}
 use Rattle.std.specs.Prelude.{codes}
 use Rattle.tta_draw.specs.CodePicture.{notes_text, note_text}
-use Rattle.tta_draw.proofs.Pieces.{onward}
 use Rattle.tta_draw.proofs.code_picture.push_notes.Goals as goal
 use Rattle.tta_list.proofs.Lists.{then_more}
+use Rattle.tta_list.proofs.Results.{onward}
 
 pub returns : goal.returns
 unfolding notes_text

@@ -1,7 +1,7 @@
 use Rattle.std.proofs.Common.{◌++◌, length, false, ap, ◌∙◌}
 use Rattle.std.specs.Prelude.{slice_index_or}
-use Rattle.tta_draw.proofs.Pieces.{onward}
 use Rattle.tta_draw.proofs.Rows.{labels-same}
+use Rattle.tta_list.proofs.Results.{onward}
 use Rattle.tta_draw.proofs.guides.push_labels.Goals as goal
 
 pub returns : goal.returns

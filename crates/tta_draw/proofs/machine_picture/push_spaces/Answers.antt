@@ -2,9 +2,9 @@ use Rattle.std.proofs.Common.{◌≡◌, ℕ, ◌++◌, ap, subst}
 use Rattle.std.specs.Prelude.{codes}
 use Rattle.tta_arch.specs.Machine.{Machine}
 use Rattle.tta_draw.specs.MachinePicture.{spaces_text, space_text, colours_text}
-use Rattle.tta_draw.proofs.Pieces.{onward}
 use Rattle.tta_draw.proofs.machine_picture.push_spaces.Goals as goal
 use Rattle.tta_list.proofs.Lists.{then_more}
+use Rattle.tta_list.proofs.Results.{onward}
 
 pub returns : goal.returns
 unfolding spaces_text

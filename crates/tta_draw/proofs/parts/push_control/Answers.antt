@@ -3,9 +3,9 @@ use Rattle.std.specs.Prelude.{codes, OnOk}
 use Rattle.std.specs.Option.{option_map_or}
 use Rattle.tta_arch.specs.Machine.{Machine}
 use Rattle.tta_draw.specs.MachinePicture.{control_text, part_text, told_text, port_text}
-use Rattle.tta_draw.proofs.Pieces.{onward}
 use Rattle.tta_draw.proofs.parts.push_control.Goals as goal
 use Rattle.tta_list.proofs.Lists.{then_more}
+use Rattle.tta_list.proofs.Results.{onward}
 
 pub returns : goal.returns
 unfolding control_text

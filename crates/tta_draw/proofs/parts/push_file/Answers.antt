@@ -1,9 +1,9 @@
 use Rattle.std.proofs.Common.{◌≡◌, ℕ, List, ◌++◌, subst}
 use Rattle.std.specs.Prelude.{codes}
 use Rattle.tta_draw.specs.MachinePicture.{file_text, part_text, told_text, port_text}
-use Rattle.tta_draw.proofs.Pieces.{onward}
 use Rattle.tta_draw.proofs.parts.push_file.Goals as goal
 use Rattle.tta_list.proofs.Lists.{then_more}
+use Rattle.tta_list.proofs.Results.{onward}
 
 pub returns : goal.returns
 unfolding file_text

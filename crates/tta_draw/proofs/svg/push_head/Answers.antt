@@ -1,9 +1,9 @@
 use Rattle.std.proofs.Common.{◌++◌}
 use Rattle.std.specs.Prelude.{codes}
 use Rattle.tta_draw.specs.Svg.{head_text, view_text, style_text, box_text, frame}
-use Rattle.tta_draw.proofs.Pieces.{onward}
 use Rattle.tta_draw.proofs.svg.push_head.Goals as goal
 use Rattle.tta_list.proofs.Lists.{then_more}
+use Rattle.tta_list.proofs.Results.{onward}
 
 pub returns : goal.returns
 unfolding head_text

@@ -2,9 +2,10 @@ use Rattle.std.proofs.Common.{ℕ, List, ◌++◌, ap, ◌∙◌}
 use Rattle.std.specs.Prelude.{codes}
 use Rattle.tta_stages.specs.Words.{pairs_text}
 use Rattle.tta_stages.specs.ListText.{live_text}
-use Rattle.tta_stages.proofs.Pieces.{onward, where_put}
+use Rattle.tta_stages.proofs.Pieces.{where_put}
 use Rattle.tta_stages.proofs.text.lists.push_live.Goals as goal
 use Rattle.tta_list.proofs.Lists.{then_more}
+use Rattle.tta_list.proofs.Results.{onward}
 
 pub returns : goal.returns
 unfolding live_text

@@ -5,9 +5,10 @@ use Rattle.tta_arch.specs.Fields.{numbers}
 use Rattle.tta_flow.specs.Live.{live_before}
 use Rattle.tta_stages.specs.Words.{var_if}
 use Rattle.tta_stages.specs.ProgramText.{before_text}
-use Rattle.tta_stages.proofs.Pieces.{onward, where_put}
+use Rattle.tta_stages.proofs.Pieces.{where_put}
 use Rattle.tta_stages.proofs.text.program.push_before.Goals as goal
 use Rattle.tta_list.proofs.Lists.{then_more}
+use Rattle.tta_list.proofs.Results.{onward}
 
 pub returns : goal.returns
 unfolding before_text

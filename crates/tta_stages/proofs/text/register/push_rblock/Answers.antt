@@ -4,9 +4,10 @@ use Rattle.tta_ops.specs.Set.{stated}
 use Rattle.tta_rcode.specs.declared.code.RStep.{RStep}
 use Rattle.tta_stages.specs.StepText.{steps_text, exit_text}
 use Rattle.tta_stages.specs.RegisterText.{homes_text, rblock_text}
-use Rattle.tta_stages.proofs.Pieces.{onward, where_put}
+use Rattle.tta_stages.proofs.Pieces.{where_put}
 use Rattle.tta_stages.proofs.text.register.push_rblock.Goals as goal
 use Rattle.tta_list.proofs.Lists.{then_more}
+use Rattle.tta_list.proofs.Results.{onward}
 
 pub returns : goal.returns
 unfolding rblock_text

@@ -5,9 +5,9 @@ use Rattle.tta_arch.specs.Fields.{numbers}
 use Rattle.tta_program.specs.Program.{Program}
 use Rattle.tta_printed.specs.Printed.{proc_name}
 use Rattle.tta_stages.specs.ProgramText.{variable_text, proc_variables_text}
-use Rattle.tta_stages.proofs.Pieces.{onward}
 use Rattle.tta_stages.proofs.text.variables.push_proc_variables.Goals as goal
 use Rattle.tta_list.proofs.Lists.{then_more}
+use Rattle.tta_list.proofs.Results.{onward}
 
 pub returns : goal.returns
 unfolding proc_variables_text

@@ -1,4 +1,4 @@
--- Texts that are put piece by piece.
+-- What follows where a call has not failed.
 use Rattle.std.specs.Prelude.{Result, Ok, Err, OnOk}
 
 -- what follows where a call has not failed
