@@ -6,6 +6,7 @@ use Rattle.std.proofs.lemmas.List.{append_assoc, append-nil}
 use Rattle.tta_reading.specs.Words.{value_of, constant_of}
 use Rattle.tta_reading.specs.Steps.{◌>>=◌, refuse_if}
 use Rattle.tta_reading.proofs.Steps.{same_ok, then-ok, some-ok, refuse_if-ok}
+use Rattle.tta_reading.proofs.Constants.{constant_word}
 use Rattle.tta_code.specs.declared.whole.Datum.{Datum}
 use Rattle.tta_code.specs.Whole.{rises_from, fits}
 use Rattle.tta_asm.specs.declared.refusal.AsmRefusal.TheVariants as refusal
@@ -14,7 +15,6 @@ use Rattle.tta_asm.specs.Pieces.{Placed, Piece}
 use Rattle.tta_asm.specs.Labels.{is_semicolon}
 use Rattle.tta_asm.specs.Syntax.{Read, read, next_word, line_of}
 use Rattle.tta_asm.specs.Init.{is_declaration, closed_datum, datum_form, datum_of, data_from, behind_data}
-use Rattle.tta_asm.proofs.NumberWords.{constant_word}
 
 -- ---- one datum
 

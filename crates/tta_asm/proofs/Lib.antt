@@ -2,7 +2,6 @@ pub mod Rows
 pub mod DataRows
 mod Counted
 pub mod Cuts
-pub mod NumberWords
 pub mod DataTaken
 pub mod LegalCode
 pub mod NameLists

@@ -4,3 +4,4 @@ mod Counted
 mod Examples
 pub mod Steps
 pub mod TextNames
+pub mod Constants

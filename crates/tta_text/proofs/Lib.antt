@@ -12,3 +12,4 @@ pub mod OneKind
 pub mod OneReading
 mod Examples
 pub mod ShownWords
+pub mod Limits
