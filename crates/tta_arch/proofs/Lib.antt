@@ -14,3 +14,4 @@ pub mod Ports
 pub mod Below
 pub mod Takes
 pub mod Outputs
+pub mod Joined

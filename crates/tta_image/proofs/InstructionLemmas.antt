@@ -15,6 +15,7 @@ use Rattle.tta_arch.specs.Legal.{Ends, all_slots}
 use Rattle.tta_arch.specs.Rules.{IsMachine}
 use Rattle.tta_arch.proofs.Layouts.{set_width_at, no_bus_in_none}
 use Rattle.tta_arch.proofs.Widths.{pow_le}
+use Rattle.tta_arch.proofs.Joined.{is_joined_at}
 use Rattle.tta_code.specs.declared.code.Move.{Move}
 use Rattle.tta_code.specs.declared.code.Long.{Long}
 use Rattle.tta_code.specs.declared.code.Instruction.{Instruction}
@@ -93,16 +94,12 @@ joined_at m bus (Some v) h = h
 abbrev keep_test : (taken : ℕ) → ℕ → Option Ends → Bool
 keep_test taken bus o = is_none o || not (has_bit taken bus)
 
--- the rule of one bus that it joins the ends of its move, with its guard
-abbrev join_test : Machine → ℕ → Option Ends → Bool
-join_test m bus o = option_map_or (λ v. joins m bus v.src v.dst v.guard) o true
-
 are_legal : (m : Machine) (taken bus : ℕ) (slots : List (Option Move)) → all_slots (keep_test taken) bus (map (option_map ends_of) slots) ≡ true
-    → all_slots (join_test m) bus (map (option_map ends_of) slots) ≡ true → AreLegal m taken bus slots
+    → all_slots (is_joined_at m) bus (map (option_map ends_of) slots) ≡ true → AreLegal m taken bus slots
 are_legal m taken bus [] k j = tt
 are_legal m taken bus (s ∷ ss) k j =
     let kk = and_parts (keep_test taken bus (option_map ends_of s)) (all_slots (keep_test taken) (bus + 1) (map (option_map ends_of) ss)) k in
-    let jj = and_parts (join_test m bus (option_map ends_of s)) (all_slots (join_test m) (bus + 1) (map (option_map ends_of) ss)) j in
+    let jj = and_parts (is_joined_at m bus (option_map ends_of s)) (all_slots (is_joined_at m) (bus + 1) (map (option_map ends_of) ss)) j in
     (kept_at taken bus s kk.0, joined_at m bus s jj.0, are_legal m taken (bus + 1) ss kk.1 jj.1)
 
 pub empty_where_taken : (taken bus : ℕ) (s : Option Move) → has_bit taken bus ≡ true → is_kept_slot taken bus s ≡ true → s ≡ None

@@ -17,6 +17,7 @@ use Rattle.tta_arch.specs.Rules.{IsMachine, are_different}
 use Rattle.tta_arch.specs.Joins.{joins, is_source_on, is_dest_on, has_guard}
 use Rattle.tta_arch.specs.Legal.{Ends, Slots, ends_of, are_apart, can_move, keeps_taken, is_joined, has_reads, has_writes, all_slots}
 use Rattle.tta_arch.specs.Effects.{first_some, or_else}
+use Rattle.tta_arch.proofs.Joined.{is_joined_at}
 use Rattle.tta_code.specs.declared.code.Long.{Long}
 use Rattle.tta_code.specs.declared.code.Instruction.{Instruction}
 use Rattle.tta_code.specs.Legal.{is_legal, slots_of as slots_in, ends_of as ends_in, taken, is_instruction, is_long}
@@ -35,6 +36,7 @@ use Rattle.tta_link.specs.Put.{is_word_in}
 use Rattle.std.proofs.lemmas.List.{length-map}
 use Rattle.tta_link.proofs.Shapes.{shape, shapes, blank_linked, reads_shapes, writes_shapes, apart_shapes, taken_shapes}
 use Rattle.tta_moves.proofs.Addresses.{address_held as smaller_word}
+use Rattle.tta_moves.proofs.OnSlots.{ends_at, taken_at}
 
 -- ---- a smaller word
 
@@ -90,11 +92,6 @@ linked_joins m rules blocks addr low bus (Address k) dst guard w h =
 -- ---- the moves of a cycle, before and after the addresses are put in
 
 -- a move before and after: it differs in a word at most, and is joined after where it was before
-abbrev ends_at : Machine → (bus : ℕ) → Slot → Item → Option Ends
-ends_at m bus (Bus b) (item.Move guard src dst) = if b == bus then Some (record { guard = guard; src = carried m src; dst = dst }) else None
-ends_at m bus (Bus b) (item.Long unit index value) = None
-ends_at m bus (Template t) i = None
-
 abbrev Alike : Machine → (bus : ℕ) → Option Ends → Option Ends → Type 0
 Alike m bus None None = ⊤
 Alike m bus None (Some w) = ⊥
@@ -107,9 +104,6 @@ same_shape m bus None (Some w) a = absurd a
 same_shape m bus (Some v) None a = absurd a
 same_shape m bus (Some v) (Some w) a = ap Some a.0
 
-abbrev is_joined_at : Machine → ℕ → Option Ends → Bool
-is_joined_at m bus o = option_map_or (λ v. joins m bus v.src v.dst v.guard) o true
-
 same_joined : (m : Machine) (bus : ℕ) (o q : Option Ends) → Alike m bus o q → is_joined_at m bus o ≡ true → is_joined_at m bus q ≡ true
 same_joined m bus None None a h = refl
 same_joined m bus None (Some w) a h = absurd a
@@ -121,10 +115,6 @@ buses_of m l = option_map_or (λ t. t.buses) (slice_get m.templates l.template) 
 
 abbrev has_template : Machine → Long → Bool
 has_template m l = is_some (slice_get m.templates l.template)
-
-abbrev taken_at : Machine → Slot → Option ℕ
-taken_at m (Bus b) = None
-taken_at m (Template t) = option_map_or (λ q. Some q.buses) (slice_get m.templates t) None
 
 map_twice : {A B : Type 0} (f : A → B) (g : ℕ → A) (a n : ℕ) → map f (map g (range_with_len a n)) ≡ map (λ k. f (g k)) (range_with_len a n)
 map_twice f g a zero = refl

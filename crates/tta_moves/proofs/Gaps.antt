@@ -1,45 +1,17 @@
 -- The least cycle that one earlier item allows, row by row, where that item stands in cycle 5 of the machine of three
 -- buses.
-use Rattle.std.specs.Prelude.{◌≡◌, ℕ, List, [], ◌∷◌, false, Some, None, refl}
-use Rattle.tta_arch.specs.declared.ends.Source.{Source}
+use Rattle.std.specs.Prelude.{◌≡◌, List, [], ◌∷◌, false, Some, refl}
 use Rattle.tta_arch.specs.declared.ends.Source.TheVariants as source
-use Rattle.tta_arch.specs.declared.ends.Dest.{Dest}
 use Rattle.tta_arch.specs.declared.ends.Dest.TheVariants as dest
 use Rattle.tta_arch.proofs.Samples.{three_buses}
-use Rattle.tta_moves.specs.declared.items.ItemSource.TheVariants.{Port, Address}
+use Rattle.tta_moves.specs.declared.items.ItemSource.TheVariants.{Port}
 use Rattle.tta_moves.specs.declared.items.LongValue.TheVariants.{Word}
 use Rattle.tta_moves.specs.declared.items.Item.{Item}
 use Rattle.tta_moves.specs.declared.items.Item.TheVariants.{Move, Long}
 use Rattle.tta_moves.specs.declared.items.Slot.TheVariants.{Bus}
 use Rattle.tta_moves.specs.declared.items.PlacedItem.{PlacedItem}
-use Rattle.tta_moves.specs.Meaning.{does}
 use Rattle.tta_moves.specs.Bounds.{least}
-
--- ---- items
-
--- an unguarded move
-abbrev go : Source → Dest → Item
-go src dst = Move None (Port src) dst
-
--- a move of a block's address
-abbrev go_to : ℕ → Dest → Item
-go_to block dst = Move None (Address block) dst
-
-abbrev r : ℕ → Source
-r i = source.Reg 0 i
-
-abbrev into : ℕ → Dest
-into i = dest.Reg 0 i
-
--- the units: 0 adds, 1 multiplies and adds, 2 serves the spaces, 3 outputs
-abbrev o : ℕ → Dest
-o unit = dest.Operand unit
-
-abbrev t : ℕ → ℕ → Dest
-t unit op = dest.Trigger unit op
-
-abbrev shown : ℕ → Source
-shown unit = source.Shown unit
+use Rattle.tta_moves.proofs.Rows.{go, r, into, o, t, shown}
 
 -- an item in cycle 5
 placed : Item → List PlacedItem

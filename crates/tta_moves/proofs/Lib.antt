@@ -11,3 +11,4 @@ pub mod Rows
 pub mod Gaps
 pub mod Numbered
 pub mod Waiting
+pub mod OnSlots

@@ -1,5 +1,5 @@
 -- Lists by numbers, of which one element changes.
-use Rattle.std.proofs.Common.{◌≡◌, ◌≢◌, ℕ, zero, suc, ◌+◌, ◌<◌, ◌≤◌, List, ◌∷◌, refl, subst, arith, map, set}
+use Rattle.std.proofs.Common.{◌≡◌, ◌≢◌, ℕ, zero, suc, ◌+◌, ◌<◌, ◌≤◌, refl, subst, arith, map, set}
 use Rattle.std.specs.List.{range_with_len}
 
 -- two lists by numbers that are alike at each

@@ -29,27 +29,27 @@ use Rattle.tta_moves.specs.Forms.{is_bypassed, is_shared, is_lively, is_straight
 -- ---- items
 
 -- an unguarded move
-abbrev go : Source → Dest → Item
+abbrev pub go : Source → Dest → Item
 go src dst = Move None (Port src) dst
 
 -- a move of a block's address
-abbrev go_to : ℕ → Dest → Item
+abbrev pub go_to : ℕ → Dest → Item
 go_to block dst = Move None (Address block) dst
 
-abbrev r : ℕ → Source
+abbrev pub r : ℕ → Source
 r i = source.Reg 0 i
 
-abbrev into : ℕ → Dest
+abbrev pub into : ℕ → Dest
 into i = dest.Reg 0 i
 
 -- the units: 0 adds, 1 multiplies and adds, 2 serves the spaces, 3 outputs
-abbrev o : ℕ → Dest
+abbrev pub o : ℕ → Dest
 o unit = dest.Operand unit
 
-abbrev t : ℕ → ℕ → Dest
+abbrev pub t : ℕ → ℕ → Dest
 t unit op = dest.Trigger unit op
 
-abbrev shown : ℕ → Source
+abbrev pub shown : ℕ → Source
 shown unit = source.Shown unit
 
 -- ---- first fit, searched for

@@ -38,7 +38,7 @@ same_bring e vs ws same =
     ∙ ap (λ (q : Option ℕ). option_map_or (λ word. Some (e.target, word)) (if is_active (read_held ws) e then q else None) None) same.source
 
 -- an operation that starts, by what is written
-abbrev starting : Written → ℕ → ℕ → UnitOp → Option Start
+abbrev pub starting : Written → ℕ → ℕ → UnitOp → Option Start
 starting vs unit word o = Some (record { unit = unit; does = o; operand = operand_of vs unit o; word = word })
 
 pub same_start : (m : Machine) (vs ws : Written) (b : Brought) → ((unit : ℕ) → kept vs (KeptOperand unit) ≡ kept ws (KeptOperand unit)) → start_of m vs b ≡ start_of m ws b

@@ -13,7 +13,7 @@ use Rattle.tta_arch.specs.declared.ends.Dest.{Dest}
 use Rattle.tta_arch.specs.declared.ends.Dest.TheVariants as dest
 use Rattle.tta_arch.specs.Machine.{Machine}
 use Rattle.tta_arch.specs.Rules.{IsMachine, are_different}
-use Rattle.tta_arch.specs.Joins.{joins, has_bit, has_socket, within, is_source_on, is_dest_on, has_guard}
+use Rattle.tta_arch.specs.Joins.{joins, has_bit, has_socket, is_source_on, is_dest_on, has_guard}
 use Rattle.tta_arch.specs.Legal.{Ends, has_writes, all_below, reads_file, reads_imm, writes_file}
 use Rattle.tta_arch.specs.Effects.{first_some}
 use Rattle.tta_moves.specs.declared.items.ItemSource.{ItemSource}

@@ -21,6 +21,7 @@ use Rattle.tta_moves.specs.declared.items.PlacedItem.{PlacedItem}
 use Rattle.tta_moves.specs.Slots.{carried, carries, clash, fits_cycle, slots_of, taken_of, taken_by, ends_on}
 use Rattle.tta_reserve.specs.Taken.{is_template, buses_of, meets, is_apart}
 use Rattle.tta_moves.proofs.Numbered.{map_alike, set_alike}
+use Rattle.tta_moves.proofs.OnSlots.{ends_at, taken_at}
 use Rattle.tta_reserve.proofs.Lists.{first_push, all_last, get_alike}
 use Rattle.tta_reserve.proofs.Places.{same_sym}
 use Rattle.tta_reserve.proofs.Slots.{count_set, is_elsewhere}
@@ -74,17 +75,6 @@ pub carried_there : (m : Machine) (xs : List PlacedItem) (x : PlacedItem) → fi
 carried_there m xs x fits = all_last (λ (y : PlacedItem). carries m y.slot y.item) xs x (fits_parts m (xs ++ x ∷ []) fits).carry
 
 -- ---- items on their slots
-
--- the move of an item on a bus, by its slot
-abbrev pub ends_at : Machine → (bus : ℕ) → Slot → Item → Option Ends
-ends_at m bus (Bus b) (item.Move guard src dst) = if b == bus then Some (record { guard = guard; src = carried m src; dst = dst }) else None
-ends_at m bus (Bus b) (item.Long unit index value) = None
-ends_at m bus (Template t) i = None
-
--- the buses of an item's template, by its slot
-abbrev pub taken_at : Machine → Slot → Option ℕ
-taken_at m (Bus b) = None
-taken_at m (Template t) = option_map_or (λ q. Some q.buses) (slice_get m.templates t) None
 
 -- a bus without a move is no item's slot
 pub no_clash : (m : Machine) (bus : ℕ) (xs : List PlacedItem) → list_all (λ (y : PlacedItem). carries m y.slot y.item) xs ≡ true → first_some (ends_on m bus) xs ≡ None

@@ -21,6 +21,7 @@ use Rattle.tta_code.specs.declared.code.Instruction.{Instruction}
 use Rattle.tta_code.specs.Cycle.{effect_of}
 use Rattle.tta_code.specs.Legal.{ends_of, is_legal}
 use Rattle.tta_code.proofs.LegalParts.{legal_parts}
+use Rattle.tta_code.proofs.Apart.{meet_moves, moves_apart}
 use Rattle.tta_sim.specs.Results.{Results, HasUnits, longest_by}
 use Rattle.tta_sim.specs.Moves.{Arrival, is_possible_slot, is_askable, is_readable, is_reachable, arrival_of, arrivals_of}
 use Rattle.tta_sim.specs.Starts.{triggered, start_by, is_fitting, puts, AreFitting, AreReachable}
@@ -28,23 +29,9 @@ use Rattle.tta_arch.proofs.Takes.{apart_filter_map, one_owner, takes_stream}
 
 -- ---- lists whose elements differ
 
--- whether two moves go into one place
-abbrev meet_moves : Move → Move → Bool
-meet_moves v w = same_place v.dst w.dst
-
 -- whether two words that moves bring go into one place
 abbrev meet_arrivals : Arrival → Arrival → Bool
 meet_arrivals a b = same_place a.dst b.dst
-
-any_ends : (v : Move) (slots : List (Option Move)) → list_any (λ w. same_place v.dst w.dst) (ends_in (map (option_map ends_of) slots)) ≡ list_any (meet_moves v) (filter_map (λ o. o) slots)
-any_ends v [] = refl
-any_ends v (None ∷ slots) = any_ends v slots
-any_ends v (Some w ∷ slots) = ap (λ b. same_place v.dst w.dst || b) (any_ends v slots)
-
-moves_apart : (slots : List (Option Move)) → are_apart (ends_in (map (option_map ends_of) slots)) ≡ are_different meet_moves (filter_map (λ o. o) slots)
-moves_apart [] = refl
-moves_apart (None ∷ slots) = moves_apart slots
-moves_apart (Some v ∷ slots) = ap (λ b. not b && are_apart (ends_in (map (option_map ends_of) slots))) (any_ends v slots) ∙ ap (λ b. not (list_any (meet_moves v) (filter_map (λ o. o) slots)) && b) (moves_apart slots)
 
 arrival_dst : (reads : Reads) (v : Move) (a : Arrival) → arrival_of reads v ≡ Some a → a.dst ≡ v.dst
 arrival_dst reads v a brings = by (moved reads (effect_of v)) brings where
