@@ -1,5 +1,5 @@
 -- The pieces of a printed text: word by word, up to what closes a piece.
-use Rattle.std.proofs.Common.{◌≡◌, ℕ, ◌+◌, Bool, true, false, not, List, [], ◌∷◌, ◌++◌, length, length-append, refl, ap, ◌∙◌, arith}
+use Rattle.std.proofs.Common.{◌≡◌, ℕ, ◌+◌, Bool, true, false, not, List, [], ◌∷◌, ◌++◌, length, length-append, refl, ap, ◌∙◌}
 use Rattle.std.specs.Prelude.{Some, None, codes}
 use Rattle.std.proofs.lemmas.List.{append_assoc}
 use Rattle.tta_text.specs.declared.lexeme.Kind.{Kind}

@@ -1,5 +1,5 @@
 -- Placements of lists in a row, and the code that is linked from them.
-use Rattle.std.proofs.Common.{◌≡◌, ◌+◌, ℕ, zero, suc, ◌++◌, List, [], ◌∷◌, Some, ap, subst, ◌∙◌, arith, length, slice_get}
+use Rattle.std.proofs.Common.{◌≡◌, ◌+◌, ℕ, zero, suc, ◌++◌, List, [], ◌∷◌, Some, ap, subst, ◌∙◌, length, slice_get}
 use Rattle.std.specs.Prelude.{◌<◌, ◌^◌, IfOk, IfErr, Result, Ok, Err}
 use Rattle.tta_arch.specs.Machine.{Machine}
 use Rattle.tta_code.specs.declared.code.Code.{Code}

@@ -1,5 +1,5 @@
 -- A run that was begun on what was read, and what became of it, is how the command ends.
-use Rattle.std.proofs.Common.{ℕ, List, Option, subst, inr}
+use Rattle.std.proofs.Common.{ℕ, List, Option, inr}
 use Rattle.tta_ports.specs.World.{World}
 use Rattle.tta_ports.specs.Output.{Output}
 use Rattle.tta_ops.specs.Units.{Units}

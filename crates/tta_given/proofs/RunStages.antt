@@ -1,5 +1,5 @@
 -- What a clause of stages says at a status is what the one stage says that can end so, of a command that runs something.
-use Rattle.std.proofs.Common.{◌≡◌, ◌⊎◌, ℕ, List, Option, Some, None, inl, inr}
+use Rattle.std.proofs.Common.{◌≡◌, ℕ, List, Option, Some, None, inl, inr}
 use Rattle.tta_ports.specs.Store.{Store}
 use Rattle.tta_ports.specs.World.{World, IsUntouched}
 use Rattle.tta_ports.specs.Output.{Output, IsQuiet}
@@ -8,7 +8,7 @@ use Rattle.tta_given.specs.declared.machine.MachineFile.{MachineFile}
 use Rattle.tta_given.specs.declared.status.Status.{Status}
 use Rattle.tta_given.specs.Held.{HasText, ReadFails}
 use Rattle.tta_given.specs.Machines.{HasMachine, RefusesMachine}
-use Rattle.tta_given.specs.Inputs.{HasInput, RefusesInput, RefusesStream, StreamFails}
+use Rattle.tta_given.specs.Inputs.{RefusesInput, RefusesStream, StreamFails}
 use Rattle.tta_given.specs.Pairs.{HasPair}
 use Rattle.tta_given.proofs.Stages.{pair_stages, pair_at}
 use Rattle.tta_given.specs.Runs.{HasGiven, PairRuns}

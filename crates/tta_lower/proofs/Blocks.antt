@@ -5,7 +5,7 @@ use Rattle.tta_program.specs.declared.step.Step.{Step}
 use Rattle.tta_program.specs.Program.{Program}
 use Rattle.tta_program.specs.Rules.{IsProgram}
 use Rattle.tta_program.specs.Sequential as program
-use Rattle.tta_program.specs.Sequential.{Frame, Outcome, Running, Halted, Waiting, step_at, holds, enter, next, take_value, goes_through, returns}
+use Rattle.tta_program.specs.Sequential.{Frame, Running, Waiting, step_at}
 use Rattle.tta_rcode.specs.declared.code.RBlock.{RBlock}
 use Rattle.tta_rcode.specs.declared.code.Rir.{Rir}
 use Rattle.tta_rcode.specs.Meaning.{State, Kept, steps_of, walk}

@@ -10,7 +10,7 @@ use Rattle.tta_program.specs.declared.step.Step.{Step}
 use Rattle.tta_program.specs.declared.step.Step.TheVariants.{Copy, Apply, Load, Take, Store, Put, If, Goto, When, Invoke, Return, Halt, End}
 use Rattle.tta_program.specs.declared.program.Proc.{Proc}
 use Rattle.tta_program.specs.Program.{Program}
-use Rattle.tta_program.specs.Rules.{IsProgram, IsProc, is_step, is_src, Reaches, ByCall, ByMore, calls, calls_proc}
+use Rattle.tta_program.specs.Rules.{IsProgram, is_step, is_src, Reaches, ByCall, ByMore, calls, calls_proc}
 use Rattle.tta_program.specs.Rules as rules
 use Rattle.tta_program.specs.Sequential.{Frame, step_at}
 use Rattle.tta_rcode.specs.Meaning.{Kept, Return, found, plain}

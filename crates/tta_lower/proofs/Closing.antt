@@ -22,7 +22,7 @@ use Rattle.tta_rcode.specs.declared.code.RSrc.TheVariants as rsrc
 use Rattle.tta_rcode.specs.declared.code.RStep.TheVariants as rstep
 use Rattle.tta_lower.specs.Liveness.{Homes}
 use Rattle.tta_lower.specs.Layout
-use Rattle.tta_lower.specs.Layout.{vars_of, params_of, own, base, slots_before, var_slot, value_slot, back_slot, size, InFrame, place, place_by, source, passes, gives, steps_for, code_from, exit_for, keeps_ra, first_value, sets, sets_from}
+use Rattle.tta_lower.specs.Layout.{vars_of, params_of, var_slot, value_slot, back_slot, place, source, passes, gives, steps_for, code_from, exit_for, keeps_ra, first_value, sets, sets_from}
 use Rattle.tta_rcode.specs.Closed.{src_passes, step_passes, exit_passes}
 use Rattle.tta_lower.proofs.Steps.{StepOf, step_of}
 use Rattle.tta_lower.proofs.Callers.{called, vars-are}

@@ -17,7 +17,7 @@ use Rattle.tta_rcode.specs.declared.code.RStep.TheVariants as rstep
 use Rattle.tta_rcode.specs.declared.code.RBlock.{RBlock}
 use Rattle.tta_lower.specs.Liveness.{Known, Has, Homes, IsFlow}
 use Rattle.tta_lower.specs.Layout
-use Rattle.tta_lower.specs.Layout.{vars_of, params_of, place, place_by, source, passes, gives, steps_for, code_from, exit_for, keeps_ra, first_value, sets, sets_from}
+use Rattle.tta_lower.specs.Layout.{vars_of, params_of, place, place_by, source, passes, gives, steps_for, exit_for, keeps_ra, first_value, sets, sets_from}
 use Rattle.tta_lower.specs.Lower.{Part, Entry, Steps, Returned, number_of, entry_number, block_of}
 use Rattle.tta_rcode.specs.Counts.{names_place, names_src, names_step, names_exit, names, Need, asks_rstep, asks_exit, asks, assigns_place, assigns_rstep, assigns_block}
 use Rattle.tta_lower.specs.Counts.{in_slot, slot_src, leaving, traffic_step, over_live, fetched, traffic, asks_step, asks_part, assigns_step, assigns_part}

@@ -8,10 +8,10 @@ use Rattle.tta_ops.specs.Units.{Units}
 use Rattle.tta_program.specs.declared.step.Step.TheVariants.{Invoke}
 use Rattle.tta_program.specs.declared.program.Proc.{Proc}
 use Rattle.tta_program.specs.Program.{Program}
-use Rattle.tta_program.specs.Rules.{IsProgram, IsProc, is_step, is_src}
+use Rattle.tta_program.specs.Rules.{IsProgram, is_src}
 use Rattle.tta_program.specs.Rules as rules
 use Rattle.tta_program.specs.Sequential as program
-use Rattle.tta_program.specs.Sequential.{Frame, Outcome, Running, Halted, Waiting, step_at, holds, enter, next, take_value, goes_through, returns}
+use Rattle.tta_program.specs.Sequential.{Frame, Running, step_at, enter, next, returns}
 use Rattle.tta_rcode.specs.declared.code.Place.TheVariants as places
 use Rattle.tta_rcode.specs.declared.code.RSrc.TheVariants as rsrc
 use Rattle.tta_rcode.specs.declared.code.RStep.{RStep}
@@ -20,10 +20,10 @@ use Rattle.tta_rcode.specs.declared.code.Exit.TheVariants as exit
 use Rattle.tta_rcode.specs.declared.code.RBlock.{RBlock}
 use Rattle.tta_rcode.specs.declared.code.Rir.{Rir}
 use Rattle.tta_rcode.specs.Meaning as code
-use Rattle.tta_rcode.specs.Meaning.{State, Kept, Plain, Return as ReturnTo, put_reg, put_slot, found, plain, word, steps_of, walk, stay, is_running, leg}
+use Rattle.tta_rcode.specs.Meaning.{State, Kept, Plain, Return as ReturnTo, put_reg, put_slot, found, plain, word, steps_of, walk, stay, leg}
 use Rattle.tta_lower.specs.Liveness.{Known, LiveBefore, LiveAfter, After, Reached, IsFlow, IsHomes}
 use Rattle.tta_lower.specs.Layout.{vars_of, params_of, var_slot, value_slot, back_slot, place, place_by, keeps_ra, sets_from}
-use Rattle.tta_lower.specs.Shape.{Counts, StartsAt, BlockFor, ReturnFor, EntryFor, IsLowered, may_fall, is_call, is_kept}
+use Rattle.tta_lower.specs.Shape.{Counts, StartsAt, ReturnFor, IsLowered, is_call, is_kept}
 use Rattle.tta_lower.specs.Relation.{running, going, HeldBefore, KeepsBack, HasBack, Callers, next_block, AtBlock, AtEntry, AtReturn, Stands, BlockNext, EntryNext, ReturnNext, Untouched}
 use Rattle.tta_lower.proofs.Lookups.{word-same, found-same, found-other, found-stay}
 use Rattle.tta_lower.proofs.Steps.{step_of}

@@ -12,14 +12,14 @@ use Rattle.tta_program.specs.declared.step.Step.TheVariants.{Copy, Apply, Load, 
 use Rattle.tta_program.specs.Program.{Program}
 use Rattle.tta_program.specs.Rules.{IsProgram, IsProc}
 use Rattle.tta_program.specs.Sequential as program
-use Rattle.tta_program.specs.Sequential.{Frame, Outcome, Running, Halted, Waiting, step_at, holds, enter, next, take_value, goes_through, returns}
+use Rattle.tta_program.specs.Sequential.{Frame, Running, Halted, Waiting, step_at, holds, enter, next, goes_through, returns}
 use Rattle.tta_rcode.specs.declared.code.RSrc.{RSrc}
 use Rattle.tta_rcode.specs.declared.code.RSrc.TheVariants as rsrc
 use Rattle.tta_rcode.specs.declared.code.RStep.{RStep}
 use Rattle.tta_rcode.specs.declared.code.RBlock.{RBlock}
 use Rattle.tta_rcode.specs.declared.code.Rir.{Rir}
 use Rattle.tta_rcode.specs.Meaning as code
-use Rattle.tta_rcode.specs.Meaning.{State, Kept, Plain, found, plain, word, steps_of, walk, stay, is_running, leg}
+use Rattle.tta_rcode.specs.Meaning.{State, Kept, found, plain, word, steps_of, walk, stay}
 use Rattle.tta_lower.specs.Liveness.{Known, Reads, After, Reached, Block, Has, IsFlow, IsHomes, is_plain, is_var, reads, assigned, leads}
 use Rattle.tta_lower.specs.Layout.{vars_of, params_of, var_slot, place_by, source, gives, steps_for, exit_for, InFrame, back as back_exit}
 use Rattle.tta_lower.specs.Shape.{Counts, BlockFor, IsLowered, may_fall, is_call}

@@ -12,10 +12,10 @@ use Rattle.tta_program.specs.declared.program.Proc.{Proc}
 use Rattle.tta_program.specs.Program.{Program}
 use Rattle.tta_program.specs.Rules.{IsProgram, is_step, is_src}
 use Rattle.tta_program.specs.Sequential as program
-use Rattle.tta_program.specs.Sequential.{Frame, Outcome, Running, Halted, Waiting, step_at, holds, goes_through, next}
+use Rattle.tta_program.specs.Sequential.{Frame, Running, Waiting, step_at, holds, goes_through, next}
 use Rattle.tta_rcode.specs.declared.code.RStep.{RStep}
 use Rattle.tta_rcode.specs.Meaning as code
-use Rattle.tta_rcode.specs.Meaning.{State, Kept, Plain, found, plain, word, put_reg, put_slot, step}
+use Rattle.tta_rcode.specs.Meaning.{Kept, Plain, found, plain, word, put_reg, put_slot, step}
 use Rattle.tta_lower.specs.Liveness.{LiveBefore, Reads, Leads, LiveAfter, After, Reached, ByAssigned, ByAfter, Homes, IsHomes, is_plain, is_var, reads, assigned}
 use Rattle.tta_lower.specs.Layout.{vars_of, var_slot, place, place_by, source, steps_for}
 use Rattle.tta_lower.specs.Relation.{running, going, HeldBefore, HeldAfter, Untouched}

@@ -8,7 +8,7 @@ use Rattle.tta_program.specs.Sequential.{Running}
 use Rattle.tta_rcode.specs.declared.code.Place.TheVariants as places
 use Rattle.tta_rcode.specs.declared.code.RStep.{RStep}
 use Rattle.tta_rcode.specs.Meaning as code
-use Rattle.tta_rcode.specs.Meaning.{State, Kept, Plain, Return as ReturnTo, put_reg, put_slot, found, plain, word, steps_of, walk, stay, is_running, leg}
+use Rattle.tta_rcode.specs.Meaning.{Kept, Plain, put_reg, put_slot, found, plain, word, steps_of}
 use Rattle.tta_lower.specs.Liveness.{LiveBefore, Homes, IsHomes}
 use Rattle.tta_lower.specs.Layout.{vars_of, params_of, var_slot, place, place_by, first_value, sets, sets_from}
 use Rattle.tta_lower.specs.Relation.{going, Untouched}

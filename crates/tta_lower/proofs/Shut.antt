@@ -22,7 +22,7 @@ use Rattle.tta_rcode.specs.declared.code.RStep.TheVariants as rstep
 use Rattle.tta_rcode.specs.declared.code.RSrc.TheVariants as rsrc
 use Rattle.tta_lower.specs.Liveness.{Known, Block, Has, IsFlow, leads}
 use Rattle.tta_lower.specs.Layout
-use Rattle.tta_lower.specs.Layout.{vars_of, params_of, own, base, slots_before, var_slot, value_slot, back_slot, size, InFrame, place, place_by, exit_for, keeps_ra, sets_from, steps_for, code_from}
+use Rattle.tta_lower.specs.Layout.{vars_of, params_of, base, var_slot, value_slot, back_slot, place, place_by, exit_for, keeps_ra, sets_from, steps_for, code_from}
 use Rattle.tta_lower.specs.Lower.{numbers, Part, Entry, Steps, Returned, parts, number_of, entry_number, homes_of, block_of, lowered, Answers}
 use Rattle.tta_program.specs.Sizes.{frame_need}
 use Rattle.tta_rcode.specs.Closed.{block_passes, is_place, leads_within, is_closed_block, IsClosed}

@@ -12,7 +12,7 @@ use Rattle.tta_program.specs.declared.step.Step.TheVariants.{Invoke}
 use Rattle.tta_program.specs.declared.program.Proc.{Proc}
 use Rattle.tta_program.specs.Program.{Program}
 use Rattle.tta_program.specs.Rules
-use Rattle.tta_program.specs.Rules.{IsProgram, IsProc, is_step, is_src}
+use Rattle.tta_program.specs.Rules.{IsProgram, is_src}
 use Rattle.tta_program.specs.Sequential.{step_at}
 use Rattle.tta_rcode.specs.declared.code.Place.{Place}
 use Rattle.tta_rcode.specs.declared.code.Place.TheVariants.{Frame}

@@ -4,7 +4,7 @@ use Rattle.tta_list.specs.Iterate.{iterate}
 use Rattle.tta_ops.specs.Units.{Units}
 use Rattle.tta_program.specs.Program.{Program, step_count}
 use Rattle.tta_program.specs.Sequential as program
-use Rattle.tta_program.specs.Sequential.{Frame, Outcome, Running, Halted, Waiting, step_at, holds, enter, next, take_value, goes_through, returns}
+use Rattle.tta_program.specs.Sequential.{Frame, Outcome, Running, next}
 use Rattle.tta_rcode.specs.declared.code.RBlock.{RBlock}
 use Rattle.tta_rcode.specs.declared.code.Rir.{Rir}
 use Rattle.tta_rcode.specs.Meaning.{State, Kept, walk, is_running}

@@ -1,7 +1,6 @@
 -- Rounds that stop by themselves leave the cores at rest, where none is at a fault.
-use Rattle.std.proofs.Common.{◌≡◌, ◌⊎◌, inl, inr, ℕ, zero, suc, ◌+◌, ◌≤◌, ◌<◌, ◌==◌, ◌||◌, true, false, List, [], ◌∷◌, ◌++◌, length, map, Option, Some, None, refl, sym, ap, subst, ◌∙◌, arith}
-use Rattle.std.specs.Prelude.{slice_get, slice_set, zip}
-use Rattle.std.specs.Option.{option_map_or}
+use Rattle.std.proofs.Common.{◌≡◌, inl, inr, ℕ, zero, suc, ◌+◌, ◌≤◌, ◌<◌, ◌==◌, ◌||◌, true, false, List, [], ◌∷◌, length, Option, Some, None, refl, sym, ap, ◌∙◌, arith}
+use Rattle.std.specs.Prelude.{slice_get, zip}
 use Rattle.std.specs.List.{list_any}
 use Rattle.std.proofs.lemmas.Bool.{cases_lt, eq-eqb, or_right, or_left}
 use Rattle.std.proofs.lemmas.List.Folds.{list_any-append}
@@ -9,15 +8,13 @@ use Rattle.std.proofs.lemmas.Option.{slice_get_past}
 use Rattle.tta_ops.specs.Units.{Units}
 use Rattle.tta_code.specs.Cycle.{State, start}
 use Rattle.tta_cores.specs.declared.cores.Core.{Core}
-use Rattle.tta_cores.specs.Network.{Network, Joined, joined, turn, interleaved, AreAtRest}
+use Rattle.tta_cores.specs.Network.{Network, Joined, joined, turn, interleaved}
 use Rattle.tta_cores.specs.Cluster.{cycles, first_states}
 use Rattle.tta_cores.proofs.Clusters.{turn_none, turn_some, next_core}
-use Rattle.tta_net.specs.declared.turn.Turn.{Turn}
 use Rattle.tta_net.specs.Clusters.{fault_at}
-use Rattle.tta_net.specs.Rounds.{numbers, steps_in, after_rounds, HasEnded}
+use Rattle.tta_net.specs.Rounds.{numbers, steps_in, after_rounds}
 use Rattle.tta_net.specs.Laws.{RoundsRest}
 use Rattle.tta_net.proofs.Running.{round_more}
-use Rattle.tta_net.proofs.FirstCluster.{from_zip}
 use Rattle.tta_net.proofs.Resting.{KeepNone, all_keep, rests}
 use Rattle.tta_cores.proofs.Pairs.{made_from as from_map}
 use Rattle.tta_list.proofs.Sets.{set_count as length_set}

@@ -1,5 +1,5 @@
 -- What is known between two rounds.
-use Rattle.std.proofs.Common.{◌≡◌, ◌⊎◌, inl, inr, ⊎_elim, ℕ, zero, suc, ◌+◌, ◌≤◌, ◌<◌, Bool, true, false, ◌||◌, List, [], ◌∷◌, length, map, replicate, Option, Some, refl, sym, ap, subst, ◌∙◌, arith}
+use Rattle.std.proofs.Common.{◌≡◌, inl, inr, ℕ, zero, suc, ◌+◌, ◌≤◌, ◌<◌, Bool, true, false, ◌||◌, List, [], ◌∷◌, length, map, replicate, Some, refl, sym, ap, subst, ◌∙◌, arith}
 use Rattle.std.specs.Option.{option_map_or}
 use Rattle.std.specs.List.{list_any}
 use Rattle.std.proofs.lemmas.Bool.{cases_lt}
@@ -13,7 +13,7 @@ use Rattle.tta_cores.specs.Cluster.{cycles}
 use Rattle.tta_net.specs.declared.turn.Turn.{Turn}
 use Rattle.tta_net.specs.declared.turn.Turn.TheVariants as turn_told
 use Rattle.tta_net.specs.Clusters.{HeldCluster, IsClusterOf, StandsFor, feeds_of, made_by}
-use Rattle.tta_net.specs.Rounds.{numbers, steps_in, answers, is_ran, round, after_rounds, answers_in, last_answers, went_in, StopsAfter, HasEnded}
+use Rattle.tta_net.specs.Rounds.{numbers, steps_in, answers, is_ran, round, after_rounds, answers_in, last_answers, went_in, HasEnded}
 
 -- So many rounds are made, and in each some core ran.
 pub record IsRunSoFar (u : Units) (cores : List Core) (old now : HeldCluster) (last : List Turn) (made : ℕ) : Type 0 where

@@ -1,6 +1,6 @@
 -- What a turn of one core comes to.
-use Rattle.std.proofs.Common.{◌≡◌, ℕ, zero, suc, ◌+◌, ◌-◌, ◌&&◌, Bool, true, false, List, [], ◌∷◌, ◌++◌, length, drop, Option, Some, None, refl, sym, ap, subst, ◌∙◌, arith, append-nil}
-use Rattle.std.specs.Prelude.{if◌then◌else◌, slice_get, option_to_list, is_none}
+use Rattle.std.proofs.Common.{◌≡◌, ℕ, ◌+◌, ◌-◌, ◌&&◌, Bool, true, false, List, [], ◌∷◌, length, Option, refl, sym, ap, subst, ◌∙◌, arith}
+use Rattle.std.specs.Prelude.{if◌then◌else◌, is_none}
 use Rattle.tta_list.specs.Input.{IsFed, left}
 use Rattle.tta_ops.specs.Units.{Units}
 use Rattle.tta_arch.specs.Machine.{Machine}
@@ -10,11 +10,10 @@ use Rattle.tta_flight.specs.Rings.{Rings}
 use Rattle.tta_sim.specs.Results.{Results, units_of}
 use Rattle.tta_sim.specs.Held.{HeldState, StandsWith, is_fault}
 use Rattle.tta_cores.specs.declared.cores.Core.{Core}
-use Rattle.tta_cores.specs.Network.{Joined, after_step, stepped}
+use Rattle.tta_cores.specs.Network.{Joined, stepped}
 use Rattle.tta_cores.specs.Cluster.{is_waiting}
 use Rattle.tta_cores.proofs.Outcomes.{changes}
 use Rattle.tta_net.specs.declared.member.Member.{Member}
-use Rattle.tta_net.specs.declared.turn.Turn.{Turn}
 use Rattle.tta_net.specs.declared.turn.Turn.TheVariants as turn
 use Rattle.tta_net.specs.Members.{StandsAs, alone, turn_told, turn_of}
 

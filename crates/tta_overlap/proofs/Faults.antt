@@ -4,7 +4,7 @@ use Rattle.std.specs.Prelude.{slice_get, ◌&&◌, ◌||◌, is_none, is_some}
 use Rattle.std.proofs.lemmas.Bool.Decides.{nat_tests}
 use Rattle.std.proofs.Math.Bool.{and-false}
 use Rattle.tta_arch.specs.Effects.{Kind, Effect, moved, bring, Start, has_result, takes, has_unset_guard, has_unset, is_register, is_port, lacks_operand, control_of, first_some as pick}
-use Rattle.tta_code.specs.Cycle.{State, Running, Waiting, Result', later, port, result_of, read_source, effects_of, reads_unset_register, reads_unset_port, clashes, pending_after, fault_of, lands, acts as act_cycle, waits, or_wait, or_fault, carry_out, next_of, next}
+use Rattle.tta_code.specs.Cycle.{later, read_source, reads_unset_register, reads_unset_port, clashes, pending_after, fault_of}
 use Rattle.tta_moves.specs.Meaning.{Held, read_held, exit_after}
 use Rattle.tta_overlap.proofs.Total.{started_by, wants}
 use Rattle.tta_code.specs.Cycle as machine

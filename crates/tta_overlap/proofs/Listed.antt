@@ -10,7 +10,7 @@ use Rattle.std.proofs.lemmas.List.{map-append}
 use Rattle.tta_arch.specs.Machine.{Machine}
 use Rattle.tta_arch.specs.Effects.{Effect, Place, KeptPort, kept as lookup, moved, or_else, first_some as pick}
 use Rattle.tta_ops.specs.Units.{Units}
-use Rattle.tta_code.specs.Cycle.{State, Running, Waiting, Result', later, port, result_of, read_source, effects_of, reads_unset_register, reads_unset_port, clashes, pending_after, fault_of, lands, acts as act_cycle, waits, or_wait, or_fault, carry_out, next_of, next}
+use Rattle.tta_code.specs.Cycle.{State, Running, Result', later, port, waits}
 use Rattle.tta_moves.specs.Meaning.{Exit, Next, Leaves, Waits as Stops, Held, read_held, exit_after}
 use Rattle.tta_moves.specs.Bounds.{Spot, At, Started}
 use Rattle.tta_overlap.proofs.Total.{do_move, Timed, is_control}

@@ -5,7 +5,7 @@ use Rattle.tta_arch.specs.declared.ends.Source.TheVariants as source
 use Rattle.tta_arch.specs.Machine.{Machine}
 use Rattle.tta_arch.specs.Effects.{Halts, Control, Effect, Place, kept as lookup}
 use Rattle.tta_ops.specs.Units.{Units}
-use Rattle.tta_code.specs.Cycle.{State, Running, Waiting, Result', later, port, result_of, read_source, effects_of, reads_unset_register, reads_unset_port, clashes, pending_after, fault_of, lands, acts as act_cycle, waits, or_wait, or_fault, carry_out, next_of, next}
+use Rattle.tta_code.specs.Cycle.{effects_of, waits}
 use Rattle.tta_moves.specs.Meaning.{Next, Held, lacks}
 use Rattle.tta_moves.specs.Bounds.{Spot}
 use Rattle.tta_overlap.proofs.Total.{wants, do_moves, Timed, reads_by, writes_by, is_control}

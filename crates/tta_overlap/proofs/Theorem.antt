@@ -18,7 +18,7 @@ use Rattle.tta_moves.specs.declared.items.BlockList.{BlockList}
 use Rattle.tta_moves.specs.Meaning.{does_all, Next, Waits as Stopped, is_waiting, Held, read_held, effect_of, do_items}
 use Rattle.tta_moves.specs.Touches.{target_of_item}
 use Rattle.tta_moves.specs.Bounds.{At, writes_by as item_writes}
-use Rattle.tta_overlap.proofs.Total.{do_move, do_moves, has_meaning, wants, waits_at, Timed}
+use Rattle.tta_overlap.proofs.Total.{do_moves, has_meaning, waits_at, Timed}
 use Rattle.tta_overlap.specs.Overlap.{IsPlaced, word_in, Covers, Holds, IsLeft, moment_of, space_by, ShowBy, DoneBy, FindsIts, IsInCycle, Ends, Stops, Overlaps, AreLegal, MeansWithMore}
 use Rattle.tta_overlap.proofs.Cut.{IsCut, cut_exists}
 use Rattle.tta_overlap.proofs.Steps.{is_kept}
@@ -33,7 +33,7 @@ use Rattle.tta_overlap.proofs.Padded.{some_or_none, all_same, all_wait, all_runs
 use Rattle.tta_overlap.proofs.Over.{output_stays}
 use Rattle.tta_overlap.proofs.Block as block
 use Rattle.tta_overlap.proofs.InBlock.{Matches}
-use Rattle.tta_overlap.proofs.Block.{effects, leaves, InCycle}
+use Rattle.tta_overlap.proofs.Block.{effects, InCycle}
 use Rattle.tta_overlap.proofs.Placed.{items_of, effects_timed, effects_are, effects_take, stays_placed}
 use Rattle.tta_overlap.proofs.Sides.{kept_word, matches_of, holds_left, left_is, count_left, waits_take, waits_before, waits_there}
 use Rattle.tta_moves.proofs.Places.{either}

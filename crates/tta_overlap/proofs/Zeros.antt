@@ -6,7 +6,7 @@ use Rattle.std.proofs.lemmas.Bool.{cases_lt}
 use Rattle.tta_arch.specs.Machine.{Machine}
 use Rattle.tta_arch.specs.Effects.{Kind, Jumps, Calls, Halts, Written, Brought, Start, has_result, result_word, store_data, store_frame, put_out, takes, take_in, control_of, first_some as pick}
 use Rattle.tta_ops.specs.Units.{Units}
-use Rattle.tta_code.specs.Cycle.{State, Running, Waiting, Result', later, port, result_of, read_source, effects_of, reads_unset_register, reads_unset_port, clashes, pending_after, fault_of, lands, acts as act_cycle, waits, or_wait, or_fault, carry_out, next_of, next}
+use Rattle.tta_code.specs.Cycle.{State, Running, Result', result_of, pending_after, lands, acts as act_cycle, next}
 use Rattle.tta_code.specs.Cycle as machine
 use Rattle.tta_overlap.proofs.Padded.{first_pad, left_pad}
 use Rattle.tta_overlap.proofs.Pick.{Has, any_has}

@@ -13,7 +13,6 @@ use Rattle.tta_select.specs.Select.{home_pair}
 use Rattle.tta_select.specs.Ground.{IsGround, home_place}
 use Rattle.tta_select.specs.Relation.{slot_word, Matches}
 use Rattle.tta_select.proofs.Moves.{wrote, is_free, Calm}
-use Rattle.tta_arch.proofs.Places.{same_is}
 
 module _ (m : Machine) (c : Choice) (addr : List ℕ) (g : IsGround m c) where
   -- a way keeps the states matched

@@ -1,4 +1,4 @@
-use Rattle.std.proofs.Common.{ap, ◌∙◌, subst}
+use Rattle.std.proofs.Common.{◌∙◌, subst}
 use Rattle.tta_print.specs.Lines.{lines_text, word_lines}
 use Rattle.tta_print.proofs.Puts.{HasPut, put_more, put_part, part_is_put}
 use Rattle.tta_print.proofs.Words.{output_at}
