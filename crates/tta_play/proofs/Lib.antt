@@ -1,3 +1,2 @@
-mod Sizes
 mod Rows
 mod Told

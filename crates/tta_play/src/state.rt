@@ -125,7 +125,7 @@ fn push_code_at(
 }
 
 /// Puts a state: where it is, its registers, its results, and the instruction that comes next.
-#[tactic(auto, unfolding(crate::specs::States::state_text), using(crate::proofs::Sizes::sizes))]
+#[tactic(auto, unfolding(crate::specs::States::state_text), using(tta_arch::proofs::Sizes::sizes))]
 pub fn push_state(out: &mut Vec<u8>, basis: &Basis<'_>, sim: &Sim) -> Result<(), AllocError>
     requires loaded { IsRunOf basis.now.m.now basis.now.code.now sim.now }
     requires few { sim.now.cycle < 2 ^ 63 }

@@ -1,4 +1,3 @@
-pub mod Sizes
 pub mod Lines
 pub mod Shown
 pub mod Sessions

@@ -29,7 +29,7 @@ fn help_text(alloc: Global) -> Result<Vec<u8>, AllocError>
 }
 
 /// The lines of the registers that are set, and the last line after them.
-#[tactic(auto, using(crate::proofs::Sizes::sizes))]
+#[tactic(auto, using(tta_arch::proofs::Sizes::sizes))]
 fn registers_text(alloc: Global, sim: &Sim, m: &Machine) -> Result<Vec<u8>, AllocError>
     ensures { (s : State) → Stands sim.now s
         → IfOk result (λ text. text.items ≡ files_lines s m.now.files ++ codes "ok\n") }
