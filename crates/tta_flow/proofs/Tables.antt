@@ -17,6 +17,7 @@ use Rattle.tta_program.specs.declared.operand.Src.{Src}
 use Rattle.tta_flow.specs.Steps.{is_var}
 use Rattle.tta_flow.specs.Search.{is_found}
 use Rattle.tta_flow.specs.Table.{is_listed, Adds}
+use Rattle.tta_list.proofs.Tests.{or_either}
 
 pub adds_none : (place : ℕ) (t : PlaceLists) → Adds place (λ k. false) t t
 adds_none place t = record { size = refl; all = λ k p below. sym (none (is_listed t k p) (place == p)) } where
@@ -29,12 +30,8 @@ pub adds_then : (place : ℕ) (t u : ℕ → Bool) (a b c : PlaceLists) → Adds
 adds_then place t u a b c one two = record {
   size = two.size ∙ one.size;
   all = λ k p below. two.all k p (let s = one.size in omega arith) ∙ ap (λ r. r || (place == p && u k)) (one.all k p below)
-      ∙ both (is_listed a k p) (place == p) (t k) (u k);
-} where
-  both : (a w b c : Bool) → ((a || (w && b)) || (w && c)) ≡ (a || (w && (b || c)))
-  both true w b c = refl
-  both false true b c = refl
-  both false false b c = refl
+      ∙ or_either (is_listed a k p) (place == p) (t k) (u k);
+}
 
 -- ---- a test of the list at a place
 

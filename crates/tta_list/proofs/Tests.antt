@@ -24,6 +24,12 @@ or_swap false true true d = refl
 or_swap false true false d = refl
 or_swap false false c d = refl
 
+-- what stands beside each of two tests stands beside either
+pub or_either : (a w b c : Bool) → ((a || (w && b)) || (w && c)) ≡ (a || (w && (b || c)))
+or_either true w b c = refl
+or_either false true b c = refl
+or_either false false b c = refl
+
 -- nothing is there where the test for something fails
 pub none_from_is_some : {A : Type 0} (o : Option A) → is_some o ≡ false → o ≡ None
 none_from_is_some None e = refl

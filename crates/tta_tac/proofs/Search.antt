@@ -9,7 +9,7 @@ use Rattle.std.proofs.Math.Dec.{eqb}
 use Rattle.std.proofs.lemmas.List.{append-nil, take_all, take-append-le}
 use Rattle.std.proofs.Common.{get_or-set_same, get_or-set_other, length-set}
 use Rattle.std.proofs.Math.Bool.{or-true, or-false}
-use Rattle.tta_list.proofs.Tests.{and_right}
+use Rattle.tta_list.proofs.Tests.{and_right, or_either}
 use Rattle.tta_program.specs.declared.step.Step.{Step}
 use Rattle.tta_program.specs.declared.program.Proc.{Proc}
 use Rattle.tta_program.specs.Rules.{calls, calls_proc, Reaches, ByCall}
@@ -72,7 +72,7 @@ pub finds_more : (places now : ℕ) (steps : List Step) (i : ℕ) (step : Step) 
 finds_more places now steps i step first before after same below at old new = record {
   all = λ k. new.all k ∙ ap (λ (n : ℕ). is_found before k || (nat_lt k n && calls_proc k step)) same
       ∙ ap (λ b. b || (nat_lt k places && calls_proc k step)) (old.all k)
-      ∙ both (is_found first k) (nat_lt k places) (list_any (calls_proc k) (take i steps)) (calls_proc k step)
+      ∙ or_either (is_found first k) (nat_lt k places) (list_any (calls_proc k) (take i steps)) (calls_proc k step)
       ∙ ap (λ b. is_found first k || (nat_lt k places && b)) (sym (one_more k));
   more = old.more ++ new.more;
   front = new.front ∙ ap (λ l. l ++ new.more) old.front ∙ append_assoc first old.more new.more;
@@ -80,11 +80,6 @@ finds_more places now steps i step first before after same below at old new = re
   one_more : (k : ℕ) → list_any (calls_proc k) (take (i + 1) steps) ≡ (list_any (calls_proc k) (take i steps) || calls_proc k step)
   one_more k = list_any_more (calls_proc k) steps i step below
       ∙ ap (λ s. list_any (calls_proc k) (take i steps) || calls_proc k s) (sym at)
-
-  both : (a w b c : Bool) → ((a || (w && b)) || (w && c)) ≡ (a || (w && (b || c)))
-  both true w b c = refl
-  both false true b c = refl
-  both false false b c = refl
 
 -- after the last look
 pub finds_all : (places : ℕ) (steps : List Step) (i : ℕ) (first found : List ℕ) → length steps ≤ i
