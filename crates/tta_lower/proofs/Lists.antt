@@ -150,3 +150,9 @@ module _ (p : Program) (blocks : List Block) (live_first : (owner x : ℕ) → B
       let far = ends-before c b bs order.0 more in
       rw (lt-ltb c.last (b.last + 1) (omega (arith, far, rises b (inr more))), lt-ltb c.last b.first far)
       (ap (λ l. c ∷ l) (spans-next bs b (λ d is. rises d (inr is)) order.1 more))
+
+-- a block begins behind the end of one that ends before all others
+pub begins-behind : (b : Block) (bs : List Block) (c : Block) → EndsBefore b bs → In c bs → b.last + 1 ≤ c.first
+begins-behind b [] c ends is = absurd is
+begins-behind b (d ∷ ds) c ends (inl e) = subst (λ x. b.last + 1 ≤ x.first) (sym e) (omega (arith, ends.0))
+begins-behind b (d ∷ ds) c ends (inr is) = begins-behind b ds c ends.1 is

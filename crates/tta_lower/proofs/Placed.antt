@@ -19,11 +19,11 @@ use Rattle.tta_rcode.specs.declared.code.Rir.{Rir}
 use Rattle.tta_lower.specs.Liveness.{Known, Block, Has, IsFlow}
 use Rattle.tta_lower.specs.Layout.{vars_of}
 use Rattle.tta_lower.specs.Shape.{BlockFor, ReturnFor, EntryFor, IsLowered, StartsAt, AtEntry, AtFirst, may_fall}
-use Rattle.tta_lower.specs.Lower.{numbers, code_order, spans_of, Part, Entry, Steps, Returned, return_after, span_parts, has_entry, entry_parts, proc_parts, parts, procs_before, spans_before, entry_number, number_of, is_home_of, homes_of, block_of, lowered, steps_in, EndsBefore, InOrder, Answers}
+use Rattle.tta_lower.specs.Lower.{numbers, code_order, spans_of, Part, Entry, Steps, Returned, return_after, span_parts, has_entry, entry_parts, proc_parts, parts, procs_before, spans_before, entry_number, number_of, is_home_of, homes_of, block_of, lowered, steps_in, InOrder, Answers}
 use Rattle.tta_lower.proofs.Steps.{step_of}
 use Rattle.tta_lower.proofs.AfterSteps.{return-none, live-past, return-steps}
 use Rattle.tta_lower.proofs.Callers.{live-below, live-after-below}
-use Rattle.tta_lower.proofs.Lists.{In, in-has, filter-in, has-in, in-filter, in-any, in-numbers, part-at, procs-split, spans-split, spans-same, spans-next}
+use Rattle.tta_lower.proofs.Lists.{In, in-has, filter-in, has-in, in-filter, in-any, in-numbers, part-at, procs-split, spans-split, spans-same, spans-next, begins-behind}
 use Rattle.tta_lower.proofs.Sums.{sum-more, sum-rises, sum-flat_map, code-order-sum}
 
 module _ (p : Program) (known : Known) (homes : ℕ)
@@ -226,14 +226,10 @@ module _ (p : Program) (known : Known) (homes : ℕ)
       → low ≤ high → sum_by (λ c. sum_by steps_in (span_parts p c)) bs + low ≤ high
   spans-sum [] low high order rises below above le = omega (arith, le)
   spans-sum (b ∷ bs) low high order rises below above le =
-      let rest = spans-sum bs (b.last + 1) high order.1 (λ c is. rises c (inr is)) (λ c is. below c (inr is)) (λ c is. later b bs c order.0 is) (omega (arith, below b (inl refl))) in
+      let rest = spans-sum bs (b.last + 1) high order.1 (λ c is. rises c (inr is)) (λ c is. below c (inr is)) (λ c is. begins-behind b bs c order.0 is) (omega (arith, below b (inl refl))) in
       let one : sum_by steps_in (span_parts p b) ≡ b.last + 1 - b.first + 0 =
       sum_by-cons steps_in (Steps b) (return_after b (step_at p b.owner b.last)) ∙ ap (λ n. b.last + 1 - b.first + n) (return-steps b (step_at p b.owner b.last)) in
-      rw (sum_by-cons (λ c. sum_by steps_in (span_parts p c)) b bs) (omega (arith, rest, one, rises b (inl refl), above b (inl refl))) where
-        later : (b : Block) (bs : List Block) (c : Block) → EndsBefore b bs → In c bs → b.last + 1 ≤ c.first
-        later b [] c ends is = absurd is
-        later b (d ∷ ds) c ends (inl e) = subst (λ x. b.last + 1 ≤ x.first) (sym e) (omega (arith, ends.0))
-        later b (d ∷ ds) c ends (inr is) = later b ds c ends.1 is
+      rw (sum_by-cons (λ c. sum_by steps_in (span_parts p c)) b bs) (omega (arith, rest, one, rises b (inl refl), above b (inl refl)))
 
   -- a block ends within its procedure
   pub span-below : (owner : ℕ) (c : Block) → In c (spans_of known.blocks owner) → c.last < steps_of_proc owner

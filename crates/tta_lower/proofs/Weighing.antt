@@ -21,11 +21,11 @@ use Rattle.tta_rcode.specs.declared.code.RBlock.{RBlock}
 use Rattle.tta_lower.specs.Liveness.{Known, Block, Has, Homes, IsFlow}
 use Rattle.tta_lower.specs.Layout
 use Rattle.tta_lower.specs.Layout.{vars_of, params_of, place, source, passes, gives, steps_for, exit_for, keeps_ra, first_value, sets, sets_from}
-use Rattle.tta_lower.specs.Lower.{code_order, spans_of, Part, Entry, Steps, return_after, span_parts, has_entry, entry_parts, proc_parts, parts, number_of, entry_number, block_of, lowered, EndsBefore, InOrder, Answers}
+use Rattle.tta_lower.specs.Lower.{code_order, spans_of, Part, Entry, Steps, return_after, span_parts, has_entry, entry_parts, proc_parts, parts, number_of, entry_number, block_of, lowered, InOrder, Answers}
 use Rattle.tta_lower.specs.Counts.{over_steps, over_live}
 use Rattle.tta_rcode.specs.Counts.{weight_step, weight_exit, weight_block, weight}
 use Rattle.tta_program.specs.Sizes.{args_in, arg_count, var_count}
-use Rattle.tta_lower.proofs.Lists.{In, in-has, filter-in}
+use Rattle.tta_lower.proofs.Lists.{In, in-has, filter-in, begins-behind}
 use Rattle.tta_lower.proofs.Sums.{sum-flat_map, code-order-sum}
 use Rattle.tta_lower.proofs.Placed.{main-below, span-rises, span-below, steps_of_proc}
 use Rattle.tta_lower.proofs.StepSums.{over-more, block-sum, entry-sum}
@@ -63,7 +63,7 @@ module _ (p : Program) (home : Homes) (g : Step → ℕ) where
       → low ≤ high → sum_by f bs ≤ over_steps p home g owner low (high - low)
   spans-over owner f [] low high order rises below above le within = omega arith
   spans-over owner f (b ∷ bs) low high order rises below above le within =
-      let rest = spans-over owner f bs (b.last + 1) high order.1 (λ c is. rises c (inr is)) (λ c is. below c (inr is)) (λ c is. later b bs c order.0 is) (λ c is. le c (inr is)) (omega (arith, below b (inl refl))) in
+      let rest = spans-over owner f bs (b.last + 1) high order.1 (λ c is. rises c (inr is)) (λ c is. below c (inr is)) (λ c is. begins-behind b bs c order.0 is) (λ c is. le c (inr is)) (omega (arith, below b (inl refl))) in
       let one = le b (inl refl) in
       let size = b.last + 1 - b.first in
       let gap = b.first - low in
@@ -76,11 +76,7 @@ module _ (p : Program) (home : Homes) (g : Step → ℕ) where
       let moved = ap (λ k. over_steps p home g owner k size) here in
       let moved_on = ap (λ k. over_steps p home g owner (k + size) tail) here ∙ ap (λ k. over_steps p home g owner k tail) after_it in
       let all = ap (λ k. over_steps p home g owner low k) whole in
-      rw (sum_by-cons f b bs) (omega (arith, rest, one, first, second, moved, moved_on, all)) where
-        later : (b : Block) (bs : List Block) (c : Block) → EndsBefore b bs → In c bs → b.last + 1 ≤ c.first
-        later b [] c ends is = absurd is
-        later b (d ∷ ds) c ends (inl e) = subst (λ x. b.last + 1 ≤ x.first) (sym e) (omega (arith, ends.0))
-        later b (d ∷ ds) c ends (inr is) = later b ds c ends.1 is
+      rw (sum_by-cons f b bs) (omega (arith, rest, one, first, second, moved, moved_on, all))
 
 module _ (p : Program) (known : Known) (homes : ℕ)
     (sound : IsProgram p) (flow : IsFlow p known.blocks) (answers : Answers p known homes) where
