@@ -1,10 +1,11 @@
 -- Lists of places that grow.
-use Rattle.std.proofs.Common.{◌≡◌, ℕ, zero, suc, ◌<◌, ◌≤◌, length, Bool, true, false, List, [], ◌∷◌, map, Some, refl, ap, sym, subst, ◌∙◌, arith, ◌⊎◌, inl, inr}
+use Rattle.std.proofs.Common.{◌≡◌, ℕ, suc, ◌<◌, ◌≤◌, length, Bool, true, false, List, [], ◌∷◌, map, Some, refl, ap, sym, subst, ◌∙◌, arith, ◌⊎◌, inl, inr}
 use Rattle.std.specs.Prelude.{◌||◌, ◌+◌, nat_le, slice_get}
 use Rattle.std.proofs.lemmas.Bool.{leb-true, leb-false}
 use Rattle.std.specs.Option.{option_map_or}
 use Rattle.std.specs.List.{list_any}
 use Rattle.std.proofs.lemmas.List.Folds.{list_any-append}
+use Rattle.std.proofs.lemmas.Option.{slice_get_within}
 use Rattle.tta_arch.specs.declared.parts.Template.{Template}
 use Rattle.tta_arch.specs.Machine.{Machine}
 use Rattle.tta_arch.specs.Effects.{KeptImm, same_place, target_of, long_effect}
@@ -45,11 +46,7 @@ added_more {A} Has stays xs n x first old new is a kept has = record { kept = λ
     on false h = stays y old new kept (a.there k y (let f = leb-false n k h in omega arith) at)
 
 pub added_all : {A : Type 0} (Has : A → List Spot → Type 0) (xs : List A) (n : ℕ) (old new : List Spot) → length xs ≤ n → Added Has xs n old new → Adds Has xs old new
-added_all Has xs n old new all a = record { kept = a.kept; there = λ k x is. a.there k x (let e = below xs k x is in omega arith) is } where
-  below : {A : Type 0} (xs : List A) (k : ℕ) (x : A) → slice_get xs k ≡ Some x → k < length xs
-  below [] k x is = absurd cc
-  below (y ∷ ys) zero x is = omega arith
-  below (y ∷ ys) (suc k) x is = let e = below ys k x is in omega arith
+added_all Has xs n old new all a = record { kept = a.kept; there = λ k x is. a.there k x (let e = slice_get_within xs k x is in omega arith) is }
 
 pub written_stays : Stays HasWritten
 written_stays slot old new kept has p h = kept p (has p h)

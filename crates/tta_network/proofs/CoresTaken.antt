@@ -1,6 +1,7 @@
 -- What the files of cores give, one core after another.
-use Rattle.std.proofs.Common.{◌≡◌, inl, inr, ⊎_elim, ℕ, zero, suc, ◌+◌, ◌<◌, List, [], ◌∷◌, ◌++◌, length, Some, refl, sym, ap, subst, ◌∙◌, arith}
+use Rattle.std.proofs.Common.{◌≡◌, inl, inr, ⊎_elim, ℕ, ◌+◌, ◌<◌, List, [], ◌∷◌, ◌++◌, length, Some, refl, sym, ap, subst, ◌∙◌, arith}
 use Rattle.std.specs.Prelude.{slice_get}
+use Rattle.std.proofs.lemmas.Option.{slice_get_within}
 use Rattle.tta_list.proofs.Lists.{slice_get-push, length_more}
 use Rattle.tta_ports.specs.World.{World, IsUntouched}
 use Rattle.tta_ports.proofs.Worlds.{same_world}
@@ -87,15 +88,10 @@ both_more : {A B : Type 0} (P : ℕ → A → B → Type 0) (xs : List A) (ys : 
     → (x : A) (y : B) → P (length xs) x y
     → (k : ℕ) (p : A) (q : B) → slice_get (xs ++ x ∷ []) k ≡ Some p → slice_get (ys ++ y ∷ []) k ≡ Some q → P k p q
 both_more {A} {B} P xs ys same each x y last k p q at there =
-    ⊎_elim (λ was. ⊎_elim (λ too. each k p q was too) (λ new. absurd (omega (arith, same, new.0, within xs k p was))) (slice_get-push ys y k q there))
-    (λ new. ⊎_elim (λ too. absurd (omega (arith, same, new.0, within ys k q too))) (λ also.
+    ⊎_elim (λ was. ⊎_elim (λ too. each k p q was too) (λ new. absurd (omega (arith, same, new.0, slice_get_within xs k p was))) (slice_get-push ys y k q there))
+    (λ new. ⊎_elim (λ too. absurd (omega (arith, same, new.0, slice_get_within ys k q too))) (λ also.
     subst (λ (z : A). P k z q) new.1 (subst (λ (z : B). P k x z) also.1 (subst (λ (n : ℕ). P n x y) (sym new.0) last))) (slice_get-push ys y k q there))
     (slice_get-push xs x k p at)
-  where
-    within : {C : Type 0} (zs : List C) (i : ℕ) (z : C) → slice_get zs i ≡ Some z → i < length zs
-    within [] i z is = absurd cc
-    within (w ∷ zs) zero z is = omega arith
-    within (w ∷ zs) (suc i) z is = omega (arith, within zs i z is)
 
 -- one more is
 pub one_more_taken : (u : Units) (names : List (List ℕ)) (before now after : World) (cores : List Core) (memories : List (List ℕ)) (k : ℕ) (core : Core) (memory : List ℕ)

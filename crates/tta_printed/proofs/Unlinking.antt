@@ -1,11 +1,11 @@
 -- The steps of printed lines, before labels and callees have their numbers.
 use Rattle.std.proofs.Common.{◌≡◌, ◌≤◌, ℕ, zero, suc, ◌+◌, ◌<◌, ◌^◌, ◌==◌, Bool, true, false, List, [], ◌∷◌, ◌++◌, length, get_or, map, refl, ap, ◌∙◌, arith, ◌⊎◌, inl, inr}
-use Rattle.std.specs.Prelude.{Some, None, ◌||◌, if◌then◌else◌, option_to_list, slice_get}
+use Rattle.std.specs.Prelude.{Some, None, ◌||◌, if◌then◌else◌, option_to_list}
 use Rattle.std.specs.Option.{option_map_or}
 use Rattle.std.specs.List.{list_any, list_all, flat_map, AllByRecursion}
 use Rattle.std.specs.Str.{bytes_eq}
 use Rattle.std.proofs.lemmas.Bool.{eqb-true, eq-eqb, cases_lt}
-use Rattle.std.proofs.lemmas.Option.{slice_get_within}
+use Rattle.std.proofs.lemmas.Option.{slice_get_within, get_or_from_slice_get}
 use Rattle.tta_list.proofs.Tests.{and_left, and_right}
 use Rattle.tta_reading.specs.Names.{Declared, named_in}
 use Rattle.tta_ops.specs.Units.{Units, named, first_at, AreDistinct}
@@ -101,11 +101,7 @@ apply_same u n d op a b o few less known = by (get_or u.arities op.0 0 == 2) ref
   same_b = src_same n b few (known_right n (in_src a) (in_src b) known)
 
   arity : get_or u.arities op.0 0 ≡ o.arity
-  arity = read u.arities op.0 o.arity o.there where
-    read : (xs : List ℕ) (i x : ℕ) → slice_get xs i ≡ Some x → get_or xs i 0 ≡ x
-    read [] i x there = absurd cc
-    read (y ∷ ys) zero x there = cc
-    read (y ∷ ys) (suc i) x there = read ys i x there
+  arity = get_or_from_slice_get u.arities op.0 o.arity 0 o.there
 
   by : (two : Bool) → (get_or u.arities op.0 0 == 2) ≡ two → (o.arity ≡ 2) ⊎ ((o.arity ≡ 1) × (a ≡ Word 0))
       → apply_step u (vars n) (var_number (vars n) (var_name d)) (op_name u op) (if two then said a ∷ said b ∷ [] else said b ∷ []) ≡ Plain (Apply d op a b)

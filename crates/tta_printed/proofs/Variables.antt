@@ -1,9 +1,10 @@
 -- Variables of printed steps get the numbers that they had.
 use Rattle.std.proofs.Common.{◌≡◌, ◌≤◌, ℕ, zero, suc, ◌+◌, ◌<◌, ◌^◌, ◌==◌, Bool, true, false, List, [], ◌∷◌, ◌++◌, length, get_or, refl, sym, ap, ◌∙◌, subst, arith, ◌⊎◌, inl, inr}
-use Rattle.std.specs.Prelude.{Some, None, nat_le, if◌then◌else◌, is_some, slice_get}
+use Rattle.std.specs.Prelude.{Some, None, nat_le, if◌then◌else◌, is_some}
 use Rattle.std.specs.List.{flat_map, AllByRecursion}
 use Rattle.std.specs.Str.{bytes_eq}
 use Rattle.std.proofs.lemmas.Bool.{eqb-true, eq-eqb, leb-true, cases_lt, and_from}
+use Rattle.std.proofs.lemmas.Option.{get_or_from_slice_get}
 use Rattle.tta_list.proofs.Tests.{and_left, and_right}
 use Rattle.tta_reading.specs.Names.{Declared, named_in}
 use Rattle.tta_ops.specs.Units.{Units}
@@ -163,11 +164,7 @@ step_appears u main k n (Apply d op a b) over e few = by (operation_of u d op a 
   after = rest_in k n d (in_src a ++ in_src b) e
 
   arity : (o : IsOperation u op a b) → get_or u.arities op.0 0 ≡ o.arity
-  arity o = read u.arities op.0 o.arity o.there where
-    read : (xs : List ℕ) (i x : ℕ) → slice_get xs i ≡ Some x → get_or xs i 0 ≡ x
-    read [] i x there = absurd cc
-    read (y ∷ ys) zero x there = cc
-    read (y ∷ ys) (suc i) x there = read ys i x there
+  arity o = get_or_from_slice_get u.arities op.0 o.arity 0 o.there
 
   operands : (two : Bool) → (get_or u.arities op.0 0 == 2) ≡ two → (two ≡ true) ⊎ (a ≡ Word 0) → with_operands (vars (later k d)) (if two then said a ∷ said b ∷ [] else said b ∷ []) ≡ vars n
   operands true is which = two_appear (later k d) n a b after few
