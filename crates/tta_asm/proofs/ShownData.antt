@@ -22,7 +22,7 @@ use Rattle.tta_asm.specs.Pieces.{Placed, Piece}
 use Rattle.tta_asm.specs.Init.{begins_datum, is_declaration, datum_form, datum_of, data_from, behind_data}
 use Rattle.tta_asm.proofs.ShownItems.{Item, Blank, Word, placed_at, behind}
 use Rattle.tta_asm.proofs.ShownPieces.{PieceText, pieces_text, ArePieces, pieces_shown}
-use Rattle.tta_asm.proofs.ShownWords.{name_scanned, number_scanned}
+use Rattle.tta_asm.proofs.ShownWords.{name_stays, number_stays}
 use Rattle.tta_asm.proofs.ShownMoves.{sense_text, guard_items, source_items, toward_items, slot_items, long_items, slot_pieces, code_pieces}
 use Rattle.tta_asm.proofs.ShownForms.{shown_piece}
 use Rattle.tta_text.proofs.ShownWords.{number_of-decimal}
@@ -83,10 +83,10 @@ with_data-scanned words (d ∷ ds) ps small fit s =
     let end = 59 ∷ 10 ∷ pieces_text (with_data ds ps) in
     let two : List ℕ = value ++ 32 ∷ [] in (
       (
-        name_scanned (codes "data") (32 ∷ ((address ++ (32 ∷ two)) ++ end)) refl refl,
+        name_stays (codes "data") (32 ∷ ((address ++ (32 ∷ two)) ++ end)) refl refl,
         (
-          number_scanned d.address (32 ∷ (two ++ end)) has.address refl,
-          (number_scanned d.value (32 ∷ end) has.value refl, tt),
+          number_stays d.address (32 ∷ (two ++ end)) has.address refl,
+          (number_stays d.value (32 ∷ end) has.value refl, tt),
         ),
       ),
       with_data-scanned words ds ps small parts.1 s,

@@ -6,13 +6,13 @@ use Rattle.tta_text.specs.Tokens.{tokens_of, tokens_from}
 use Rattle.tta_asm.specs.declared.pieces.Close.TheVariants.{End}
 use Rattle.tta_asm.specs.Pieces.{Placed, Piece, pieces_of}
 use Rattle.tta_asm.proofs.ShownItems.{Item, Blank, Word, items_text, placed_at, behind, behind-length}
-use Rattle.tta_asm.proofs.ShownScan.{pieces_at, IsScanned, pieces_at-word, pieces_at-blank, close_text, close_of, line_behind, pieces_at-closed}
+use Rattle.tta_asm.proofs.ShownScan.{pieces_at, pieces_at-word, pieces_at-blank, close_text, close_of, line_behind, pieces_at-closed, Stays}
 
 -- each word is scanned as it was printed, where these bytes follow the items
 abbrev pub AreScanned : List Item → (after : List ℕ) → Type 0
 AreScanned [] after = Unit {0}
 AreScanned (Blank ∷ is) after = AreScanned is after
-AreScanned (Word kind text ∷ is) after = IsScanned kind text (items_text is ++ after) × AreScanned is after
+AreScanned (Word kind text ∷ is) after = Stays kind text (items_text is ++ after) × AreScanned is after
 
 -- whether bytes of the line stand before what follows items
 abbrev pub opened : Bool → List Item → Bool

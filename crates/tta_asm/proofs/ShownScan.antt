@@ -1,5 +1,5 @@
 -- The pieces of a printed text: word by word, up to what closes a piece.
-use Rattle.std.proofs.Common.{◌≡◌, ℕ, ◌+◌, Bool, true, false, not, List, [], ◌∷◌, ◌++◌, length, length-append, refl, ap, ◌∙◌}
+use Rattle.std.proofs.Common.{◌≡◌, ℕ, ◌+◌, Bool, true, false, not, List, [], ◌∷◌, ◌++◌, length, length-append, refl, ap, ◌∙◌, subst}
 use Rattle.std.specs.Prelude.{Some, None, codes}
 use Rattle.std.proofs.lemmas.List.{append_assoc}
 use Rattle.tta_text.specs.declared.lexeme.Kind.{Kind}
@@ -8,6 +8,7 @@ use Rattle.tta_text.specs.Bytes.{is_newline}
 use Rattle.tta_text.specs.Tokens.{token, piece_at, mark_piece, tokens_from}
 use Rattle.tta_reading.specs.Lines.{is_line_end}
 use Rattle.tta_reading.proofs.TextNames.{slice-between}
+use Rattle.tta_reading.proofs.Scanned.{IsScanned}
 use Rattle.tta_asm.specs.declared.pieces.Close.{Close}
 use Rattle.tta_asm.specs.declared.pieces.Close.TheVariants.{Comma, Semicolon}
 use Rattle.tta_asm.specs.Pieces.{Placed, Piece, closing, pieces_from}
@@ -19,14 +20,9 @@ pieces_at before is_open line words rest =
     pieces_from (before ++ rest) line words (tokens_from 0 is_open line (length before) rest)
 
 -- a word that is scanned as a token of its kind before these bytes, and closes no piece
-pub record IsScanned (kind : Kind) (text after : List ℕ) : Type 0 where
-  pub byte : ℕ
-  pub others : List ℕ
-  pub whole : text ≡ byte ∷ others
-  pub line : is_newline byte ≡ false
-  pub piece : piece_at byte (others ++ after) ≡ token kind (length (byte ∷ others))
-  pub stays : closing (record { kind = kind; text = byte ∷ others }) ≡ None
-  pub inside : is_line_end kind ≡ false
+pub record Stays (kind : Kind) (text after : List ℕ) : Type 0 where
+  pub scanned : IsScanned kind text after
+  pub stays : closing (record { kind = kind; text = text }) ≡ None
 
 -- the text stays the same, and so does the place
 shift : (before word after : List ℕ) (is_open : Bool) (line : ℕ) (words : List Placed)
@@ -52,12 +48,15 @@ word-step before is_open line words kind byte others after newline piece stays i
 
 -- a word is put after the words before it
 pub pieces_at-word : (before : List ℕ) (is_open : Bool) (line : ℕ) (words : List Placed) (kind : Kind) (text after : List ℕ)
-    → IsScanned kind text after
+    → Stays kind text after
     → pieces_at before is_open line words (text ++ after)
     ≡ pieces_at (before ++ text) true line
     (words ++ record { line = line; start = length before; word = record { kind = kind; text = text } } ∷ []) after
 pieces_at-word before is_open line words kind text after s =
-    rw s.whole (word-step before is_open line words kind s.byte s.others after s.line s.piece s.stays s.inside)
+    let t = s.scanned in
+    let stays : closing (record { kind = kind; text = t.byte ∷ t.others }) ≡ None =
+    subst (λ ws. closing (record { kind = kind; text = ws }) ≡ None) t.whole s.stays in
+    rw t.whole (word-step before is_open line words kind t.byte t.others after t.line t.piece stays t.inside)
 
 -- a blank is passed over
 pub pieces_at-blank : (before : List ℕ) (is_open : Bool) (line : ℕ) (words : List Placed) (after : List ℕ)

@@ -16,9 +16,9 @@ use Rattle.tta_code.specs.declared.code.Move.{Move}
 use Rattle.tta_code.specs.declared.code.Long.{Long}
 use Rattle.tta_asm.specs.Canonical.{file_name, imm_name, unit_name, template_name, op_name_at}
 use Rattle.tta_asm.proofs.ShownItems.{Item, Blank, Word, items_text, items_text-append}
-use Rattle.tta_asm.proofs.ShownScan.{IsScanned, close_text}
+use Rattle.tta_asm.proofs.ShownScan.{Stays, close_text}
 use Rattle.tta_asm.proofs.ShownPieces.{AreScanned, PieceText, pieces_text, ArePieces}
-use Rattle.tta_asm.proofs.ShownWords.{name_scanned, number_scanned, dot_scanned, query_scanned, bang_scanned, equals_scanned, open_scanned, shut_scanned, dots_scanned, arrow_scanned, name_first, number_first}
+use Rattle.tta_asm.proofs.ShownWords.{name_stays, number_stays, dot_stays, query_stays, bang_stays, equals_stays, open_stays, shut_stays, dots_stays, arrow_stays, name_first, number_first}
 use Rattle.tta_asm.proofs.ShownMoves.{place_items, sense_text, guard_items, source_items, trigger_items, dest_items, toward_items, slot_items, long_items, slot_pieces}
 
 -- ---- what names and numbers of code have to be
@@ -77,7 +77,7 @@ AreScanned-append [] js after s t = t
 AreScanned-append (Blank ∷ is) js after s t = AreScanned-append is js after s t
 AreScanned-append (Word kind text ∷ is) js after s t =
     let whole = append_assoc (items_text is) (items_text js) after in
-    let first : IsScanned kind text (items_text (is ++ js) ++ after) = rw (items_text-append is js, whole) s.0 in
+    let first : Stays kind text (items_text (is ++ js) ++ after) = rw (items_text-append is js, whole) s.0 in
     (first, AreScanned-append is js after s.1 t)
 
 -- a register is scanned as it was printed
@@ -85,14 +85,14 @@ place_scanned : (name : List ℕ) (index : ℕ) (after : List ℕ) → PlaceFits
     → AreScanned (place_items name index) after
 place_scanned name index after f stop =
     let first : first_is is_word_byte (decimal index ++ [] ++ after) ≡ true = rw (append-nil (decimal index)) (number_first index after f.1) in (
-      name_scanned name (46 ∷ (decimal index ++ [] ++ after)) f.0 refl,
-      (dot_scanned (decimal index ++ [] ++ after) first, (number_scanned index after f.1 stop, tt)),
+      name_stays name (46 ∷ (decimal index ++ [] ++ after)) f.0 refl,
+      (dot_stays (decimal index ++ [] ++ after) first, (number_stays index after f.1 stop, tt)),
     )
 
 -- the mark of a guard is scanned as a mark
-sense_scanned : (inverted : Bool) (after : List ℕ) → IsScanned Mark (sense_text inverted) after
-sense_scanned true after = bang_scanned after
-sense_scanned false after = query_scanned after
+sense_scanned : (inverted : Bool) (after : List ℕ) → Stays Mark (sense_text inverted) after
+sense_scanned true after = bang_stays after
+sense_scanned false after = query_stays after
 
 -- a guard is scanned as it was printed
 guard_scanned : (m : Machine) (guard : Option GuardRef) (after : List ℕ) → GuardFits m guard
@@ -106,8 +106,8 @@ guard_scanned m (Some g) after f =
     rw (append_assoc index blank after) (number_first g.index (32 ∷ after) f.1) in (
       sense_scanned g.inverted (name ++ (46 ∷ (index ++ blank)) ++ after),
       (
-        name_scanned name (46 ∷ (index ++ blank ++ after)) f.0 refl,
-        (dot_scanned (index ++ blank ++ after) first, (number_scanned g.index (32 ∷ after) f.1 refl, tt)),
+        name_stays name (46 ∷ (index ++ blank ++ after)) f.0 refl,
+        (dot_stays (index ++ blank ++ after) first, (number_stays g.index (32 ∷ after) f.1 refl, tt)),
       ),
     )
 
@@ -116,8 +116,8 @@ port_scanned : (name port after : List ℕ) → IsNamed name → IsNamed port �
     → AreScanned (Word Name name ∷ Word Mark (codes ".") ∷ Word Name port ∷ []) after
 port_scanned name port after f p stop =
     let first : first_is is_word_byte (port ++ [] ++ after) ≡ true = rw (append-nil port) (name_first port after p) in (
-      name_scanned name (46 ∷ (port ++ [] ++ after)) f refl,
-      (dot_scanned (port ++ [] ++ after) first, (name_scanned port after p stop, tt)),
+      name_stays name (46 ∷ (port ++ [] ++ after)) f refl,
+      (dot_stays (port ++ [] ++ after) first, (name_stays port after p stop, tt)),
     )
 
 -- a source is scanned as it was printed
@@ -127,7 +127,7 @@ source_scanned m (source.Reg file index) after f stop = place_scanned (file_name
 source_scanned m (source.Imm unit index) after f stop = place_scanned (imm_name m unit) index after f stop
 source_scanned m (source.Shown unit) after f stop = port_scanned (unit_name m unit) (codes "r") after f refl stop
 source_scanned m source.Ra after f stop = port_scanned (codes "gcu") (codes "ra") after refl refl stop
-source_scanned m (source.Value word) after f stop = (number_scanned word after f stop, tt)
+source_scanned m (source.Value word) after f stop = (number_stays word after f stop, tt)
 
 -- a trigger port with an operation is scanned as it was printed
 trigger_scanned : (unit op after : List ℕ) → IsNamed unit → IsNamed op → first_is is_word_byte after ≡ false
@@ -135,10 +135,10 @@ trigger_scanned : (unit op after : List ℕ) → IsNamed unit → IsNamed op →
 trigger_scanned unit op after f p stop =
     let more = op ++ [] ++ after in
     let first : first_is is_word_byte more ≡ true = rw (append-nil op) (name_first op after p) in (
-      name_scanned unit (46 ∷ 116 ∷ 46 ∷ more) f refl,
+      name_stays unit (46 ∷ 116 ∷ 46 ∷ more) f refl,
       (
-        dot_scanned (116 ∷ 46 ∷ more) refl,
-        (name_scanned (codes "t") (46 ∷ more) refl refl, (dot_scanned more first, (name_scanned op after p stop, tt))),
+        dot_stays (116 ∷ 46 ∷ more) refl,
+        (name_stays (codes "t") (46 ∷ more) refl refl, (dot_stays more first, (name_stays op after p stop, tt))),
       ),
     )
 
@@ -157,12 +157,12 @@ dest_scanned u m dest.Halt after f stop = trigger_scanned (codes "gcu") (codes "
 toward_scanned : (u : Units) (m : Machine) (dst : Dest) (after : List ℕ) → DestFits u m dst
     → first_is is_word_byte after ≡ false → AreScanned (toward_items u m dst) after
 toward_scanned u m dst after f stop =
-    (arrow_scanned (32 ∷ (items_text (dest_items u m dst) ++ after)), dest_scanned u m dst after f stop)
+    (arrow_stays (32 ∷ (items_text (dest_items u m dst) ++ after)), dest_scanned u m dst after f stop)
 
 -- a slot with a blank after it
 slot_scanned : (u : Units) (m : Machine) (slot : Option Move) (after : List ℕ) → SlotFits u m slot
     → AreScanned (slot_items u m slot) (32 ∷ after)
-slot_scanned u m None after f = (dots_scanned (32 ∷ after), tt)
+slot_scanned u m None after f = (dots_stays (32 ∷ after), tt)
 slot_scanned u m (Some v) after f =
     let toward = toward_items u m v.dst in
     let source = source_items m v.src in
@@ -178,12 +178,12 @@ long_scanned m None after f = tt
 long_scanned m (Some l) after f =
     let name = template_name m l.template in
     let value = decimal l.value in (
-      open_scanned (name ++ (61 ∷ (value ++ 93 ∷ [])) ++ 32 ∷ after),
+      open_stays (name ++ (61 ∷ (value ++ 93 ∷ [])) ++ 32 ∷ after),
       (
-        name_scanned name (61 ∷ (value ++ 93 ∷ [] ++ 32 ∷ after)) f.0 refl,
+        name_stays name (61 ∷ (value ++ 93 ∷ [] ++ 32 ∷ after)) f.0 refl,
         (
-          equals_scanned (value ++ 93 ∷ [] ++ 32 ∷ after),
-          (number_scanned l.value (93 ∷ 32 ∷ after) f.1 refl, (shut_scanned (32 ∷ after), tt)),
+          equals_stays (value ++ 93 ∷ [] ++ 32 ∷ after),
+          (number_stays l.value (93 ∷ 32 ∷ after) f.1 refl, (shut_stays (32 ∷ after), tt)),
         ),
       ),
     )

@@ -1,6 +1,6 @@
--- Names, numbers and marks are scanned as they were printed.
+-- Names, numbers and marks are scanned as they were printed, and close no piece.
 use Rattle.std.proofs.Common.{◌≡◌, ℕ, ◌<◌, ◌^◌, true, false, List, [], ◌∷◌, ◌++◌, length, refl, arith}
-use Rattle.std.specs.Prelude.{Some, nat_eq, codes, decimal}
+use Rattle.std.specs.Prelude.{nat_eq, codes, decimal}
 use Rattle.std.specs.List.{list_all}
 use Rattle.std.specs.Char.{is_ascii_digit}
 use Rattle.std.proofs.lemmas.Fmt.{decimal_is_IsNumeral}
@@ -9,85 +9,55 @@ use Rattle.std.proofs.lemmas.Bool.Decides.{nat_tests}
 use Rattle.tta_text.specs.declared.lexeme.Kind.TheVariants.{Name, Number, Mark}
 use Rattle.tta_text.specs.Bytes.{is_word_byte}
 use Rattle.tta_text.specs.Tokens.{token, piece_at, mark_piece}
-use Rattle.tta_text.specs.Numbers.{number_of}
 use Rattle.tta_text.specs.Words.{first_is, is_letter, is_run, is_name}
 use Rattle.tta_text.proofs.Shapes.{digit_is_run_byte}
-use Rattle.tta_asm.proofs.ShownScan.{IsScanned}
-use Rattle.tta_text.proofs.ShownWords.{letter-line, name_piece, digits_of_values, number_of-decimal, digit-line, digits_piece}
+use Rattle.tta_text.proofs.ShownWords.{digits_of_values}
+use Rattle.tta_asm.proofs.ShownScan.{Stays}
+use Rattle.tta_reading.proofs.Scanned.{name_scanned, number_scanned, equals_scanned}
 
--- a name is scanned as one
-pub name_scanned : (text after : List ℕ) → is_name text ≡ true → first_is is_word_byte after ≡ false
-    → IsScanned Name text after
-name_scanned [] after h stop = absurd (false≢true h)
-name_scanned (byte ∷ others) after h stop = record {
-  byte = byte;
-  others = others;
-  whole = refl;
-  line = letter-line byte (and_parts (is_letter byte) (is_run (byte ∷ others)) h).0;
-  piece = name_piece byte others after h stop;
-  stays = refl;
-  inside = refl;
-}
+-- a name closes no piece
+pub name_stays : (text after : List ℕ) → is_name text ≡ true → first_is is_word_byte after ≡ false → Stays Name text after
+name_stays text after h stop = record { scanned = name_scanned text after h stop; stays = refl }
 
--- ---- numbers
-
--- digits with a value are scanned as a number
-digits_scanned : (text after : List ℕ) (n : ℕ) → 0 < length text → list_all is_ascii_digit text ≡ true
-    → number_of text ≡ Some n → first_is is_word_byte after ≡ false → IsScanned Number text after
-digits_scanned [] after n some h value stop = absurd (omega arith)
-digits_scanned (byte ∷ others) after n some h value stop = record {
-  byte = byte;
-  others = others;
-  whole = refl;
-  line = digit-line byte (and_parts (is_ascii_digit byte) (list_all is_ascii_digit others) h).0;
-  piece = digits_piece byte others after n h value stop;
-  stays = refl;
-  inside = refl;
-}
-
--- a number is scanned as one
-pub number_scanned : (n : ℕ) (after : List ℕ) → n < 2 ^ 32 → first_is is_word_byte after ≡ false
-    → IsScanned Number (decimal n) after
-number_scanned n after h stop =
-    let numeral = decimal_is_IsNumeral n (omega arith) in
-    digits_scanned (decimal n) after n numeral.0.0 (digits_of_values (decimal n) numeral.0.1) (number_of-decimal n h) stop
+-- nor does a number
+pub number_stays : (n : ℕ) (after : List ℕ) → n < 2 ^ 32 → first_is is_word_byte after ≡ false → Stays Number (decimal n) after
+number_stays n after h stop = record { scanned = number_scanned n after h stop; stays = refl }
 
 -- ---- marks
 
 -- the mark of a guard
-pub query_scanned : (after : List ℕ) → IsScanned Mark (codes "?") after
+pub query_stays : (after : List ℕ) → Stays Mark (codes "?") after
 unfolding piece_at mark_piece
-query_scanned after = record { byte = 63; others = []; whole = refl; line = refl; piece = refl; stays = refl; inside = refl }
+query_stays after = record { scanned = record { byte = 63; others = []; whole = refl; line = refl; piece = refl; inside = refl }; stays = refl }
 
 -- the mark of an inverted guard
-pub bang_scanned : (after : List ℕ) → IsScanned Mark (codes "!") after
+pub bang_stays : (after : List ℕ) → Stays Mark (codes "!") after
 unfolding piece_at mark_piece
-bang_scanned after = record { byte = 33; others = []; whole = refl; line = refl; piece = refl; stays = refl; inside = refl }
+bang_stays after = record { scanned = record { byte = 33; others = []; whole = refl; line = refl; piece = refl; inside = refl }; stays = refl }
 
 -- the mark before a long immediate's word
-pub equals_scanned : (after : List ℕ) → IsScanned Mark (codes "=") after
-unfolding piece_at mark_piece
-equals_scanned after = record { byte = 61; others = []; whole = refl; line = refl; piece = refl; stays = refl; inside = refl }
+pub equals_stays : (after : List ℕ) → Stays Mark (codes "=") after
+equals_stays after = record { scanned = equals_scanned after; stays = refl }
 
 -- the mark that begins a long immediate
-pub open_scanned : (after : List ℕ) → IsScanned Mark (codes "[") after
+pub open_stays : (after : List ℕ) → Stays Mark (codes "[") after
 unfolding piece_at mark_piece
-open_scanned after = record { byte = 91; others = []; whole = refl; line = refl; piece = refl; stays = refl; inside = refl }
+open_stays after = record { scanned = record { byte = 91; others = []; whole = refl; line = refl; piece = refl; inside = refl }; stays = refl }
 
 -- the mark that ends one
-pub shut_scanned : (after : List ℕ) → IsScanned Mark (codes "]") after
+pub shut_stays : (after : List ℕ) → Stays Mark (codes "]") after
 unfolding piece_at mark_piece
-shut_scanned after = record { byte = 93; others = []; whole = refl; line = refl; piece = refl; stays = refl; inside = refl }
+shut_stays after = record { scanned = record { byte = 93; others = []; whole = refl; line = refl; piece = refl; inside = refl }; stays = refl }
 
 -- the marks of more than one byte
-pub dots_scanned : (after : List ℕ) → IsScanned Mark (codes "...") after
+pub dots_stays : (after : List ℕ) → Stays Mark (codes "...") after
 unfolding piece_at mark_piece
-dots_scanned after = record { byte = 46; others = 46 ∷ 46 ∷ []; whole = refl; line = refl; piece = refl; stays = refl; inside = refl }
+dots_stays after = record { scanned = record { byte = 46; others = 46 ∷ 46 ∷ []; whole = refl; line = refl; piece = refl; inside = refl }; stays = refl }
 
 -- an arrow with a blank after it
-pub arrow_scanned : (after : List ℕ) → IsScanned Mark (codes "->") after
+pub arrow_stays : (after : List ℕ) → Stays Mark (codes "->") after
 unfolding piece_at mark_piece
-arrow_scanned after = record { byte = 45; others = 62 ∷ []; whole = refl; line = refl; piece = refl; stays = refl; inside = refl }
+arrow_stays after = record { scanned = record { byte = 45; others = 62 ∷ []; whole = refl; line = refl; piece = refl; inside = refl }; stays = refl }
 
 -- a dot with a letter or a digit after it
 dot_piece : (byte : ℕ) (after : List ℕ) → is_word_byte byte ≡ true → piece_at 46 (byte ∷ after) ≡ token Mark 1
@@ -96,16 +66,11 @@ dot_piece byte after h =
     let other : nat_eq 46 byte ≡ false = grind (arith, nat_tests) in rw other refl
 
 -- a dot is scanned as a mark, where a letter or a digit follows it
-pub dot_scanned : (after : List ℕ) → first_is is_word_byte after ≡ true → IsScanned Mark (codes ".") after
-dot_scanned [] h = absurd (false≢true h)
-dot_scanned (byte ∷ after) h = record {
-  byte = 46;
-  others = [];
-  whole = refl;
-  line = refl;
-  piece = dot_piece byte after h;
+pub dot_stays : (after : List ℕ) → first_is is_word_byte after ≡ true → Stays Mark (codes ".") after
+dot_stays [] h = absurd (false≢true h)
+dot_stays (byte ∷ after) h = record {
+  scanned = record { byte = 46; others = []; whole = refl; line = refl; piece = dot_piece byte after h; inside = refl };
   stays = refl;
-  inside = refl;
 }
 
 -- the first byte of a name, and of a number

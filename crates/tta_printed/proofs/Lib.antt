@@ -1,4 +1,3 @@
-pub mod ScannedWords
 pub mod ScannedLines
 pub mod Forms
 pub mod Said

@@ -10,8 +10,8 @@ use Rattle.tta_text.specs.Words.{first_is, is_name}
 use Rattle.tta_text.specs.Tokens.{token, piece_at, tokens_from, tokens_of}
 use Rattle.tta_reading.specs.Lines.{Lexeme, Line, is_line_end, lines_from, lines_of}
 use Rattle.tta_reading.proofs.TextNames.{slice-between}
+use Rattle.tta_reading.proofs.Scanned.{IsScanned, name_scanned, number_scanned, equals_scanned, colon_scanned}
 use Rattle.tta_printed.specs.Printed.{Printed, Words, Label, spaced, line_text, word}
-use Rattle.tta_printed.proofs.ScannedWords.{IsScanned, name_scanned, number_scanned, equals_scanned, colon_scanned}
 use Rattle.tta_text.proofs.ShownWords.{tokens-front}
 
 -- the lines of what is left of a text after these bytes, the first of them with these words

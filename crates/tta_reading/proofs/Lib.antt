@@ -5,3 +5,4 @@ mod Examples
 pub mod Steps
 pub mod TextNames
 pub mod Constants
+pub mod Scanned
