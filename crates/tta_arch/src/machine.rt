@@ -69,15 +69,15 @@ impl Machine {
         ensures few { result ≤ 65536 }
         ensures rules { IsMachine self.now }
     {
-        power_of_two(self.control.address)
+        told_apart(self.control.address)
     }
 }
 
-/// Two to this power.
-fn power_of_two(exponent: u8) -> u32
-    requires { exponent ≤ 16 }
-    ensures all { result ≡ 2 ^ exponent }
+/// How many addresses so many bits tell apart.
+fn told_apart(bits: u8) -> u32
+    requires { bits ≤ 16 }
+    ensures all { result ≡ 2 ^ bits }
     ensures few { result ≤ 65536 }
 {
-    1 << exponent
+    1 << bits
 }

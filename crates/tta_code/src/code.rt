@@ -1,6 +1,9 @@
 //! Instructions.
 
-use tta_arch::{Dest, GuardRef, Source};
+ghost use Rattle.std.specs.Prelude.{◌≡◌, ◌≤◌, length};
+ghost use Rattle.tta_code.specs.Legal.{IsLegalCode};
+
+use tta_arch::{Dest, GuardRef, Machine, Source};
 use tta_list::Items;
 
 /// A move: one word from a source to a destination, where its guard lets it.
@@ -29,4 +32,16 @@ pub struct Instruction {
 #[derive(Drop)]
 pub struct Code {
     pub words: Items<Instruction>,
+}
+
+/// How many instructions code has that a machine can carry out.
+#[tactic(auto, using(tta_arch::proofs::Facts::address_most))]
+pub fn count_words(code: &Code, m: &Machine) -> u32
+    requires legal { IsLegalCode m.now code.now }
+    ensures all { result ≡ length code.now.words }
+    ensures few { result ≤ 65536 }
+{
+    // So that the rules of machines are known here, which bound the addresses.
+    let _control = &m.control;
+    code.words.len() as u32
 }

@@ -8,7 +8,7 @@ mod legality;
 mod room;
 mod whole;
 
-pub use code::{Code, Instruction, Long, Move};
+pub use code::{Code, Instruction, Long, Move, count_words};
 pub use laws::tells_legal;
 pub use legality::{Illegal, legal};
 pub use whole::{Datum, Whole, lay};

@@ -7,6 +7,7 @@ ghost use Rattle.tta_flow.specs.Growth.{Grows, Sets};
 ghost use Rattle.std.specs.Int.{bit_at};
 
 use std::alloc::{AllocError, Global};
+use tta_list::either;
 
 /// A row of bits, 64 a word.
 #[derive(Drop)]
@@ -200,11 +201,4 @@ fn joined(a: u64, b: u64) -> u64
     ensures { result ≡ bit_or a b }
 {
     a | b
-}
-
-/// Whether one of two things holds.
-pub fn either(a: bool, b: bool) -> bool
-    ensures { result ≡ (a || b) }
-{
-    a || b
 }

@@ -7,13 +7,14 @@ ghost use Rattle.tta_flow.specs.Order.{ArePlaces};
 ghost use Rattle.tta_flow.specs.Rows.{TellsBefore, IsWork, Visits, Rounds};
 ghost use Rattle.tta_flow.specs.Search.{is_found};
 
-use crate::bits::{BitRow, either};
+use crate::bits::BitRow;
 use crate::edges::steps_before;
 use crate::gather::gather;
 use crate::order::postorder;
 use crate::settle::Settling;
 use crate::table::PlaceLists;
 use std::alloc::{AllocError, Global};
+use tta_list::either;
 use tta_program::Step;
 
 /// Rows that grow: for each step the variables that are known to be live before it, and the steps

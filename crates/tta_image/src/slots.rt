@@ -10,6 +10,7 @@ ghost use Rattle.tta_image.specs.Narrow.{IsNarrow};
 use crate::bits::number_at;
 use tta_arch::{BusFields, Dest, GuardRef, Source};
 use tta_code::Move;
+use tta_list::power_of_two;
 
 /// The numbers in the fields of a slot.
 #[derive(Clone, Copy, Debug, PartialEq, Eq)]
@@ -68,14 +69,6 @@ fn guard_of(fields: &BusFields, code: u64) -> Option<Option<GuardRef>>
         Some(guard) => Some(Some(guard.on)),
         None => None,
     }
-}
-
-/// Two to a power.
-fn power_of_two(exponent: u32) -> u64
-    requires { exponent < 64 }
-    ensures { result ≡ 2 ^ exponent }
-{
-    1 << exponent
 }
 
 /// The word of a short field of so many bits.

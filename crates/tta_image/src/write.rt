@@ -19,7 +19,7 @@ use crate::sink::BitSink;
 use crate::starts::Starts;
 use std::alloc::{AllocError, Global};
 use tta_arch::{Layout, Machine, has_bus};
-use tta_code::{Code, Datum, Instruction, Long, Move, Whole};
+use tta_code::{Datum, Instruction, Long, Move, Whole, count_words};
 use tta_list::Items;
 
 /// The layout of a machine's instructions, and where to look first in the lists of each bus.
@@ -191,16 +191,6 @@ fn push_parts(
     bytes.extend_from_slice(digest)?;
     push_section(bytes, init)?;
     bytes.extend_from_slice(body)
-}
-
-/// How many instructions code has.
-fn count_words(code: &Code, m: &Machine) -> u32
-    requires { IsLegalCode m.now code.now }
-    ensures { result ≡ length code.now.words }
-{
-    // An address has at most 16 bits by the rules of a machine, so the count fits.
-    let _control = &m.control;
-    code.words.len() as u32
 }
 
 /// Where the parts of each bus begin in its lists.

@@ -11,6 +11,7 @@ ghost use Rattle.tta_info.specs.Buses.{joins_text, buses_text};
 use crate::lines::{end_line, push_count, push_named_if, push_number, start_line};
 use std::alloc::AllocError;
 use tta_arch::{Bus, BusFields, File, ImmUnit, Machine, Unit, has_socket};
+use tta_list::power_of_two;
 
 /// How many bits a source's field has: a tag bit before a code or a short word.
 fn with_tag(payload: u32) -> u64
@@ -32,14 +33,6 @@ fn push_fields(out: &mut Vec<u8>, name: &[u8], f: &BusFields) -> Result<(), Allo
     end_line(out)
 }
 
-/// Two to the power of an exponent.
-fn power_of_two(exponent: u8) -> u64
-    requires { exponent ≤ 32 }
-    ensures { result ≡ 2 ^ exponent }
-{
-    1 << exponent
-}
-
 /// Puts the least and the greatest word of a field of some bits.
 #[tactic(auto, unfolding(crate::specs::Buses::range_text))]
 fn push_range(out: &mut Vec<u8>, signed: bool, bits: u8) -> Result<(), AllocError>
@@ -48,9 +41,9 @@ fn push_range(out: &mut Vec<u8>, signed: bool, bits: u8) -> Result<(), AllocErro
     ensures { OnOk result (out.new.items ≡ out.old.items ++ range_text signed bits) }
 {
     if !signed {
-        return push_count(out, b"0 to ", power_of_two(bits) - 1);
+        return push_count(out, b"0 to ", power_of_two(u32::from(bits)) - 1);
     }
-    let half = power_of_two(bits - 1);
+    let half = power_of_two(u32::from(bits - 1));
     push_count(out, b"-", half)?;
     push_count(out, b" to ", half - 1)
 }

@@ -22,7 +22,6 @@ mod spaces;
 mod starts;
 mod state;
 mod store;
-mod truth;
 mod unset;
 mod writing;
 

@@ -19,8 +19,8 @@ use crate::places::{OPERANDS, Places};
 use crate::results::Results;
 use crate::short::Short;
 use crate::starts::{Start, stops};
-use crate::truth::either;
 use tta_arch::UnitOp;
+use tta_list::either;
 
 /// A word that is brought to a place.
 #[derive(Clone, Copy)]

@@ -14,7 +14,7 @@ use crate::decoded::{Line, Reading};
 use crate::lines::{Missing, Read, read_move};
 use crate::places::Places;
 use crate::results::Results;
-use crate::truth::either;
+use tta_list::either;
 
 /// Whether a move lacks a word of this kind.
 fn lacks(what: Missing, places: &Places, results: &Results<'_>, r: &Reading) -> bool

@@ -36,7 +36,7 @@ returns c = record {
   parts = parts_from c.args.m.now c.args.digest.now (length c.args.whole.now.code.words) c.in_ok-layout.layout.width _ c.args.whole.now.init _ _ _ _
       c.in_ok-push_parts.ensures c.as_slice-3.ensures.value
       (c.as_slice-2.ensures ∙ ap (λ (w : Whole). w.init) c.whole.view_is) (ap (λ (l : Layout). l.width) c.in_ok-layout.ensures)
-      (c.count_words.ensures ∙ ap (λ (w : Whole). length w.code.words) c.whole.view_is);
+      (c.count_words.ensures.all ∙ ap (λ (w : Whole). length w.code.words) c.whole.view_is);
   words = are_bytes_of_same _ _ _ (ap (λ (l : List Instruction). flat_map (instruction_bits c.args.m.now) l) (c.as_slice.ensures ∙ ap (λ (w : Whole). w.code.words) c.whole.view_is)) c.in_ok-body.ensures;
   legal = c.requires.legal;
   rises = subst (λ (w : Whole). rises w.init ≡ true) c.whole.view_is c.whole.invariant;
