@@ -1,40 +1,33 @@
 //! Each call of the files and each put of a line fails in turn, for each command. The status gives
 //! the first fault, no file changes but a prefix of the one that is written, and the output has
-//! the lines before the fault and half of the next.
+//! the lines before the fault and half of the next. Where none fails, each command ends well.
 
 use super::host::{BEFORE, Host, none_other};
-use super::texts::{ONE_BUS, SWAP};
+use super::texts::{ONE_BUS, THREE_BUSES};
 use std::alloc::{AllocError, Global};
 use std::test::Fail;
 use tta_tool::Status;
 
-/// Three buses, each of which joins the registers and the output.
-const MACHINE: &str = "bus B0 short 8 signed\n\
-     bus B1 short 8 signed\n\
-     bus B2 short 8 signed\n\
-     socket I in B0 B1 B2\n\
-     socket O out B0 B1 B2\n\
-     file R width 32 size 8 read 2 write 2 out O in I\n\
-     unit IO t I\n\
-     op IO out\n\
-     control delay 2 address 12 t I\n\
-     space data 4\n";
-
-/// What the run of the swapped registers prints, a line a put.
-const SWAPPED: [&str; 5] = ["2\n", "1\n", "halted\n", "mem 0 10\n", "cycles 8\n"];
+/// On three buses, two registers change places and are output.
+const SWAP: &str = "1 -> R.1 , ... , ... ;\n\
+     2 -> R.2 , ... , ... ;\n\
+     R.1 -> R.2 , R.2 -> R.1 , ... ;\n\
+     R.1 -> IO.t.out , ... , ... ;\n\
+     R.2 -> IO.t.out , ... , ... ;\n\
+     0 -> gcu.t.halt , ... , ... ;\n\
+     ... , ... , ... ;\n\
+     ... , ... , ... ;\n";
 
 /// Puts the first data word out, and stores 9 in the second.
 const PROGRAM: &str = "proc main\na = load 0\nout a\nstore 1 9\nhalt\nend\n";
 
-/// What it prints, a line a put.
-const PRINTED: [&str; 5] = ["10\n", "halted\n", "mem 0 10\n", "mem 1 9\n", "steps 4\n"];
-
 /// The texts that the commands read.
-const TEXTS: [(&str, &str); 6] = [
-    ("M", MACHINE),
+const TEXTS: [(&str, &str); 7] = [
+    ("M", THREE_BUSES),
     ("A", SWAP),
     ("P", PROGRAM),
     ("I", "0000000a\n"),
+    ("GO", "go 20\nwhere\n"),
     ("S", ONE_BUS),
     ("C", "proc main\nout 7\nhalt\nend\n"),
 ];
@@ -46,11 +39,43 @@ const WRITING: [&[&str]; 3] = [
     &["dis", "M", "IMG", "OUT"],
 ];
 
-/// The commands that print, and what each prints.
-const PRINTING: [(&[&str], &[&str]); 2] = [
-    (&["exec", "M", "P", "I", "9"], &PRINTED),
-    (&["run", "M", "IMG", "I", "20"], &SWAPPED),
-];
+/// A command that prints, and its lines, one a put.
+type Printing = (&'static [&'static str], &'static [&'static str]);
+
+const EXEC: Printing = (
+    &["exec", "M", "P", "I", "9"],
+    &["10\n", "halted\n", "mem 0 10\n", "mem 1 9\n", "steps 4\n"],
+);
+
+const RUN: Printing = (
+    &["run", "M", "IMG", "I", "20"],
+    &["2\n", "1\n", "halted\n", "mem 0 10\n", "cycles 8\n"],
+);
+
+const DEBUG: Printing = (
+    &["debug", "M", "IMG", "I", "GO"],
+    &["out 2\n", "out 1\n", "halted cycle 8\n", "halted cycle 8\n"],
+);
+
+const CHECK: Printing = (&["check", "M", "IMG"], &["safe\n"]);
+
+const SAMPLE: Printing = (
+    &["sample", "0", "3", "M"],
+    &[
+        "lines 24\n",
+        "words 19\n",
+        "steps 98\n",
+        "cycles 124\n",
+        "outputs 24\n",
+        "equal yes\n",
+    ],
+);
+
+/// The commands that print.
+const PRINTING: [Printing; 5] = [EXEC, RUN, DEBUG, CHECK, SAMPLE];
+
+/// Those whose first three words are files.
+const READING: [Printing; 3] = [EXEC, RUN, DEBUG];
 
 // The image of the swap.
 fn swap_image(alloc: Global) -> Result<Vec<u8>, AllocError> {
@@ -81,10 +106,11 @@ fn fails_at_call(
     host.leaves(words, fault, left, b"")
 }
 
-// Puts the lines before the put that fails at the end, and the first half of its line.
+// Puts the lines before the put that fails at the end, and the first half of its line, or all lines
+// where none fails.
 fn add_taken(taken: &mut Vec<u8>, lines: &[&str], failing: usize) -> Result<(), AllocError> {
     for (i, line) in lines.iter().enumerate() {
-        if i + 1 < failing {
+        if failing == 0 || i + 1 < failing {
             taken.extend_from_slice(line.as_bytes())?;
         }
         if i + 1 == failing {
@@ -94,22 +120,22 @@ fn add_taken(taken: &mut Vec<u8>, lines: &[&str], failing: usize) -> Result<(), 
     Ok(())
 }
 
-// Whether a command that prints these five lines reports that this put fails.
+// Whether a command that prints reports that this put fails, or ends well where none does.
 fn fails_at_put(
     alloc: Global,
     image: &[u8],
-    words: &[&str],
-    lines: &[&str],
+    printing: Printing,
     put: usize,
 ) -> Result<bool, AllocError> {
+    let (words, lines) = printing;
     let mut taken = Vec::new(alloc);
     add_taken(&mut taken, lines, put)?;
     let mut host = Host::new(alloc, &TEXTS, image);
     host.failing_put = put as u64;
-    let ending = if put < 6 {
-        Status::WriteFault
-    } else {
+    let ending = if put == 0 {
         Status::Ok
+    } else {
+        Status::WriteFault
     };
     host.leaves(words, ending, BEFORE, taken.as_slice())
 }
@@ -124,7 +150,7 @@ fn fails_at_each_call(alloc: Global, image: &[u8], words: &[&str]) -> Result<boo
     Ok(true)
 }
 
-// Whether a command that prints reports each of its reads that fails.
+// Whether a command that prints reports each of its first three reads that fails.
 fn fails_at_each_read(alloc: Global, image: &[u8], words: &[&str]) -> Result<bool, AllocError> {
     let mut host = Host::new(alloc, &TEXTS, image);
     for word in 1..4u8 {
@@ -136,19 +162,14 @@ fn fails_at_each_read(alloc: Global, image: &[u8], words: &[&str]) -> Result<boo
     Ok(true)
 }
 
-// Whether a command that prints these five lines reports each of its puts that fails.
-fn fails_at_each_put(
-    alloc: Global,
-    image: &[u8],
-    words: &[&str],
-    lines: &[&str],
-) -> Result<bool, AllocError> {
-    for put in 1..7 {
-        if !fails_at_put(alloc, image, words, lines, put)? {
+// Whether a command that prints ends well, and reports each of its puts that fails.
+fn fails_at_each_put(alloc: Global, image: &[u8], printing: Printing) -> Result<bool, AllocError> {
+    for i in 0..printing.1.len() {
+        if !fails_at_put(alloc, image, printing, i + 1)? {
             return Ok(false);
         }
     }
-    Ok(true)
+    fails_at_put(alloc, image, printing, 0)
 }
 
 // The place of the first command that writes and does not report its calls so.
@@ -163,7 +184,7 @@ fn first_other_call(alloc: Global, image: &[u8]) -> Result<Option<usize>, AllocE
 
 // The place of the first command that prints and does not report its reads so.
 fn first_other_read(alloc: Global, image: &[u8]) -> Result<Option<usize>, AllocError> {
-    for (i, (words, _)) in PRINTING.iter().enumerate() {
+    for (i, (words, _)) in READING.iter().enumerate() {
         if !fails_at_each_read(alloc, image, words)? {
             return Ok(Some(i));
         }
@@ -173,8 +194,8 @@ fn first_other_read(alloc: Global, image: &[u8]) -> Result<Option<usize>, AllocE
 
 // The place of the first command that prints and does not report its puts so.
 fn first_other_put(alloc: Global, image: &[u8]) -> Result<Option<usize>, AllocError> {
-    for (i, (words, lines)) in PRINTING.iter().enumerate() {
-        if !fails_at_each_put(alloc, image, words, lines)? {
+    for (i, printing) in PRINTING.iter().enumerate() {
+        if !fails_at_each_put(alloc, image, *printing)? {
             return Ok(Some(i));
         }
     }

@@ -1,7 +1,7 @@
 //! A unit that is handed in, with one operation that no standard unit offers: it is found by its
 //! name, applied and run, and refused where it is handed in twice.
 
-use super::host::{Case, Host};
+use super::host::Host;
 use std::alloc::{AllocError, Global};
 use std::test::Fail;
 use tta_ops::{Arith, OpUnit, OpsError, UnitSet};
@@ -20,12 +20,6 @@ const TEXTS: [(&str, &str); 3] = [
     ("P", "proc main\na = bitrev 1\nout a\nend\n"),
     ("I", ""),
 ];
-
-const RUNS: [Case; 1] = [(
-    &["exec", "M", "P", "I", "100"],
-    Status::Ok,
-    "2147483648\nhalted\nsteps 3\n",
-)];
 
 /// One operation, which reverses the bits of a word.
 #[derive(Clone, Copy)]
@@ -103,21 +97,23 @@ fn is_found(units: &UnitSet) -> bool {
     }
 }
 
-// Fails where the program prints otherwise over these units.
-fn passes_over(alloc: Global, units: &UnitSet) -> Result<(), Fail> {
+// Whether the program prints the reversed word over these units.
+fn is_run(alloc: Global, units: &UnitSet) -> Result<bool, AllocError> {
     let mut host = Host::new(alloc, &TEXTS, b"");
     host.units = Some(units);
-    host.passes(&RUNS)
+    let output = "2147483648\nhalted\nsteps 3\n";
+    host.prints(&["exec", "M", "P", "I", "100"], Status::Ok, output)
 }
 
 #[test]
 fn handed_in_operation_is_found_and_run(rt: HostRuntime) -> Result<(), Fail> {
     let units = units_of(rt.alloc(), 1)?;
     let is_found = is_found(&units);
-    let passed = passes_over(rt.alloc(), &units);
+    let is_run = is_run(rt.alloc(), &units);
     drop(units);
     assert!(rt; is_found);
-    passed
+    assert!(rt; is_run?);
+    Ok(())
 }
 
 #[test]

@@ -10,13 +10,9 @@ use tta_tool::{Status, tool};
 /// What `OUT` holds before a command.
 pub const BEFORE: &[u8] = b"before";
 
-/// The words of a command, how it ends, and what it outputs.
-pub type Case = (&'static [&'static str], Status, &'static str);
-
 /// Files of these texts, `IMG` with this image, and `OUT`, where the call of the files and the put
 /// of a line with these numbers fail. They are counted from 1, so that 0 stands for none. The
-/// commands run over the five standard units, where no others are given. Where `prefix` is set,
-/// what a case outputs is a prefix of what it may output: no case fixes the cycles of compiled code.
+/// commands run over the five standard units, where no others are given.
 #[derive(Clone, Copy)]
 pub struct Host<'a> {
     pub alloc: Global,
@@ -25,7 +21,6 @@ pub struct Host<'a> {
     pub units: Option<&'a UnitSet>,
     pub failing_call: u64,
     pub failing_put: u64,
-    pub prefix: bool,
 }
 
 /// Fails where a case ends otherwise, and gives its place.
@@ -105,7 +100,6 @@ impl<'a> Host<'a> {
             units: None,
             failing_call: 0,
             failing_put: 0,
-            prefix: false,
         }
     }
 
@@ -140,15 +134,6 @@ impl<'a> Host<'a> {
         }
     }
 
-    // Whether a case may output these bytes.
-    fn is_output(&self, bytes: &[u8], output: &[u8]) -> bool {
-        if self.prefix {
-            bytes.starts_with(output)
-        } else {
-            bytes == output
-        }
-    }
-
     // How a command over these files ends, if this is what it outputs.
     fn ending_with(
         &self,
@@ -161,7 +146,7 @@ impl<'a> Host<'a> {
             return Err(AllocError);
         };
         let ended = carry_out(self.alloc, self.units, words, files, &mut sink);
-        let is_put = self.is_output(sink.bytes(), output);
+        let is_put = sink.bytes() == output;
         drop(sink);
         match ended {
             Ok(status) => Ok(is_put.then_some(status)),
@@ -192,22 +177,6 @@ impl<'a> Host<'a> {
     /// Whether a command ends so, outputs this, and changes no file.
     pub fn prints(&self, words: &[&str], ending: Status, output: &str) -> Result<bool, AllocError> {
         self.leaves(words, ending, BEFORE, output.as_bytes())
-    }
-
-    // The place of the first case whose command does not end so, does not output this, or
-    // changes a file.
-    fn first_other(&self, cases: &[Case]) -> Result<Option<usize>, AllocError> {
-        for (i, (words, ending, output)) in cases.iter().enumerate() {
-            if !self.prints(words, *ending, output)? {
-                return Ok(Some(i));
-            }
-        }
-        Ok(None)
-    }
-
-    /// Fails where a command does not end so, does not output this, or changes a file.
-    pub fn passes(&self, cases: &[Case]) -> Result<(), Fail> {
-        none_other(self.first_other(cases))
     }
 
     /// What a command writes to `OUT`: `before` where it writes nothing, and no bytes where it does

@@ -1,4 +1,4 @@
-//! Texts that several tests read.
+//! The machines of the tests.
 
 /// A machine of one bus, which joins the output alone.
 pub const ONE_BUS: &str = "bus B short 8 unsigned\n\
@@ -6,16 +6,6 @@ pub const ONE_BUS: &str = "bus B short 8 unsigned\n\
      unit OUT t I\n\
      op OUT out\n\
      control delay 0 address 8 t I\n";
-
-/// On three buses, two registers change places and are output.
-pub const SWAP: &str = "1 -> R.1 , ... , ... ;\n\
-     2 -> R.2 , ... , ... ;\n\
-     R.1 -> R.2 , R.2 -> R.1 , ... ;\n\
-     R.1 -> IO.t.out , ... , ... ;\n\
-     R.2 -> IO.t.out , ... , ... ;\n\
-     0 -> gcu.t.halt , ... , ... ;\n\
-     ... , ... , ... ;\n\
-     ... , ... , ... ;\n";
 
 /// A machine of three buses with two delay slots, whose products show after three cycles, and whose
 /// input and output are one unit.
@@ -62,24 +52,3 @@ pub const THREE_BUSES: &str = "bus B0 short 8 signed\n\
      control delay 2 address 12 t UI ra UO\n\
      space data 1024\n\
      space frame 64\n";
-
-/// Calls a procedure twice, and outputs 37.
-pub const CALLS: &str = "proc sq x\n\
-     y = mul x x\n\
-     return y\n\
-     end\n\
-     proc main\n\
-     a = 3\n\
-     b = call sq a\n\
-     c = call sq 5\n\
-     d = add a b\n\
-     d = add d c\n\
-     out d\n\
-     halt\n\
-     end\n";
-
-/// A word is copied, since 5 is not less than 5.
-pub const WHEN: &str = "proc main\nx = 1\na = 5\nb = 5\ny = 9\nwhen ge a b x = y\nout x\nend\n";
-
-/// The same words, of which the second is greater, so that none is copied.
-pub const NOT_WHEN: &str = "proc main\nx = 1\na = 5\nb = 6\ny = 9\nwhen ge a b x = y\nout x\nend\n";
