@@ -4,7 +4,6 @@
 mod failing;
 mod handed_in;
 mod host;
-mod operations;
 mod passes;
 mod placement;
 mod texts;
