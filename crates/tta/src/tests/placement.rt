@@ -1,9 +1,11 @@
 //! One list, placed one item in a cycle and by first fit.
 
+ghost use Rattle.tta_connect.specs.Net.{IsNetOf};
+
 use super::handed_in::units_of;
 use std::alloc::{AllocError, Global};
 use std::test::Fail;
-use tta_arch::{Dest, Source};
+use tta_arch::{Dest, Machine, Source};
 use tta_connect::Net;
 use tta_list::Items;
 use tta_machine::read_machine;
@@ -51,13 +53,14 @@ fn read(index: u8, dst: Dest) -> Item {
 
 /// A product and a sum, each of two registers and into one.
 fn list(alloc: Global) -> Result<BlockList, AllocError> {
-    let mut items = Vec::new(alloc);
-    items.push(read(3, Dest::Operand { unit: MUL }))?;
-    items.push(read(4, Dest::Trigger { unit: MUL, op: 0 }))?;
-    items.push(go(Source::Shown { unit: MUL }, Dest::Reg { file: 0, index: 5 }))?;
-    items.push(read(6, Dest::Operand { unit: ALU }))?;
-    items.push(read(7, Dest::Trigger { unit: ALU, op: 0 }))?;
-    items.push(go(Source::Shown { unit: ALU }, Dest::Reg { file: 1, index: 0 }))?;
+    let items = vec![in alloc;
+        read(3, Dest::Operand { unit: MUL }),
+        read(4, Dest::Trigger { unit: MUL, op: 0 }),
+        go(Source::Shown { unit: MUL }, Dest::Reg { file: 0, index: 5 }),
+        read(6, Dest::Operand { unit: ALU }),
+        read(7, Dest::Trigger { unit: ALU, op: 0 }),
+        go(Source::Shown { unit: ALU }, Dest::Reg { file: 1, index: 0 }),
+    ]?;
     Ok(BlockList {
         items: Items::of(items),
         live_out: Items::new(alloc),
@@ -82,6 +85,53 @@ fn is_first(placed: &Placed) -> bool {
     placed.items.len() == FIRST.len() && placed.length == FIRST_LENGTH
 }
 
+// Whether a list of the machine is placed so, one item in a cycle.
+fn places_serial(alloc: Global, b: &BlockList, m: &Machine, net: &Net) -> Result<bool, AllocError>
+    requires net { IsNetOf net.now m.now }
+{
+    if !is_list(m, net, b) {
+        return Ok(false);
+    }
+    let placed = place_serial(alloc, b, m, net)?;
+    Ok(is_serial(&placed))
+}
+
+// Whether a list of the machine is placed so by first fit.
+fn places_first(alloc: Global, b: &BlockList, m: &Machine, net: &Net) -> Result<bool, AllocError>
+    requires net { IsNetOf net.now m.now }
+{
+    if !is_list(m, net, b) {
+        return Ok(false);
+    }
+    let placed = place_block(alloc, b, m, net)?;
+    Ok(is_first(&placed))
+}
+
+// Whether a list of the machine is placed so both ways.
+fn places(alloc: Global, b: &BlockList, m: &Machine, net: &Net) -> Result<bool, AllocError>
+    requires net { IsNetOf net.now m.now }
+{
+    Ok(places_serial(alloc, b, m, net)? && places_first(alloc, b, m, net)?)
+}
+
+// Whether the list is placed so over a machine with this net.
+fn places_list(alloc: Global, m: &Machine, net: &Net) -> Result<bool, AllocError>
+    requires net { IsNetOf net.now m.now }
+{
+    let b = list(alloc)?;
+    let is_placed = places(alloc, &b, m, net);
+    drop(b);
+    is_placed
+}
+
+// Whether the list is placed so over a machine.
+fn places_over(alloc: Global, m: &Machine) -> Result<bool, AllocError> {
+    let net = Net::of(alloc, m)?;
+    let is_placed = places_list(alloc, m, &net);
+    drop(net);
+    is_placed
+}
+
 #[test]
 fn list_is_placed_both_ways(rt: HostRuntime) -> Result<(), Fail> {
     let alloc = rt.alloc();
@@ -89,14 +139,9 @@ fn list_is_placed_both_ways(rt: HostRuntime) -> Result<(), Fail> {
     let Ok(m) = read_machine(alloc, MACHINE.as_bytes(), &units) else {
         return Err(Fail::new(format_args!("no machine")));
     };
-    let net = Net::of(alloc, &m)?;
-    let b = list(alloc)?;
-    if !is_list(&m, &net, &b) {
-        return Err(Fail::new(format_args!("no list of the machine")));
-    }
-    let serial = place_serial(alloc, &b, &m, &net)?;
-    let first = place_block(alloc, &b, &m, &net)?;
-    assert!(rt; is_serial(&serial));
-    assert!(rt; is_first(&first));
+    let is_placed = places_over(alloc, &m);
+    drop(m);
+    drop(units);
+    assert!(rt; is_placed?);
     Ok(())
 }
