@@ -24,28 +24,15 @@ pub fn complete(alloc: Global, draft: Draft) -> Result<Machine, MachineError>
     requires { IsDraft draft }
     ensures { CompleteEnds draft result }
 {
-    let control = match control_of(&draft) {
-        Ok(control) => control,
-        Err(e) => {
-            // Dropped here, so that only the other branch takes it apart.
-            drop(draft);
-            return Err(e);
-        }
-    };
+    let control = control_of(&draft)?;
     let bare = bare_of(alloc, draft, control);
-    match check_widths(
+    check_widths(
         alloc,
         &bare.machine,
         bare.templates.as_slice(),
         bare.lines.as_slice(),
-    ) {
-        Ok(()) => Ok(whole(bare)),
-        Err(e) => {
-            // Dropped here, so that only the other branch takes it apart.
-            drop(bare);
-            Err(e)
-        }
-    }
+    )?;
+    Ok(whole(bare))
 }
 
 /// A machine whose templates are still apart. How wide a bus is does not depend on them, so they

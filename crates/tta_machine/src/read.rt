@@ -23,14 +23,8 @@ fn read_draft(alloc: Global, text: &[u8], units: &UnitSet) -> Result<Draft, Mach
     ensures { DraftEnds (stated unit_meaning units.now) (lines_of text.now) result }
 {
     let mut draft = Draft::new(alloc);
-    match read_lines(alloc, text, units, &mut draft) {
-        Ok(()) => Ok(draft),
-        Err(e) => {
-            // Dropped here, so that it is let go as a whole.
-            drop(draft);
-            Err(e)
-        }
-    }
+    read_lines(alloc, text, units, &mut draft)?;
+    Ok(draft)
 }
 
 /// Takes all lines of a text into an empty draft.
