@@ -75,8 +75,6 @@ pub fn read_machine(alloc: Global, text: &[u8], units: &UnitSet) -> Result<Machi
     ensures over { IfOk result (StandsOver (stated unit_meaning units.now)) }
     ensures refused { IfErr result (HasCause (stated unit_meaning units.now) text.now) }
 {
-    match read_draft(alloc, text, units) {
-        Ok(draft) => complete(alloc, draft),
-        Err(e) => Err(e),
-    }
+    let draft = read_draft(alloc, text, units)?;
+    complete(alloc, draft)
 }
