@@ -7,6 +7,7 @@ use Rattle.tta_build.specs.declared.error.BuildError.{BuildError}
 use Rattle.tta_build.specs.declared.error.BuildError.TheVariants.{NotCovered, NoUnit, FrameFull, CodeFull, NoMemory}
 use Rattle.tta_build.specs.Statement.{IsAccepted, Direct, Covered, HasCause}
 use Rattle.tta_build.specs.Completes.{IsRoomy, PlainFits}
+use Rattle.tta_build.proofs.NoLonger.{compiled_is_short}
 
 -- no code of a pair is too long
 abbrev IsNeverFull : Units → Machine → Program → Type 0
@@ -19,7 +20,9 @@ not_full u m p roomy words have c = let room = roomy.room in let more = c.more i
 -- and none where the plain code fits
 plainly_not_full : (u : Units) (m : Machine) (p : Program) → PlainFits u m p → IsNeverFull u m p
 plainly_not_full u m p is words have c =
-    let room = is.fits c.plain c.is_plain in let more = c.more in let most = c.no_longer in let there = c.addresses in absurd (omega arith)
+    let short = compiled_is_short u m p words c.compiled in
+    let room = is.fits short.plain short.is in
+    let more = c.more in let most = short.within in let there = c.addresses in absurd (omega (arith, room, more, most, there))
 
 -- the other causes are those that no pair has that is accepted
 not_refused : (u : Units) (m : Machine) (p : Program) (e : BuildError) → IsAccepted u m p → IsNeverFull u m p → HasCause u m p e → e ≡ NoMemory

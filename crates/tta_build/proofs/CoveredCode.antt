@@ -42,7 +42,8 @@ use Rattle.tta_build.specs.declared.error.BuildError.TheVariants as cause
 use Rattle.tta_build.specs.declared.register.Sharing.{Sharing}
 use Rattle.tta_build.specs.Statement.{IsAccepted, Covered, unsupplied}
 use Rattle.tta_build.specs.Candidates.{AreChosen}
-use Rattle.tta_build.specs.Parts.{IsLowered, IsLoweredBy, AreSelected, AreSelectedBy, AreListsOf, ArePlacedFor, IsCodeFor, IsOverlong, IsCodeCause, IsLinkCause}
+use Rattle.tta_build.specs.Compiled.{AreSelected, AreListsOf, ArePlacedFor, CompilesTo}
+use Rattle.tta_build.specs.Parts.{IsLowered, IsLoweredBy, AreSelectedBy, IsCodeFor, IsOverlong, IsCodeCause, IsLinkCause}
 use Rattle.tta_build.proofs.Placements.{IsCodeOf, IsTooLong, IsListsCause, is_code, is_cause}
 use Rattle.tta_build.proofs.Shortest.{have_lists}
 
@@ -170,14 +171,16 @@ module _ (u : Units) (m : Machine) (c : Choice) (p : Program) (lists : List Bloc
   accepted other kept supplied = Covered other kept supplied of.room
 
   -- their code is code for the pair
-  code_for : is_direct m p ≡ false → failed_rule m ≡ None → unsupplied u m p ≡ None → (code : Code) → IsCodeOf m lists code → IsCodeFor u m p code
-  code_for other kept supplied code is = record {
+  code_for : is_direct m p ≡ false → failed_rule m ≡ None → unsupplied u m p ≡ None → (code : Code) → IsCodeOf m lists code
+      → CompilesTo u m p (length code.words) → IsCodeFor u m p code
+  code_for other kept supplied code is compiled = record {
     accepted = accepted other kept supplied;
     legal = is.legal;
     packed = record { lists = lists; placements = is.placements; plan = plan; first = is.first; linked = is.linked };
     room =
         let fits = lists_fit u m c p (known_by p of.blocks of.live of.kept) lists is.placements pair_of known_of stand_in is.roomy in
         let same = linked_length m code is.placements is.linked in omega (arith, fits, same);
+    compiled = compiled;
     agrees = λ init laid.
         lists_agree u m c p (known_by p of.blocks of.live of.kept) lists is.placements (record { code = code; init = init })
         pair_of known_of stand_in is.roomy.respected is.linked is.legal laid;
@@ -197,9 +200,9 @@ module _ (u : Units) (m : Machine) (c : Choice) (p : Program) (lists : List Bloc
 
   -- so what their linking answers is code for the pair, or why it has none
   ok_of : is_direct m p ≡ false → failed_rule m ≡ None → unsupplied u m p ≡ None → (r : Result Code BuildError)
-      → IfOk r (λ code. IsCodeOf m lists code) → IfOk r (λ code. IsCodeFor u m p code)
-  ok_of other kept supplied (Ok code) is = code_for other kept supplied code is
-  ok_of other kept supplied (Err e) is = tt
+      → IfOk r (λ code. IsCodeOf m lists code) → IfOk r (λ code. CompilesTo u m p (length code.words)) → IfOk r (λ code. IsCodeFor u m p code)
+  ok_of other kept supplied (Ok code) is compiled = code_for other kept supplied code is compiled
+  ok_of other kept supplied (Err e) is compiled = tt
 
   err_of : is_direct m p ≡ false → failed_rule m ≡ None → unsupplied u m p ≡ None → (r : Result Code BuildError)
       → IfErr r (λ e. IsListsCause m lists e) → IfErr r (λ e. IsCodeCause u m p e)
@@ -219,9 +222,11 @@ module _ (u : Units) (m : Machine) (c : Choice) (p : Program) (ps qs : List Plac
 
   -- what is linked from them is code for the pair, and why nothing is linked is why there is none
   pub ok_for : is_direct m p ≡ false → failed_rule m ≡ None → unsupplied u m p ≡ None → (r : Result Code BuildError)
-      → IfOk r (λ code. IsLinked m code qs) → IfOk r (λ code. IsLegalCode m code) → IfOk r (λ code. IsCodeFor u m p code)
-  ok_for other kept supplied r linked legal =
-      ok_of u m c p for.lists machine over choice program offers for.are other kept supplied r (is_code m for.lists ps qs r for.first for.roomy same linked legal)
+      → IfOk r (λ code. IsLinked m code qs) → IfOk r (λ code. IsLegalCode m code) → IfOk r (λ code. CompilesTo u m p (length code.words))
+      → IfOk r (λ code. IsCodeFor u m p code)
+  ok_for other kept supplied r linked legal compiled =
+      ok_of u m c p for.lists machine over choice program offers for.are other kept supplied r
+      (is_code m for.lists ps qs r for.first for.roomy same linked legal) compiled
 
   pub err_for : is_direct m p ≡ false → failed_rule m ≡ None → unsupplied u m p ≡ None → (r : Result Code BuildError)
       → IfErr r (λ e. IsLinkCause m qs e) → IfErr r (λ e. IsCodeCause u m p e)

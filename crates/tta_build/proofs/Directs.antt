@@ -36,7 +36,7 @@ use Rattle.tta_compose.proofs.Directly.{direct_lowers, direct_is_list, direct_li
 use Rattle.tta_compose.proofs.DirectPlan.{direct_plan}
 use Rattle.tta_build.specs.declared.error.BuildError.{BuildError}
 use Rattle.tta_build.specs.declared.error.BuildError.TheVariants as cause
-use Rattle.tta_build.specs.Plain.{OfDirect}
+use Rattle.tta_build.specs.Compiled.{CompilesTo, OfOneList}
 use Rattle.tta_build.specs.Statement.{Direct, LacksRoom, HasCause}
 use Rattle.tta_build.specs.Parts.{IsLowered, AreDirect, IsCodeFor}
 use Rattle.tta_build.proofs.Placements.{IsCodeOf, IsTooLong, IsListsCause}
@@ -122,6 +122,12 @@ one_fits m p (q ∷ []) program direct are =
     mul-le-mul one (let z : m.control.delay + longest m + 2 ≤ m.control.delay + longest m + 2 = omega arith in z) in
     omega (arith, room, a, b)
 
+-- so many words are what is compiled, where its placement takes them
+compiles : (u : Units) (m : Machine) (p : Program) (lists : List BlockList) (ps : List Placed) (words : ℕ) → is_direct m p ≡ true → AreDirect m p lists
+    → AreFirstFits m lists ps → words ≡ total_length ps → CompilesTo u m p words
+compiles u m p lists ps words direct of first takes =
+    record { placements = ps; are = OfOneList direct (subst (λ (x : List BlockList). AreFirstFits m x ps) of.are first); takes = takes }
+
 -- its code is code for the pair
 pub code_for : (u : Units) (m : Machine) (p : Program) (lists : List BlockList) (code : Code) → IsMachine m → IsProgram p → is_direct m p ≡ true → AreDirect m p lists
     → IsCodeOf m lists code → IsCodeFor u m p code
@@ -138,12 +144,13 @@ code_for u m p lists code machine program direct of is = record {
   room =
       let fits = one_fits m p is.placements program direct (subst (λ (x : List BlockList). AreRoomy m x is.placements) of.are is.roomy) in
       let same = linked_length m code is.placements is.linked in omega (arith, fits, same);
+  compiled = compiles u m p lists is.placements (length code.words) direct of is.first (linked_length m code is.placements is.linked);
   agrees = λ init laid.
       direct_agrees u m p machine program direct of.blocks of.live of.kept of.flow of.lives of.allotted is.placements (record { code = code; init = init })
       (subst (λ (x : List BlockList). AreRespected m x is.placements) of.are is.roomy.respected) is.linked is.legal laid;
 }
 
--- where the code is too long, it has no more words than the pair's room; and it is the plain code
+-- where the code is too long, it has no more words than the pair's room
 pub room_for : (u : Units) (m : Machine) (p : Program) (lists : List BlockList) → IsMachine m → IsProgram p → is_direct m p ≡ true → AreDirect m p lists
     → (words have : ℕ) → IsTooLong m lists words have → LacksRoom u m p words have
 room_for u m p lists machine program direct of words have is =
@@ -160,9 +167,7 @@ room_for u m p lists machine program direct of words have is =
         first = subst (λ (x : List BlockList). AreFirstFits m x is.placements) of.are is.first;
         cycles = same;
       };
-      plain = is.placements;
-      is_plain = OfDirect direct (subst (λ (x : List BlockList). AreFirstFits m x is.placements) of.are is.first);
-      no_longer = omega (arith, same);
+      compiled = compiles u m p lists is.placements words direct of is.first same;
     }
 
 -- so what is linked from its placement is answered for the pair

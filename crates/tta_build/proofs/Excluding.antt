@@ -1,18 +1,51 @@
 -- The causes of two errors contradict each other, and code contradicts all that are not about room or memory.
-use Rattle.std.proofs.Common.{◌≡◌, ℕ, true, refl, arith}
+use Rattle.std.proofs.Common.{◌≡◌, ◌<◌, ◌≤◌, ◌^◌, ℕ, List, true, refl, ap, arith, length}
 use Rattle.std.specs.Prelude.{◌==◌, Option, Some}
 use Rattle.std.proofs.lemmas.Bool.{eq-eqb, and_from}
 use Rattle.tta_ops.specs.Units.{Units}
 use Rattle.tta_arch.specs.Machine.{Machine}
 use Rattle.tta_program.specs.Program.{Program}
-use Rattle.tta_code.specs.Whole.{Whole}
+use Rattle.tta_moves.specs.declared.items.Placed.{Placed}
+use Rattle.tta_link.specs.Blocks.{total_length}
 use Rattle.tta_build.specs.declared.error.BuildError.{BuildError}
 use Rattle.tta_build.specs.declared.error.BuildError.TheVariants.{NotCovered, NoUnit, FrameFull, CodeFull, NoMemory}
-use Rattle.tta_build.specs.Statement.{IsAccepted, Direct, Covered, IsBuilt, HasCause}
-use Rattle.tta_build.specs.Excludes.{go_together, is_beside_code}
+use Rattle.tta_build.specs.Statement.{IsAccepted, Direct, Covered, BreaksRule, LacksUnit, LacksFrames, HasCause}
+use Rattle.tta_build.specs.Converted.{HasConvertedCause}
+use Rattle.tta_build.specs.Excludes.{go_together, is_beside_code, CausesExclude, CodeExcludes, FullExcludes}
+use Rattle.tta_build.specs.Excludes.{ConvertedCausesExclude, ConvertedCodeExcludes, ConvertedFullExcludes}
+
+-- ---- what the causes say alike, with the converted program and without
+
+-- of full code it matters that the pair is accepted, and how many addresses there are
+record IsFull (u : Units) (m : Machine) (p : Program) (have : ℕ) : Type 0 where
+  pub accepted : IsAccepted u m p
+  pub addresses : have ≡ 2 ^ m.control.address
+
+abbrev Excludes : Units → Machine → Program → BuildError → Type 0
+Excludes u m p (NotCovered rule) = BreaksRule m p rule
+Excludes u m p (NoUnit line) = LacksUnit u m p line
+Excludes u m p (FrameFull need have) = LacksFrames u m p need have
+Excludes u m p (CodeFull words have) = IsFull u m p have
+Excludes u m p NoMemory = Unit {0}
+
+of_cause : (u : Units) (m : Machine) (p : Program) (e : BuildError) → HasCause u m p e → Excludes u m p e
+of_cause u m p (NotCovered rule) c = c
+of_cause u m p (NoUnit line) c = c
+of_cause u m p (FrameFull need have) c = c
+of_cause u m p (CodeFull words have) c = record { accepted = c.accepted; addresses = c.addresses }
+of_cause u m p NoMemory c = c
+
+of_converted : (u : Units) (m : Machine) (p : Program) (e : BuildError) → HasConvertedCause u m p e → Excludes u m p e
+of_converted u m p (NotCovered rule) c = c
+of_converted u m p (NoUnit line) c = c
+of_converted u m p (FrameFull need have) c = c
+of_converted u m p (CodeFull words have) c = record { accepted = c.accepted; addresses = c.addresses }
+of_converted u m p NoMemory c = c
+
+-- ---- code and an error
 
 -- a pair that is accepted has none of the causes but those of room and memory
-pub accepted_excludes : (u : Units) (m : Machine) (p : Program) (e : BuildError) → IsAccepted u m p → HasCause u m p e → is_beside_code e ≡ true
+accepted_excludes : (u : Units) (m : Machine) (p : Program) (e : BuildError) → IsAccepted u m p → Excludes u m p e → is_beside_code e ≡ true
 accepted_excludes u m p NoMemory accepted c = refl
 accepted_excludes u m p (CodeFull words have) accepted c = refl
 accepted_excludes u m p (NotCovered rule) (Direct is) c = let other = c.other in absurd cc
@@ -23,8 +56,13 @@ accepted_excludes u m p (FrameFull need have) (Direct is) c = let other = c.othe
 accepted_excludes u m p (FrameFull need have) (Covered other kept supplied fits) c =
     let words = c.words in let there = c.there in let more = c.more in absurd (omega arith)
 
-pub code_excludes : (u : Units) (m : Machine) (p : Program) (whole : Whole) (e : BuildError) → IsBuilt u m p whole → HasCause u m p e → is_beside_code e ≡ true
-code_excludes u m p whole e built c = accepted_excludes u m p e built.accepted c
+pub code_excludes : CodeExcludes
+code_excludes u m p whole e built c = accepted_excludes u m p e built.accepted (of_cause u m p e c)
+
+pub converted_code_excludes : ConvertedCodeExcludes
+converted_code_excludes u m p whole e built c = accepted_excludes u m p e built.accepted (of_converted u m p e c)
+
+-- ---- two errors
 
 -- errors with one number are one
 one_number : {a b : ℕ} {o : Option ℕ} → o ≡ Some a → o ≡ Some b → (a == b) ≡ true
@@ -33,27 +71,51 @@ one_number {a = a} {b = b} is js = eq-eqb a b cc
 same_numbers : {a b n : ℕ} → a ≡ n → b ≡ n → (a == b) ≡ true
 same_numbers {a = a} {b = b} is js = eq-eqb a b cc
 
--- the causes of two errors, by cases
-pub causes_exclude : (u : Units) (m : Machine) (p : Program) (e f : BuildError) → HasCause u m p e → HasCause u m p f → go_together e f ≡ true
-causes_exclude u m p NoMemory f c d = refl
-causes_exclude u m p (NotCovered a) (NotCovered b) c d = one_number c.first d.first
-causes_exclude u m p (NotCovered a) (NoUnit b) c d = let first = c.first in let kept = d.covered in absurd cc
-causes_exclude u m p (NotCovered a) (FrameFull need have) c d = let first = c.first in let kept = d.covered in absurd cc
-causes_exclude u m p (NotCovered a) (CodeFull words have) c d = let no = accepted_excludes u m p (NotCovered a) d.accepted c in absurd cc
-causes_exclude u m p (NotCovered a) NoMemory c d = refl
-causes_exclude u m p (NoUnit a) (NotCovered b) c d = let first = d.first in let kept = c.covered in absurd cc
-causes_exclude u m p (NoUnit a) (NoUnit b) c d = one_number c.first d.first
-causes_exclude u m p (NoUnit a) (FrameFull need have) c d = let first = c.first in let supplied = d.supplied in absurd cc
-causes_exclude u m p (NoUnit a) (CodeFull words have) c d = let no = accepted_excludes u m p (NoUnit a) d.accepted c in absurd cc
-causes_exclude u m p (NoUnit a) NoMemory c d = refl
-causes_exclude u m p (FrameFull need have) (NotCovered b) c d = let first = d.first in let kept = c.covered in absurd cc
-causes_exclude u m p (FrameFull need have) (NoUnit b) c d = let first = d.first in let supplied = c.supplied in absurd cc
-causes_exclude u m p (FrameFull need have) (FrameFull need' have') c d =
+-- two errors, by cases
+exclude : (u : Units) (m : Machine) (p : Program) (e f : BuildError) → Excludes u m p e → Excludes u m p f → go_together e f ≡ true
+exclude u m p NoMemory f c d = refl
+exclude u m p (NotCovered a) (NotCovered b) c d = one_number c.first d.first
+exclude u m p (NotCovered a) (NoUnit b) c d = let first = c.first in let kept = d.covered in absurd cc
+exclude u m p (NotCovered a) (FrameFull need have) c d = let first = c.first in let kept = d.covered in absurd cc
+exclude u m p (NotCovered a) (CodeFull words have) c d = let no = accepted_excludes u m p (NotCovered a) d.accepted c in absurd cc
+exclude u m p (NotCovered a) NoMemory c d = refl
+exclude u m p (NoUnit a) (NotCovered b) c d = let first = d.first in let kept = c.covered in absurd cc
+exclude u m p (NoUnit a) (NoUnit b) c d = one_number c.first d.first
+exclude u m p (NoUnit a) (FrameFull need have) c d = let first = c.first in let supplied = d.supplied in absurd cc
+exclude u m p (NoUnit a) (CodeFull words have) c d = let no = accepted_excludes u m p (NoUnit a) d.accepted c in absurd cc
+exclude u m p (NoUnit a) NoMemory c d = refl
+exclude u m p (FrameFull need have) (NotCovered b) c d = let first = d.first in let kept = c.covered in absurd cc
+exclude u m p (FrameFull need have) (NoUnit b) c d = let first = d.first in let supplied = c.supplied in absurd cc
+exclude u m p (FrameFull need have) (FrameFull need' have') c d =
     and_from (need == need') (have == have') (same_numbers c.words d.words) (same_numbers c.there d.there)
-causes_exclude u m p (FrameFull need have) (CodeFull words have') c d = let no = accepted_excludes u m p (FrameFull need have) d.accepted c in absurd cc
-causes_exclude u m p (FrameFull need have) NoMemory c d = refl
-causes_exclude u m p (CodeFull words have) (NotCovered b) c d = let no = accepted_excludes u m p (NotCovered b) c.accepted d in absurd cc
-causes_exclude u m p (CodeFull words have) (NoUnit b) c d = let no = accepted_excludes u m p (NoUnit b) c.accepted d in absurd cc
-causes_exclude u m p (CodeFull words have) (FrameFull need have') c d = let no = accepted_excludes u m p (FrameFull need have') c.accepted d in absurd cc
-causes_exclude u m p (CodeFull words have) (CodeFull words' have') c d = same_numbers c.addresses d.addresses
-causes_exclude u m p (CodeFull words have) NoMemory c d = refl
+exclude u m p (FrameFull need have) (CodeFull words have') c d = let no = accepted_excludes u m p (FrameFull need have) d.accepted c in absurd cc
+exclude u m p (FrameFull need have) NoMemory c d = refl
+exclude u m p (CodeFull words have) (NotCovered b) c d = let no = accepted_excludes u m p (NotCovered b) c.accepted d in absurd cc
+exclude u m p (CodeFull words have) (NoUnit b) c d = let no = accepted_excludes u m p (NoUnit b) c.accepted d in absurd cc
+exclude u m p (CodeFull words have) (FrameFull need have') c d = let no = accepted_excludes u m p (FrameFull need have') c.accepted d in absurd cc
+exclude u m p (CodeFull words have) (CodeFull words' have') c d = same_numbers c.addresses d.addresses
+exclude u m p (CodeFull words have) NoMemory c d = refl
+
+pub causes_exclude : CausesExclude
+causes_exclude u m p e f c d = exclude u m p e f (of_cause u m p e c) (of_cause u m p f d)
+
+pub converted_causes_exclude : ConvertedCausesExclude
+converted_causes_exclude u m p e f c d = exclude u m p e f (of_converted u m p e c) (of_converted u m p f d)
+
+-- ---- code and full code
+
+-- lists that take words that fit do not take more than there are addresses
+fit_or_not : (m : Machine) (ps qs : List Placed) (n words have : ℕ) → n ≤ 2 ^ m.control.address → n ≡ total_length ps
+    → have ≡ 2 ^ m.control.address → have < words → words ≡ total_length qs → ps ≡ qs → ⊥
+fit_or_not m ps qs n words have fits takes there more long same =
+    let alike = ap total_length same in absurd (omega (arith, fits, takes, there, more, long, alike))
+
+pub full_excludes : FullExcludes
+full_excludes u m p whole words have built full same =
+    fit_or_not m built.compiled.placements full.compiled.placements (length whole.code.words) words have built.legal.code.room
+    built.compiled.takes full.addresses full.more full.compiled.takes same
+
+pub converted_full_excludes : ConvertedFullExcludes
+converted_full_excludes u m p whole words have built full same =
+    fit_or_not m built.compiled.placements full.compiled.placements (length whole.code.words) words have built.legal.code.room
+    built.compiled.takes full.addresses full.more full.compiled.takes same

@@ -1,6 +1,6 @@
 -- What is chosen is no longer than what is plain.
-use Rattle.std.proofs.Common.{◌≡◌, ◌<◌, ◌≤◌, ℕ, suc, Bool, true, false, List, [], ◌∷◌, refl, sym, ap, subst, arith, length}
-use Rattle.std.specs.Prelude.{if◌then◌else◌, nat_lt, map, Result, Ok, Err, IfErr}
+use Rattle.std.proofs.Common.{◌≡◌, ◌<◌, ◌≤◌, ℕ, suc, Bool, true, false, List, [], ◌∷◌, refl, sym, ap, subst, ◌∙◌, arith, length}
+use Rattle.std.specs.Prelude.{if◌then◌else◌, nat_lt, map, Result, Ok, Err, IfOk, IfErr}
 use Rattle.std.proofs.lemmas.Bool.Decides.{nat_tests}
 use Rattle.std.proofs.lemmas.Option.{slice_get_within}
 use Rattle.tta_ops.specs.Units.{Units}
@@ -14,6 +14,8 @@ use Rattle.tta_moves.specs.declared.items.Placed.{Placed}
 use Rattle.tta_moves.specs.FirstFit.{IsFirstFit}
 use Rattle.tta_list.proofs.Lists.{element}
 use Rattle.tta_link.specs.Blocks.{total_length}
+use Rattle.tta_link.specs.Linked.{IsLinked}
+use Rattle.tta_link.proofs.Whole.{linked_length}
 use Rattle.tta_compose.specs.Compiler.{optimised}
 use Rattle.tta_compose.specs.Direct.{is_direct}
 use Rattle.tta_compose.specs.Linking.{AreFirstFits}
@@ -21,8 +23,9 @@ use Rattle.tta_build.specs.declared.error.BuildError.{BuildError}
 use Rattle.tta_build.specs.declared.error.BuildError.TheVariants as cause
 use Rattle.tta_build.specs.declared.register.Sharing.TheVariants.{InTurn}
 use Rattle.tta_build.specs.Candidates.{IsChosen}
-use Rattle.tta_build.specs.Plain.{IsNoLonger, OfOther}
-use Rattle.tta_build.specs.Parts.{AreSelectedBy, AreChosenBy, AreNoLonger, IsOverlong, IsCodeCause, IsLinkCause}
+use Rattle.tta_build.specs.Plain.{IsNoLonger, OfDirect, OfOther}
+use Rattle.tta_build.specs.Compiled.{AreNoLonger, AreCompiledFor, AreCompiled, CompilesTo, IsWithinPlain, CompiledIsShort, OfOneList, OfLists}
+use Rattle.tta_build.specs.Parts.{AreSelectedBy, AreChosenBy, IsOverlong, IsCodeCause, IsLinkCause}
 use Rattle.tta_build.specs.Statement.{LacksRoom, HasCause}
 use Rattle.tta_build.proofs.Along.{Along}
 use Rattle.tta_build.proofs.Shortest.{one_first}
@@ -102,25 +105,41 @@ module _ (u : Units) (m : Machine) (c : Choice) (p : Program) where
         subst (λ (x : A). AreNoLonger u m c p (of x)) (sym this) (shorter less)
     by false e this = subst (λ (x : A). AreNoLonger u m c p (of x)) (sym this) short
 
--- ---- the cause
+-- what is compiled of a pair is no longer than plain code of it
+pub compiled_is_short : CompiledIsShort
+compiled_is_short u m p words is = by is.are where
+  by : AreCompiled u m p is.placements → IsWithinPlain u m p words
+  by (OfOneList direct first) = record { plain = is.placements; is = OfDirect direct first; within = let same = is.takes in omega (arith, same) }
+  by (OfLists other c choice of) =
+      let short = of.short in
+      record { plain = short.plain; is = OfOther other c choice short.is; within = let same = is.takes in let most = short.no_longer in omega (arith, same, most) }
+
+-- ---- the answers
 
 module _ (u : Units) (m : Machine) (c : Choice) (p : Program) (ps qs : List Placed) (choice : IsChoice m c) (other : is_direct m p ≡ false)
-    (short : AreNoLonger u m c p ps) (same : qs ≡ ps) where
+    (of : AreCompiledFor u m c p ps) (same : qs ≡ ps) where
+  -- so many words are what is compiled, where the placements take them
+  compiles : (words : ℕ) → words ≡ total_length qs → CompilesTo u m p words
+  compiles words takes = record { placements = ps; are = OfLists other c choice of; takes = takes ∙ ap total_length same }
+
+  -- the code that is linked from the placements has them
+  pub code_compiled : (r : Result Code BuildError) → IfOk r (λ code. IsLinked m code qs) → IfOk r (λ code. CompilesTo u m p (length code.words))
+  code_compiled (Ok code) linked = compiles (length code.words) (linked_length m code qs linked)
+  code_compiled (Err e) linked = tt
+
   lacks_room : (words have : ℕ) → words ≡ total_length qs → IsOverlong u m p words have → LacksRoom u m p words have
-  lacks_room words have long is = record {
+  lacks_room words have takes is = record {
     accepted = is.accepted;
     addresses = is.addresses;
     more = is.more;
     room = is.room;
     length = is.length;
-    plain = short.plain;
-    is_plain = OfOther other c choice short.is;
-    no_longer = let most = short.no_longer in let alike = ap total_length same in omega arith;
+    compiled = compiles words takes;
   }
 
-  -- where placements that are no longer than plain ones are too long, the plain code is
-  pub plain_cause : (r : Result Code BuildError) → IfErr r (λ e. IsLinkCause m qs e) → IfErr r (λ e. IsCodeCause u m p e) → IfErr r (λ e. HasCause u m p e)
-  plain_cause (Ok code) link is = tt
-  plain_cause (Err (cause.CodeFull words have)) link is = lacks_room words have link.0 is
-  plain_cause (Err cause.NoMemory) link is = tt
-  plain_cause (Err e) link is = absurd is
+  -- and where they take too many, what is compiled does
+  pub cause_compiled : (r : Result Code BuildError) → IfErr r (λ e. IsLinkCause m qs e) → IfErr r (λ e. IsCodeCause u m p e) → IfErr r (λ e. HasCause u m p e)
+  cause_compiled (Ok code) link is = tt
+  cause_compiled (Err (cause.CodeFull words have)) link is = lacks_room words have link.0 is
+  cause_compiled (Err cause.NoMemory) link is = tt
+  cause_compiled (Err e) link is = absurd is

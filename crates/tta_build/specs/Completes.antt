@@ -26,6 +26,6 @@ pub record PlainFits (u : Units) (m : Machine) (p : Program) : Type 0 where
   pub accepted : IsAccepted u m p
   pub fits : (plain : List Placed) → IsPlainCode u m p plain → total_length plain ≤ 2 ^ m.control.address
 
--- such a pair has code, unless memory runs out: no other error has its cause
+-- such a pair has code, unless memory runs out
 abbrev pub BuildCompletesPlainly : Type 0
 BuildCompletesPlainly = (u : Units) (m : Machine) (p : Program) (e : BuildError) → PlainFits u m p → HasCause u m p e → e ≡ NoMemory

@@ -1,12 +1,13 @@
 -- Which answers of `build` exclude each other.
-use Rattle.std.specs.Prelude.{◌≡◌, ◌==◌, ◌&&◌, Bool, true, false}
+use Rattle.std.specs.Prelude.{◌≡◌, ◌==◌, ◌&&◌, ℕ, Bool, true, false}
 use Rattle.tta_ops.specs.Units.{Units}
 use Rattle.tta_arch.specs.Machine.{Machine}
 use Rattle.tta_program.specs.Program.{Program}
 use Rattle.tta_code.specs.Whole.{Whole}
 use Rattle.tta_build.specs.declared.error.BuildError.{BuildError}
 use Rattle.tta_build.specs.declared.error.BuildError.TheVariants.{NotCovered, NoUnit, FrameFull, CodeFull, NoMemory}
-use Rattle.tta_build.specs.Statement.{IsBuilt, HasCause}
+use Rattle.tta_build.specs.Statement.{IsBuilt, LacksRoom, HasCause}
+use Rattle.tta_build.specs.Converted.{IsBuiltConverted, LacksConvertedRoom, HasConvertedCause}
 
 -- whether two errors may both have their cause: they say the same, but for how many words the code has, or one is about memory
 abbrev pub go_together : BuildError → BuildError → Bool
@@ -31,3 +32,27 @@ CausesExclude = (u : Units) (m : Machine) (p : Program) (e f : BuildError) → H
 -- no error but these two has its cause for a pair that has code
 abbrev pub CodeExcludes : Type 0
 CodeExcludes = (u : Units) (m : Machine) (p : Program) (whole : Whole) (e : BuildError) → IsBuilt u m p whole → HasCause u m p e → is_beside_code e ≡ true
+
+-- and of the same compiled lists there is never both code and full code: there is code exactly where they fit
+abbrev pub FullExcludes : Type 0
+FullExcludes = (u : Units) (m : Machine) (p : Program) (whole : Whole) (words have : ℕ)
+    → (built : IsBuilt u m p whole) → (full : LacksRoom u m p words have) → built.compiled.placements ≡ full.compiled.placements → ⊥
+
+-- ---- with the converted program
+
+-- the same of two errors
+abbrev pub ConvertedCausesExclude : Type 0
+ConvertedCausesExclude =
+    (u : Units) (m : Machine) (p : Program) (e f : BuildError) → HasConvertedCause u m p e → HasConvertedCause u m p f → go_together e f ≡ true
+
+-- the same of code and an error
+abbrev pub ConvertedCodeExcludes : Type 0
+ConvertedCodeExcludes =
+    (u : Units) (m : Machine) (p : Program) (whole : Whole) (e : BuildError) → IsBuiltConverted u m p whole → HasConvertedCause u m p e
+    → is_beside_code e ≡ true
+
+-- and the same of code and full code
+abbrev pub ConvertedFullExcludes : Type 0
+ConvertedFullExcludes = (u : Units) (m : Machine) (p : Program) (whole : Whole) (words have : ℕ)
+    → (built : IsBuiltConverted u m p whole) → (full : LacksConvertedRoom u m p words have)
+    → built.compiled.placements ≡ full.compiled.placements → ⊥

@@ -1,4 +1,5 @@
 pub mod Plain
+pub mod Compiled
 pub mod Statement
 pub mod Errors
 pub mod Candidates

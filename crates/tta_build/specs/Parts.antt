@@ -1,11 +1,10 @@
 -- What the parts of `build` give one another.
-use Rattle.std.specs.Prelude.{◌≡◌, ◌<◌, ◌≤◌, ◌^◌, ℕ, List, [], ◌∷◌, length, Some, slice_get}
+use Rattle.std.specs.Prelude.{◌≡◌, ◌<◌, ◌≤◌, ◌^◌, ℕ, List, [], ◌∷◌, length}
 use Rattle.tta_ops.specs.Units.{Units}
 use Rattle.tta_arch.specs.Machine.{Machine}
 use Rattle.tta_connect.specs.declared.choice.Choice.{Choice}
 use Rattle.tta_list.specs.Laid.{over}
 use Rattle.tta_program.specs.Program.{Program, data_of}
-use Rattle.tta_program.specs.Sizes.{frame_need}
 use Rattle.tta_rcode.specs.declared.code.Rir.{Rir}
 use Rattle.tta_flow.specs.declared.flow.Block.{Block}
 use Rattle.tta_flow.specs.declared.live.Live.{Live}
@@ -13,7 +12,6 @@ use Rattle.tta_flow.specs.Blocks.{IsFlow}
 use Rattle.tta_flow.specs.Live.{IsLive}
 use Rattle.tta_alloc.specs.declared.homes.Homes.{Homes}
 use Rattle.tta_alloc.specs.Allotted.{AreAllotted}
-use Rattle.tta_lower.specs.Known.{known_by}
 use Rattle.tta_lower.specs.Statement.{IsCodeOf}
 use Rattle.tta_moves.specs.declared.items.BlockList.{BlockList}
 use Rattle.tta_moves.specs.declared.items.Placed.{Placed}
@@ -23,18 +21,15 @@ use Rattle.tta_code.specs.declared.whole.Datum.{Datum}
 use Rattle.tta_code.specs.Whole.{laid_by}
 use Rattle.tta_code.specs.Legal.{IsLegalCode}
 use Rattle.tta_agree.specs.Agrees.{Agrees}
-use Rattle.tta_compose.specs.Compiler.{AreStandIns, raw}
 use Rattle.tta_compose.specs.Direct.{list_of_direct}
-use Rattle.tta_compose.specs.Planned.{HasForms}
-use Rattle.tta_compose.specs.Linking.{AreFirstFits}
-use Rattle.tta_compose.specs.Room.{AreRoomy, room_on}
+use Rattle.tta_compose.specs.Room.{room_on}
 use Rattle.tta_compose.specs.Packed.{IsPacked, IsLength}
 use Rattle.tta_build.specs.declared.error.BuildError.{BuildError}
 use Rattle.tta_build.specs.declared.error.BuildError.TheVariants.{CodeFull, NoMemory}
 use Rattle.tta_build.specs.declared.register.Sharing.{Sharing}
 use Rattle.tta_build.specs.Sharing.{AreGivenBy}
 use Rattle.tta_build.specs.Candidates.{AreChosen}
-use Rattle.tta_build.specs.Plain.{IsPlain}
+use Rattle.tta_build.specs.Compiled.{AreSelected, CompilesTo}
 use Rattle.tta_build.specs.Statement.{IsAccepted}
 
 -- Register code of a program, by blocks, liveness and homes that are the program's, for so many home registers.
@@ -52,17 +47,6 @@ pub record IsLoweredBy (sharing : Sharing) (p : Program) (homes frame_words : �
   pub lowered : IsLowered p homes frame_words r
   pub given : AreGivenBy sharing p homes lowered.kept
 
--- The lists that are selected for a program, by blocks, liveness and homes that are the program's; the frames have room.
-pub record AreSelected (u : Units) (m : Machine) (c : Choice) (p : Program) (lists : List BlockList) : Type 0 where
-  pub blocks : List Block
-  pub live : Live
-  pub kept : Homes
-  pub flow : IsFlow p blocks
-  pub lives : IsLive p live
-  pub allotted : AreAllotted p (length c.homes) kept
-  pub room : frame_need p ≤ m.frame_words
-  pub are : lists ≡ raw u m c p (known_by p blocks live kept)
-
 -- The lists that are selected for a program, whose home registers are given in this way.
 pub record AreSelectedBy (sharing : Sharing) (u : Units) (m : Machine) (c : Choice) (p : Program) (lists : List BlockList) : Type 0 where
   pub of : AreSelected u m c p lists
@@ -74,26 +58,6 @@ pub record AreChosenBy (sharing : Sharing) (u : Units) (m : Machine) (c : Choice
   pub selected : AreSelectedBy sharing u m c p lists
   pub chosen : AreChosen m lists placements
 
--- Placements are together no longer than plain ones.
-pub record AreNoLonger (u : Units) (m : Machine) (c : Choice) (p : Program) (placements : List Placed) : Type 0 where
-  pub plain : List Placed
-  pub is : IsPlain u m c p plain
-  pub no_longer : total_length placements ≤ total_length plain
-
--- The lists that are placed for a program: each may be placed for the selected one, and is in all forms.
-pub record AreListsOf (u : Units) (m : Machine) (c : Choice) (p : Program) (lists : List BlockList) : Type 0 where
-  pub selected : List BlockList
-  pub of : AreSelected u m c p selected
-  pub stand : AreStandIns m selected lists
-  pub forms : (k : ℕ) (l : BlockList) → slice_get lists k ≡ Some l → HasForms m l
-
--- First fits of such lists, which have room.
-pub record ArePlacedFor (u : Units) (m : Machine) (c : Choice) (p : Program) (placements : List Placed) : Type 0 where
-  pub lists : List BlockList
-  pub are : AreListsOf u m c p lists
-  pub first : AreFirstFits m lists placements
-  pub roomy : AreRoomy m lists placements
-
 -- The one list of a direct pair, where blocks, liveness and homes of the program are known.
 pub record AreDirect (m : Machine) (p : Program) (lists : List BlockList) : Type 0 where
   pub blocks : List Block
@@ -104,13 +68,15 @@ pub record AreDirect (m : Machine) (p : Program) (lists : List BlockList) : Type
   pub allotted : AreAllotted p 0 kept
   pub are : lists ≡ list_of_direct m p ∷ []
 
--- Code for a pair that is accepted: the machine can carry it out, it is packed and has no more words than the pair's room, and
--- it does what the program does beside any data that lay over each memory what the program's data lay.
+-- Code for a pair that is accepted: the machine can carry it out, it is packed and has no more words than the pair's room, it
+-- has the words that are compiled of the pair, and it does what the program does beside any data that lay over each memory
+-- what the program's data lay.
 pub record IsCodeFor (u : Units) (m : Machine) (p : Program) (code : Code) : Type 0 where
   pub accepted : IsAccepted u m p
   pub legal : IsLegalCode m code
   pub packed : IsPacked u m p code
   pub room : length code.words ≤ room_on m p
+  pub compiled : CompilesTo u m p (length code.words)
   pub agrees : (init : List Datum) → ((memory : List ℕ) → over (laid_by init) memory ≡ over (data_of p) memory)
       → Agrees u m p (record { code = code; init = init })
 

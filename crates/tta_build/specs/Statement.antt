@@ -1,5 +1,5 @@
 -- What `build` answers: code that does what the program does, or why there is none.
-use Rattle.std.specs.Prelude.{◌≡◌, ℕ, ◌<◌, ◌≤◌, ◌^◌, Bool, true, false, List, Option, Some, None, is_some, option_map, slice_index, length}
+use Rattle.std.specs.Prelude.{◌≡◌, ℕ, ◌<◌, ◌≤◌, ◌^◌, Bool, true, false, Option, Some, None, is_some, option_map, slice_index, length}
 use Rattle.std.specs.Option.{option_map_or}
 use Rattle.tta_ops.specs.Units.{Units}
 use Rattle.tta_arch.specs.declared.parts.Op.{Op}
@@ -13,13 +13,11 @@ use Rattle.tta_program.specs.Sizes.{frame_need}
 use Rattle.tta_code.specs.Whole.{Whole}
 use Rattle.tta_code.specs.Legal.{IsLegalWhole}
 use Rattle.tta_agree.specs.Agrees.{Agrees}
-use Rattle.tta_moves.specs.declared.items.Placed.{Placed}
-use Rattle.tta_link.specs.Blocks.{total_length}
 use Rattle.tta_compose.specs.Needs.{need_of, first_failing}
 use Rattle.tta_compose.specs.Direct.{is_direct}
 use Rattle.tta_compose.specs.Room.{room_on}
 use Rattle.tta_compose.specs.Packed.{IsPacked, IsLength}
-use Rattle.tta_build.specs.Plain.{IsPlainCode}
+use Rattle.tta_build.specs.Compiled.{CompilesTo}
 use Rattle.tta_build.specs.declared.error.BuildError.{BuildError}
 use Rattle.tta_build.specs.declared.error.BuildError.TheVariants.{NotCovered, NoUnit, FrameFull, CodeFull, NoMemory}
 
@@ -50,13 +48,15 @@ pub data IsAccepted (u : Units) (m : Machine) (p : Program) : Type 0 where
 -- ---- the answers
 
 -- code with data that does what the program does, from every memory, for every input and for every bound; the machine can
--- carry it out, its data lie in the data space, it is packed, and it has no more instructions than the pair's room
+-- carry it out, its data lie in the data space, it is packed, it has no more instructions than the pair's room, and it has
+-- those that are compiled of the pair
 pub record IsBuilt (u : Units) (m : Machine) (p : Program) (whole : Whole) : Type 0 where
   pub accepted : IsAccepted u m p
   pub agrees : Agrees u m p whole
   pub legal : IsLegalWhole m whole
   pub packed : IsPacked u m p whole.code
   pub room : length whole.code.words ≤ room_on m p
+  pub compiled : CompilesTo u m p (length whole.code.words)
 
 -- the machine breaks a rule of coverage, and keeps those before it; and the pair is not direct
 pub record BreaksRule (m : Machine) (p : Program) (rule : ℕ) : Type 0 where
@@ -78,17 +78,15 @@ pub record LacksFrames (u : Units) (m : Machine) (p : Program) (need have : ℕ)
   pub there : have ≡ m.frame_words
   pub more : have < need
 
--- Packed code of a pair that is accepted has more instructions than the machine has addresses; and it has no more than the
--- pair's room, and no more than the plain code, which so does not fit either.
+-- What is compiled of a pair that is accepted takes more instructions than the machine has addresses. Packed code has as
+-- many; and they are no more than the pair's room.
 pub record LacksRoom (u : Units) (m : Machine) (p : Program) (words have : ℕ) : Type 0 where
   pub accepted : IsAccepted u m p
   pub addresses : have ≡ 2 ^ m.control.address
   pub more : have < words
   pub room : words ≤ room_on m p
   pub length : IsLength u m p words
-  pub plain : List Placed
-  pub is_plain : IsPlainCode u m p plain
-  pub no_longer : words ≤ total_length plain
+  pub compiled : CompilesTo u m p words
 
 -- why there is no code; being out of memory needs no cause
 abbrev pub HasCause : Units → Machine → Program → BuildError → Type 0

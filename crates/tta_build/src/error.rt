@@ -21,7 +21,8 @@ pub enum BuildError {
     /// The program needs more frame words than the machine has.
     #[error("the program needs {need} frame words, and the machine has {have}")]
     FrameFull { need: u32, have: u32 },
-    /// The code has more instructions than the machine has addresses.
+    /// The code has more instructions than the machine has addresses. It is no longer than the plain
+    /// code, which so does not fit either.
     #[error("the code has {words} instructions, and the machine has {have} addresses")]
     CodeFull { words: u64, have: u32 },
     /// Out of memory.

@@ -12,7 +12,7 @@ ghost use Rattle.tta_program.specs.Program.{step_count};
 ghost use Rattle.tta_lower.specs.Statement.{IsCause};
 ghost use Rattle.tta_compose.specs.Needs.{are_offered};
 ghost use Rattle.tta_build.specs.Parts.{IsLoweredBy, AreSelectedBy, AreChosenBy};
-ghost use Rattle.tta_build.specs.Parts.{ArePlacedFor, AreNoLonger};
+ghost use Rattle.tta_build.specs.Compiled.{ArePlacedFor, AreNoLonger};
 
 use crate::choosing::place_chosen;
 use crate::register::{Sharing, register_code, share_alike};

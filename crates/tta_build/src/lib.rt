@@ -30,8 +30,10 @@ pub use direct_pair::is_direct;
 pub use error::BuildError;
 pub use homing::{FEW_STEPS, is_small, total_length};
 pub use laws::{
-    build_completes, build_completes_plainly, build_converted_completes, causes_exclude,
-    code_excludes, converted_agrees,
+    build_completes, build_completes_plainly, build_converted_completes,
+    build_converted_completes_plainly, causes_exclude, code_excludes, compiled_is_short,
+    converted_agrees, converted_causes_exclude, converted_code_excludes, converted_full_excludes,
+    full_excludes,
 };
 pub use linking::link_placed;
 pub use needs::unoffered;

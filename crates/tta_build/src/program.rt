@@ -61,7 +61,8 @@ fn code_of(alloc: Global, on: &Joined<'_>, p: &Program, units: &UnitSet) -> Resu
 /// output. Of any other pair the machine has to keep the rules of coverage (`NotCovered`), its
 /// usable units have to offer what the program's steps need (`NoUnit`), and its frame space has to
 /// have the words that the program needs (`FrameFull`), in this order; and the code must not have
-/// more instructions than the machine has addresses (`CodeFull`).
+/// more instructions than the machine has addresses (`CodeFull`). It never has more than the plain
+/// code: home registers in turn, each block's list after the passes, by first fit.
 pub fn build(alloc: Global, m: &Machine, p: &Program, units: &UnitSet) -> Result<Built, BuildError>
     requires machine { arch.StandsOver (stated unit_meaning units.now) m.now }
     requires program { program.StandsOver (stated unit_meaning units.now) p.now }

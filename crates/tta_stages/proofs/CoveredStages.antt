@@ -25,9 +25,10 @@ use Rattle.tta_build.specs.declared.error.BuildError.{BuildError}
 use Rattle.tta_build.specs.Statement.{HasCause, unsupplied}
 use Rattle.tta_build.specs.declared.register.Sharing.TheVariants.{InTurn}
 use Rattle.tta_build.specs.Sharing.{AreGivenBy}
-use Rattle.tta_build.specs.Parts.{IsLowered, AreSelected, ArePlacedFor, AreNoLonger, IsCodeFor, IsLinkCause}
+use Rattle.tta_build.specs.Compiled.{AreSelected, ArePlacedFor, AreNoLonger, AreCompiledFor}
+use Rattle.tta_build.specs.Parts.{IsLowered, IsCodeFor, IsLinkCause}
 use Rattle.tta_build.proofs.CoveredCode as covered
-use Rattle.tta_build.proofs.NoLonger.{have_plain, plain_no_longer, kept_no_longer, plain_cause}
+use Rattle.tta_build.proofs.NoLonger.{have_plain, plain_no_longer, kept_no_longer, code_compiled, cause_compiled}
 use Rattle.tta_stages.specs.declared.lowered.Lowered.{Lowered}
 use Rattle.tta_stages.specs.declared.listed.Listed.{Listed}
 use Rattle.tta_stages.specs.declared.planned.Planned.{Planned}
@@ -145,14 +146,18 @@ module _ (u : Units) (m : Machine) (c : Choice) (p : Program) where
 -- the code that is linked from them is code for the pair, and why none is linked is why there is none
 module _ (u : Units) (m : Machine) (c : Choice) (p : Program) (r : Listed) (are : AreListed u m c p r) (machine : IsMachine m) (over : StandsOver u m)
     (choice : IsChoice m c) (program : IsProgram p) (offers : are_offered u m c p ≡ true) (other : is_direct m p ≡ false) (kept : failed_rule m ≡ None)
-    (supplied : unsupplied u m p ≡ None) (ps : List Placed) (same : ps ≡ r.planned.placed.items) where
+    (supplied : unsupplied u m p ≡ None) (ps : List Placed) (same : ps ≡ r.planned.placed.items) (short : AreNoLonger u m c p r.planned.placed.items) where
+  abbrev compiled : AreCompiledFor u m c p r.planned.placed.items
+  compiled = record { placed = placed_for u m c p r are; short = short }
+
   pub code_for : (code : Code) → IsLinked m code ps → IsLegalCode m code → IsCodeFor u m p code
   code_for code linked legal =
       let built : Result Code BuildError = Ok code in
       covered.ok_for u m c p r.planned.placed.items ps machine over choice program offers (placed_for u m c p r are) same other kept supplied built linked legal
+      (code_compiled u m c p r.planned.placed.items ps choice other compiled same built linked)
 
-  pub cause_for : AreNoLonger u m c p r.planned.placed.items → (e : BuildError) → IsLinkCause m ps e → HasCause u m p e
-  cause_for short e cause =
+  pub cause_for : (e : BuildError) → IsLinkCause m ps e → HasCause u m p e
+  cause_for e cause =
       let built : Result Code BuildError = Err e in
-      plain_cause u m c p r.planned.placed.items ps choice other short same built cause
+      cause_compiled u m c p r.planned.placed.items ps choice other compiled same built cause
       (covered.err_for u m c p r.planned.placed.items ps machine over choice program offers (placed_for u m c p r are) same other kept supplied built cause)

@@ -8,7 +8,7 @@ ghost use Rattle.tta_program.specs.Rules.{IsProgram};
 ghost use Rattle.tta_lower.specs.Statement.{IsCause};
 ghost use Rattle.tta_link.specs.Blocks.{total_length};
 ghost use Rattle.tta_compose.specs.Needs.{are_offered};
-ghost use Rattle.tta_build.specs.Parts.{AreNoLonger};
+ghost use Rattle.tta_build.specs.Compiled.{AreNoLonger};
 ghost use Rattle.tta_build.specs.Sharing.{AreGivenBy};
 ghost use Rattle.tta_stages.specs.Lowered.{IsLoweredAs};
 ghost use Rattle.tta_stages.specs.Stages.{AreCoveredLists, AreListed};

@@ -1,6 +1,6 @@
 use Rattle.tta_ops.specs.Set.{stated}
 use Rattle.tta_build.proofs.CoveredCode.{are_blocks, ok_for, err_for}
-use Rattle.tta_build.proofs.NoLonger.{plain_cause}
+use Rattle.tta_build.proofs.NoLonger.{code_compiled, cause_compiled}
 use Rattle.tta_build.proofs.covered.code_with.Goals as goal
 
 pub link_placed-code-requires : goal.link_placed-code-requires
@@ -15,12 +15,16 @@ returns-clause-code g c =
     ok_for U c.args.on.now.machine.now c.args.on.now.choice.now c.args.p.now c.in_ok-ps.ps.items c.as_slice.result.now c.requires.machine c.requires.over c.args.on.now.choice_of
     c.requires.program c.requires.offered c.in_ok-ps.ensures.placed c.as_slice.ensures.value c.requires.other c.requires.kept c.requires.supplied
     c.link_placed-code.result c.link_placed-code.ensures.linked c.link_placed-code.ensures.legal
+    (code_compiled U c.args.on.now.machine.now c.args.on.now.choice.now c.args.p.now c.in_ok-ps.ps.items c.as_slice.result.now c.args.on.now.choice_of
+    c.requires.other (record { placed = c.in_ok-ps.ensures.placed; short = c.in_ok-ps.ensures.plain }) c.as_slice.ensures.value
+    c.link_placed-code.result c.link_placed-code.ensures.linked)
 
 pub returns-clause-cause : goal.returns-clause-cause
 returns-clause-cause g c =
     let U = stated (λ v. (goal.OpUnit-dyn g v).unit_meaning v.1) c.args.units.now in
-    plain_cause U c.args.on.now.machine.now c.args.on.now.choice.now c.args.p.now c.in_ok-ps.ps.items c.as_slice.result.now c.args.on.now.choice_of
-    c.requires.other c.in_ok-ps.ensures.plain c.as_slice.ensures.value c.link_placed-code.result c.link_placed-code.ensures.cause
+    cause_compiled U c.args.on.now.machine.now c.args.on.now.choice.now c.args.p.now c.in_ok-ps.ps.items c.as_slice.result.now c.args.on.now.choice_of
+    c.requires.other (record { placed = c.in_ok-ps.ensures.placed; short = c.in_ok-ps.ensures.plain }) c.as_slice.ensures.value
+    c.link_placed-code.result c.link_placed-code.ensures.cause
     (err_for U c.args.on.now.machine.now c.args.on.now.choice.now c.args.p.now c.in_ok-ps.ps.items c.as_slice.result.now c.requires.machine c.requires.over c.args.on.now.choice_of
     c.requires.program c.requires.offered c.in_ok-ps.ensures.placed c.as_slice.ensures.value c.requires.other c.requires.kept c.requires.supplied
     c.link_placed-code.result c.link_placed-code.ensures.cause)

@@ -9,6 +9,7 @@ returns-clause-built g c =
       agrees = code.agrees c.in_ok-init.init init.laid;
       packed = code.packed;
       room = code.room;
+      compiled = code.compiled;
       legal = record {
         code = code.legal;
         rises = init.rises;

@@ -25,7 +25,7 @@ returns-in-Ok-clause-passages g c =
       linked = subst (λ (ps : List Placed). IsLinked m c.in-Ok.code ps) c.as_slice.ensures.value linked;
       code = code_for U m c.args.on.now.choice.now p c.in_ok-listed.listed c.in_ok-listed.ensures.lists c.requires.machine c.requires.over
           c.args.on.now.choice_of c.requires.program c.requires.offered c.requires.other c.requires.kept c.requires.supplied c.as_slice.result.now c.as_slice.ensures.value
-          c.in-Ok.code linked c.in-Ok.ensures.legal;
+          c.in_ok-listed.ensures.plain c.in-Ok.code linked c.in-Ok.ensures.legal;
     }
 
 pub returns-in-Err-clause-cause : goal.returns-in-Err-clause-cause
