@@ -6,3 +6,5 @@ pub mod AcceptedPairs
 pub mod RunsTaken
 pub mod NetStages
 pub mod NetTaken
+pub mod TextsPut
+pub mod ViewsTaken

@@ -30,7 +30,7 @@ input_only space bytes memory status.NoMemory is bad = refl
 input_only space bytes memory s is bad = absurd bad
 
 -- and so are those of an input
-words_only : (bytes words : List ℕ) (s : Status) → IsInput bytes words → RefusesStream bytes s → s ≡ status.NoMemory
+pub words_only : (bytes words : List ℕ) (s : Status) → IsInput bytes words → RefusesStream bytes s → s ≡ status.NoMemory
 words_only bytes words (status.BadStream line) is bad = absurd cc
 words_only bytes words status.NoMemory is bad = refl
 words_only bytes words s is bad = absurd bad
@@ -73,18 +73,33 @@ module _ (u : Units) (store : Store) (faults : ℕ) (latest : Option Fault) (aft
       file_only store faults latest after none IsInput RefusesStream name words 5 s (λ bytes. words_only bytes words s) is fails
 
   module _ (IN : List ℕ) (STREAM : Option (List ℕ)) (old new : Output) (s : Status) where
-    -- what is run is known
-    given_only : (space : ℕ) (Reports : (memory words : List ℕ) → (old new : Output) → Status → Type 0) (a : HasGiven space (Some store) IN STREAM)
-        → (Reports a.input.value a.stream.words old new s → (s ≡ status.Ok) ⊎ (s ≡ status.NoMemory))
-        → GivenRuns space Reports IN STREAM before after old new s → (s ≡ status.Ok) ⊎ (s ≡ status.NoMemory)
-    given_only space Reports a done (inl (inl fails, q)) = inr (memory_only space IN s a.input fails)
-    given_only space Reports a done (inl (inr (input, fails), q)) = inr (stream_only STREAM a.stream.words s a.stream.is fails)
-    given_only space Reports a done (inr (b, same, reports)) =
+    -- what is run is known, and what follows where memory lacks and where the run reports
+    given_so : {Follows : Type 0} → (s ≡ status.NoMemory → Follows)
+        → (space : ℕ) (Reports : (memory words : List ℕ) → (old new : Output) → Status → Type 0) (a : HasGiven space (Some store) IN STREAM)
+        → (Reports a.input.value a.stream.words old new s → Follows) → GivenRuns space Reports IN STREAM before after old new s → Follows
+    given_so lacks space Reports a done (inl (inl fails, q)) = lacks (memory_only space IN s a.input fails)
+    given_so lacks space Reports a done (inl (inr (input, fails), q)) = lacks (stream_only STREAM a.stream.words s a.stream.is fails)
+    given_so lacks space Reports a done (inr (b, same, reports)) =
         let memory = same_memory store space IN b.input a.input in
         let words = same_words store STREAM b.stream.words a.stream.words b.stream.is a.stream.is in
         done (subst (λ w. Reports a.input.value w old new s) words (subst (λ v. Reports v b.stream.words old new s) memory reports))
 
     -- and the same from the machine on
+    pub runs_so : {Follows V : Type 0} → (s ≡ status.NoMemory → Follows)
+        → (Says : MachineFile → List ℕ → V → Type 0) (Refuses : MachineFile → List ℕ → Status → Type 0)
+        (Reports : MachineFile → V → (memory words : List ℕ) → (old new : Output) → Status → Type 0) (M name : List ℕ)
+        (a : HasPair u Says (Some store) M name) (given : HasGiven a.machine.value.machine.data_words (Some store) IN STREAM)
+        → ((bytes : List ℕ) → Says a.machine.value bytes a.second.value → Refuses a.machine.value bytes s → s ≡ status.NoMemory)
+        → ((bytes : List ℕ) (v : V) → Says a.machine.value bytes v → Says a.machine.value bytes a.second.value → v ≡ a.second.value)
+        → (Reports a.machine.value a.second.value given.input.value given.stream.words old new s → Follows)
+        → PairRuns u Says Refuses Reports M name IN STREAM before after old new s → Follows
+    runs_so lacks Says Refuses Reports M name a given only one done (inl (fails, q)) =
+        lacks (pair_only u store faults latest after none Says Refuses M name s a only fails)
+    runs_so lacks Says Refuses Reports M name a given only one done (inr (b, ends)) =
+        given_so lacks a.machine.value.machine.data_words (Reports a.machine.value a.second.value) given done
+        (for_pair u store Says M name a b one (λ file v. GivenRuns file.machine.data_words (Reports file v) IN STREAM before after old new s) ends)
+
+    -- so a run that is done where it reports is done, or memory lacks
     pub runs_only : {V : Type 0} → (Says : MachineFile → List ℕ → V → Type 0) (Refuses : MachineFile → List ℕ → Status → Type 0)
         (Reports : MachineFile → V → (memory words : List ℕ) → (old new : Output) → Status → Type 0) (M name : List ℕ)
         (a : HasPair u Says (Some store) M name) (given : HasGiven a.machine.value.machine.data_words (Some store) IN STREAM)
@@ -92,8 +107,4 @@ module _ (u : Units) (store : Store) (faults : ℕ) (latest : Option Fault) (aft
         → ((bytes : List ℕ) (v : V) → Says a.machine.value bytes v → Says a.machine.value bytes a.second.value → v ≡ a.second.value)
         → (Reports a.machine.value a.second.value given.input.value given.stream.words old new s → (s ≡ status.Ok) ⊎ (s ≡ status.NoMemory))
         → PairRuns u Says Refuses Reports M name IN STREAM before after old new s → (s ≡ status.Ok) ⊎ (s ≡ status.NoMemory)
-    runs_only Says Refuses Reports M name a given only one done (inl (fails, q)) =
-        inr (pair_only u store faults latest after none Says Refuses M name s a only fails)
-    runs_only Says Refuses Reports M name a given only one done (inr (b, ends)) =
-        given_only a.machine.value.machine.data_words (Reports a.machine.value a.second.value) given done
-        (for_pair u store Says M name a b one (λ file v. GivenRuns file.machine.data_words (Reports file v) IN STREAM before after old new s) ends)
+    runs_only Says Refuses Reports M name a given only one done ends = runs_so inr Says Refuses Reports M name a given only one done ends

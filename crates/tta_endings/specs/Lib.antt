@@ -15,3 +15,4 @@ pub mod WriteCompletes
 pub mod PutCompletes
 pub mod SampleHalts
 pub mod NetCompletes
+pub mod ViewCompletes

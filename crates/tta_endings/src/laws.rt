@@ -19,6 +19,9 @@ ghost use Rattle.tta_endings.specs.WriteCompletes.{BuildConvertedCompletesWithou
 ghost use Rattle.tta_endings.specs.PutCompletes.{ExecCompletes, RunCompletes};
 ghost use Rattle.tta_endings.specs.PutCompletes.{DebugCompletes, CheckCompletes, SampleCompletes};
 ghost use Rattle.tta_endings.specs.NetCompletes.{NetCompletes};
+ghost use Rattle.tta_endings.specs.ViewCompletes.{MachineViewCompletes, CodeViewCompletes};
+ghost use Rattle.tta_endings.specs.ViewCompletes.{RunViewCompletes, PromptCompletes};
+ghost use Rattle.tta_endings.specs.ViewCompletes.{StagesCompletes, StagesCompletesWithoutRoom};
 ghost use Rattle.tta_endings.specs.SampleHalts.{SampleHalts};
 
 /// `build` takes every machine and program that are accepted and have room: where no call on the
@@ -101,6 +104,41 @@ pub fn sample_halts()
 /// memory, where no call fails.
 pub fn net_completes()
     ensures { NetCompletes }
+{}
+
+/// `picture` and `info` take every machine: where no call fails, they put their text or are out of
+/// memory.
+pub fn machine_view_completes()
+    ensures { MachineViewCompletes }
+{}
+
+/// So do both with every image for a machine.
+pub fn code_view_completes()
+    ensures { CodeViewCompletes }
+{}
+
+/// `profile` and `play` take every image for a machine, and every program that is accepted with
+/// it, with their data words and input: where no call fails, they put their text, are out of memory,
+/// or find the program's code too long.
+pub fn run_view_completes()
+    ensures { RunViewCompletes }
+{}
+
+/// `stages` takes every machine and program that are accepted and have room: where no call fails,
+/// it puts its text or is out of memory.
+pub fn stages_completes()
+    ensures { StagesCompletes }
+{}
+
+/// Whatever their room, it may also find the code too long.
+pub fn stages_completes_without_room()
+    ensures { StagesCompletesWithoutRoom }
+{}
+
+/// `prompt` takes every image for a machine with its data words and input: where no call fails and
+/// the lines are not too long, it is done or out of memory.
+pub fn prompt_completes()
+    ensures { PromptCompletes }
 {}
 
 /// What holds where `build` ends with a status, for each status.
