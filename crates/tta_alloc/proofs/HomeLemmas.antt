@@ -7,6 +7,7 @@ use Rattle.std.proofs.lemmas.Option.{slice_get_within}
 use Rattle.std.proofs.lemmas.List.{length-set}
 use Rattle.std.proofs.lemmas.List.Sums.{sum_by-cons}
 use Rattle.tta_list.proofs.Lists.{slice_get-longer, slice_get-back, some_within}
+use Rattle.tta_list.proofs.Tests.{some_same}
 use Rattle.tta_program.specs.declared.program.Proc.{Proc}
 use Rattle.tta_program.specs.Program.{Program}
 use Rattle.tta_program.specs.Rules.{IsProgram}
@@ -38,9 +39,6 @@ steps_few (r ∷ procs) zero q e =
     let same : r ≡ q = some_same e in
     let n = ap (λ (s : Proc). length s.steps) same in
     let c = sum_by-cons (λ (s : Proc). length s.steps) r procs in omega arith
-  where
-    some_same : {x y : Proc} → Some x ≡ Some y → x ≡ y
-    some_same s = cc
 steps_few (r ∷ procs) (suc k) q e =
     let rest = steps_few procs k q e in
     let c = sum_by-cons (λ (s : Proc). length s.steps) r procs in omega arith
@@ -66,9 +64,6 @@ known inside p procs owner q blocks live t reached view rules read below is flow
       let b = flow.sound h.at h.block h.is in
       let same : b.proc ≡ q = some_same (sym b.is ∙ ap (slice_get p.procs) h.mine ∙ there) in
       subst (λ (r : Proc). Reached r.steps i) same (b.block.reached i h.low h.high)
-    where
-      some_same : {x y : Proc} → Some x ≡ Some y → x ≡ y
-      some_same s = cc
 
 -- what the same blocks hold
 pub held : {blocks read : List Block} {o i : ℕ} {A : Type 0} → read ≡ blocks → (A → Holds read o i) → A → Holds blocks o i
@@ -135,9 +130,6 @@ given_more P p n all new q v there h is grown = record {
           subst (λ (s : Proc). P s v.items) alike is,
         ),
       )
-    where
-      some_same : {x y : Proc} → Some x ≡ Some y → x ≡ y
-      some_same s = cc
 
 pub given_all : (P : Proc → List Home → Type 0) → ((q : Proc) (answer : List Home) → P q answer → length answer ≡ q.vars)
     → (p : Program) (procs : List Proc) (n : ℕ) (h : Homes) → procs ≡ p.procs → length procs ≤ n → AreGiven P p n h.procs.items

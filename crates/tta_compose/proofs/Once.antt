@@ -13,7 +13,7 @@ use Rattle.tta_alloc.specs.Scan.{scan}
 use Rattle.tta_alloc.specs.Homes.{home_of}
 use Rattle.tta_compose.specs.Once.{OneFlow, OneLiveness, OneSlots}
 use Rattle.tta_alloc.proofs.TurnLemmas.{never_before}
-use Rattle.tta_list.proofs.Tests.{same_bool}
+use Rattle.tta_list.proofs.Tests.{same_bool, some_same}
 
 -- ---- lists in a strict order
 
@@ -100,9 +100,7 @@ one_taken q a b are other =
 
 -- two homes of a list by one number are one
 home_is : (answer : List Home) (x : ℕ) (home : Home) → slice_get answer x ≡ Some home → (slice_get answer x ≡ Some (Slot x)) ↔ (home ≡ Slot x)
-home_is answer x home e = (λ f. some_same (sym e ∙ f), λ f. e ∙ ap (λ (z : Home). Some z) f) where
-  some_same : {a b : Home} → Some a ≡ Some b → a ≡ b
-  some_same f = cc
+home_is answer x home e = (λ f. some_same (sym e ∙ f), λ f. e ∙ ap (λ (z : Home). Some z) f)
 
 pub one_slots : OneSlots
 one_slots p homes h k is other owner x q there small =

@@ -4,7 +4,7 @@ use Rattle.std.specs.Prelude.{◌&&◌, ◌==◌, slice_get}
 use Rattle.std.specs.Option.{option_map_or}
 use Rattle.std.proofs.lemmas.Option.{slice_get_within, slice_get_read}
 use Rattle.std.proofs.lemmas.Bool.{eqb-true, or_cases, ltb-true}
-use Rattle.tta_list.proofs.Tests.{and_left, and_right}
+use Rattle.tta_list.proofs.Tests.{and_left, and_right, some_same}
 use Rattle.tta_list.proofs.Lists.{list_all_one, all_one, slice_get-longer, slice_get-back}
 use Rattle.tta_program.specs.declared.step.Step.{Step}
 use Rattle.tta_program.specs.declared.step.Step.TheVariants.{If, Goto, End}
@@ -174,12 +174,9 @@ flow_more p n q blocks more is h m = record {
       let w = h.covers owner i r less e reach in
       record { at = w.at; block = w.block; is = slice_get-longer blocks more w.at w.block w.is; mine = w.mine; low = w.low; high = w.high }
   covers owner i r e reach (inr s) =
-      let same : r ≡ q = same_some (sym e ∙ ap (slice_get p.procs) s ∙ is) in
+      let same : r ≡ q = some_same (sym e ∙ ap (slice_get p.procs) s ∙ is) in
       let w = m.covers i (subst (λ (x : Proc). Reached x.steps i) same reach) in
       record { at = length blocks + w.at; block = w.block; is = slice_get-back blocks more w.at ∙ w.is; mine = w.mine ∙ sym s; low = w.low; high = w.high }
-    where
-      same_some : {x y : Proc} → Some x ≡ Some y → x ≡ y
-      same_some s = cc
 
   mine : (b : Block) (j : ℕ) → slice_get more j ≡ Some b → (b.owner ≡ n) × IsBlockOf p b
   mine b j e =
@@ -197,15 +194,12 @@ flow_more p n q blocks more is h m = record {
   whole : (b : Block) → IsBlockOf p b → (b.owner < n) ⊎ (b.owner ≡ n) → (k : ℕ) × (slice_get (blocks ++ more) k ≡ Some b)
   whole b r (inl l) = let w = h.whole b l r in (w.0, slice_get-longer blocks more w.0 b w.1)
   whole b r (inr e) =
-      let same : r.proc ≡ q = same_some (sym r.is ∙ ap (slice_get p.procs) e ∙ is) in
+      let same : r.proc ≡ q = some_same (sym r.is ∙ ap (slice_get p.procs) e ∙ is) in
       let w = m.whole b.first b.last (subst (λ (x : Proc). IsBlock x.steps b.first b.last) same r.block) in (
         length blocks + w.0,
         slice_get-back blocks more w.0 ∙ w.1
             ∙ ap (λ (o : ℕ). Some (record { owner = o; first = b.first; last = b.last })) (sym e),
       )
-    where
-      same_some : {x y : Proc} → Some x ≡ Some y → x ≡ y
-      same_some s = cc
 
   rising : (j k : ℕ) (a b : Block) → j < k
       → (slice_get blocks j ≡ Some a) ⊎ ((i : ℕ) × ((j ≡ length blocks + i) × (slice_get more i ≡ Some a)))

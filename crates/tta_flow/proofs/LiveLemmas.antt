@@ -5,7 +5,7 @@ use Rattle.std.specs.Option.{option_map_or}
 use Rattle.std.proofs.lemmas.Bool.{eq-eqb, eqb-true}
 use Rattle.std.proofs.lemmas.Option.{slice_get-map, slice_get_read, slice_get_within}
 use Rattle.std.proofs.Math.Bool.{or-true}
-use Rattle.tta_list.proofs.Tests.{and_left, and_right}
+use Rattle.tta_list.proofs.Tests.{and_left, and_right, some_same}
 use Rattle.tta_list.proofs.Lists.{slice_get-longer, slice_get-back}
 use Rattle.tta_program.specs.declared.step.Step.{Step}
 use Rattle.tta_program.specs.declared.program.Proc.{Proc}
@@ -110,12 +110,9 @@ lives_more procs n lives new q l below is h here grown = record {
       (w.0, (ap (λ ls. slice_get ls k) grown ∙ slice_get-longer lives (l ∷ []) k w.0 w.1.0, w.1.1))
   all k r e (inr same) =
       let there = slice_get_read procs (length procs) n q refl below is in
-      let alike : q ≡ r = same_some (sym there ∙ ap (slice_get procs) (sym same) ∙ e) in
+      let alike : q ≡ r = some_same (sym there ∙ ap (slice_get procs) (sym same) ∙ e) in
       let at : k ≡ length lives + 0 = (let c = h.count in omega arith) in
       (l, (ap (λ ls. slice_get ls k) grown ∙ ap (slice_get (lives ++ l ∷ [])) at ∙ slice_get-back lives (l ∷ []) 0, subst (λ (s : Proc). IsLiveProc s l) alike here))
-    where
-      same_some : {x y : Proc} → Some x ≡ Some y → x ≡ y
-      same_some s = cc
 
 pub lives_all : (p : Program) (procs : List Proc) (n : ℕ) (live : Live) → procs ≡ p.procs → length procs ≤ n → AreLive procs n live.procs.items → IsLive p live
 unfolding live_before live_after

@@ -6,7 +6,7 @@ use Rattle.std.proofs.lemmas.Bool.{cases_eq, eq-eqb, ne_eqb, or_cases}
 use Rattle.std.proofs.lemmas.Option.{slice_get_read}
 use Rattle.std.proofs.lemmas.List.{length-set}
 use Rattle.std.proofs.Math.Bool.{or-true}
-use Rattle.tta_list.proofs.Tests.{and_left, and_right}
+use Rattle.tta_list.proofs.Tests.{and_left, and_right, some_same}
 use Rattle.tta_program.specs.declared.step.Step.{Step}
 use Rattle.tta_flow.specs.declared.bits.BitRow.{BitRow}
 use Rattle.tta_flow.specs.declared.rows.Work.{Work}
@@ -160,12 +160,10 @@ module _ (steps : List Step) (vars at : ℕ) (step : Step) (grown : Bool) (row f
   filled_wide : (k : ℕ) (r : BitRow) → slice_get new.rows.items k ≡ Some r → length r.words.items ≡ vars / 64 + 1
   filled_wide k r e = elim (cases_eq at k) [
     | inl same ↦
-        let alike : filled ≡ r = same_some (sym filled_there ∙ ap (slice_get new.rows.items) same ∙ e) in
+        let alike : filled ≡ r = some_same (sym filled_there ∙ ap (slice_get new.rows.items) same ∙ e) in
         ap (λ (b : BitRow). length b.words.items) (sym alike) ∙ f.grows.room ∙ f.work.wide at row row_there
     | inr other ↦ f.work.wide k r (sym (other_rows k other) ∙ e)
-  ] where
-    same_some : {x y : BitRow} → Some x ≡ Some y → x ≡ y
-    same_some s = cc
+  ]
 
   has_filled : (x : ℕ) → has_at new.rows.items at x ≡ has filled x
   has_filled x = ap (λ o. option_map_or (λ row. has row x) o false) filled_there

@@ -38,6 +38,7 @@ use Rattle.tta_lower.proofs.Walks.{Walked, walked-after, walked-code}
 use Rattle.tta_lower.proofs.Blocks.{walk-from}
 use Rattle.tta_lower.proofs.SettingUp.{set-up}
 use Rattle.tta_list.proofs.Lists.{drop-there}
+use Rattle.tta_list.proofs.Tests.{some_same}
 
 -- the return address is kept in a slot
 save-ra : (u : Units) (at : ℕ) (regs : List (ℕ × ℕ)) (frame : List (ℕ × Kept)) (ra : Option ℕ) (memory input output : List ℕ) (slot to : ℕ) → ra ≡ Some to
@@ -124,13 +125,8 @@ module _ (u : Units) (p : Program) (known : Known) (r : Rir) (number : ℕ → �
 
       in-slot : x ≢ a.d → (o : Option ℕ) → known.home f.proc x ≡ o → word (stay (ret.code).live_out (put_reg (place p known.home f.proc a.d) (slice_index f.vars a.d) regs)) (put_slot (place p known.home f.proc a.d) (slice_index f.vars a.d) frame) (place_by p known.home f.proc x o) ≡ Some (slice_index f.vars x)
       in-slot ne (Some j) is =
-          absurd (none-some j (sym (homes.saved f.proc (a.block).last a.callee x (Some a.d) a.args reached-here a.call after (λ e. ne (number_same (sym e)))) ∙ is)) where
-            number_same : {a b : ℕ} → Some a ≡ Some b → a ≡ b
-            number_same e = cc
-      in-slot ne None is = go (known.home f.proc a.d) ∙ a.saved x after (λ e. ne (number_same (sym e))) where
-        number_same : {a b : ℕ} → Some a ≡ Some b → a ≡ b
-        number_same e = cc
-
+          absurd (none-some j (sym (homes.saved f.proc (a.block).last a.callee x (Some a.d) a.args reached-here a.call after (λ e. ne (some_same (sym e)))) ∙ is))
+      in-slot ne None is = go (known.home f.proc a.d) ∙ a.saved x after (λ e. ne (some_same (sym e))) where
         go : (o : Option ℕ) → plain (found (var_slot p f.proc x) (put_slot (place_by p known.home f.proc a.d o) (slice_index f.vars a.d) frame)) ≡ plain (found (var_slot p f.proc x) frame)
         go (Some j) = refl
         go None = ap plain (found-other (var_slot p f.proc a.d) (var_slot p f.proc x) (Plain (slice_index f.vars a.d)) frame (λ e. ne (omega (arith, e))))

@@ -19,6 +19,7 @@ use Rattle.tta_lower.proofs.Exits.{code_from-more}
 use Rattle.tta_lower.proofs.Staying.{any-there}
 use Rattle.tta_program.specs.Direct.{only_constants, puts, alone}
 use Rattle.tta_rcode.specs.Direct.{one_block}
+use Rattle.tta_list.proofs.Tests.{some_same}
 
 -- the step at which such a run ends
 ends-there : (steps : List Step) → only_constants steps ≡ true → (slice_get steps (length (puts steps)) ≡ Some Halt) ⊎ (slice_get steps (length (puts steps)) ≡ Some End)
@@ -46,10 +47,6 @@ module _ (q : Proc) (init : List DataLine) (only : only_constants q.steps ≡ tr
   put-at : (i : ℕ) → i < last → step_at (alone q init) 0 i ≡ Some (Put (Word (get_or (puts q.steps) i 0)))
   put-at i lt = puts-there q.steps i lt
 
-  -- the step at a place is one
-  same-step : {a b : Step} → Some a ≡ Some b → a ≡ b
-  same-step e = cc
-
   -- what the last step is
   data IsLast (st : Step) : Type 0 where
     IsHalt : st ≡ Halt → IsLast st
@@ -59,8 +56,8 @@ module _ (q : Proc) (init : List DataLine) (only : only_constants q.steps ≡ tr
   last-is : (st : Step) → step_at (alone q init) 0 last ≡ Some st → IsLast st
   last-is st there = by (ends-there q.steps only) where
     by : (slice_get q.steps (length (puts q.steps)) ≡ Some Halt) ⊎ (slice_get q.steps (length (puts q.steps)) ≡ Some End) → IsLast st
-    by (inl e) = IsHalt (same-step (sym there ∙ e))
-    by (inr e) = IsEnd (same-step (sym there ∙ e))
+    by (inl e) = IsHalt (some_same (sym there ∙ e))
+    by (inr e) = IsEnd (some_same (sym there ∙ e))
 
   -- the last step leads nowhere
   stops : (st : Step) (at to : ℕ) → IsLast st → leads st at to ≡ true → ⊥
@@ -74,7 +71,7 @@ module _ (q : Proc) (init : List DataLine) (only : only_constants q.steps ≡ tr
     by : (from ≡ last) ⊎ ((from < last) ⊎ (last < from)) → from ≤ last → at ≤ last
     by (inl e) le = absurd (stops st from at (last-is st (ap (step_at (alone q init) 0) (sym e) ∙ there)) goes)
     by (inr (inl lt)) le =
-        let is : st ≡ Put (Word (get_or (puts q.steps) from 0)) = same-step (sym there ∙ put-at from lt) in
+        let is : st ≡ Put (Word (get_or (puts q.steps) from 0)) = some_same (sym there ∙ put-at from lt) in
         let next : (from + 1 == at) ≡ true = sym (ap (λ s. leads s from at) is) ∙ goes in
         omega (arith, eqb-true (from + 1) at next, lt)
     by (inr (inr gt)) le = absurd (omega (arith, le, gt))
@@ -96,10 +93,10 @@ module _ (q : Proc) (init : List DataLine) (only : only_constants q.steps ≡ tr
       none : IsLast st → ⊥
       none (IsHalt h) = false≢true (sym (ap (λ s. names_step s to) h) ∙ named)
       none (IsEnd h) = false≢true (sym (ap (λ s. names_step s to) h) ∙ named)
-    by (inr (inl lt)) le = false≢true (sym (ap (λ s. names_step s to) (same-step (sym there ∙ put-at from lt))) ∙ named)
+    by (inr (inl lt)) le = false≢true (sym (ap (λ s. names_step s to) (some_same (sym there ∙ put-at from lt))) ∙ named)
     by (inr (inr gt)) le = omega (arith, le, gt)
   first-alone j (AfterStep i at st there cuts is) le =
-      absurd (false≢true (sym cuts ∙ ap is_plain (same-step (sym there ∙ put-at i (omega (arith, is, le))))))
+      absurd (false≢true (sym cuts ∙ ap is_plain (some_same (sym there ∙ put-at i (omega (arith, is, le))))))
 
   -- ---- the one block
 
@@ -148,7 +145,7 @@ module _ (q : Proc) (init : List DataLine) (only : only_constants q.steps ≡ tr
         none : IsLast st → ⊥
         none (IsHalt h) = false≢true (sym (ap (λ s. reads s x) h) ∙ read)
         none (IsEnd h) = false≢true (sym (ap (λ s. reads s x) h) ∙ read)
-      by (inr (inl lt)) = false≢true (sym (ap (λ s. reads s x) (same-step (sym there ∙ put-at at lt))) ∙ read)
+      by (inr (inl lt)) = false≢true (sym (ap (λ s. reads s x) (some_same (sym there ∙ put-at at lt))) ∙ read)
       by (inr (inr gt)) = omega (arith, le, gt)
     not-live x i (Leads at to st there other goes live) le =
         not-live x to live (within to (Then at to st (comes at le) there goes))

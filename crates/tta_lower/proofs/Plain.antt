@@ -21,6 +21,7 @@ use Rattle.tta_lower.specs.Layout.{vars_of, var_slot, place, place_by, source, s
 use Rattle.tta_lower.specs.Relation.{running, going, HeldBefore, HeldAfter, Untouched}
 use Rattle.tta_lower.proofs.Lookups.{found-other, word-same, word-other}
 use Rattle.tta_lower.proofs.Steps.{step_of, places-apart}
+use Rattle.tta_list.proofs.Tests.{some_same}
 
 -- ---- what a step leaves
 
@@ -59,9 +60,7 @@ module _ (u : Units) (p : Program) (home : Homes) (homes : IsHomes p home) (soun
     pub live-before : (x : ℕ) → LiveAfter p f.proc x f.at → assigned st ≢ Some x → LiveBefore p f.proc x f.at
     live-before x (After to s is goes live) ne =
         let same : s ≡ st = some_same (sym is ∙ there) in
-        Leads f.at to s is (λ e. ne (ap assigned (sym same) ∙ e)) goes live where
-          some_same : {a b : Step} → Some a ≡ Some b → a ≡ b
-          some_same e = cc
+        Leads f.at to s is (λ e. ne (ap assigned (sym same) ∙ e)) goes live
 
     -- nothing was assigned
     pub held-kept : assigned st ≡ None → HeldAfter p home f regs frame f.at
@@ -71,10 +70,8 @@ module _ (u : Units) (p : Program) (home : Homes) (homes : IsHomes p home) (soun
     held-same : (d : ℕ) → assigned st ≡ Some d → reads st d ≡ true → HeldAfter p home f regs frame f.at
     held-same d is reads_d x live = elim (cases_eq x d) as (λ c. word regs frame (place p home f.proc x) ≡ Some (slice_index f.vars x)) [
       | inl e ↦ held x (Reads f.at st there (ap (reads st) e ∙ reads_d))
-      | inr ne ↦ held x (live-before x live (λ e. ne (number_same (sym e ∙ is))))
-    ] where
-      number_same : {a b : ℕ} → Some a ≡ Some b → a ≡ b
-      number_same e = cc
+      | inr ne ↦ held x (live-before x live (λ e. ne (some_same (sym e ∙ is))))
+    ]
 
     -- a variable was assigned
     held-assigned : (d w : ℕ) → assigned st ≡ Some d → d < vars_of p f.proc
@@ -85,10 +82,8 @@ module _ (u : Units) (p : Program) (home : Homes) (homes : IsHomes p home) (soun
           rw (get_or-set_other f.vars d x w 0 ne)
           (word-other (place p home f.proc d) (place p home f.proc x) w regs frame
           (λ e. places-apart p home homes f.proc f.at d x reached (ByAssigned st there is) (ByAfter live) (λ s. ne (sym s)) e)
-          ∙ held x (live-before x live (λ e. ne (number_same (sym e ∙ is)))))
-    ] where
-      number_same : {a b : ℕ} → Some a ≡ Some b → a ≡ b
-      number_same e = cc
+          ∙ held x (live-before x live (λ e. ne (some_same (sym e ∙ is)))))
+    ]
 
     untouched-put : (d w : ℕ) → d < vars_of p f.proc → Untouched p f.proc frame (put_slot (place p home f.proc d) w frame)
     untouched-put d w within slot ne = by (home f.proc d) where

@@ -17,6 +17,7 @@ use Rattle.tta_moves.specs.declared.items.Item.{Item}
 use Rattle.tta_moves.specs.declared.items.LongValue.TheVariants as long
 use Rattle.tta_moves.specs.Meaning.{Exit, Next, Leaves, Held}
 use Rattle.tta_list.specs.Legs.{ToBlock, ToHalt}
+use Rattle.tta_list.proofs.Tests.{some_same}
 use Rattle.tta_moves.specs.Runs.{block_at, leave_of}
 use Rattle.tta_rcode.specs.declared.code.RSrc.{RSrc}
 use Rattle.tta_rcode.specs.declared.code.Exit.{Exit as RExit}
@@ -101,9 +102,7 @@ module _ (u : Units) (m : Machine) (c : Choice) (addr : List ℕ) (back : ℕ) (
           back = λ b is. ap Some (here ∙ ap (λ k. slice_index addr k) (some_same is));
         };
         leads = finish u m c addr back false h _ None dest.Call (slice_index addr to) y _ (move_call u m addr back y.mid y.src (slice_index addr to) (y.calm.exit ∙ match.exits) y.word);
-      } where
-        some_same : {i j : ℕ} → Some i ≡ Some j → i ≡ j
-        some_same e = cc
+      }
 
   if_exit : (s : State) (h : Held) (rel : Rel) (a b : RSrc) (to : ℕ) → Matches m c addr Next s h → is_set s a ≡ true → is_set s b ≡ true → is_src_of m c a ≡ true → is_src_of m c b ≡ true
       → IsServed m c (test_op u rel) → Left s h (rexit.If rel a b to) (items_of_exit m c u (rexit.If rel a b to))

@@ -4,6 +4,7 @@ use Rattle.std.specs.Prelude.{if◌then◌else◌, ◌==◌, ◌&&◌, ◌||◌,
 use Rattle.std.specs.List.{list_all}
 use Rattle.std.proofs.lemmas.Bool.Decides.{nat_tests}
 use Rattle.tta_list.proofs.Lists.{list_all_one}
+use Rattle.tta_list.proofs.Tests.{some_same}
 use Rattle.tta_arch.specs.declared.parts.Unit.{Unit as OpUnit}
 use Rattle.tta_arch.specs.declared.parts.UnitOp.{UnitOp}
 use Rattle.tta_arch.specs.declared.parts.Op.{Op}
@@ -58,9 +59,6 @@ offered_there m rules usable op f e =
     let d = first_there (call_if op a.at) a.item.ops f b.1 in
     let t = if_true (same_op d.item.op op) (Some (record { unit = a.at; op = d.at; does = d.item })) f (d.answers) in
     at_call a.at d.at a.item d.item a.there d.there b.0 (same_op_is d.item.op op t.0) f (some_same t.1) where
-      some_same : {x y : Call} → Some x ≡ Some y → x ≡ y
-      some_same e = cc
-
       at_call : (unit k : ℕ) (v : OpUnit) (o : UnitOp) → slice_get m.units unit ≡ Some v → slice_get v.ops k ≡ Some o → has_bit usable unit ≡ true → o.op ≡ op
           → (f : Call) → record { unit = unit; op = k; does = o } ≡ f → Offered m usable op f
       at_call unit k v o hv ho bit is f same =

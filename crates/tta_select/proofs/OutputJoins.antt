@@ -8,6 +8,7 @@ use Rattle.std.proofs.lemmas.Bool.Decides.{nat_tests}
 use Rattle.std.proofs.lemmas.Nat.{pow_pos, pow-add, div_below, le-div}
 use Rattle.std.proofs.lemmas.Option.{slice_get_past}
 use Rattle.tta_list.proofs.Lists.{list_all_one, all_one, some_within}
+use Rattle.tta_list.proofs.Tests.{some_same}
 use Rattle.tta_arch.specs.declared.ends.Source.TheVariants as source
 use Rattle.tta_arch.specs.declared.ends.Dest.TheVariants as dest
 use Rattle.tta_arch.specs.declared.parts.Bus.{Bus}
@@ -143,9 +144,6 @@ can_output m f (w ∷ words) o = o
 -- where a word is brought to the output, there is a unit that outputs it
 pub outputs : (m : Machine) → IsMachine m → (w : ℕ) → brings m w ≡ true → Outputs m (out_of m).unit (out_of m).op
 outputs m rules w e = on (anywhere m Out) refl e where
-  some_same : {x y : Call} → Some x ≡ Some y → x ≡ y
-  some_same e = cc
-
   at_call : (unit k : ℕ) (v : OpUnit) (o : UnitOp) → slice_get m.units unit ≡ Some v → slice_get v.ops k ≡ Some o → o.op ≡ Out → (f : Call) → record { unit = unit; op = k; does = o } ≡ f → Outputs m f.unit f.op
   at_call unit k v o hv ho is f same =
       let unit_ok : is_unit m.sockets v ≡ true = list_all_one (is_unit m.sockets) m.units unit v rules.units hv in

@@ -26,7 +26,7 @@ use Rattle.tta_select.specs.Select.{goes, filled, call_of, trigger_at, hub_at, f
 use Rattle.tta_select.specs.Relation.{is_place_of}
 use Rattle.tta_select.specs.Reaches.{guard_by, HasJoins}
 use Rattle.tta_select.proofs.Everywhere.{IsValue, IsCarried, has_constant, has_carry, IsWays, Merging, fetch_all, value_to, address_all}
-use Rattle.tta_list.proofs.Tests.{eq_same as self_nat}
+use Rattle.tta_list.proofs.Tests.{eq_same as self_nat, some_same}
 
 -- ---- a template that is found
 
@@ -38,9 +38,6 @@ template_in : (m : Machine) (dst : Dest) (guard : Option GuardRef) (t : Field) (
     → find (λ t. joined m (filled t) dst guard) ts ≡ Some t → (joined m (filled t) dst guard ≡ true) × (list_any (fills t.imm t.reg) ts ≡ true)
 template_in m dst guard t [] e = absurd cc
 template_in m dst guard t (x ∷ ts) e = on (joined m (filled x) dst guard) refl e (template_in m dst guard t ts) where
-  some_same : {a b : Field} → Some a ≡ Some b → a ≡ b
-  some_same e = cc
-
   on : (b : Bool) → joined m (filled x) dst guard ≡ b → (if b then Some x else find (λ t. joined m (filled t) dst guard) ts) ≡ Some t
       → (find (λ t. joined m (filled t) dst guard) ts ≡ Some t → (joined m (filled t) dst guard ≡ true) × (list_any (fills t.imm t.reg) ts ≡ true))
       → (joined m (filled t) dst guard ≡ true) × (list_any (fills t.imm t.reg) (x ∷ ts) ≡ true)

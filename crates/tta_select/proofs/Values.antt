@@ -29,6 +29,7 @@ use Rattle.tta_select.proofs.Goes.{Goes, chain}
 use Rattle.tta_select.proofs.Moves.{wrote, Calm, calm_then, calm_loads, calm_wrote, started, move_trigger, move_operand}
 use Rattle.tta_select.proofs.Ways.{Way, finish, way_constant, way_carry}
 use Rattle.tta_select.proofs.Matching.{match_calm, match_aside}
+use Rattle.tta_list.proofs.Tests.{some_same}
 
 -- the operation of a call
 abbrev pub does_of : Machine → Choice → Op → UnitOp
@@ -75,10 +76,8 @@ module _ (u : Units) (m : Machine) (c : Choice) (addr : List ℕ) (back : ℕ) (
   pub way_value : (s : State) (h : Held) (guard : Option GuardRef) (o : RSrc) (dst : Dest) (w : ℕ) → IsServed m c Ldf → Matches m c addr Next s h → operand s o ≡ Some w → is_src_of m c o ≡ true
       → Way u m c addr back true h (value m c guard o dst) guard dst w
   way_value s h guard (rsrc.Word v) dst w served a is inside =
-      let same : v ≡ w = word_same is in
-      way_loads false h _ guard dst w (subst (λ x. Way u m c addr back false h (constant m c guard (long.Word v) dst) guard dst x) same (way_constant u m c addr back g h guard (long.Word v) dst a.exits)) where
-        word_same : {i j : ℕ} → Some i ≡ Some j → i ≡ j
-        word_same e = cc
+      let same : v ≡ w = some_same is in
+      way_loads false h _ guard dst w (subst (λ x. Way u m c addr back false h (constant m c guard (long.Word v) dst) guard dst x) same (way_constant u m c addr back g h guard (long.Word v) dst a.exits))
   way_value s h guard (rsrc.At (Reg k)) dst w served a is inside =
       let low : k < length c.homes = grind (arith, nat_tests) in
       way_loads false h _ guard dst w (way_carry u m c addr back g h guard (from_home m c k) dst w a.exits (a.homes k w low is))

@@ -4,6 +4,7 @@ use Rattle.std.specs.Prelude.{slice_get, is_some}
 use Rattle.std.specs.Option.{option_map_or}
 use Rattle.std.proofs.lemmas.Option.{slice_get_within}
 use Rattle.tta_list.proofs.Lists.{slice_get-push, some_within}
+use Rattle.tta_list.proofs.Tests.{some_same}
 use Rattle.tta_program.specs.declared.program.Proc.{Proc}
 use Rattle.tta_program.specs.Program.{Program}
 use Rattle.tta_alloc.specs.declared.interval.Interval.{Interval}
@@ -28,9 +29,7 @@ each_more p n all new v q there h are grown = record {
         let same : q ≡ r = some_same (sym there ∙ ap (slice_get p.procs) (sym (last.0 ∙ h.count)) ∙ f) in
         subst (λ (u : Vec (Option Interval) Global). AreIntervalsOf r u.items) last.1 (subst (λ (s : Proc). AreIntervalsOf s v.items) same are)
   ];
-} where
-  some_same : {x y : Proc} → Some x ≡ Some y → x ≡ y
-  some_same s = cc
+}
 
 pub each_all : (p : Program) (procs : List Proc) (n : ℕ) (r : Intervals) → procs ≡ p.procs → length procs ≤ n → AreEach p n r.procs.items → AreIntervals p r
 unfolding interval_of
