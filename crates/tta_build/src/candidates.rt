@@ -7,7 +7,7 @@ ghost use Rattle.tta_build.specs.Ways.{AddsCandidates, IsMadeOf, AreOfBlock};
 
 use crate::adding::{push_one, push_some, served_by};
 use std::alloc::{AllocError, Global};
-use tta_connect::{Covered, Joined};
+use tta_connect::Covered;
 use tta_moves::BlockList;
 use tta_optim::Passes;
 use tta_order::{Orders, Rule};
@@ -78,7 +78,7 @@ impl Candidates {
         &mut self,
         alloc: Global,
         list: &BlockList,
-        on: &Joined<'_>,
+        on: &Covered<'_>,
     ) -> Result<Option<BlockList>, AllocError>
         requires list { is_list on.now.machine.now list.now.items ≡ true }
         ensures { IfOk result (λ o. IfSome o (λ r. IsReordered on.now.machine.now list.now r)) }
@@ -98,7 +98,7 @@ impl Candidates {
         &mut self,
         alloc: Global,
         list: &BlockList,
-        on: &Joined<'_>,
+        on: &Covered<'_>,
     ) -> Result<Option<BlockList>, AllocError>
         requires list { is_list on.now.machine.now list.now.items ≡ true }
         ensures { IfOk result (λ o. IfSome o (λ r. IsGrouped on.now.machine.now list.now r)) }
@@ -126,7 +126,7 @@ impl Candidates {
         list: &BlockList,
         most: usize,
         order: Order,
-        on: &Joined<'_>,
+        on: &Covered<'_>,
     ) -> Result<Option<BlockList>, AllocError>
         requires list { is_list on.now.machine.now list.now.items ≡ true }
         ensures { IfOk result (λ o. IfSome o (λ r. IsIn order on.now.machine.now list.now r)) }
@@ -149,7 +149,7 @@ impl Candidates {
         alloc: Global,
         lists: &mut Vec<Candidate>,
         list: &BlockList,
-        on: &Joined<'_>,
+        on: &Covered<'_>,
     ) -> Result<(), AllocError>
         requires list { is_list on.now.machine.now list.now.items ≡ true }
         ensures { let Adds = AddsCandidates on.now.machine.now list.now in
@@ -175,7 +175,7 @@ impl Candidates {
         alloc: Global,
         lists: &mut Vec<Candidate>,
         list: &BlockList,
-        on: &Joined<'_>,
+        on: &Covered<'_>,
     ) -> Result<(), AllocError>
         requires list { is_list on.now.machine.now list.now.items ≡ true }
         ensures { let Adds = AddsCandidates on.now.machine.now list.now in
@@ -193,7 +193,7 @@ impl Candidates {
         &mut self,
         alloc: Global,
         list: &BlockList,
-        on: &Joined<'_>,
+        on: &Covered<'_>,
     ) -> Result<Candidate, AllocError>
         requires list { is_list on.now.machine.now list.now.items ≡ true }
         ensures { IfOk result (λ c. IsMadeOf on.now.machine.now true list.now c) }
@@ -221,23 +221,19 @@ impl Candidates {
         requires list { is_list on.now.machine.now b.now.items ≡ true }
         ensures { IfOk result (λ lists. AreOfBlock on.now.machine.now b.now lists.items) }
     {
-        let joined = Joined {
-            machine: on.machine,
-            net: on.net,
-        };
         let mut lists = Vec::new(alloc);
         match self
             .reloads
             .reload(alloc, on.machine, on.net, on.choice, b)?
         {
             Some(served) => {
-                self.add_plain(alloc, &mut lists, b, &joined)?;
-                let other = self.of_served(alloc, &served, &joined)?;
+                self.add_plain(alloc, &mut lists, b, on)?;
+                let other = self.of_served(alloc, &served, on)?;
                 lists.push(other)?;
                 Ok(lists)
             }
             None => {
-                self.add_own(alloc, &mut lists, b, &joined)?;
+                self.add_own(alloc, &mut lists, b, on)?;
                 Ok(lists)
             }
         }

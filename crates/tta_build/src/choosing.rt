@@ -9,7 +9,7 @@ ghost use Rattle.tta_build.specs.Ways.{IsFitOf, IsKept, IsChosenBy, AreWays};
 use crate::candidates::{Candidate, Candidates, Way};
 use std::alloc::{AllocError, Global};
 use tta_arch::Machine;
-use tta_connect::{Covered, Joined};
+use tta_connect::Covered;
 use tta_moves::{BlockList, Placed};
 use tta_sched::Placer;
 
@@ -36,7 +36,7 @@ fn fit_of(
     alloc: Global,
     placer: &mut Placer,
     c: &Candidate,
-    on: &Joined<'_>,
+    on: &Covered<'_>,
 ) -> Result<Chosen, AllocError>
     requires list { is_list on.now.machine.now c.now.list.items ≡ true }
     ensures { IfOk result (λ r. IsFitOf on.now.machine.now c.now r) }
@@ -51,7 +51,7 @@ fn shortest(
     alloc: Global,
     placer: &mut Placer,
     lists: &[Candidate],
-    on: &Joined<'_>,
+    on: &Covered<'_>,
 ) -> Result<Chosen, AllocError>
     requires lists { list_all (λ c. is_list on.now.machine.now c.list.items) lists.now ≡ true }
     requires some { 0 < length lists.now }
@@ -91,14 +91,7 @@ impl Chooser {
         ensures { IfOk result (λ r. IsChosenBy on.now.machine.now b.now r.way r.placed) }
     {
         let lists = self.candidates.of_block(alloc, on, b)?;
-        let joined = Joined {
-            machine: on.machine,
-            net: on.net,
-        };
-        let r = shortest(alloc, &mut self.placer, lists.as_slice(), &joined);
-        // Dropped here as a whole, so that no part of it is left to drop at the end.
-        drop(lists);
-        r
+        shortest(alloc, &mut self.placer, lists.as_slice(), on)
     }
 }
 
@@ -131,10 +124,7 @@ pub fn place_chosen(
     ensures { IfOk result (λ ps. AreChosen on.now.machine.now blocks.now ps.items) }
 {
     let mut chooser = Chooser::new(alloc, on.machine, on.choice.hub)?;
-    let ps = place_each(alloc, &mut chooser, blocks, on);
-    // Dropped here as a whole, so that no part of it is left to drop at the end.
-    drop(chooser);
-    ps
+    place_each(alloc, &mut chooser, blocks, on)
 }
 
 /// For each block of a program the way by which its list comes, by what is lent.
@@ -149,9 +139,8 @@ fn way_of_each(
 {
     let mut ways = Vec::new(alloc);
     for b in blocks {
-        let Chosen { way, placed } = chooser.place(alloc, on, b)?;
-        drop(placed);
-        ways.push(way)?;
+        let chosen = chooser.place(alloc, on, b)?;
+        ways.push(chosen.way)?;
     }
     Ok(ways)
 }
@@ -167,8 +156,5 @@ pub fn chosen_ways(
     ensures { IfOk result (λ ws. AreWays on.now.machine.now blocks.now ws.items) }
 {
     let mut chooser = Chooser::new(alloc, on.machine, on.choice.hub)?;
-    let ways = way_of_each(alloc, &mut chooser, blocks, on);
-    // Dropped here as a whole, so that no part of it is left to drop at the end.
-    drop(chooser);
-    ways
+    way_of_each(alloc, &mut chooser, blocks, on)
 }

@@ -19,7 +19,7 @@ use tta_program::Program;
 /// branch over one copy is a copy under the opposite condition. As `build`, but that a cycle takes
 /// at most twice as many steps as the program has, and that the code is packed for the converted
 /// program. It is refused as `build` refuses the program, but for code that has no room: that is
-/// the code of the converted program.
+/// the code of the converted program, whose plain code does not fit either.
 pub fn build_converted(
     alloc: Global,
     m: &Machine,

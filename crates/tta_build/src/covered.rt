@@ -42,10 +42,7 @@ fn code_with(
         IfErr result (λ e. HasCause U on.now.machine.now p.now e) }
 {
     let ps = placements(alloc, on, p, units)?;
-    let code = link_placed(alloc, ps.as_slice(), on.machine);
-    // Dropped here as a whole, so that no part of it is left to drop at the end.
-    drop(ps);
-    code
+    link_placed(alloc, ps.as_slice(), on.machine)
 }
 
 /// The code of a program for what is chosen on a machine.
@@ -94,10 +91,7 @@ pub fn covered_code(
                 net: on.net,
                 choice: &choice,
             };
-            let code = code_by(alloc, &covered, p, units);
-            // Dropped here as a whole, so that no part of it is left to drop at the end.
-            drop(choice);
-            code
+            code_by(alloc, &covered, p, units)
         }
         Err(CoverError::Rule(rule)) => Err(BuildError::NotCovered { rule }),
         Err(CoverError::NoMemory) => Err(BuildError::NoMemory),

@@ -32,12 +32,7 @@ fn lists_of(alloc: Global, m: &Machine, p: &Program) -> Result<Vec<BlockList>, A
     ensures { IfOk result (λ lists. AreDirect m.now p.now lists.items) }
 {
     match register_code(alloc, p, 0, MOST_VARIABLES, Sharing::InTurn) {
-        Ok(code) => {
-            let lists = select_direct(alloc, &code, m);
-            // Dropped here as a whole, so that no part of it is left to drop at the end.
-            drop(code);
-            lists
-        }
+        Ok(code) => select_direct(alloc, &code, m),
         Err(LowerError::FrameFull { .. }) => unreachable!(),
         Err(LowerError::NoMemory) => Err(AllocError),
     }
@@ -55,8 +50,5 @@ pub fn direct_code(alloc: Global, on: &Joined<'_>, p: &Program) -> Result<Code, 
 {
     let lists = lists_of(alloc, on.machine, p)?;
     let ps = place_all(alloc, lists.as_slice(), on)?;
-    let code = link_placed(alloc, ps.as_slice(), on.machine);
-    // Dropped here as a whole, so that no part of it is left to drop at the end.
-    drop(ps);
-    code
+    link_placed(alloc, ps.as_slice(), on.machine)
 }

@@ -180,12 +180,6 @@ pub fn placements(
     if is_one {
         return Ok(first);
     }
-    match placements_by(alloc, on, p, units, Sharing::Least) {
-        Ok(other) => Ok(shorter(first, other)),
-        Err(error) => {
-            // Dropped here as a whole, so that no part of it is left to drop at the end.
-            drop(first);
-            Err(error)
-        }
-    }
+    let other = placements_by(alloc, on, p, units, Sharing::Least)?;
+    Ok(shorter(first, other))
 }

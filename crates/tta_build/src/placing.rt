@@ -41,8 +41,5 @@ pub fn place_all(
     ensures roomy { IfOk result (λ ps. AreRoomy on.now.machine.now lists.now ps.items) }
 {
     let mut placer = Placer::new(alloc, on.machine)?;
-    let ps = place_each(alloc, &mut placer, lists, on);
-    // Dropped here as a whole, so that no part of it is left to drop at the end.
-    drop(placer);
-    ps
+    place_each(alloc, &mut placer, lists, on)
 }

@@ -71,17 +71,11 @@ pub fn direct_stages(alloc: Global, on: &Joined<'_>, p: &Program) -> Result<Stag
 {
     let lowered = direct_lowered(alloc, on.machine, p)?;
     let planned = direct_planned(alloc, on, p, &lowered)?;
-    match link_placed(alloc, planned.placed.as_slice(), on.machine) {
-        Ok(code) => Ok(Stages {
-            choice: None,
-            lowered,
-            planned,
-            code,
-        }),
-        Err(error) => {
-            drop(planned);
-            drop(lowered);
-            Err(error)
-        }
-    }
+    let code = link_placed(alloc, planned.placed.as_slice(), on.machine)?;
+    Ok(Stages {
+        choice: None,
+        lowered,
+        planned,
+        code,
+    })
 }

@@ -9,7 +9,7 @@ ghost use Rattle.tta_stages.specs.Planned.{IsFitOf, IsFitted, AreFitted};
 use crate::trail::{Tracer, Trail, plain_trail};
 use std::alloc::{AllocError, Global};
 use tta_build::Way;
-use tta_connect::{Covered, Joined};
+use tta_connect::Covered;
 use tta_moves::{BlockList, Placed};
 use tta_sched::Placer;
 
@@ -31,7 +31,7 @@ pub struct Fits {
 fn fit_of(
     alloc: Global,
     placer: &mut Placer,
-    on: &Joined<'_>,
+    on: &Covered<'_>,
     trail: Trail,
 ) -> Result<Fitted, AllocError>
     requires list { is_list on.now.machine.now (last_of trail).items ≡ true }
@@ -58,7 +58,7 @@ fn shorter(first: Fitted, other: Fitted) -> Fitted
 fn kept_fit(
     alloc: Global,
     placer: &mut Placer,
-    on: &Joined<'_>,
+    on: &Covered<'_>,
     b: &BlockList,
     trail: Trail,
 ) -> Result<Fitted, AllocError>
@@ -86,15 +86,11 @@ pub fn fit_each(
     requires ways { length ways.now ≡ length lists.now }
     ensures { IfOk result (λ r. AreFitted on.now.machine.now lists.now r) }
 {
-    let joined = Joined {
-        machine: on.machine,
-        net: on.net,
-    };
     let mut trails = Vec::new(alloc);
     let mut all = Vec::new(alloc);
     for k in 0..lists.len() {
         let trail = tracer.trail(alloc, on, &lists[k], ways[k])?;
-        let Fitted { trail, placed } = kept_fit(alloc, placer, &joined, &lists[k], trail)?;
+        let Fitted { trail, placed } = kept_fit(alloc, placer, on, &lists[k], trail)?;
         trails.push(trail)?;
         all.push(placed)?;
     }

@@ -141,12 +141,6 @@ pub fn listed_for(
     if !is_small(p) {
         return Ok(first);
     }
-    match listed_by(alloc, on, p, units, Sharing::Least) {
-        Ok(other) => Ok(shorter(first, other)),
-        Err(error) => {
-            // Dropped here as a whole, so that no part of it is left to drop at the end.
-            drop(first);
-            Err(error)
-        }
-    }
+    let other = listed_by(alloc, on, p, units, Sharing::Least)?;
+    Ok(shorter(first, other))
 }

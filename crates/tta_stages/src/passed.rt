@@ -5,7 +5,7 @@ ghost use Rattle.tta_moves.specs.Slots.{is_list};
 ghost use Rattle.tta_stages.specs.Trail.{IsPassed};
 
 use std::alloc::{AllocError, Global};
-use tta_connect::Joined;
+use tta_connect::Covered;
 use tta_moves::BlockList;
 use tta_optim::{bypass, dead, share};
 
@@ -20,8 +20,17 @@ pub struct Passed {
     pub lively: BlockList,
 }
 
+impl Passed {
+    /// The list after all three passes.
+    pub fn last(&self) -> &BlockList
+        ensures { result.now ≡ self.now.lively }
+    {
+        &self.lively
+    }
+}
+
 /// What the passes make of a list. It fails only where there is no memory.
-pub fn pass_list(alloc: Global, on: &Joined<'_>, list: &BlockList) -> Result<Passed, AllocError>
+pub fn pass_list(alloc: Global, on: &Covered<'_>, list: &BlockList) -> Result<Passed, AllocError>
     requires list { is_list on.now.machine.now list.now.items ≡ true }
     ensures { IfOk result (λ r. IsPassed on.now.machine.now list.now r) }
 {

@@ -35,12 +35,7 @@ fn fits_of(alloc: Global, on: &Covered<'_>, lists: &[BlockList]) -> Result<Fits,
     let ways = chosen_ways(alloc, lists, on)?;
     let mut tracer = Tracer::new(alloc, on.choice.hub)?;
     let mut placer = Placer::new(alloc, on.machine)?;
-    let fits = fit_each(alloc, &mut tracer, &mut placer, on, lists, ways.as_slice());
-    // Dropped here as a whole, so that no part of it is left to drop at the end.
-    drop(placer);
-    drop(tracer);
-    drop(ways);
-    fits
+    fit_each(alloc, &mut tracer, &mut placer, on, lists, ways.as_slice())
 }
 
 /// The trails of selected lists, and their placements. It fails only where there is no memory.

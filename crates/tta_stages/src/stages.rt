@@ -73,13 +73,8 @@ fn passages_with(
         IfErr result (λ e. HasCause U on.now.machine.now p.now e) }
 {
     let listed = listed_for(alloc, on, p, units)?;
-    match link_placed(alloc, listed.planned.placed.as_slice(), on.machine) {
-        Ok(code) => Ok(Passages { listed, code }),
-        Err(error) => {
-            drop(listed);
-            Err(error)
-        }
-    }
+    let code = link_placed(alloc, listed.planned.placed.as_slice(), on.machine)?;
+    Ok(Passages { listed, code })
 }
 
 /// The stages of a program for what is chosen on a machine.
@@ -110,18 +105,13 @@ fn with_choice(choice: Choice, passages: Result<Passages, BuildError>) -> Result
     ensures stages { IfOk passages (λ r. result ≡ Ok (staged choice r)) }
     ensures cause { IfErr passages (λ e. result ≡ Err e) }
 {
-    match passages {
-        Ok(Passages { listed, code }) => Ok(Stages {
-            choice: Some(choice),
-            lowered: listed.lowered,
-            planned: listed.planned,
-            code,
-        }),
-        Err(error) => {
-            drop(choice);
-            Err(error)
-        }
-    }
+    let Passages { listed, code } = passages?;
+    Ok(Stages {
+        choice: Some(choice),
+        lowered: listed.lowered,
+        planned: listed.planned,
+        code,
+    })
 }
 
 /// The stages of a pair that is no direct one.

@@ -9,7 +9,7 @@ ghost use Rattle.tta_stages.specs.Trail.{IsOrdered, IsRound, IsTrail, last_of};
 use crate::passed::{Passed, pass_list};
 use std::alloc::{AllocError, Global};
 use tta_build::{Order, Way};
-use tta_connect::{Covered, Joined};
+use tta_connect::Covered;
 use tta_moves::BlockList;
 use tta_order::{Orders, Rule};
 use tta_reload::reload;
@@ -28,6 +28,15 @@ pub struct Round {
     pub passed: Passed,
 }
 
+impl Round {
+    /// The list after the passes of the round.
+    pub fn last(&self) -> &BlockList
+        ensures { result.now ≡ self.now.passed.lively }
+    {
+        self.passed.last()
+    }
+}
+
 /// How the list of a block came of the selected one: with loads served, if they are, and then by one
 /// round or two.
 #[derive(Drop)]
@@ -43,8 +52,8 @@ impl Trail {
         ensures { result.now ≡ last_of self.now }
     {
         match &self.second {
-            Some(round) => &round.passed.lively,
-            None => &self.first.passed.lively,
+            Some(round) => round.last(),
+            None => self.first.last(),
         }
     }
 }
@@ -53,7 +62,7 @@ impl Trail {
 /// there is no memory.
 fn round_of(
     alloc: Global,
-    on: &Joined<'_>,
+    on: &Covered<'_>,
     list: &BlockList,
     ordered: Option<Ordered>,
 ) -> Result<Round, AllocError>
@@ -122,7 +131,7 @@ impl Tracer {
     fn ordered(
         &mut self,
         alloc: Global,
-        on: &Joined<'_>,
+        on: &Covered<'_>,
         list: &BlockList,
         by: Order,
     ) -> Result<Option<Ordered>, AllocError>
@@ -143,7 +152,7 @@ impl Tracer {
     fn first(
         &mut self,
         alloc: Global,
-        on: &Joined<'_>,
+        on: &Covered<'_>,
         list: &BlockList,
         way: Way,
     ) -> Result<Round, AllocError>
@@ -160,7 +169,7 @@ impl Tracer {
     fn second(
         &mut self,
         alloc: Global,
-        on: &Joined<'_>,
+        on: &Covered<'_>,
         list: &BlockList,
         way: Way,
     ) -> Result<Option<Round>, AllocError>
@@ -181,7 +190,7 @@ impl Tracer {
     fn rounds(
         &mut self,
         alloc: Global,
-        on: &Joined<'_>,
+        on: &Covered<'_>,
         list: &BlockList,
         way: Way,
     ) -> Result<(Round, Option<Round>), AllocError>
@@ -206,13 +215,9 @@ impl Tracer {
         requires list { is_list on.now.machine.now b.now.items ≡ true }
         ensures { IfOk result (λ t. IsTrail on.now.machine.now b.now t) }
     {
-        let joined = Joined {
-            machine: on.machine,
-            net: on.net,
-        };
         match served(alloc, on, b, way.served)? {
             Some(list) => {
-                let (first, second) = self.rounds(alloc, &joined, &list, way)?;
+                let (first, second) = self.rounds(alloc, on, &list, way)?;
                 Ok(Trail {
                     served: Some(list),
                     first,
@@ -220,7 +225,7 @@ impl Tracer {
                 })
             }
             None => {
-                let (first, second) = self.rounds(alloc, &joined, b, way)?;
+                let (first, second) = self.rounds(alloc, on, b, way)?;
                 Ok(Trail {
                     served: None,
                     first,
@@ -232,7 +237,7 @@ impl Tracer {
 }
 
 /// The trail of a block's list by the passes alone. It fails only where there is no memory.
-pub fn plain_trail(alloc: Global, on: &Joined<'_>, b: &BlockList) -> Result<Trail, AllocError>
+pub fn plain_trail(alloc: Global, on: &Covered<'_>, b: &BlockList) -> Result<Trail, AllocError>
     requires list { is_list on.now.machine.now b.now.items ≡ true }
     ensures trail { IfOk result (λ t. IsTrail on.now.machine.now b.now t) }
     ensures last { IfOk result (λ t. last_of t ≡ optimised on.now.machine.now b.now) }

@@ -99,13 +99,6 @@ pub fn tell_stages(
     keep_rules(m, p);
     let starts = block_starts(alloc, stages.planned.placed.as_slice())?;
     let mut out = Vec::new(alloc);
-    let put = push_told(&mut out, m, p, units, stages, starts.as_slice());
-    drop(starts);
-    match put {
-        Ok(()) => Ok(out),
-        Err(e) => {
-            drop(out);
-            Err(e)
-        }
-    }
+    push_told(&mut out, m, p, units, stages, starts.as_slice())?;
+    Ok(out)
 }

@@ -13,10 +13,10 @@ loop-b-preserved c =
     let here = ap (slice_get c.args.blocks.now) c.loop-b.invariant.count
     ∙ slice_get_read c.args.blocks.now (length c.args.blocks.now) c.loop-b.b-index c.b-item.result refl (omega arith) c.b-item.is in
     record {
-      count = more_count c.loop-b.ways.items c.push.new.self.items c.in_ok-way.field-0.way c.loop-b.b-index c.in_ok-push.ensures.items c.loop-b.invariant.count;
+      count = more_count c.loop-b.ways.items c.push.new.self.items c.in_ok-chosen.chosen.way c.loop-b.b-index c.in_ok-push.ensures.items c.loop-b.invariant.count;
       each = rw c.in_ok-push.ensures.items
-          (along_more (λ (b : BlockList) (w : Way). (p : Placed) × IsChosenBy c.args.on.now.machine.now b w p) c.args.blocks.now c.loop-b.ways.items c.b-item.result c.in_ok-way.field-0.way
-          c.loop-b.invariant.each here (c.in_ok-way.field-0.placed, c.in_ok-way.ensures));
+          (along_more (λ (b : BlockList) (w : Way). (p : Placed) × IsChosenBy c.args.on.now.machine.now b w p) c.args.blocks.now c.loop-b.ways.items c.b-item.result c.in_ok-chosen.chosen.way
+          c.loop-b.invariant.each here (c.in_ok-chosen.chosen.placed, c.in_ok-chosen.ensures));
     }
 
 pub returns : goal.returns

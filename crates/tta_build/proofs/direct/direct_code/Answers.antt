@@ -17,8 +17,8 @@ place_all-requires c =
           (are_lists m c.args.p.now c.in_ok-lists.lists.items c.requires.machine c.requires.program c.requires.direct c.in_ok-lists.ensures);
     }
 
-pub link_placed-code-requires : goal.link_placed-code-requires
-link_placed-code-requires c =
+pub link_placed-requires : goal.link_placed-requires
+link_placed-requires c =
     let m = c.args.on.now.machine.now in
     let lists = c.in_ok-lists.lists.items in
     let are = subst (λ (l : List BlockList). AreRoomy m l c.in_ok-ps.ps.items) c.as_slice.ensures.value c.in_ok-ps.ensures.roomy in
@@ -31,9 +31,9 @@ returns-clause-code c =
     let ps = c.in_ok-ps.ps.items in
     let fits = subst (λ (l : List BlockList). AreFirstFits m l ps) c.as_slice.ensures.value c.in_ok-ps.ensures.first in
     let are = subst (λ (l : List BlockList). AreRoomy m l ps) c.as_slice.ensures.value c.in_ok-ps.ensures.roomy in
-    ok_for m c.args.p.now lists c.requires.machine c.requires.program c.requires.direct c.in_ok-lists.ensures c.link_placed-code.result
-    (is_code m lists ps c.as_slice-2.result.now c.link_placed-code.result fits are c.as_slice-2.ensures.value
-    c.link_placed-code.ensures.linked c.link_placed-code.ensures.legal)
+    ok_for m c.args.p.now lists c.requires.machine c.requires.program c.requires.direct c.in_ok-lists.ensures c.link_placed.result
+    (is_code m lists ps c.as_slice-2.result.now c.link_placed.result fits are c.as_slice-2.ensures.value
+    c.link_placed.ensures.linked c.link_placed.ensures.legal)
 
 pub returns-clause-cause : goal.returns-clause-cause
 returns-clause-cause c =
@@ -42,5 +42,5 @@ returns-clause-cause c =
     let ps = c.in_ok-ps.ps.items in
     let fits = subst (λ (l : List BlockList). AreFirstFits m l ps) c.as_slice.ensures.value c.in_ok-ps.ensures.first in
     let are = subst (λ (l : List BlockList). AreRoomy m l ps) c.as_slice.ensures.value c.in_ok-ps.ensures.roomy in
-    err_for m c.args.p.now lists c.requires.machine c.requires.program c.requires.direct c.in_ok-lists.ensures c.link_placed-code.result
-    (is_cause m lists ps c.as_slice-2.result.now c.link_placed-code.result fits are c.as_slice-2.ensures.value c.link_placed-code.ensures.cause)
+    err_for m c.args.p.now lists c.requires.machine c.requires.program c.requires.direct c.in_ok-lists.ensures c.link_placed.result
+    (is_cause m lists ps c.as_slice-2.result.now c.link_placed.result fits are c.as_slice-2.ensures.value c.link_placed.ensures.cause)

@@ -10,4 +10,4 @@ unreachable-requires c =
 
 pub returns-in-Ok : goal.returns-in-Ok
 returns-in-Ok c =
-    lists_for c.args.m.now c.args.p.now c.in-Ok.code c.requires.program c.requires.direct c.in-Ok.ensures.code.lowered c.select_direct-lists.result c.select_direct-lists.ensures.one
+    lists_for c.args.m.now c.args.p.now c.in-Ok.code c.requires.program c.requires.direct c.in-Ok.ensures.code.lowered c.select_direct.result c.select_direct.ensures.one

@@ -19,9 +19,9 @@ pub shorter-requires-clause-other : goal.shorter-requires-clause-other
 shorter-requires-clause-other g c =
     let U = stated (λ v. (goal.OpUnit-dyn g v).unit_meaning v.1) c.args.units.now in
     let on = c.args.on.now in
-    let ps = c.in-Ok.other.items in
+    let ps = c.in_ok-other.other.items in
     (are_blocks U on.machine.now on.choice.now c.args.p.now ps ps c.requires.machine c.requires.over on.choice_of c.requires.program c.requires.offered
-    c.in-Ok.ensures.placed refl).few
+    c.in_ok-other.ensures.placed refl).few
 
 pub returns-then-is_one-clause-plain : goal.returns-then-is_one-clause-plain
 returns-then-is_one-clause-plain g c =
@@ -29,9 +29,9 @@ returns-then-is_one-clause-plain g c =
     let on = c.args.on.now in
     chosen_no_longer U on.machine.now on.choice.now c.args.p.now c.in_ok-first.first.items c.in_ok-first.ensures.by
 
-pub returns-in-Ok-clause-plain : goal.returns-in-Ok-clause-plain
-returns-in-Ok-clause-plain g c =
+pub returns-clause-plain : goal.returns-clause-plain
+returns-clause-plain g c =
     let U = stated (λ v. (goal.OpUnit-dyn g v).unit_meaning v.1) c.args.units.now in
     let on = c.args.on.now in
-    kept_no_longer U on.machine.now on.choice.now c.args.p.now (λ (ps : Vec Placed Global). ps.items) c.in_ok-first.first c.in-Ok.other c.shorter.result
+    kept_no_longer U on.machine.now on.choice.now c.args.p.now (λ (ps : Vec Placed Global). ps.items) c.in_ok-first.first c.in_ok-other.other c.shorter.result
     (chosen_no_longer U on.machine.now on.choice.now c.args.p.now c.in_ok-first.first.items c.in_ok-first.ensures.by) c.shorter.ensures

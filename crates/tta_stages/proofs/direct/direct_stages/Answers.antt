@@ -1,4 +1,5 @@
 use Rattle.std.proofs.Common.{List, refl, subst}
+use Rattle.std.proofs.lemmas.Result.{err_from_is_err_and}
 use Rattle.tta_moves.specs.declared.items.Placed.{Placed}
 use Rattle.tta_link.specs.Linked.{IsLinked}
 use Rattle.tta_stages.proofs.DirectStages.{are_blocks, code_for, cause_for}
@@ -9,19 +10,20 @@ link_placed-requires c =
     are_blocks c.args.on.now.machine.now c.args.p.now c.in_ok-lowered.lowered c.requires.program c.requires.direct c.in_ok-lowered.ensures c.requires.machine
     c.in_ok-planned.planned c.in_ok-planned.ensures c.as_slice.result.now c.as_slice.ensures.value
 
-pub returns-in-Ok-clause-stages : goal.returns-in-Ok-clause-stages
-returns-in-Ok-clause-stages c u =
+pub returns-clause-stages : goal.returns-clause-stages
+returns-clause-stages c u =
     let m = c.args.on.now.machine.now in record {
       pair = c.requires.direct;
       choice = refl;
       lowered = c.in_ok-lowered.ensures;
       planned = c.in_ok-planned.ensures;
-      linked = subst (λ (ps : List Placed). IsLinked m c.in-Ok.code ps) c.as_slice.ensures.value c.in-Ok.ensures.linked;
+      linked = subst (λ (ps : List Placed). IsLinked m c.in_ok-code.code ps) c.as_slice.ensures.value c.in_ok-code.ensures.linked;
       code = code_for m c.args.p.now c.in_ok-lowered.lowered c.requires.program c.requires.direct c.in_ok-lowered.ensures c.requires.machine
-          c.in_ok-planned.planned c.in_ok-planned.ensures c.as_slice.result.now c.as_slice.ensures.value c.in-Ok.code c.in-Ok.ensures.linked c.in-Ok.ensures.legal u;
+          c.in_ok-planned.planned c.in_ok-planned.ensures c.as_slice.result.now c.as_slice.ensures.value c.in_ok-code.code c.in_ok-code.ensures.linked c.in_ok-code.ensures.legal u;
     }
 
-pub returns-in-Err-clause-cause : goal.returns-in-Err-clause-cause
-returns-in-Err-clause-cause c =
-    cause_for c.args.on.now.machine.now c.args.p.now c.in_ok-lowered.lowered c.requires.program c.requires.direct c.in_ok-lowered.ensures c.requires.machine
-    c.in_ok-planned.planned c.in_ok-planned.ensures c.as_slice.result.now c.as_slice.ensures.value c.in-Err.error c.in-Err.ensures.cause
+pub returns-in_err-code-clause-cause : goal.returns-in_err-code-clause-cause
+returns-in_err-code-clause-cause c =
+    let error = err_from_is_err_and c.from_residual-in_err-code.result c.from_residual-in_err-code.ensures.1 in
+    rw (error.1, error.2) (cause_for c.args.on.now.machine.now c.args.p.now c.in_ok-lowered.lowered c.requires.program c.requires.direct c.in_ok-lowered.ensures c.requires.machine
+    c.in_ok-planned.planned c.in_ok-planned.ensures c.as_slice.result.now c.as_slice.ensures.value c.in_err-code.field-0.0 c.in_err-code.ensures.cause)
