@@ -39,16 +39,9 @@ impl<'t> Draft<'t> {
         ensures { Takes (draft_seen self.new) result
             (take_label (draft_seen self.old) (proc_seen proc.entry) name.now) }
     {
-        match self.add_label(alloc, &mut proc, name) {
-            Ok(()) => {
-                self.put_back(proc);
-                Ok(())
-            }
-            Err(error) => {
-                drop(proc);
-                Err(error)
-            }
-        }
+        self.add_label(alloc, &mut proc, name)?;
+        self.put_back(proc);
+        Ok(())
     }
 
     /// The label of a line in a procedure that was moved out of the draft.
@@ -91,16 +84,9 @@ impl<'t> Draft<'t> {
         ensures { Takes (draft_seen self.new) result (take_step (stated unit_meaning units.now)
             (draft_seen self.old) (proc_seen proc.entry) line (form_seen form.now)) }
     {
-        match self.add_step(alloc, units, &mut proc, line, form) {
-            Ok(()) => {
-                self.put_stepped(proc, is_end(form))?;
-                Ok(())
-            }
-            Err(error) => {
-                drop(proc);
-                Err(error)
-            }
-        }
+        self.add_step(alloc, units, &mut proc, line, form)?;
+        self.put_stepped(proc, is_end(form))?;
+        Ok(())
     }
 
     /// Puts a procedure into the draft after a step, by which it may have ended.

@@ -38,13 +38,8 @@ pub fn numbers_of(alloc: Global, procs: &[Proc]) -> Result<Vec<u64>, AllocError>
     ensures { IfOk result (λ numbers. length numbers.items ≡ length procs.now) }
 {
     let mut walk = start(alloc, procs)?;
-    match walk_on(&mut walk, procs) {
-        Ok(()) => Ok(walk.numbers),
-        Err(error) => {
-            drop(walk);
-            Err(error)
-        }
-    }
+    walk_on(&mut walk, procs)?;
+    Ok(walk.numbers)
 }
 
 /// Makes all visits that a walk has left to do.
