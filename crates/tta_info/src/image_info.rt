@@ -74,9 +74,7 @@ fn width_of(alloc: Global, m: &Machine) -> Result<u32, AllocError>
     ensures { IfOk result (λ w. w ≡ word_width m.now) }
 {
     let layout = Layout::of(alloc, m)?;
-    let width = layout.width();
-    drop(layout);
-    Ok(width)
+    Ok(layout.width())
 }
 
 /// Puts a digest.

@@ -46,11 +46,7 @@ fn push_build(out: &mut Vec<u8>, alloc: Global, m: &Machine) -> Result<(), Alloc
     ensures { OnOk result (out.new.items ≡ out.old.items ++ build_text m.now) }
 {
     match cover(alloc, m) {
-        Ok(choice) => {
-            let put = push_choice(out, m, &choice);
-            drop(choice);
-            put
-        }
+        Ok(choice) => push_choice(out, m, &choice),
         Err(CoverError::Rule(rule)) => push_refused(out, rule),
         Err(CoverError::NoMemory) => Err(AllocError),
     }
