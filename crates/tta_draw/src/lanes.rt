@@ -83,13 +83,8 @@ pub fn arrows_of(alloc: Global, jumps: &[Jump]) -> Result<Vec<Arrow>, AllocError
 {
     let mut arrows = Vec::new(alloc);
     let mut free = [0; LANES];
-    match push_lanes(&mut arrows, &mut free, jumps) {
-        Ok(()) => Ok(arrows),
-        Err(e) => {
-            drop(arrows);
-            Err(e)
-        }
-    }
+    push_lanes(&mut arrows, &mut free, jumps)?;
+    Ok(arrows)
 }
 
 /// So many rows without labels.

@@ -191,13 +191,6 @@ pub fn jumps_of(alloc: Global, m: &Machine, words: &[Instruction]) -> Result<Vec
 {
     let mut jumps = Vec::new(alloc);
     let mut known = Vec::new(alloc);
-    let done = push_jumps(&mut jumps, &mut known, m, words);
-    drop(known);
-    match done {
-        Ok(()) => Ok(jumps),
-        Err(e) => {
-            drop(jumps);
-            Err(e)
-        }
-    }
+    push_jumps(&mut jumps, &mut known, m, words)?;
+    Ok(jumps)
 }
