@@ -111,10 +111,7 @@ impl Counts {
         ensures passed { IfOk result (λ c. c.passed ≡ replicate (16 * words) 0) }
     {
         let executed = zeros(alloc, words)?;
-        let Ok(passed) = zeros(alloc, BUSES * words) else {
-            drop(executed);
-            return Err(AllocError);
-        };
+        let passed = zeros(alloc, BUSES * words)?;
         Ok(Counts { executed, passed })
     }
 

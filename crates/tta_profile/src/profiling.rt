@@ -64,7 +64,5 @@ pub fn profile(
         s bound v.items) }
 {
     let counts = count_run(alloc, basis, sim, input, bound)?;
-    let text = tell_counts(alloc, basis.m, basis.units, basis.code, &counts);
-    drop(counts);
-    text
+    tell_counts(alloc, basis.m, basis.units, basis.code, &counts)
 }

@@ -233,13 +233,6 @@ pub fn tell_counts(
         whole: cycles_sum(counts.executed()),
     };
     let mut out = Vec::new(alloc);
-    let put = push_told(&mut out, units, &profiled, order.as_slice());
-    drop(order);
-    match put {
-        Ok(()) => Ok(out),
-        Err(e) => {
-            drop(out);
-            Err(e)
-        }
-    }
+    push_told(&mut out, units, &profiled, order.as_slice())?;
+    Ok(out)
 }
