@@ -62,11 +62,6 @@ pub fn play(
         → IfOk result (λ v. v.items ≡ page_of U on.m.now on.code.now s bound) }
 {
     let mut out = Vec::new(alloc);
-    match push_page(&mut out, sim, basis, input, bound) {
-        Ok(()) => Ok(out),
-        Err(e) => {
-            drop(out);
-            Err(e)
-        }
-    }
+    push_page(&mut out, sim, basis, input, bound)?;
+    Ok(out)
 }
