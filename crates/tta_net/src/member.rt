@@ -57,10 +57,7 @@ impl Member {
         // So that it is known here that the machine's rules hold.
         let _ = &core.machine.control;
         let state = SimState::load(alloc, &core.machine, &core.code, memory)?;
-        let Ok(output) = Outputs::with_room(alloc, rounds as usize) else {
-            drop(state);
-            return Err(AllocError);
-        };
+        let output = Outputs::with_room(alloc, rounds as usize)?;
         Ok(Member {
             state,
             base,
