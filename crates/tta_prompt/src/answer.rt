@@ -40,11 +40,7 @@ fn put_shown<S: Sink>(sink: &mut S, text: Option<Vec<u8>>) -> Result<(), Failed>
         (S.output sink.new) result }
 {
     match text {
-        Some(text) => {
-            let put = put_text(sink, text.as_slice());
-            drop(text);
-            put
-        }
+        Some(text) => put_text(sink, text.as_slice()),
         None => put_refusal(sink),
     }
 }

@@ -52,7 +52,6 @@ pub fn run_prompt<L: Lines, S: Sink>(
         };
         left = left.saturating_sub(line.len() as u64 + 1);
         let answer = answer_line(alloc, session, line.as_slice(), basis, sink);
-        drop(line);
         match answer {
             Ok(true) => {}
             Ok(false) => return Ok(()),
