@@ -57,15 +57,8 @@ fn tell_from(
     };
     let order = costliest(alloc, counts, &blocks)?;
     let mut out = Vec::new(alloc);
-    let put = push_told(&mut out, &profiled, &blocks, order.as_slice());
-    drop(order);
-    match put {
-        Ok(()) => Ok(out),
-        Err(e) => {
-            drop(out);
-            Err(e)
-        }
-    }
+    push_told(&mut out, &profiled, &blocks, order.as_slice())?;
+    Ok(out)
 }
 
 /// A machine keeps the rules of machines.
@@ -97,9 +90,7 @@ fn tell_blocks(alloc: Global, on: &Compiled<'_>, counts: &Counts) -> Result<Vec<
         (starts_from 0 on.now.stages.now.planned.placed.items) counts.now v.items) }
 {
     let starts = starts_of(alloc, on)?;
-    let text = tell_from(alloc, on, counts, starts.as_slice());
-    drop(starts);
-    text
+    tell_from(alloc, on, counts, starts.as_slice())
 }
 
 /// Carries out at most so many cycles of a run of compiled code, and tells where they go, as text: how
@@ -128,7 +119,5 @@ pub fn profile_blocks(
         units: on.units,
     };
     let counts = count_run(alloc, &basis, sim, input, bound)?;
-    let text = tell_blocks(alloc, on, &counts);
-    drop(counts);
-    text
+    tell_blocks(alloc, on, &counts)
 }
