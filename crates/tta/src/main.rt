@@ -44,7 +44,6 @@ fn run<F: Files, S: Sink>(
     let divide: Box<dyn OpUnit> = Box::new(alloc, Divide)?;
     let boxes = vec![in alloc; arith, logic, shift, compare, divide]?;
     if !UnitSet::fits(boxes.as_slice()) {
-        drop(boxes);
         return Ok(Status::NoMemory);
     }
     match UnitSet::new(alloc, boxes) {

@@ -48,7 +48,6 @@ fn run<F: Files, L: Lines, S: Sink>(
     let divide: Box<dyn OpUnit> = Box::new(alloc, Divide)?;
     let boxes = vec![in alloc; arith, logic, shift, compare, divide]?;
     if !UnitSet::fits(boxes.as_slice()) {
-        drop(boxes);
         return Ok(Status::NoMemory);
     }
     match UnitSet::new(alloc, boxes) {

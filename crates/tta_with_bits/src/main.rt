@@ -65,7 +65,6 @@ fn run<F: Files, L: Lines, S: Sink>(
     let bits: Box<dyn OpUnit> = Box::new(alloc, Bits)?;
     let boxes = vec![in alloc; arith, logic, shift, compare, divide, bits]?;
     if !UnitSet::fits(boxes.as_slice()) {
-        drop(boxes);
         return Ok(Status::NoMemory);
     }
     match UnitSet::new(alloc, boxes) {
