@@ -36,14 +36,8 @@ pub fn whole_file<F: Files>(
     ensures { FileEnds (IsImageFor file.now) (RefusesImage file.now) name.now word
         (F.world files.old) (F.world files.new) (λ w. w) result }
 {
-    match read_file(files, name, word) {
-        Ok(bytes) => {
-            let whole = whole_of(alloc, bytes.as_slice(), file);
-            drop(bytes);
-            whole
-        }
-        Err(status) => Err(status),
-    }
+    let bytes = read_file(files, name, word)?;
+    whole_of(alloc, bytes.as_slice(), file)
 }
 
 /// The image of code with data for a machine.

@@ -48,14 +48,8 @@ pub fn input_file<F: Files>(
         (F.world files.old) (F.world files.new) (λ v. v.items) result }
     ensures whole { IfOk result (λ v. length v.items ≡ space) }
 {
-    match read_file(files, name, word) {
-        Ok(bytes) => {
-            let memory = words_of(alloc, bytes.as_slice(), space);
-            drop(bytes);
-            memory
-        }
-        Err(status) => Err(status),
-    }
+    let bytes = read_file(files, name, word)?;
+    words_of(alloc, bytes.as_slice(), space)
 }
 
 /// The words of the file of the input that word 5 names.
@@ -63,14 +57,8 @@ fn named_stream<F: Files>(alloc: Global, files: &mut F, name: &str) -> Result<Ve
     ensures { FileEnds IsInput RefusesStream name.now 5
         (F.world files.old) (F.world files.new) (λ v. v.items) result }
 {
-    match read_file(files, name, 5) {
-        Ok(bytes) => {
-            let words = stream_of(alloc, bytes.as_slice());
-            drop(bytes);
-            words
-        }
-        Err(status) => Err(status),
-    }
+    let bytes = read_file(files, name, 5)?;
+    stream_of(alloc, bytes.as_slice())
 }
 
 /// The words of the input: those of its file, or none where no file is named.
@@ -109,14 +97,7 @@ pub fn given_files<F: Files>(
         (λ g. g.memory.items) (λ g. g.words.items) result }
     ensures whole { IfOk result (λ g. length g.memory.items ≡ space) }
 {
-    match input_file(alloc, files, input, 3, space) {
-        Ok(memory) => match stream_file(alloc, files, stream) {
-            Ok(words) => Ok(Given { memory, words }),
-            Err(status) => {
-                drop(memory);
-                Err(status)
-            }
-        },
-        Err(status) => Err(status),
-    }
+    let memory = input_file(alloc, files, input, 3, space)?;
+    let words = stream_file(alloc, files, stream)?;
+    Ok(Given { memory, words })
 }

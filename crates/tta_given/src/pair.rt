@@ -55,19 +55,10 @@ pub fn program_pair<F: Files>(
     ensures inside { IfOk result (λ p.
         first_outside p.file.machine.data_words p.program.init ≡ None) }
 {
-    match machine_file(alloc, units, files, machine, 1) {
-        Ok(file) => {
-            let space = data_words(&file.machine);
-            match program_file(alloc, units, files, program, space) {
-                Ok(program) => Ok(ProgramPair { file, program }),
-                Err(status) => {
-                    drop(file);
-                    Err(status)
-                }
-            }
-        }
-        Err(status) => Err(status),
-    }
+    let file = machine_file(alloc, units, files, machine, 1)?;
+    let space = data_words(&file.machine);
+    let program = program_file(alloc, units, files, program, space)?;
+    Ok(ProgramPair { file, program })
 }
 
 /// The machine that word 1 names, and the code of the image that word 2 names.
@@ -83,16 +74,9 @@ pub fn image_pair<F: Files>(
         (F.world files.old) (F.world files.new) (λ p. p.file) (λ p. p.whole) result }
     ensures legal { IfOk result (λ p. IsLegalCode p.file.machine p.whole.code) }
 {
-    match machine_file(alloc, units, files, machine, 1) {
-        Ok(file) => match whole_file(alloc, files, image, 2, &file) {
-            Ok(whole) => Ok(CodePair { file, whole }),
-            Err(status) => {
-                drop(file);
-                Err(status)
-            }
-        },
-        Err(status) => Err(status),
-    }
+    let file = machine_file(alloc, units, files, machine, 1)?;
+    let whole = whole_file(alloc, files, image, 2, &file)?;
+    Ok(CodePair { file, whole })
 }
 
 /// The machine that word 1 names, and the code of the assembly that word 2 names.
@@ -108,14 +92,7 @@ pub fn assembly_pair<F: Files>(
         (F.world files.old) (F.world files.new) (λ p. p.file) (λ p. p.whole) result }
     ensures legal { IfOk result (λ p. IsLegalWhole p.file.machine p.whole) }
 {
-    match machine_file(alloc, units, files, machine, 1) {
-        Ok(file) => match assembly_file(alloc, units, files, assembly, &file) {
-            Ok(whole) => Ok(CodePair { file, whole }),
-            Err(status) => {
-                drop(file);
-                Err(status)
-            }
-        },
-        Err(status) => Err(status),
-    }
+    let file = machine_file(alloc, units, files, machine, 1)?;
+    let whole = assembly_file(alloc, units, files, assembly, &file)?;
+    Ok(CodePair { file, whole })
 }

@@ -41,12 +41,6 @@ pub fn source_file<F: Files>(
         (F.world files.old) (F.world files.new) (λ p. p) result }
     ensures over { IfOk result (λ p. StandsOver (stated unit_meaning units.now) p) }
 {
-    match read_file(files, name, word) {
-        Ok(text) => {
-            let program = source_of(alloc, text.as_slice(), units);
-            drop(text);
-            program
-        }
-        Err(status) => Err(status),
-    }
+    let text = read_file(files, name, word)?;
+    source_of(alloc, text.as_slice(), units)
 }
