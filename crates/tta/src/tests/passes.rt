@@ -34,13 +34,14 @@ fn go(src: Source, dst: Dest) -> Item {
 /// Loads the word at 4 and stores it at its own value, which goes into the operand port twice.
 fn items(alloc: Global) -> Result<Vec<Item>, AllocError> {
     let register = Source::Reg { file: 0, index: 3 };
-    vec![in alloc;
+    let items = vec![in alloc;
         go(Source::Value(4), Dest::Trigger { unit: 0, op: 0 }),
         go(Source::Shown { unit: 0 }, Dest::Reg { file: 0, index: 3 }),
         go(register, Dest::Operand { unit: 0 }),
         go(register, Dest::Operand { unit: 0 }),
         go(register, Dest::Trigger { unit: 0, op: 1 }),
-    ]
+    ]?;
+    Ok(items)
 }
 
 /// That list, after which the register is read or not.
