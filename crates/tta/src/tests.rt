@@ -4,9 +4,11 @@
 mod failing;
 mod handed_in;
 mod host;
+mod lowering;
 mod passes;
 mod placement;
 mod texts;
+mod turns;
 
 use host::Host;
 use std::test::Fail;

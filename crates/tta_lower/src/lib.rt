@@ -15,8 +15,6 @@ mod parts;
 mod plan;
 mod register_code;
 mod row;
-#[cfg(test)]
-mod tests;
 
 pub use error::LowerError;
 pub use law::{answers_know, lowers_well};

@@ -5,16 +5,14 @@ ghost use Rattle.tta_program.specs.declared.operand.Src.{Src};
 ghost use Rattle.tta_program.specs.declared.step.Step.TheVariants.{Invoke};
 ghost use Rattle.tta_lower.specs.Squares.{square, main};
 
-use crate::{LowerError, lower};
 use std::alloc::{AllocError, Global};
 use std::test::Fail;
 use tta_alloc::{Homes, assign};
 use tta_flow::{Flow, Live};
 use tta_list::Items;
+use tta_lower::{LowerError, lower};
 use tta_ops::OpId;
 use tta_program::{Args, Proc, Program, Src, Step};
-
-mod turns;
 
 /// `proc sq x`, `y = mul x x`, `return y`, `end`
 fn square_proc(alloc: Global) -> Result<Proc, AllocError>
