@@ -70,7 +70,10 @@ fn by_items(
     let graph = Graph::of(alloc, all.len(), edges.as_slice())?;
     let paths = graph.paths(own_paths(alloc, all)?);
     let mut ready = Ready::new(alloc, all.len(), last, None)?;
-    graph.in_turn(alloc, paths.as_slice(), &mut ready)
+    let order = graph.in_turn(alloc, paths.as_slice(), &mut ready);
+    // Dropped here as a whole, so that no part of it is left to drop at the end.
+    drop(ready);
+    order
 }
 
 /// Lets copies of results show as early as the results do: what reads them will mostly read the
@@ -150,7 +153,10 @@ fn by_groups(
     let graph = Graph::of(alloc, count, kept.as_slice())?;
     let clock = clock_with(alloc, all.as_slice(), starts.as_slice(), marks, buses)?;
     let mut ready = Ready::new(alloc, count, last, clock)?;
-    let order = graph.in_turn(alloc, most.as_slice(), &mut ready)?;
+    let order = graph.in_turn(alloc, most.as_slice(), &mut ready);
+    // Dropped here as a whole, so that no part of it is left to drop at the end.
+    drop(ready);
+    let order = order?;
     members(alloc, order.as_slice(), starts.as_slice(), all.len())
 }
 
