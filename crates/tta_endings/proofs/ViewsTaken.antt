@@ -1,6 +1,6 @@
 -- Where files hold what a command for designers shows, and no call fails, it is shown, unless memory lacks or a program's code is too long.
-use Rattle.std.proofs.Common.{◌≡◌, ◌⊎◌, ℕ, true, false, List, Option, Some, None, refl, ap, subst, inl, inr}
-use Rattle.std.specs.Prelude.{Result, Ok, Err}
+use Rattle.std.proofs.Common.{◌≡◌, ◌⊎◌, ℕ, List, Option, Some, None, refl, ap, subst, inl, inr}
+use Rattle.std.specs.Prelude.{Err}
 use Rattle.tta_ports.specs.declared.fault.Fault.{Fault}
 use Rattle.tta_ports.specs.Store.{Store}
 use Rattle.tta_ports.specs.Faults.{Rose}
