@@ -64,18 +64,12 @@ fn run_cores<S: Sink>(
 {
     let Cores { cores, memories } = taken;
     let Ok(mut last) = vec![in alloc; Turn::Ran; cores.len()] else {
-        drop(cores);
-        drop(memories);
         return Status::NoMemory;
     };
     match Cluster::load(alloc, cores.as_slice(), feeds, memories, rounds) {
-        Ok(cluster) => {
-            let mut cluster = cluster;
+        Ok(mut cluster) => {
             let turns = last.as_mut_slice();
-            let status = make_rounds(units, sink, &mut cluster, cores.as_slice(), turns);
-            // Dropped here as a whole, so that no part of it is left to drop at the end.
-            drop(cluster);
-            status
+            make_rounds(units, sink, &mut cluster, cores.as_slice(), turns)
         }
         Err(_) => Status::NoMemory,
     }
@@ -119,11 +113,7 @@ pub fn run_net<F: Files, S: Sink>(
 {
     let count = (request.names.len() / 3) as u8;
     match links_file(alloc, files, request.links, count) {
-        Ok(feeds) => {
-            let status = net_of_links(alloc, units, files, sink, request, feeds.as_slice());
-            drop(feeds);
-            status
-        }
+        Ok(feeds) => net_of_links(alloc, units, files, sink, request, feeds.as_slice()),
         Err(status) => status,
     }
 }

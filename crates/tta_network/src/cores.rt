@@ -40,13 +40,8 @@ impl Cores {
             ≡ map (λ v. v.items) self.old.memories.items ++ file.memory.items ∷ []) }
     {
         let CoreFile { core, memory } = file;
-        if self.cores.push(core).is_err() {
-            drop(memory);
-            return Err(AllocError);
-        }
-        if self.memories.push(memory).is_err() {
-            return Err(AllocError);
-        }
+        self.cores.push(core)?;
+        self.memories.push(memory)?;
         Ok(())
     }
 }
@@ -71,15 +66,8 @@ pub fn core_files<F: Files>(
     let mut taken = Cores::none(alloc);
     let mut core = 0;
     'cores: while core < count {
-        let file = match core_file(alloc, units, files, names, core) {
-            Ok(file) => file,
-            Err(status) => {
-                drop(taken);
-                return Err(status);
-            }
-        };
+        let file = core_file(alloc, units, files, names, core)?;
         let Ok(()) = taken.add(file) else {
-            drop(taken);
             return Err(Status::NoMemory);
         };
         core += 1;

@@ -52,14 +52,8 @@ pub fn links_file<F: Files>(
         (F.world files.old) (F.world files.new) (λ v. v.items) result }
     ensures count { IfOk result (λ v. length v.items ≡ count) }
 {
-    match read_file(files, name, 2) {
-        Ok(bytes) => {
-            let feeds = links_of(alloc, bytes.as_slice(), count);
-            drop(bytes);
-            feeds
-        }
-        Err(status) => Err(status),
-    }
+    let bytes = read_file(files, name, 2)?;
+    links_of(alloc, bytes.as_slice(), count)
 }
 
 // ---- one file of a core
@@ -180,16 +174,9 @@ fn core_pair<F: Files>(
 {
     let machine = name_at(names, core, 0);
     let image = name_at(names, core, 1);
-    match core_machine(alloc, units, files, machine, word_at(core, 0)) {
-        Ok(file) => match core_code(alloc, files, image, word_at(core, 1), &file) {
-            Ok(whole) => Ok(CodePair { file, whole }),
-            Err(status) => {
-                drop(file);
-                Err(status)
-            }
-        },
-        Err(status) => Err(status),
-    }
+    let file = core_machine(alloc, units, files, machine, word_at(core, 0))?;
+    let whole = core_code(alloc, files, image, word_at(core, 1), &file)?;
+    Ok(CodePair { file, whole })
 }
 
 /// A machine with code for it as a core, with the data of the code laid over the words of its data
@@ -206,8 +193,7 @@ fn put_together(pair: CodePair, words: Vec<u32>) -> CoreFile
     lay(pair.whole.init.as_slice(), &mut memory);
     let CodePair { file, whole } = pair;
     let MachineFile { machine, .. } = file;
-    let Whole { code, init } = whole;
-    drop(init);
+    let Whole { code, .. } = whole;
     let core = Core { machine, code };
     CoreFile { core, memory }
 }
@@ -227,18 +213,9 @@ pub fn core_file<F: Files>(
         (F.world files.old) (F.world files.new) (λ c. c.core) (λ c. c.memory.items) result }
     ensures load { IfOk result (λ c. CanLoad c.core c.memory.items) }
 {
-    match core_pair(alloc, units, files, names, core) {
-        Ok(pair) => {
-            let space = data_words(&pair.file.machine);
-            let input = name_at(names, core, 2);
-            match core_words(alloc, files, input, word_at(core, 2), space) {
-                Ok(words) => Ok(put_together(pair, words)),
-                Err(status) => {
-                    drop(pair);
-                    Err(status)
-                }
-            }
-        }
-        Err(status) => Err(status),
-    }
+    let pair = core_pair(alloc, units, files, names, core)?;
+    let space = data_words(&pair.file.machine);
+    let input = name_at(names, core, 2);
+    let words = core_words(alloc, files, input, word_at(core, 2), space)?;
+    Ok(put_together(pair, words))
 }

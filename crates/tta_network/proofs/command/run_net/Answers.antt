@@ -17,11 +17,11 @@ returns-in-Ok g c =
     let before = f.world c.args.files.now in
     let between = f.world c.links_file.new.files in
     let count = ap cores_in (sym (length-map c.args.request.now.names.now (λ w. string_bytes w))) in
-    let after = f.world c.net_of_links-status.new.files in
+    let after = f.world c.net_of_links.new.files in
     let Reports : List (Option ℕ) → Type 0 = λ feeds. CoresReport U feeds c.args.request.now.rounds names between after
-    (sink.output c.args.sink.now) (sink.output c.net_of_links-status.new.sink) c.net_of_links-status.result in
+    (sink.output c.args.sink.now) (sink.output c.net_of_links.new.sink) c.net_of_links.result in
     links_then U c.args.request.now.rounds c.args.request.now.links.now names c.in-Ok.feeds.items
     before between after
-    (sink.output c.args.sink.now) (sink.output c.net_of_links-status.new.sink) c.net_of_links-status.result
+    (sink.output c.args.sink.now) (sink.output c.net_of_links.new.sink) c.net_of_links.result
     (subst (λ (n : ℕ). IsTaken (AreLinks n) c.args.request.now.links.now c.in-Ok.feeds.items before between) count c.in-Ok.ensures.ends)
-    (subst Reports c.as_slice.ensures.value c.net_of_links-status.ensures)
+    (subst Reports c.as_slice.ensures.value c.net_of_links.ensures)
