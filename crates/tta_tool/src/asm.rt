@@ -24,7 +24,6 @@ pub fn assemble_image<F: Files>(
     match assembly_pair(alloc, units, files, request.machine, request.second) {
         Ok(pair) => {
             let made = image_of_whole(alloc, &pair.file, &pair.whole);
-            drop(pair);
             write_made(files, request.out, made)
         }
         Err(status) => status,

@@ -43,12 +43,7 @@ fn image_of_converted(alloc: Global, units: &UnitSet, pair: &ProgramPair) -> Res
         (IsConvertedCauseOf U pair.now.file.machine pair.now.program) (λ v. v.items) result }
 {
     match build_converted(alloc, &pair.file.machine, &pair.program, units) {
-        Ok(built) => {
-            let image = image_of_whole(alloc, &pair.file, &built.whole);
-            // Dropped here as a whole, so that no part of it is left to drop at the end.
-            drop(built);
-            image
-        }
+        Ok(built) => image_of_whole(alloc, &pair.file, &built.whole),
         Err(error) => Err(ending_of(error, units, &pair.file.machine, &pair.program)),
     }
 }
@@ -68,7 +63,6 @@ pub fn build_converted_image<F: Files>(
     match program_pair(alloc, units, files, request.machine, request.second) {
         Ok(pair) => {
             let made = image_of_converted(alloc, units, &pair);
-            drop(pair);
             write_made(files, request.out, made)
         }
         Err(status) => status,

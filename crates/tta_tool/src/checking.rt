@@ -54,7 +54,6 @@ pub fn check_image<F: Files, S: Sink>(
     match image_pair(alloc, units, files, request.machine, request.image) {
         Ok(pair) => {
             let made = line_of_pair(alloc, &pair);
-            drop(pair);
             put_made(sink, made)
         }
         Err(status) => status,

@@ -179,11 +179,7 @@ fn compare_code<S: Sink>(
 {
     let bound = count_words(compiled.machine, compiled.whole) * (ran.seq.steps() + 1);
     match run_code(alloc, units, compiled.machine, compiled.whole, bound) {
-        Ok(cycled) => {
-            let status = put_summary(sink, compiled.program, compiled.whole, ran, &cycled);
-            drop(cycled);
-            status
-        }
+        Ok(cycled) => put_summary(sink, compiled.program, compiled.whole, ran, &cycled),
         Err(_) => Status::NoMemory,
     }
 }
@@ -208,15 +204,13 @@ pub fn compare<S: Sink>(
     let space = data_words(compiled.machine);
     match run_program(alloc, units, compiled.program, space, bound) {
         Ok(ran) => {
-            let status = if ran.kept.waits {
+            if ran.kept.waits {
                 Status::Waiting
             } else if ran.seq.halted() {
                 compare_code(alloc, units, sink, compiled, &ran)
             } else {
                 Status::Running
-            };
-            drop(ran);
-            status
+            }
         }
         Err(_) => Status::NoMemory,
     }

@@ -40,16 +40,9 @@ fn script_files<F: Files>(
         (λ s. s.bytes.items) (λ s. s.words.items) result }
     ensures short { IfOk result (λ s. length s.bytes.items ≤ 2 ^ 24) }
 {
-    match read_file(files, script, 4) {
-        Ok(bytes) => match stream_file(alloc, files, stream) {
-            Ok(words) => Ok(Script { bytes, words }),
-            Err(status) => {
-                drop(bytes);
-                Err(status)
-            }
-        },
-        Err(status) => Err(status),
-    }
+    let bytes = read_file(files, script, 4)?;
+    let words = stream_file(alloc, files, stream)?;
+    Ok(Script { bytes, words })
 }
 
 /// What a session is asked, and what its run begins with: the data words, a script, and the words of
@@ -75,16 +68,9 @@ fn asked_files<F: Files>(
     ensures size { IfOk result (λ a. length a.memory.items ≡ space) }
     ensures short { IfOk result (λ a. length a.script.bytes.items ≤ 2 ^ 24) }
 {
-    match input_file(alloc, files, request.names.input, 3, space) {
-        Ok(memory) => match script_files(alloc, files, request.script, request.names.stream) {
-            Ok(script) => Ok(Asked { memory, script }),
-            Err(status) => {
-                drop(memory);
-                Err(status)
-            }
-        },
-        Err(status) => Err(status),
-    }
+    let memory = input_file(alloc, files, request.names.input, 3, space)?;
+    let script = script_files(alloc, files, request.script, request.names.stream)?;
+    Ok(Asked { memory, script })
 }
 
 /// How the command ends where the run stands so.
@@ -148,10 +134,7 @@ fn carry_out<S: Sink>(
         Ok(sim) => {
             let mut session = Session::new(sim);
             let code = &pair.whole.code;
-            let status = script_to_status(sink, machine, code, units, &mut session, &script);
-            // Dropped here as a whole, so that no part of it is left to drop at the end.
-            drop(session);
-            status
+            script_to_status(sink, machine, code, units, &mut session, &script)
         }
         Err(_) => Status::NoMemory,
     }
@@ -201,11 +184,7 @@ pub fn debug_image<F: Files, S: Sink>(
         request.names.machine,
         request.names.second,
     ) {
-        Ok(pair) => {
-            let status = debug_pair(alloc, units, files, sink, request, &pair);
-            drop(pair);
-            status
-        }
+        Ok(pair) => debug_pair(alloc, units, files, sink, request, &pair),
         Err(status) => status,
     }
 }

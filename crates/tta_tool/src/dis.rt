@@ -40,7 +40,6 @@ pub fn show_image<F: Files>(
     match image_pair(alloc, units, files, request.machine, request.second) {
         Ok(pair) => {
             let made = text_of_pair(alloc, units, &pair);
-            drop(pair);
             write_made(files, request.out, made)
         }
         Err(status) => status,

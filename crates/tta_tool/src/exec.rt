@@ -33,10 +33,7 @@ fn carry_out<S: Sink>(
     match load_program(alloc, program, memory) {
         Ok(seq) => {
             let mut ran = ProgramRun { program, seq };
-            let status = run_to_status(sink, &mut ran, units, words.as_slice(), bound);
-            // Dropped here as a whole, so that no part of it is left to drop at the end.
-            drop(ran);
-            status
+            run_to_status(sink, &mut ran, units, words.as_slice(), bound)
         }
         Err(_) => Status::NoMemory,
     }
@@ -93,11 +90,7 @@ pub fn exec_program<F: Files, S: Sink>(
         request.names.machine,
         request.names.second,
     ) {
-        Ok(pair) => {
-            let status = exec_pair(alloc, units, files, sink, request, &pair);
-            drop(pair);
-            status
-        }
+        Ok(pair) => exec_pair(alloc, units, files, sink, request, &pair),
         Err(status) => status,
     }
 }

@@ -35,12 +35,7 @@ fn converted_text(alloc: Global, units: &UnitSet, program: &Program) -> Result<V
         MadeEnds (IsConvertedText U program.now) no_memory (λ v. v.items) result }
 {
     match convert(alloc, program) {
-        Ok(converted) => {
-            let text = printed_text(alloc, units, &converted);
-            // Dropped here as a whole, so that no part of it is left to drop at the end.
-            drop(converted);
-            text
-        }
+        Ok(converted) => printed_text(alloc, units, &converted),
         Err(_) => Err(Status::NoMemory),
     }
 }
@@ -59,7 +54,6 @@ pub fn convert_program<F: Files>(
     match source_file(alloc, units, files, request.program, 1) {
         Ok(program) => {
             let made = converted_text(alloc, units, &program);
-            drop(program);
             write_made(files, request.out, made)
         }
         Err(status) => status,

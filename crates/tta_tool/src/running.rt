@@ -37,10 +37,7 @@ fn carry_out<S: Sink>(
         Ok(sim) => {
             let code = &pair.whole.code;
             let mut ran = CodeRun { machine, code, sim };
-            let status = run_to_status(sink, &mut ran, units, words.as_slice(), bound);
-            // Dropped here as a whole, so that no part of it is left to drop at the end.
-            drop(ran);
-            status
+            run_to_status(sink, &mut ran, units, words.as_slice(), bound)
         }
         Err(_) => Status::NoMemory,
     }
@@ -98,11 +95,7 @@ pub fn run_image<F: Files, S: Sink>(
         request.names.machine,
         request.names.second,
     ) {
-        Ok(pair) => {
-            let status = run_pair(alloc, units, files, sink, request, &pair);
-            drop(pair);
-            status
-        }
+        Ok(pair) => run_pair(alloc, units, files, sink, request, &pair),
         Err(status) => status,
     }
 }

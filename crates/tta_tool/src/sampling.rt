@@ -46,9 +46,7 @@ fn compile_and_compare<S: Sink>(
                 program,
                 whole: &built.whole,
             };
-            let status = compare(alloc, units, sink, &compiled, bound);
-            drop(built);
-            status
+            compare(alloc, units, sink, &compiled, bound)
         }
         Err(error) => ending_of(error, units, machine, program),
     }
@@ -70,11 +68,7 @@ fn sample_program(
     ensures over { IfOk result (λ p. programs.StandsOver (stated unit_meaning units.now) p) }
 {
     match sample(alloc, seed, lines) {
-        Ok(text) => {
-            let program = program_of(alloc, text.as_slice(), units, space);
-            drop(text);
-            program
-        }
+        Ok(text) => program_of(alloc, text.as_slice(), units, space),
         Err(_) => Err(Status::NoMemory),
     }
 }
@@ -97,9 +91,7 @@ fn sample_for<S: Sink>(
     match sample_program(alloc, units, seed, lines, data_words(machine)) {
         Ok(program) => {
             let bound = 32 * u64::from(lines) + 50;
-            let status = compile_and_compare(alloc, units, sink, machine, &program, bound);
-            drop(program);
-            status
+            compile_and_compare(alloc, units, sink, machine, &program, bound)
         }
         Err(status) => status,
     }
@@ -120,11 +112,7 @@ pub fn sample_on<F: Files, S: Sink>(
 {
     let SampleRequest { seed, lines, .. } = *request;
     match machine_file(alloc, units, files, request.machine, 3) {
-        Ok(file) => {
-            let status = sample_for(alloc, units, sink, seed, lines, &file.machine);
-            drop(file);
-            status
-        }
+        Ok(file) => sample_for(alloc, units, sink, seed, lines, &file.machine),
         Err(status) => status,
     }
 }

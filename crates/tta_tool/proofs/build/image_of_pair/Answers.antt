@@ -5,5 +5,5 @@ use Rattle.tta_tool.proofs.build.image_of_pair.Goals as goal
 pub returns-in-Ok : goal.returns-in-Ok
 returns-in-Ok g c =
     let U = stated (λ v. (goal.OpUnit-dyn g v).unit_meaning v.1) c.args.units.now in
-    whole_image U c.args.pair.now.file c.args.pair.now.program c.in-Ok.built.whole (λ v. v.items) c.image_of_whole-image.result
-    c.in-Ok.ensures.built c.image_of_whole-image.ensures
+    whole_image U c.args.pair.now.file c.args.pair.now.program c.in-Ok.built.whole (λ v. v.items) c.image_of_whole.result
+    c.in-Ok.ensures.built c.image_of_whole.ensures

@@ -18,6 +18,6 @@ returns-in-Ok g c = λ bound built run halted.
     (subst (λ n. HasCycled U m whole (c.count_words.result * (n + 1)) cycled.sim cycled.kept.output.items cycled.kept.waits) c.steps.ensures c.in-Ok.ensures) in
     let alike = stand_alike U m p whole bound built r words run halted cycled.sim cycled.kept.output.items cycled.kept.waits cycles in
     let old = sink.output c.args.sink.now in
-    let new = sink.output c.put_summary-status.new.sink in
-    compared U m p whole bound built r words run halted old new c.put_summary-status.result
-    (c.put_summary-status.ensures (s U m p whole bound built r words run halted) (t U m p whole bound built r words run halted) alike)
+    let new = sink.output c.put_summary.new.sink in
+    compared U m p whole bound built r words run halted old new c.put_summary.result
+    (c.put_summary.ensures (s U m p whole bound built r words run halted) (t U m p whole bound built r words run halted) alike)

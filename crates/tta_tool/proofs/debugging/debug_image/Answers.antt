@@ -13,9 +13,9 @@ returns-in-Ok g c =
     let pair = c.in-Ok.pair in
     let request = c.args.request.now in
     let names = request.names in
-    let after = f.world c.debug_pair-status.new.files in
+    let after = f.world c.debug_pair.new.files in
     let old = sink.output c.args.sink.now in
-    let new = sink.output c.debug_pair-status.new.sink in
+    let new = sink.output c.debug_pair.new.sink in
     inr (pair_then U IsImageFor names.machine.now names.second.now pair.file pair.whole (f.world c.args.files.now) (f.world c.image_pair.new.files)
-    (λ x v w. AskedRuns U x.machine v names.input.now request.script.now (option_map (λ s. s.now) names.stream) w after old new c.debug_pair-status.result)
-    c.in-Ok.ensures.ends c.debug_pair-status.ensures)
+    (λ x v w. AskedRuns U x.machine v names.input.now request.script.now (option_map (λ s. s.now) names.stream) w after old new c.debug_pair.result)
+    c.in-Ok.ensures.ends c.debug_pair.ensures)

@@ -1,18 +1,22 @@
 use Rattle.std.proofs.Common.{option_map, inl}
+use Rattle.std.proofs.lemmas.Result.{err_from_is_err_and}
 use Rattle.tta_tool.proofs.Debuggings.{script_read, script_refused}
 use Rattle.tta_tool.proofs.debugging.script_files.Goals as goal
 
-pub returns-in-Ok-stream_file-clause-ends : goal.returns-in-Ok-stream_file-clause-ends
-returns-in-Ok-stream_file-clause-ends g c =
+pub returns-clause-ends : goal.returns-clause-ends
+returns-clause-ends g c =
     let f = g.F.Files in
-    script_read c.args.script.now (option_map (λ s. s.now) c.args.stream) c.in-Ok.bytes.items c.in-Ok-stream_file.words.items
-    (f.world c.args.files.now) (f.world c.read_file.new.files) (f.world c.stream_file.new.files) c.in-Ok.ensures c.in-Ok-stream_file.ensures
+    script_read c.args.script.now (option_map (λ s. s.now) c.args.stream) c.in_ok-bytes.bytes.items c.in_ok-words.words.items
+    (f.world c.args.files.now) (f.world c.read_file.new.files) (f.world c.stream_file.new.files) c.in_ok-bytes.ensures c.in_ok-words.ensures
 
-pub returns-in-Err-stream_file-clause-ends : goal.returns-in-Err-stream_file-clause-ends
-returns-in-Err-stream_file-clause-ends g c =
+pub returns-in_err-words-clause-ends : goal.returns-in_err-words-clause-ends
+returns-in_err-words-clause-ends g c =
     let f = g.F.Files in
-    script_refused c.args.script.now (option_map (λ s. s.now) c.args.stream) c.in-Ok.bytes.items
-    (f.world c.args.files.now) (f.world c.read_file.new.files) (f.world c.stream_file.new.files) c.in-Err-stream_file.status c.in-Ok.ensures c.in-Err-stream_file.ensures
+    let error = err_from_is_err_and c.from_residual-in_err-words.result c.from_residual-in_err-words.ensures.1 in
+    rw (error.1, error.2) (script_refused c.args.script.now (option_map (λ s. s.now) c.args.stream) c.in_ok-bytes.bytes.items
+    (f.world c.args.files.now) (f.world c.read_file.new.files) (f.world c.stream_file.new.files) c.in_err-words.field-0.0 c.in_ok-bytes.ensures c.in_err-words.ensures)
 
-pub returns-in-Err-clause-ends : goal.returns-in-Err-clause-ends
-returns-in-Err-clause-ends g c = inl c.in-Err.ensures
+pub returns-in_err-bytes-clause-ends : goal.returns-in_err-bytes-clause-ends
+returns-in_err-bytes-clause-ends g c =
+    let error = err_from_is_err_and c.from_residual.result c.from_residual.ensures.1 in
+    rw (error.1, error.2) (inl c.in_err-bytes.ensures)

@@ -16,16 +16,16 @@ returns-in-Ok g c =
     let words = c.as_slice.result.now in
     let memory = over (data_of pair.program) c.args.given.memory.items in
     let Ends : (given : List ℕ) → Type 0 = λ given. Reports U c.args.bound pair.file pair.program c.args.given.memory.items given
-    (sink.output c.args.sink.now) (sink.output c.run_to_status-status.new.sink) c.run_to_status-status.result in
+    (sink.output c.args.sink.now) (sink.output c.run_to_status.new.sink) c.run_to_status.result in
     subst Ends c.as_slice.ensures.value
-    (c.run_to_status-status.ensures (start pair.program memory words) (c.in-Ok.ensures.start words) refl refl)
+    (c.run_to_status.ensures (start pair.program memory words) (c.in-Ok.ensures.start words) refl refl)
 
-pub run_to_status-status-requires-clause-few : goal.run_to_status-status-requires-clause-few
-run_to_status-status-requires-clause-few g c =
+pub run_to_status-requires-clause-few : goal.run_to_status-requires-clause-few
+run_to_status-requires-clause-few g c =
     few_steps _ c.args.pair.now.program (over (data_of c.args.pair.now.program) c.args.given.memory.items) c.args.bound (c.in-Ok.ensures.start []) c.requires.bound
 
-pub run_to_status-status-requires-clause-short : goal.run_to_status-status-requires-clause-short
-run_to_status-status-requires-clause-short g c =
+pub run_to_status-requires-clause-short : goal.run_to_status-requires-clause-short
+run_to_status-requires-clause-short g c =
     let program = c.args.pair.now.program in
     let memory = c.args.given.memory.items in
     short_memory _ program (over (data_of program) memory) (c.in-Ok.ensures.start [])

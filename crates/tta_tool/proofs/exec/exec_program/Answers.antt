@@ -13,5 +13,5 @@ returns-in-Ok g c =
     let pair = c.in-Ok.pair in
     let names = c.args.request.now.names in
     pair_runs U (IsProgramFor U) (RefusesProgramFor U) (Reports U c.args.request.now.bound) names.machine.now names.second.now names.input.now (option_map (λ s. s.now) names.stream)
-    pair.file pair.program (f.world c.args.files.now) (f.world c.program_pair.new.files) (f.world c.exec_pair-status.new.files)
-    (sink.output c.args.sink.now) (sink.output c.exec_pair-status.new.sink) c.exec_pair-status.result c.in-Ok.ensures.ends c.exec_pair-status.ensures
+    pair.file pair.program (f.world c.args.files.now) (f.world c.program_pair.new.files) (f.world c.exec_pair.new.files)
+    (sink.output c.args.sink.now) (sink.output c.exec_pair.new.sink) c.exec_pair.result c.in-Ok.ensures.ends c.exec_pair.ensures

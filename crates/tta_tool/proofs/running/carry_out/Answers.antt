@@ -17,12 +17,12 @@ returns-in-Ok g c =
     let words = c.as_slice.result.now in
     let memory = over (data_in c.args.pair.now.whole) c.args.given.memory.items in
     let old = sink.output c.args.sink.now in
-    let new = sink.output c.run_to_status-status.new.sink in
+    let new = sink.output c.run_to_status.new.sink in
     let Ends : Whole → (given : List ℕ) → Type 0 = λ whole given.
-    let end = cyc U m whole.code memory given c.args.bound in ReportEnds (run_text end) (ended_of end.outcome) old new c.run_to_status-status.result in
+    let end = cyc U m whole.code memory given c.args.bound in ReportEnds (run_text end) (ended_of end.outcome) old new c.run_to_status.result in
     subst (Ends c.args.pair.now.whole) c.as_slice.ensures.value
-    (subst (λ whole. Ends whole words) (ap (λ (p : CodePair). p.whole) c.pair.view_is) (c.run_to_status-status.ensures (start m memory words) (c.in-Ok.ensures.start words) refl refl))
+    (subst (λ whole. Ends whole words) (ap (λ (p : CodePair). p.whole) c.pair.view_is) (c.run_to_status.ensures (start m memory words) (c.in-Ok.ensures.start words) refl refl))
 
-pub run_to_status-status-requires-clause-few : goal.run_to_status-status-requires-clause-few
-run_to_status-status-requires-clause-few g c =
+pub run_to_status-requires-clause-few : goal.run_to_status-requires-clause-few
+run_to_status-requires-clause-few g c =
     few_cycles _ c.args.pair.now.file.machine (over (data_in c.args.pair.now.whole) c.args.given.memory.items) c.args.bound (c.in-Ok.ensures.start []) c.requires.bound

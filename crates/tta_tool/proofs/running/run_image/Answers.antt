@@ -13,5 +13,5 @@ returns-in-Ok g c =
     let pair = c.in-Ok.pair in
     let names = c.args.request.now.names in
     pair_runs U (IsImageFor) (RefusesImage) (Reports U c.args.request.now.bound) names.machine.now names.second.now names.input.now (option_map (λ s. s.now) names.stream)
-    pair.file pair.whole (f.world c.args.files.now) (f.world c.image_pair.new.files) (f.world c.run_pair-status.new.files)
-    (sink.output c.args.sink.now) (sink.output c.run_pair-status.new.sink) c.run_pair-status.result c.in-Ok.ensures.ends c.run_pair-status.ensures
+    pair.file pair.whole (f.world c.args.files.now) (f.world c.image_pair.new.files) (f.world c.run_pair.new.files)
+    (sink.output c.args.sink.now) (sink.output c.run_pair.new.sink) c.run_pair.result c.in-Ok.ensures.ends c.run_pair.ensures
