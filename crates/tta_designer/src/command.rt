@@ -1,5 +1,4 @@
-//! Putting the view that the words ask for. What was read is dropped by name, as a whole, so that no
-//! part of it is left to drop at the end.
+//! Putting the view that the words ask for.
 
 ghost use Rattle.std.specs.Prelude.{◌≡◌, map, true, Some};
 ghost use Rattle.std.specs.String.{string_bytes};
@@ -83,7 +82,6 @@ fn put_machine<F: Files, S: Sink>(
     match machine_file(alloc, units, files, names.machine, 1) {
         Ok(file) => {
             let made = text_of_machine(alloc, units, &file, names.view);
-            drop(file);
             put_made(sink, made)
         }
         Err(status) => status,
@@ -105,7 +103,6 @@ fn put_code<F: Files, S: Sink>(
     match image_pair(alloc, units, files, names.machine, names.image) {
         Ok(pair) => {
             let made = text_of_code(alloc, units, &pair, names.view);
-            drop(pair);
             put_made(sink, made)
         }
         Err(status) => status,

@@ -93,10 +93,7 @@ fn text_of_compiled(
     match load_compiled(alloc, on, memory) {
         Ok(mut sim) => {
             let words = words.as_slice();
-            let made = text_of_blocks(alloc, on, request.view, &mut sim, words, request.bound);
-            // Dropped here as a whole, so that no part of it is left to drop at the end.
-            drop(sim);
-            made
+            text_of_blocks(alloc, on, request.view, &mut sim, words, request.bound)
         }
         Err(_) => Err(Status::NoMemory),
     }
@@ -128,14 +125,8 @@ pub fn text_of_program(
                 units,
                 stages: &stages,
             };
-            let made = text_of_compiled(alloc, &on, given, request);
-            // Dropped here as a whole, so that no part of it is left to drop at the end.
-            drop(stages);
-            made
+            text_of_compiled(alloc, &on, given, request)
         }
-        Err(error) => {
-            drop(given);
-            Err(ending_of(error, units, &file.machine, program))
-        }
+        Err(error) => Err(ending_of(error, units, &file.machine, program)),
     }
 }

@@ -40,14 +40,8 @@ fn named_stream<F: Files>(alloc: Global, files: &mut F, name: &str) -> Result<Ve
     ensures { FileEnds IsInput RefusesStream name.now 4
         (F.world files.old) (F.world files.new) (λ v. v.items) result }
 {
-    match read_file(files, name, 4) {
-        Ok(bytes) => {
-            let words = words_of(alloc, bytes.as_slice());
-            drop(bytes);
-            words
-        }
-        Err(status) => Err(status),
-    }
+    let bytes = read_file(files, name, 4)?;
+    words_of(alloc, bytes.as_slice())
 }
 
 /// The words of the input: those of its file, or none where no file is named.
@@ -77,16 +71,9 @@ fn run_words<F: Files>(
         (λ g. g.memory.items) (λ g. g.words.items) result }
     ensures whole { IfOk result (λ g. length g.memory.items ≡ space) }
 {
-    match input_file(alloc, files, request.input, 3, space) {
-        Ok(memory) => match stream_words(alloc, files, request.stream) {
-            Ok(words) => Ok(Given { memory, words }),
-            Err(status) => {
-                drop(memory);
-                Err(status)
-            }
-        },
-        Err(status) => Err(status),
-    }
+    let memory = input_file(alloc, files, request.input, 3, space)?;
+    let words = stream_words(alloc, files, request.stream)?;
+    Ok(Given { memory, words })
 }
 
 /// What a session is over: code for a machine, and what its run is given.
@@ -113,19 +100,9 @@ fn read_all<F: Files>(
     ensures legal { IfOk result
         (λ r. IsLegalCode r.pair.file.machine r.pair.whole.code) }
 {
-    match image_pair(alloc, units, files, request.machine, request.image) {
-        Ok(pair) => {
-            let space = data_words(&pair.file.machine);
-            match run_words(alloc, files, request, space) {
-                Ok(given) => Ok(Ready { pair, given }),
-                Err(status) => {
-                    drop(pair);
-                    Err(status)
-                }
-            }
-        }
-        Err(status) => Err(status),
-    }
+    let pair = image_pair(alloc, units, files, request.machine, request.image)?;
+    let given = run_words(alloc, files, request, data_words(&pair.file.machine))?;
+    Ok(Ready { pair, given })
 }
 
 /// Carries out a session, and answers how the command ends.
@@ -178,10 +155,7 @@ fn session_of<L: Lines, S: Sink>(
                 units,
                 input: words.as_slice(),
             };
-            let status = session_to_status(alloc, &mut session, &basis, lines, sink);
-            // Dropped here as a whole, so that no part of it is left to drop at the end.
-            drop(session);
-            status
+            session_to_status(alloc, &mut session, &basis, lines, sink)
         }
         Err(_) => Status::NoMemory,
     }
@@ -205,11 +179,7 @@ pub fn prompt_image<F: Files, L: Lines, S: Sink>(
         (L.come lines.old) (L.come lines.new) (S.output sink.old) (S.output sink.new) result }
 {
     match read_all(alloc, units, files, request) {
-        Ok(Ready { pair, given }) => {
-            let status = session_of(alloc, units, lines, sink, &pair, given);
-            drop(pair);
-            status
-        }
+        Ok(Ready { pair, given }) => session_of(alloc, units, lines, sink, &pair, given),
         Err(status) => status,
     }
 }

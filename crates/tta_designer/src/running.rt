@@ -122,12 +122,7 @@ fn text_of_run<'x>(
     let Given { memory, words } = given;
     let (file, whole) = (on.file, on.whole);
     match load_code(alloc, &file.machine, whole, memory) {
-        Ok(mut sim) => {
-            let made = text_of_sim(alloc, units, on, &mut sim, words.as_slice(), request);
-            // Dropped here as a whole, so that no part of it is left to drop at the end.
-            drop(sim);
-            made
-        }
+        Ok(mut sim) => text_of_sim(alloc, units, on, &mut sim, words.as_slice(), request),
         Err(_) => Err(Status::NoMemory),
     }
 }
@@ -202,11 +197,7 @@ pub fn run_subject<F: Files, S: Sink>(
         (F.world files.old) (F.world files.new) (S.output sink.old) (S.output sink.new) result }
 {
     match subject_pair(alloc, units, files, request.machine, request.subject) {
-        Ok(pair) => {
-            let status = run_pair(alloc, units, files, sink, request, &pair);
-            drop(pair);
-            status
-        }
+        Ok(pair) => run_pair(alloc, units, files, sink, request, &pair),
         Err(status) => status,
     }
 }

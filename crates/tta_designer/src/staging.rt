@@ -42,10 +42,7 @@ fn text_of_stages(alloc: Global, units: &UnitSet, pair: &ProgramPair) -> Result<
 {
     match stages_of(alloc, &pair.file.machine, &pair.program, units) {
         Ok(stages) => {
-            let text = tell_stages(alloc, &pair.file.machine, &pair.program, units, &stages);
-            // Dropped here as a whole, so that no part of it is left to drop at the end.
-            drop(stages);
-            match text {
+            match tell_stages(alloc, &pair.file.machine, &pair.program, units, &stages) {
                 Ok(text) => Ok(text),
                 Err(_) => Err(Status::NoMemory),
             }
@@ -70,7 +67,6 @@ pub fn put_stages<F: Files, S: Sink>(
     match program_pair(alloc, units, files, names.machine, names.program) {
         Ok(pair) => {
             let made = text_of_stages(alloc, units, &pair);
-            drop(pair);
             put_made(sink, made)
         }
         Err(status) => status,

@@ -103,14 +103,8 @@ fn subject_file<F: Files>(
         (F.world files.old) (F.world files.new) (λ s. s) result }
     ensures suits { IfOk result (λ s. Suits (stated unit_meaning units.now) file.now.machine s) }
 {
-    match read_file(files, name, 2) {
-        Ok(bytes) => {
-            let subject = subject_of(alloc, units, bytes.as_slice(), file);
-            drop(bytes);
-            subject
-        }
-        Err(status) => Err(status),
-    }
+    let bytes = read_file(files, name, 2)?;
+    subject_of(alloc, units, bytes.as_slice(), file)
 }
 
 /// The machine that word 1 names, and what the file that word 2 names gives to run on it.
@@ -129,14 +123,7 @@ pub fn subject_pair<F: Files>(
     ensures suits { let U = stated unit_meaning units.now in
         IfOk result (λ p. Suits U p.file.machine p.subject) }
 {
-    match machine_file(alloc, units, files, machine, 1) {
-        Ok(file) => match subject_file(alloc, units, files, subject, &file) {
-            Ok(subject) => Ok(SubjectPair { file, subject }),
-            Err(status) => {
-                drop(file);
-                Err(status)
-            }
-        },
-        Err(status) => Err(status),
-    }
+    let file = machine_file(alloc, units, files, machine, 1)?;
+    let subject = subject_file(alloc, units, files, subject, &file)?;
+    Ok(SubjectPair { file, subject })
 }

@@ -17,5 +17,5 @@ returns-in-Ok g c =
     let memory = c.args.given.memory.items in
     let words = c.args.given.words.items in
     made_of (IsCompiledShown U run.view file.machine p stages (start file.machine (over (data_of p) memory) words) run.bound)
-    (IsProgramShown U run.view run.bound file p memory words) (IsCauseOf U file.machine p) (λ v. v.items) c.text_of_compiled-made.result
-    (λ text shown. record { stages = stages; are = c.in-Ok.ensures.stages; shown = shown }) tt c.text_of_compiled-made.ensures
+    (IsProgramShown U run.view run.bound file p memory words) (IsCauseOf U file.machine p) (λ v. v.items) c.text_of_compiled.result
+    (λ text shown. record { stages = stages; are = c.in-Ok.ensures.stages; shown = shown }) tt c.text_of_compiled.ensures

@@ -1,14 +1,17 @@
 use Rattle.std.proofs.Common.{ℕ, List, subst, inl}
+use Rattle.std.proofs.lemmas.Result.{err_from_is_err_and}
 use Rattle.tta_given.specs.Held.{TakesBytes}
 use Rattle.tta_given.specs.Inputs.{IsInput, RefusesStream}
 use Rattle.tta_given.proofs.Taking.{file_taken}
 use Rattle.tta_designer.proofs.prompting.named_stream.Goals as goal
 
-pub returns-in-Ok : goal.returns-in-Ok
-returns-in-Ok g c =
-    let Takes : List ℕ → Type 0 = λ bytes. TakesBytes (IsInput) (RefusesStream) bytes (λ v. v.items) c.words_of-words.result in
-    file_taken (IsInput) (RefusesStream) c.args.name.now c.in-Ok.bytes.items 4 _ _ (λ v. v.items) c.words_of-words.result c.in-Ok.ensures
-    (subst Takes c.as_slice.ensures.value c.words_of-words.ensures)
+pub returns : goal.returns
+returns g c =
+    let Takes : List ℕ → Type 0 = λ bytes. TakesBytes (IsInput) (RefusesStream) bytes (λ v. v.items) c.words_of.result in
+    file_taken (IsInput) (RefusesStream) c.args.name.now c.in_ok-bytes.bytes.items 4 _ _ (λ v. v.items) c.words_of.result c.in_ok-bytes.ensures
+    (subst Takes c.as_slice.ensures.value c.words_of.ensures)
 
-pub returns-in-Err : goal.returns-in-Err
-returns-in-Err g c = inl c.in-Err.ensures
+pub returns-in_err-bytes : goal.returns-in_err-bytes
+returns-in_err-bytes g c =
+    let error = err_from_is_err_and c.from_residual.result c.from_residual.ensures.1 in
+    rw (error.1, error.2) (inl c.in_err-bytes.ensures)

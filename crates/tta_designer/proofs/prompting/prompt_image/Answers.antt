@@ -11,8 +11,8 @@ returns-in-Ok g c =
     let read = c.in-Ok.field-0 in
     opens U request.machine.now request.image.now request.input.now (option_map (λ s. s.now) request.stream) read.pair.file read.pair.whole
     read.given.memory.items read.given.words.items (f.world c.args.files.now) (f.world c.read_all.new.files)
-    (g.L.Lines.come c.args.lines.now) (g.L.Lines.come c.session_of-status.new.lines) (g.S.Sink.output c.args.sink.now) (g.S.Sink.output c.session_of-status.new.sink)
-    c.session_of-status.result c.in-Ok.ensures.ends c.session_of-status.ensures
+    (g.L.Lines.come c.args.lines.now) (g.L.Lines.come c.session_of.new.lines) (g.S.Sink.output c.args.sink.now) (g.S.Sink.output c.session_of.new.sink)
+    c.session_of.result c.in-Ok.ensures.ends c.session_of.ensures
 
 pub returns-in-Err : goal.returns-in-Err
 returns-in-Err g c = inl (c.in-Err.ensures.ends, record { lines = refl; quiet = record { taken = refl; faults = refl } })

@@ -13,5 +13,5 @@ returns-in-Ok g c =
     let pair = c.in-Ok.pair in
     let run = c.args.request.now in
     pair_runs U (IsSubject U) (RefusesSubject U) (Tells U run.view run.bound) run.machine.now run.subject.now run.input.now (option_map (λ s. s.now) run.stream)
-    pair.file pair.subject (f.world c.args.files.now) (f.world c.subject_pair.new.files) (f.world c.run_pair-status.new.files)
-    (sink.output c.args.sink.now) (sink.output c.run_pair-status.new.sink) c.run_pair-status.result c.in-Ok.ensures.ends c.run_pair-status.ensures
+    pair.file pair.subject (f.world c.args.files.now) (f.world c.subject_pair.new.files) (f.world c.run_pair.new.files)
+    (sink.output c.args.sink.now) (sink.output c.run_pair.new.sink) c.run_pair.result c.in-Ok.ensures.ends c.run_pair.ensures

@@ -8,8 +8,8 @@ use Rattle.tta_designer.specs.Runs.{IsRunShown}
 use Rattle.tta_designer.proofs.Laying.{few_cycles}
 use Rattle.tta_designer.proofs.running.text_of_run.Goals as goal
 
-pub text_of_sim-made-requires-clause-few : goal.text_of_sim-made-requires-clause-few
-text_of_sim-made-requires-clause-few g c =
+pub text_of_sim-requires-clause-few : goal.text_of_sim-requires-clause-few
+text_of_sim-requires-clause-few g c =
     few_cycles _ c.args.on.now.file.now.machine (over (data_in c.args.on.now.whole.now) c.args.given.memory.items) c.args.request.now.bound (c.in-Ok.ensures.start []) c.requires.bound
 
 pub returns-in-Ok : goal.returns-in-Ok
@@ -19,5 +19,5 @@ returns-in-Ok g c =
     let whole = c.args.on.now.whole.now in
     let words = c.as_slice.result.now in
     let memory = over (data_in whole) c.args.given.memory.items in
-    subst (λ (given : List ℕ). MadeEnds (IsRunShown U c.args.request.now.view m whole.code (start m memory given) c.args.request.now.bound) no_memory (λ v. v.items) c.text_of_sim-made.result)
-    c.as_slice.ensures.value (c.text_of_sim-made.ensures (start m memory words) (c.in-Ok.ensures.start words) refl)
+    subst (λ (given : List ℕ). MadeEnds (IsRunShown U c.args.request.now.view m whole.code (start m memory given) c.args.request.now.bound) no_memory (λ v. v.items) c.text_of_sim.result)
+    c.as_slice.ensures.value (c.text_of_sim.ensures (start m memory words) (c.in-Ok.ensures.start words) refl)
