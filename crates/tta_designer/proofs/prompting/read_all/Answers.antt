@@ -17,7 +17,7 @@ returns-clause-ends g c =
     let after = f.world c.run_words.new.files in
     files_read U request.machine.now request.image.now request.input.now stream pair.file pair.whole given.memory.items given.words.items
     (f.world c.args.files.now) between after c.in_ok-pair.ensures.ends
-    (subst (λ n. ReadsGiven n request.input.now stream given.memory.items given.words.items between after) c.data_words-space.ensures c.in_ok-given.ensures.ends)
+    (subst (λ n. ReadsGiven n request.input.now stream given.memory.items given.words.items between after) c.data_words.ensures c.in_ok-given.ensures.ends)
 
 pub returns-in_err-given-clause-ends : goal.returns-in_err-given-clause-ends
 returns-in_err-given-clause-ends g c =
@@ -31,7 +31,7 @@ returns-in_err-given-clause-ends g c =
     let after = f.world c.run_words.new.files in
     rw (error.1, error.2) (files_refused U request.machine.now request.image.now request.input.now stream pair.file pair.whole
     (f.world c.args.files.now) between after c.in_err-given.field-0.0 c.in_ok-pair.ensures.ends
-    (subst (λ n. GivenFails n request.input.now stream between after c.in_err-given.field-0.0) c.data_words-space.ensures c.in_err-given.ensures.ends))
+    (subst (λ n. GivenFails n request.input.now stream between after c.in_err-given.field-0.0) c.data_words.ensures c.in_err-given.ensures.ends))
 
 pub returns-in_err-pair-clause-ends : goal.returns-in_err-pair-clause-ends
 returns-in_err-pair-clause-ends g c =
