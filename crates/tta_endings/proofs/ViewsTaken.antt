@@ -22,6 +22,7 @@ use Rattle.tta_given.specs.Images.{IsImageFor, RefusesImage}
 use Rattle.tta_given.specs.Programs.{IsProgramFor, RefusesProgramFor}
 use Rattle.tta_given.specs.Inputs.{IsInput, RefusesStream, IsStream}
 use Rattle.tta_given.specs.Held.{no_memory}
+use Rattle.tta_given.specs.Pairs.{HasPair}
 use Rattle.tta_tool.specs.Build.{IsCauseOf}
 use Rattle.tta_designer.specs.declared.subject.Subject.{Subject}
 use Rattle.tta_designer.specs.declared.subject.Subject.TheVariants.{Code, Program}
@@ -29,9 +30,10 @@ use Rattle.tta_designer.specs.Subjects.{IsSubject, RefusesSubject}
 use Rattle.tta_designer.specs.Views.{machine_view}
 use Rattle.tta_designer.specs.Command.{IsShown as IsCodeShown}
 use Rattle.tta_designer.specs.Runs.{IsShown, Lacks, Tells}
-use Rattle.tta_designer.specs.Stages.{IsStagesOf, IsCauseOf as IsStageCause}
+use Rattle.tta_designer.specs.Stages.{IsStagesOf, ShowsStages, IsCauseOf as IsStageCause}
 use Rattle.tta_designer.specs.Prompts.{StreamFails, GivenFails, Ended, SessionEnds, FilesFail}
 use Rattle.tta_endings.specs.Completes.{showing}
+use Rattle.tta_endings.specs.PutCompletes.{IsUndisturbed}
 use Rattle.tta_endings.specs.ViewCompletes.{MachineViewCompletes, CodeViewCompletes, IsRunnable, IsTooLong, RunViewCompletes}
 use Rattle.tta_endings.specs.ViewCompletes.{StagesCompletes, StagesCompletesWithoutRoom, HasPromptFiles, IsCalm, PromptCompletes}
 use Rattle.tta_endings.proofs.OneProgram.{one_program}
@@ -112,28 +114,35 @@ run_view_completes_holds u store faults latest view M F IN STREAM bound after ol
 
 -- ---- stages
 
-pub stages_completes_without_room_holds : StagesCompletesWithoutRoom
-stages_completes_without_room_holds u store faults latest M P after old new s has calm ends =
-    let pair = has.pair in
+-- `stages` of a pair that files hold is done, lacks memory, or has a cause of `build`
+stages_only : (u : Units) (store : Store) (faults : ℕ) (latest : Option Fault) (M P : List ℕ) (after : World) (old new : Output) (s : Status)
+    (pair : HasPair u (IsProgramFor u) (Some store) M P) → IsUndisturbed (showing store faults latest) after old new
+    → ShowsStages u M P (showing store faults latest) after old new s
+    → (s ≡ status.Ok) ⊎ (s ≡ status.NoMemory) ⊎ IsCauseOf u pair.machine.value.machine pair.second.value s
+stages_only u store faults latest M P after old new s pair calm ends =
     let file = pair.machine.value in
     let program = pair.second.value in
     elim (puts_only u store faults latest after old new calm (IsProgramFor u) (RefusesProgramFor u) (IsStagesOf u) (λ file p. IsStageCause u file.machine p) M P s pair
     (λ text. program_only u file.machine.data_words text program s) (λ text p is also. one_program u text p program is.read also.read) ends) [
       | inl done ↦ inl done
       | inr (inl lacks) ↦ inr (inl lacks)
-      | inr (inr lacks) ↦ inr (cause_only u file.machine program s has.accepted (cause_of_build u file.machine program s lacks))
+      | inr (inr lacks) ↦ inr (inr (cause_of_build u file.machine program s lacks))
+    ]
+
+pub stages_completes_without_room_holds : StagesCompletesWithoutRoom
+stages_completes_without_room_holds u store faults latest M P after old new s has calm ends =
+    elim (stages_only u store faults latest M P after old new s has.pair calm ends) [
+      | inl done ↦ inl done
+      | inr (inl lacks) ↦ inr (inl lacks)
+      | inr (inr lacks) ↦ inr (cause_only u has.pair.machine.value.machine has.pair.second.value s has.accepted lacks)
     ]
 
 pub stages_completes_holds : StagesCompletes
 stages_completes_holds u store faults latest M P after old new s has calm ends =
-    let pair = has.pair in
-    let file = pair.machine.value in
-    let program = pair.second.value in
-    elim (puts_only u store faults latest after old new calm (IsProgramFor u) (RefusesProgramFor u) (IsStagesOf u) (λ file p. IsStageCause u file.machine p) M P s pair
-    (λ text. program_only u file.machine.data_words text program s) (λ text p is also. one_program u text p program is.read also.read) ends) [
+    elim (stages_only u store faults latest M P after old new s has.pair calm ends) [
       | inl done ↦ inl done
       | inr (inl lacks) ↦ inr lacks
-      | inr (inr lacks) ↦ inr (roomy_only u file.machine program s has.roomy (cause_of_build u file.machine program s lacks))
+      | inr (inr lacks) ↦ inr (roomy_only u has.pair.machine.value.machine has.pair.second.value s has.roomy lacks)
     ]
 
 -- ---- a session
