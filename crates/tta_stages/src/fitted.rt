@@ -1,11 +1,13 @@
 //! Each block's trail is placed, and beside it that by the passes alone; the shorter stays.
 
-ghost use Rattle.std.specs.Prelude.{◌≡◌, if◌then◌else◌, nat_lt, true, length, IfOk};
+ghost use Rattle.std.specs.Prelude.{◌≡◌, true, length, IfOk};
 ghost use Rattle.std.specs.List.{list_all};
 ghost use Rattle.tta_moves.specs.Slots.{is_list};
+ghost use Rattle.tta_compose.specs.Compiler.{optimised};
 ghost use Rattle.tta_stages.specs.Trail.{IsTrail, last_of};
 ghost use Rattle.tta_stages.specs.Planned.{IsFitOf, IsFitted, AreFitted};
 
+use crate::keeping::{beside, chosen};
 use crate::trail::{Tracer, Trail, plain_trail};
 use std::alloc::{AllocError, Global};
 use tta_build::Way;
@@ -37,19 +39,27 @@ fn fit_of(
     requires list { is_list on.now.machine.now (last_of trail).items ≡ true }
     ensures { IfOk result (λ r. IsFitOf on.now.machine.now trail r) }
 {
-    let placed = placer.place(alloc, trail.last(), on.machine, on.net)?;
+    let placed = placer.place(alloc, trail.last(), on.machine, on.net);
+    let (trail, placed) = beside(trail, placed)?;
     Ok(Fitted { trail, placed })
 }
 
-/// That with the shorter of two placements, the first on a tie.
-fn shorter(first: Fitted, other: Fitted) -> Fitted
-    ensures { result ≡ (if nat_lt other.placed.length first.placed.length then other else first) }
+/// The trail of a block by the passes alone, with its placement. It fails only where there is no
+/// memory.
+fn plain_fit(
+    alloc: Global,
+    placer: &mut Placer,
+    on: &Covered<'_>,
+    b: &BlockList,
+) -> Result<Fitted, AllocError>
+    requires list { is_list on.now.machine.now b.now.items ≡ true }
+    ensures trail { IfOk result (λ r. IsTrail on.now.machine.now b.now r.trail) }
+    ensures last { IfOk result (λ r. last_of r.trail ≡ optimised on.now.machine.now b.now) }
+    ensures fit { IfOk result (λ r. IsFitOf on.now.machine.now r.trail r) }
 {
-    if other.placed.length < first.placed.length {
-        other
-    } else {
-        first
-    }
+    let plain = plain_trail(alloc, on, b)?;
+    let fit = fit_of(alloc, placer, on, plain)?;
+    Ok(fit)
 }
 
 /// A trail of a block with its placement, or that by the passes alone where its placement is
@@ -67,9 +77,9 @@ fn kept_fit(
     ensures { IfOk result (λ r. IsFitted on.now.machine.now b.now r) }
 {
     let first = fit_of(alloc, placer, on, trail)?;
-    let plain = plain_trail(alloc, on, b)?;
-    let other = fit_of(alloc, placer, on, plain)?;
-    Ok(shorter(first, other))
+    let (first, plain) = beside(first, plain_fit(alloc, placer, on, b))?;
+    let is_shorter = plain.placed.length < first.placed.length;
+    Ok(chosen(is_shorter, first, plain))
 }
 
 /// The trail of each list along its way, for what is chosen on a machine, with its placement, or that

@@ -8,6 +8,7 @@ mod body;
 mod direct;
 mod fitted;
 mod intervals;
+mod keeping;
 mod listed;
 mod lowered;
 mod passed;

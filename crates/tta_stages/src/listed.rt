@@ -13,6 +13,7 @@ ghost use Rattle.tta_build.specs.Sharing.{AreGivenBy};
 ghost use Rattle.tta_stages.specs.Lowered.{IsLoweredAs};
 ghost use Rattle.tta_stages.specs.Stages.{AreCoveredLists, AreListed};
 
+use crate::keeping::chosen;
 use crate::lowered::{Lowered, lower_program};
 use crate::planned::{Planned, plan_lists};
 use std::alloc::{AllocError, Global};
@@ -110,12 +111,9 @@ fn shorter(first: Listed, other: Listed) -> Listed
     ensures { result ≡ (if nat_lt (total_length other.planned.placed.items)
         (total_length first.planned.placed.items) then other else first) }
 {
+    let cycles = total_length(first.planned.placed.as_slice());
     let others = total_length(other.planned.placed.as_slice());
-    if others < total_length(first.planned.placed.as_slice()) {
-        other
-    } else {
-        first
-    }
+    chosen(others < cycles, first, other)
 }
 
 /// The lists of a program whose needs usable units offer. Where `build` tries a small program with
