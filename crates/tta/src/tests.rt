@@ -7,6 +7,7 @@ mod host;
 mod lowering;
 mod passes;
 mod placement;
+mod region;
 mod texts;
 mod turns;
 

@@ -7,6 +7,3 @@ mod ring;
 mod turning;
 
 pub use region::Region;
-
-#[cfg(test)]
-mod tests;

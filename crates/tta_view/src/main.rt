@@ -3,9 +3,6 @@
 //! ends with the number of the status.
 #![tactic(auto)]
 
-#[cfg(test)]
-mod tests;
-
 use std::alloc::{AllocError, Global};
 use std::env;
 use std::io::ErrorKind;

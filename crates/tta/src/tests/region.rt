@@ -1,7 +1,7 @@
 //! A region from its start to a result that shows.
 
-use super::Region;
 use std::test::Fail;
+use tta_flight::Region;
 
 #[test]
 fn a_result_shows_when_it_is_due(rt: HostRuntime) -> Result<(), Fail> {
