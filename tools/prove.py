@@ -67,14 +67,17 @@ def main():
     log = os.path.join(TOP, "crates", f"{program}.log")
     print("tta: proving and building the program first; from nothing this takes an hour or more", file=sys.stderr)
     print("tta: ./tta --plain COMMAND takes a minute instead, with a program whose proofs are left out", file=sys.stderr)
-    begun = time.time()
+    # The time of a file that is written now, since such times lag the clock by some milliseconds.
+    with open(log, "wb"):
+        pass
+    begun = os.stat(log).st_mtime_ns
     try:
         prove(program, log)
     except CannotBuild as error:
         print(f"tta: {error}", file=sys.stderr)
         return CANNOT_BUILD
     built = os.path.join(TOP, "crates", program, "out", program)
-    if os.path.exists(built) and os.path.getmtime(built) >= begun:
+    if os.path.exists(built) and os.stat(built).st_mtime_ns >= begun:
         return 0
     print(f"tta: the build failed; the last lines of crates/{program}.log are", file=sys.stderr)
     with open(log, encoding="utf-8", errors="replace") as said:
