@@ -12,6 +12,8 @@ from build import CannotBuild, crates_of
 
 TOP = os.path.normpath(os.path.join(os.path.dirname(os.path.abspath(__file__)), ".."))
 BEGUN = re.compile(r"^rt: chose --jobs \d+ for (\w+)|^rt: (\w+): begins with|^crate (\w+):", re.M)
+# How the line begins that says that no source differs from what the program was built of.
+UNCHANGED = "rt: nothing has changed since the last proved build"
 LAST_LINES = 20
 CANNOT_BUILD = 70
 
@@ -62,6 +64,20 @@ def prove(program, log):
     progress.end()
 
 
+def stands(built, begun, log):
+    """Whether a program was built since a time, or stands as an earlier build left it: a source may be newer and yet the same. Then the
+    program is given the time of now, so that it is not built again at each call."""
+    if not os.path.exists(built):
+        return False
+    if os.stat(built).st_mtime_ns >= begun:
+        return True
+    with open(log, encoding="utf-8", errors="replace") as said:
+        is_same = any(line.startswith(UNCHANGED) for line in said)
+    if is_same:
+        os.utime(built)
+    return is_same
+
+
 def main():
     program = sys.argv[1]
     log = os.path.join(TOP, "crates", f"{program}.log")
@@ -76,8 +92,7 @@ def main():
     except CannotBuild as error:
         print(f"tta: {error}", file=sys.stderr)
         return CANNOT_BUILD
-    built = os.path.join(TOP, "crates", program, "out", program)
-    if os.path.exists(built) and os.stat(built).st_mtime_ns >= begun:
+    if stands(os.path.join(TOP, "crates", program, "out", program), begun, log):
         return 0
     print(f"tta: the build failed; the last lines of crates/{program}.log are", file=sys.stderr)
     with open(log, encoding="utf-8", errors="replace") as said:
