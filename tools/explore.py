@@ -1,20 +1,15 @@
 """Compiles each of some programs for each of some machines, runs the images, and prints a table of designs: words, bits of an
 instruction, bits of the code, cycles, cycles a step, or why there is no image. Pairs are worked at side by side, on all processors.
 
-Its words are a number, the script that runs commands with as many options for it, and then machines, `--` and programs; `--csv` among
-them asks for values with commas. A program's data words stand in a file of the same name that ends in .input, its input in one that ends
+Its words are machines, `--` and programs; `--csv` among them asks for values with commas. A program's data words stand in a file of the same name that ends in .input, its input in one that ends
 in .stream; without them it has none."""
 import csv
 import os
 import re
-import signal
 import subprocess
 import sys
 import tempfile
 from concurrent.futures import ThreadPoolExecutor
-
-# A reader that has seen enough ends it without a word.
-signal.signal(signal.SIGPIPE, signal.SIG_DFL)
 
 HEADS = ["machine", "program", "words", "bits", "code bits", "steps", "cycles", "cycles/step", "ends"]
 STEPS = CYCLES = str(2**40)
@@ -81,9 +76,7 @@ def print_table(rows):
         print("  ".join([*left, *right, cells[-1]]).rstrip())
 
 
-def main():
-    count, *words = sys.argv[1:]
-    tool, words = words[:1 + int(count)], words[1 + int(count):]
+def explore(tool, words):
     as_csv = "--csv" in words
     words = [word for word in words if word != "--csv"]
     at = words.index("--") if "--" in words else 0
@@ -96,7 +89,10 @@ def main():
             print(f"tta: explore: there is no file {path}", file=sys.stderr)
             return USAGE
     # So that the program is built once, and not by each of those that run side by side.
-    answer(tool, [])
+    program = subprocess.run([*tool, "--which", "build"], stdin=subprocess.DEVNULL, stdout=subprocess.PIPE)
+    if program.returncode:
+        return program.returncode
+    tool = [os.fsdecode(program.stdout).rstrip("\n")]
     with ThreadPoolExecutor(os.cpu_count()) as workers:
         rows = list(workers.map(lambda pair: row(tool, *pair), [(m, p) for p in programs for m in machines]))
     if as_csv:
@@ -105,6 +101,3 @@ def main():
         print_table(rows)
     return 0
 
-
-if __name__ == "__main__":
-    sys.exit(main())

@@ -6,9 +6,9 @@ import subprocess
 import sys
 import time
 
-sys.dont_write_bytecode = True
 sys.path.insert(0, os.path.join(os.path.dirname(os.path.abspath(__file__)), "plain"))
-from build import CannotBuild, crates_of
+import ending
+from build import CannotBuild, alone, crates_of
 
 TOP = os.path.normpath(os.path.join(os.path.dirname(os.path.abspath(__file__)), ".."))
 BEGUN = re.compile(r"^rt: chose --jobs \d+ for (\w+)|^rt: (\w+): begins with|^crate (\w+):", re.M)
@@ -57,11 +57,17 @@ def prove(program, log):
     with open(log, "wb") as out, open(log, encoding="utf-8", errors="replace") as said:
         folder = os.path.join(TOP, "crates", program)
         build = subprocess.Popen(["rt", "run"], cwd=folder, stdin=subprocess.DEVNULL, stdout=out, stderr=out)
-        while build.poll() is None:
+        try:
+            while build.poll() is None:
+                progress.read(said.read())
+                time.sleep(0.5)
             progress.read(said.read())
-            time.sleep(0.5)
-        progress.read(said.read())
-    progress.end()
+        except KeyboardInterrupt:
+            build.terminate()
+            build.wait()
+            raise
+        finally:
+            progress.end()
 
 
 def stands(built, begun, log):
@@ -78,28 +84,24 @@ def stands(built, begun, log):
     return is_same
 
 
-def main():
-    program = sys.argv[1]
+def main(words):
+    program, = words
     log = os.path.join(TOP, "crates", f"{program}.log")
-    print("tta: proving and building the program first; from nothing this takes an hour or more", file=sys.stderr)
-    print("tta: ./tta --plain COMMAND takes a minute instead, with a program whose proofs are left out", file=sys.stderr)
-    # The time of a file that is written now, since such times lag the clock by some milliseconds.
-    with open(log, "wb"):
-        pass
-    begun = os.stat(log).st_mtime_ns
+    ending.say("proving and building the proved program, from nothing in an hour or more; --plain before a command asks for the plain one, in half a minute")
     try:
-        prove(program, log)
+        with alone(os.path.join(TOP, "out"), lambda: ending.say("another call proves it at this moment: waiting for its end")):
+            # The time of a file that is written now, since such times lag the clock by some milliseconds.
+            with open(log, "wb"):
+                pass
+            begun = os.stat(log).st_mtime_ns
+            prove(program, log)
     except CannotBuild as error:
-        print(f"tta: {error}", file=sys.stderr)
+        ending.say(error)
         return CANNOT_BUILD
     if stands(os.path.join(TOP, "crates", program, "out", program), begun, log):
         return 0
-    print(f"tta: the build failed; the last lines of crates/{program}.log are", file=sys.stderr)
+    ending.say(f"the build failed; the last lines of crates/{program}.log are")
     with open(log, encoding="utf-8", errors="replace") as said:
         for line in said.read().splitlines()[-LAST_LINES:]:
             print(f"  {line}", file=sys.stderr)
     return CANNOT_BUILD
-
-
-if __name__ == "__main__":
-    sys.exit(main())

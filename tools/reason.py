@@ -4,7 +4,6 @@ import os
 import re
 import sys
 
-sys.dont_write_bytecode = True
 import formats
 
 # The word of a command's form that names the text which a refusal is about, and the table of its numbers, if it has one.
@@ -90,13 +89,9 @@ def reason(status, said, words):
     return formats.meanings("status", status)[:1]
 
 
-def main():
-    status, said, *words = sys.argv[1:]
-    if not said.startswith("tta: ") or "\n" in said:
-        return
-    for line in reason(int(status), said.removeprefix("tta: "), words):
-        print(f"  {line}", file=sys.stderr)
-
-
-if __name__ == "__main__":
-    main()
+def main(words):
+    status, said, *words = words
+    if said.startswith("tta: ") and "\n" not in said:
+        for line in reason(int(status), said.removeprefix("tta: "), words):
+            print(f"  {line}", file=sys.stderr)
+    return 0

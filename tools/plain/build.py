@@ -1,9 +1,11 @@
 """Builds a program of the repository as plain Rust, with cargo: the same sources, without their contracts. Nothing of such a
 build is proved. It stands in a folder of its own, and is built anew where a source has changed."""
+import contextlib
+import fcntl
 import os
+import re
 import shutil
 import subprocess
-import sys
 
 from strip import plain_files
 
@@ -18,10 +20,16 @@ exclude = ["target"]
 [profile.release]
 opt-level = 3
 panic = "abort"
+
+[profile.fast]
+inherits = "release"
+lto = "fat"
+codegen-units = 1
 """
-# How a program is compiled: in half a minute, or as fast code, which takes longer.
-QUICKLY = ""
-FOR_SPEED = 'lto = "fat"\ncodegen-units = 1\n'
+# How a program is compiled, by the name of its profile: in half a minute, or as fast code, which takes longer.
+QUICKLY, FOR_SPEED = "release", "fast"
+# The oldest cargo that knows the edition of the sources.
+OLDEST = (1, 85)
 # The crates that meet the host, each with the file that does so in a plain program.
 HOSTS = {"tta_ports": "host.rs", "tta_lines": "lines.rs"}
 
@@ -33,7 +41,7 @@ class CannotBuild(Exception):
 def crates_of(program):
     """The crates that a program is made of, each with those of the repository that it stands on."""
     stands_on, found, left = {}, {}, [program]
-    with open(os.path.join(TOP, "crates.txt")) as lines:
+    with open(os.path.join(TOP, "crates.txt"), encoding="utf-8") as lines:
         for line in lines:
             name, _, others = line.split("#")[0].partition(":")
             stands_on[name.strip()] = others.split()
@@ -50,11 +58,11 @@ def crates_of(program):
 def write(path, text):
     """Writes a file where it does not hold the text already, so that cargo compiles only what has changed."""
     if os.path.exists(path):
-        with open(path) as f:
+        with open(path, encoding="utf-8") as f:
             if f.read() == text:
                 return
     os.makedirs(os.path.dirname(path), exist_ok=True)
-    with open(path, "w") as f:
+    with open(path, "w", encoding="utf-8") as f:
         f.write(text)
 
 
@@ -73,37 +81,80 @@ def write_crate(folder, name, others):
     for path, text in plain_files(source):
         write(os.path.join(target, path), text)
     if name in HOSTS:
-        with open(os.path.join(HERE, HOSTS[name])) as f:
+        with open(os.path.join(HERE, HOSTS[name]), encoding="utf-8") as f:
             write(os.path.join(target, "host.rs"), f.read())
 
 
-def build(program, folder=KEPT, profile=QUICKLY):
-    """Builds a program in a folder, and gives its path."""
+def usable_cargo():
+    """The path of cargo, which is new enough."""
+    found = f"cargo {OLDEST[0]}.{OLDEST[1]} or newer compiles the plain program"
     cargo = shutil.which("cargo")
     if not cargo:
-        raise CannotBuild("the plain program cannot be built: cargo, which compiles Rust, is not on the path")
+        raise CannotBuild(f"{found}, and there is no cargo on the path")
+    said = subprocess.run([cargo, "--version"], stdin=subprocess.DEVNULL, capture_output=True, text=True, errors="replace")
+    version = re.match(r"cargo (\d+)\.(\d+)", said.stdout)
+    if not version:
+        raise CannotBuild(f"{found}, and `cargo --version` fails: {(said.stderr or said.stdout).strip()}")
+    if (int(version[1]), int(version[2])) < OLDEST:
+        raise CannotBuild(f"{found}, and that on the path is {version[1]}.{version[2]}")
+    return cargo
+
+
+def environment():
+    """What cargo is started with: nothing that leads its output elsewhere. What stands for contracts alone is left without use, so there
+    are no warnings."""
+    kept = {name: value for name, value in os.environ.items() if not name.startswith(("CARGO_BUILD_", "CARGO_TARGET_", "CARGO_ENCODED_"))}
+    return {**kept, "RUSTFLAGS": "-Awarnings"}
+
+
+@contextlib.contextmanager
+def alone(folder, waiting=lambda: None):
+    """Works in a folder while nobody else does, which is made where it is not there. `waiting` is called where somebody does. Gives the
+    time of a file that is written at the begin."""
+    os.makedirs(folder, exist_ok=True)
+    with open(os.path.join(folder, "lock"), "a") as lock:
+        try:
+            fcntl.flock(lock, fcntl.LOCK_EX | fcntl.LOCK_NB)
+        except BlockingIOError:
+            waiting()
+            fcntl.flock(lock, fcntl.LOCK_EX)
+        except OSError:
+            # A file system without locks: cargo has some of its own.
+            pass
+        os.utime(lock.fileno())
+        yield os.stat(lock.fileno()).st_mtime_ns
+
+
+def run_cargo(words, folder):
+    """Runs cargo to its end. Where this is stopped, it is too."""
+    with subprocess.Popen(
+        words, cwd=folder, env=environment(), stdin=subprocess.DEVNULL, stdout=subprocess.DEVNULL, stderr=subprocess.PIPE, text=True, errors="replace"
+    ) as cargo:
+        try:
+            said = cargo.communicate()[1]
+        except KeyboardInterrupt:
+            cargo.terminate()
+            raise
+    if cargo.returncode != 0:
+        raise CannotBuild(f"the plain program cannot be built:\n{said}")
+
+
+def build(program, folder=KEPT, profile=QUICKLY, waiting=lambda: None):
+    """Builds a program in a folder, and gives its path. Its time is that of the begin, so that it is newer than each source of which it
+    was made."""
+    cargo = usable_cargo()
     crates = crates_of(program)
-    write(os.path.join(folder, "Cargo.toml"), WORKSPACE + profile)
-    write(os.path.join(folder, "kit", "Cargo.toml"), package("kit", f"[lib]\npath = '{HERE}/kit/lib.rs'", []))
-    for name, others in crates.items():
-        write_crate(folder, name, others)
-    words = [cargo, "build", "--release", "--offline", "--quiet", "--package", program, "--target-dir", "target"]
-    # What stands for contracts alone is left without use.
-    quiet = {**os.environ, "RUSTFLAGS": "-Awarnings"}
-    built = subprocess.run(words, cwd=folder, env=quiet, stdout=subprocess.DEVNULL, stderr=subprocess.PIPE, text=True)
-    if built.returncode != 0:
-        raise CannotBuild(f"the plain program cannot be built:\n{built.stderr}")
-    return os.path.join(folder, "target", "release", program)
-
-
-def main():
-    try:
-        path = build(*sys.argv[1:])
-    except CannotBuild as error:
-        sys.exit(f"tta: {error}")
-    # So that it is newer than each source, also where cargo had nothing to do.
-    os.utime(path)
-
-
-if __name__ == "__main__":
-    main()
+    with alone(folder, waiting) as begun:
+        write(os.path.join(folder, "Cargo.toml"), WORKSPACE)
+        write(os.path.join(folder, "kit", "Cargo.toml"), package("kit", "[lib]\npath = 'lib.rs'", []))
+        for name in os.listdir(os.path.join(HERE, "kit")):
+            with open(os.path.join(HERE, "kit", name), encoding="utf-8") as f:
+                write(os.path.join(folder, "kit", name), f.read())
+        for name, others in crates.items():
+            write_crate(folder, name, others)
+        run_cargo([cargo, "build", "--profile", profile, "--offline", "--quiet", "--package", program, "--target-dir", "target"], folder)
+        path = os.path.join(folder, "target", profile, program)
+        if not os.path.exists(path):
+            raise CannotBuild(f"the plain program cannot be built: cargo left none at {path}")
+        os.utime(path, ns=(begun, begun))
+    return path

@@ -154,7 +154,7 @@ def plain_files(source):
         for base, ending in map(os.path.splitext, sorted(names)):
             if ending != ".rt" or base in HOSTS:
                 continue
-            with open(os.path.join(folder, base + ending)) as f:
+            with open(os.path.join(folder, base + ending), encoding="utf-8") as f:
                 text = f.read()
             begin = IS_STARTED if base == "main" else ""
             end = "".join(items for name, items in IN_THEIR_PLACE.items() if name in text)

@@ -1,0 +1,58 @@
+"""The commands that the script answers itself, each with the function that does it, its forms and what it does. Another command is another
+row: help and the reasons of faulty words read this table. The function takes how the script is started, with the options that were given,
+and the words after the command, and gives a status."""
+import difflib
+import importlib
+import sys
+from collections import namedtuple
+
+import formats
+
+Own = namedtuple("Own", "work forms what")
+OWN = [
+    Own("explore.explore", ["explore MACHINES -- PROGRAMS"],
+        "compiles and runs each program on each machine, and prints a table; with --csv as values with commas"),
+    Own("help.page", ["help", "--help", "-h"], "this page"),
+    Own("help.explain", ["explain WHAT NUMBER"],
+        "what a number means: WHAT is status, machine, program, image, assembly, links, fault or debug"),
+]
+# What stands before a command, and what the script tells of itself. These are answered by the script, before any Python.
+OPTIONS = [
+    (["--proved COMMAND"], "carries out the command by the proved program, which is proved and built first: from nothing in an hour or more"),
+    (["--plain COMMAND"], "carries it out by the plain program, which is made of the same sources without their proofs, in half a minute. "
+     "Without either, the proved program is taken where it is there and no source is newer, and else the plain one. "
+     "The variable TTA_PROGRAM, which is proved or plain, stands for either"),
+    (["--with NAME COMMAND"], "carries out the command by the program of the crate tta_with_NAME, which has operations of its own: bits, and those that you add"),
+    (["--build"], "builds the programs as fast code, in a minute or two, and prints where they stand; with --proved before it proves them"),
+    (["--which COMMAND .."], "prints where the program of each command stands, which is built first if it is not there"),
+    (["--version"], "the version, the prover that it is proved with, and which program a command would run"),
+]
+USAGE = 1
+
+
+def known_words():
+    """All first words of commands, and all options."""
+    words = [form[0] for form, _ in formats.commands()] + [form.split()[0] for own in OWN for form in own.forms]
+    return [*dict.fromkeys(words + [form.split()[0] for forms, _ in OPTIONS for form in forms])]
+
+
+def no_command(words):
+    """Says that the words are no command, and gives the status."""
+    print("tta: usage", file=sys.stderr)
+    if words:
+        near = difflib.get_close_matches(words[0][:100], known_words(), 1)
+        hint = f"; is it {near[0]}?" if near else ""
+        print(f"  {words[0][:100]!r} is no command{hint}", file=sys.stderr)
+    print("  ./tta help lists the commands", file=sys.stderr)
+    return USAGE
+
+
+def main(words):
+    """The words are the script, how many options come, the options, and the command."""
+    script, count = words[0], int(words[1])
+    options, words = words[2:2 + count], words[2 + count:]
+    for own in OWN:
+        if words and words[0] in (form.split()[0] for form in own.forms):
+            module, name = own.work.split(".")
+            return getattr(importlib.import_module(module), name)([script, *options], words[1:])
+    return no_command(words)
