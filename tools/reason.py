@@ -4,6 +4,7 @@ import os
 import re
 import sys
 
+import files
 import formats
 
 # The word of a command's form that names the text which a refusal is about, and the table of its numbers, if it has one.
@@ -66,6 +67,26 @@ def usage(words):
     return [f"its words are: {form}" for form in forms] or ["./tta help lists the commands"]
 
 
+def named(at, words):
+    """A word of the command that names a file, as it is told."""
+    return f"word {at}, {words[at]!r}," if at else "standard input"
+
+
+def not_read(kind, at, words):
+    if kind == "too long":
+        return "has more than 16 MiB"
+    why = files.why_not_read(words[at]) if at else None
+    return f"cannot be read: {why}" if why else "cannot be read"
+
+
+def not_written(words):
+    """Which file could not be written, and why."""
+    path = file_of("OUT", words)
+    why = files.why_output_failed() if path is None else files.why_write_failed(path)
+    what = "standard output" if path is None else repr(path)
+    return f"{what} cannot be written" + (f": {why}" if why else "")
+
+
 def reason(status, said, words):
     """Lines that say why."""
     kind = said.split(":")[0]
@@ -84,8 +105,9 @@ def reason(status, said, words):
     if code and formats.meanings("fault", code[1]):
         return codes("fault", code[1])
     if word and kind in ("read fault", "too long") and int(word[1]) < len(words):
-        named = repr(words[int(word[1])]) if int(word[1]) else "standard input"
-        return [f"word {word[1]} is {named}", *formats.meanings("status", status)[:1]]
+        return [f"{named(int(word[1]), words)} {not_read(kind, int(word[1]), words)}"]
+    if kind == "write fault":
+        return [not_written(words)]
     return formats.meanings("status", status)[:1]
 
 
