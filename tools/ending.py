@@ -30,8 +30,15 @@ def leave(status):
     os._exit(status)
 
 
+def stop(_number, _frame):
+    raise KeyboardInterrupt
+
+
 def start(name, words):
     """Runs a tool and ends with its status."""
+    # Who is asked to end leaves nothing behind, as one that a key stops.
+    signal.signal(signal.SIGTERM, stop)
+    signal.signal(signal.SIGHUP, stop)
     # A reader that has seen enough ends it without a word.
     signal.signal(signal.SIGPIPE, signal.SIG_DFL)
     # Names of files may have bytes that are no text.
