@@ -1,37 +1,38 @@
 """Compiles each of some programs for each of some machines, runs the images, and prints a table of designs: words, bits of an
-instruction, bits of the code, cycles, cycles a step, or why there is no image. Pairs are worked at side by side, on all processors.
+instruction, bits of the code, steps, cycles, cycles a step, whether the output is that of `exec` on the first machine, and how the run ends
+or why there is no image. Pairs are worked at side by side, on all processors.
 
-Its words are machines, `--` and programs; `--csv` among them asks for values with commas. A program's data words stand in a file of the same name that ends in .input, its input in one that ends
-in .stream; without them it has none."""
+Its words are machines, `--` and programs, and among them options: `--csv` asks for values with commas, `--bound N` for at most N steps and
+cycles, and `--vary 'LINE {A,B}'` for a machine with each of these values (sweep.py). A program's data words stand in a file of the same name
+that ends in .input, its input in one that ends in .stream; without them it has none."""
 import csv
 import os
-import re
 import subprocess
 import sys
 import tempfile
-from concurrent.futures import ThreadPoolExecutor
+from collections import namedtuple
+from concurrent.futures import ThreadPoolExecutor, as_completed
 
-HEADS = ["machine", "program", "words", "bits", "code bits", "steps", "cycles", "cycles/step", "ends"]
-STEPS = CYCLES = str(2**40)
-USAGE = 1
+import ending
+import runs
+import sweep
+import words as command_words
+
+HEADS = ["machine", "program", "words", "bits", "code bits", "steps", "cycles", "cycles/step", "output", "ends"]
+BOUND = "1000000000"
+USAGE, FAILED = 1, 1
 WIDTH_AT, COUNT_AT, FIELD = 8, 12, 4
 
+Asked = namedtuple("Asked", "machines programs as_csv bound changes")
+# What a pair came to: the cells of its row up to the output, the outputs of the image and of the program, if they ran, how the image's run
+# ended, and whether that is as it should be.
+Row = namedtuple("Row", "cells output wanted ends is_well")
 
-def answer(tool, words):
-    """The status and both outputs of a command."""
-    r = subprocess.run([*tool, *words], capture_output=True, text=True, stdin=subprocess.DEVNULL)
-    return r.returncode, r.stdout, r.stderr
 
-
-def beside(program, ending):
+def beside(program, kind):
     """The file beside a program that has another ending, or none."""
-    path = os.path.splitext(program)[0] + ending
+    path = os.path.splitext(program)[0] + kind
     return path if os.path.exists(path) else None
-
-
-def number_after(word, text):
-    found = re.search(rf"^{word} (\d+)$", text, re.M)
-    return int(found[1]) if found else None
 
 
 def why(error):
@@ -46,58 +47,151 @@ def header(image):
     return (int.from_bytes(data[at:at + FIELD], "big") for at in (WIDTH_AT, COUNT_AT))
 
 
-def row(tool, machine, program):
-    """One row of the table."""
-    names = [os.path.splitext(os.path.basename(path))[0] for path in (machine, program)]
-    stream = [path for path in [beside(program, ".stream")] if path]
-    data = beside(program, ".input") or os.devnull
-    with tempfile.TemporaryDirectory() as folder:
-        image = os.path.join(folder, "image")
-        status, _, error = answer(tool, ["build", machine, program, image])
-        if status:
-            return [*names, *[""] * (len(HEADS) - 3), why(error)]
-        bits, words = header(image)
-        status, ran, error = answer(tool, ["run", machine, image, data, CYCLES, *stream])
-        _, stepped, _ = answer(tool, ["exec", machine, program, data, STEPS, *stream])
-    steps, cycles = number_after("steps", stepped), number_after("cycles", ran)
-    if cycles is None:
-        return [*names, words, bits, words * bits, "", "", "", why(error)]
-    ends = "halted" if status == 0 else why(error)
-    return [*names, words, bits, words * bits, steps, cycles, f"{cycles / steps:.2f}" if steps else "", ends]
+def names_of(paths):
+    """A name for each of some files: the end of its path that no other of them has, without what comes after the last dot."""
+    found = []
+    for path in paths:
+        others = [os.path.abspath(other) for other in paths if os.path.abspath(other) != os.path.abspath(path)]
+        parts = os.path.splitext(os.path.abspath(path))[0].split("/")
+        ends = ("/".join(parts[-count:]) for count in range(1, len(parts)))
+        found.append(next((end for end in ends if not any(os.path.splitext(other)[0].endswith("/" + end) for other in others)), path))
+    return found
 
 
-def print_table(rows):
+class Explorer:
+    """Works at pairs with one program, in a folder of its own."""
+
+    def __init__(self, program, asked, folder):
+        self.program, self.asked, self.folder = program, asked, folder
+        self.runs = runs.Runs()
+
+    def run(self, *words):
+        return self.runs.run([self.program, *words])
+
+    def exec(self, machine, program):
+        """What `exec` prints of a pair."""
+        return self.run("exec", machine, program, beside(program, ".input") or os.devnull, self.asked.bound, *self.stream(program))
+
+    def stream(self, program):
+        return [path for path in [beside(program, ".stream")] if path]
+
+    def row(self, machine, program, number):
+        """What a pair comes to."""
+        image = os.path.join(self.folder, f"{number}.image")
+        stepped = self.exec(machine, program)
+        steps = stepped.number_after("steps")
+        wanted = None if steps is None else stepped.output
+        built = self.run("build", machine, program, image)
+        if built.status:
+            return Row([""] * 6, None, wanted, why(built.error), False)
+        bits, count = header(image)
+        sizes = [count, bits, count * bits]
+        ran = self.run("run", machine, image, beside(program, ".input") or os.devnull, self.asked.bound, *self.stream(program))
+        cycles = ran.number_after("cycles")
+        if cycles is None:
+            return Row([*sizes, "", "", ""], None, wanted, why(ran.error), False)
+        ends = "halted" if ran.status == 0 else why(ran.error)
+        if ends == "waiting" and not self.stream(program):
+            ends = f"waiting, and there is no {os.path.basename(os.path.splitext(program)[0])}.stream"
+        cells = [*sizes, "" if steps is None else steps, cycles, f"{cycles / steps:.2f}" if steps else ""]
+        return Row(cells, ran.output, wanted, ends, ends.split(",")[0] in ("halted", "waiting"))
+
+
+def compared(pairs, rows):
+    """The rows with their names, and whether each is as it should be. An output is compared with that of `exec` on the first machine on which
+    `exec` takes the program."""
+    table, is_well, wanted = [], True, {}
+    for at, (machine, program) in enumerate(pairs):
+        if at in rows:
+            row = rows[at]
+            first = wanted[program] = wanted.get(program) or row.wanted
+            said = "" if None in (row.output, first) else "same" if row.output == first else "differs"
+            table.append([machine, program, *row.cells, said, row.ends])
+            is_well = is_well and row.is_well and said != "differs"
+    return table, is_well
+
+
+def print_table(rows, as_csv):
     """The rows in columns: names to the left, numbers to the right."""
+    if as_csv:
+        csv.writer(sys.stdout, lineterminator="\n").writerows([HEADS, *rows])
+        return
     texts = [[str(cell) for cell in cells] for cells in [HEADS, *rows]]
     widths = [max(map(len, column)) for column in zip(*texts)]
     for cells in texts:
         left = [cell.ljust(width) for cell, width in zip(cells[:2], widths)]
-        right = [cell.rjust(width) for cell, width in zip(cells[2:-1], widths[2:])]
-        print("  ".join([*left, *right, cells[-1]]).rstrip())
+        right = [cell.rjust(width) for cell, width in zip(cells[2:-2], widths[2:])]
+        print("  ".join([*left, *right, cells[-2].ljust(widths[-2]), cells[-1]]).rstrip())
 
 
-def explore(tool, words):
-    as_csv = "--csv" in words
-    words = [word for word in words if word != "--csv"]
-    at = words.index("--") if "--" in words else 0
-    machines, programs = words[:at], words[at + 1:]
+class Faulty(Exception):
+    """What is wrong with the words of the command."""
+
+
+def asked_by(words):
+    """What the words ask for."""
+    as_csv, bound, changes, names = False, BOUND, [], []
+    words = iter(words)
+    for word in words:
+        if word == "--csv":
+            as_csv = True
+        elif word in ("--bound", "--vary"):
+            value = next(words, None)
+            if value is None:
+                raise Faulty(f"{word} takes a word after it")
+            if word == "--bound" and not command_words.is_number(value, command_words.BOUND):
+                raise Faulty("--bound takes a number of steps and cycles, below 2^48")
+            bound, changes = (value, changes) if word == "--bound" else (bound, [*changes, value])
+        elif word.startswith("--") and word != "--":
+            raise Faulty(f"explore has no option {word}")
+        else:
+            names.append(word)
+    at = names.index("--") if "--" in names else 0
+    machines, programs = (list(dict.fromkeys(part)) for part in (names[:at], names[at + 1:]))
     if not machines or not programs:
-        print("tta: explore takes machines, then --, then programs", file=sys.stderr)
-        return USAGE
+        raise Faulty("explore takes machines, then --, then programs")
     for path in machines + programs:
         if not os.path.isfile(path):
-            print(f"tta: explore: there is no file {path}", file=sys.stderr)
-            return USAGE
+            raise Faulty(f"explore: there is no file {path}")
+    return Asked(machines, programs, as_csv, bound, changes)
+
+
+def work_at(explorer, pairs, rows):
+    """Fills the table of rows, by the number of each pair. Where it is stopped, that holds what is done."""
+    with ThreadPoolExecutor(os.cpu_count()) as workers:
+        begun = {workers.submit(explorer.row, *pair, at): at for at, pair in enumerate(pairs)}
+        try:
+            for done in as_completed(begun):
+                rows[begun[done]] = done.result()
+        except BaseException:
+            explorer.runs.stop()
+            workers.shutdown(wait=True, cancel_futures=True)
+            raise
+
+
+def explore(tta, words):
+    try:
+        asked = asked_by(words)
+        changed = sweep.machines(asked.machines, names_of(asked.machines), asked.changes)
+    except (Faulty, sweep.Faulty) as error:
+        ending.say(str(error))
+        return USAGE
     # So that the program is built once, and not by each of those that run side by side.
-    program = subprocess.run([*tool, "--which", "build"], stdin=subprocess.DEVNULL, stdout=subprocess.PIPE)
+    program = subprocess.run([*tta, "--which", "build"], stdin=subprocess.DEVNULL, stdout=subprocess.PIPE)
     if program.returncode:
         return program.returncode
-    tool = [os.fsdecode(program.stdout).rstrip("\n")]
-    with ThreadPoolExecutor(os.cpu_count()) as workers:
-        rows = list(workers.map(lambda pair: row(tool, *pair), [(m, p) for p in programs for m in machines]))
-    if as_csv:
-        csv.writer(sys.stdout, lineterminator="\n").writerows([HEADS, *rows])
-    else:
-        print_table(rows)
-    return 0
-
+    rows, stopped = {}, False
+    with tempfile.TemporaryDirectory() as folder:
+        machines = sweep.written(changed, folder)
+        explorer = Explorer(os.fsdecode(program.stdout).rstrip("\n"), asked, folder)
+        try:
+            work_at(explorer, [(machine, program) for program in asked.programs for machine in machines], rows)
+        except KeyboardInterrupt:
+            stopped = True
+    pairs = [(name, program) for program in names_of(asked.programs) for name, _ in changed]
+    table, is_well = compared(pairs, rows)
+    print_table(table, asked.as_csv)
+    if stopped:
+        ending.say(f"stopped; {len(rows)} of {len(pairs)} rows are done")
+        return ending.STOPPED
+    return 0 if is_well else FAILED

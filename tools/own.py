@@ -11,7 +11,10 @@ import formats
 Own = namedtuple("Own", "work forms what")
 OWN = [
     Own("explore.explore", ["explore MACHINES -- PROGRAMS"],
-        "compiles and runs each program on each machine, and prints a table; with --csv as values with commas"),
+        "compiles and runs each program on each machine, and prints a table. The words of the data space of X.program are those of X.input beside "
+        "it, and its input those of X.stream, where these files are there. Among the words, --bound N runs at most N steps and cycles in the "
+        "place of 1000000000, --vary 'space data {16,64}' makes of each machine one with each of these values in that line, and --csv asks for values with "
+        "commas. It ends with 1 where a row has no run that halts or waits, or an output that differs"),
     Own("help.page", ["help", "--help", "-h"], "this page"),
     Own("help.explain", ["explain WHAT NUMBER"],
         "what a number means: WHAT is status, machine, program, image, assembly, links, fault or debug"),
