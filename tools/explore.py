@@ -1,6 +1,6 @@
 """Compiles each of some programs for each of some machines, runs the images, and prints a table of designs: words, bits of an
-instruction, bits of the code, steps, cycles, cycles a step, whether the output is that of `exec` on the first machine, and how the run ends
-or why there is no image. Pairs are worked at side by side, on all processors.
+instruction, bits of the code, steps, cycles, cycles a step, and how the run ends, also where its output is not that of `exec` on the first
+machine, or why there is no image. Pairs are worked at side by side, on all processors.
 
 Its words are machines, `--` and programs, and among them options: `--csv` asks for values with commas, `--bound N` for at most N steps and
 cycles, and `--vary 'LINE {A,B}'` for a machine with each of these values (sweep.py). A program's data words stand in a file of the same name
@@ -18,8 +18,9 @@ import runs
 import sweep
 import words as command_words
 
-HEADS = ["machine", "program", "words", "bits", "code bits", "steps", "cycles", "cycles/step", "output", "ends"]
+HEADS = ["machine", "program", "words", "bits", "code bits", "steps", "cycles", "cycles/step", "ends"]
 BOUND = "1000000000"
+DIFFERS = ", with another output"
 USAGE, FAILED = 1, 1
 WIDTH_AT, COUNT_AT, FIELD = 8, 12, 4
 
@@ -105,9 +106,9 @@ def compared(pairs, rows):
         if at in rows:
             row = rows[at]
             first = wanted[program] = wanted.get(program) or row.wanted
-            said = "" if None in (row.output, first) else "same" if row.output == first else "differs"
-            table.append([machine, program, *row.cells, said, row.ends])
-            is_well = is_well and row.is_well and said != "differs"
+            differs = None not in (row.output, first) and row.output != first
+            table.append([machine, program, *row.cells, row.ends + (DIFFERS if differs else "")])
+            is_well = is_well and row.is_well and not differs
     return table, is_well
 
 
@@ -120,8 +121,8 @@ def print_table(rows, as_csv):
     widths = [max(map(len, column)) for column in zip(*texts)]
     for cells in texts:
         left = [cell.ljust(width) for cell, width in zip(cells[:2], widths)]
-        right = [cell.rjust(width) for cell, width in zip(cells[2:-2], widths[2:])]
-        print("  ".join([*left, *right, cells[-2].ljust(widths[-2]), cells[-1]]).rstrip())
+        right = [cell.rjust(width) for cell, width in zip(cells[2:-1], widths[2:])]
+        print("  ".join([*left, *right, cells[-1]]).rstrip())
 
 
 class Faulty(Exception):

@@ -1,38 +1,50 @@
-"""Says in words why a command was refused, below the program's own line: what its number means, and the line of the text that it
-is about, as compilers do. Its words are the line that the program printed, and the words of the command."""
+"""Says in words why a command was refused, below the program's own line: the line of the text that it is about, as compilers show it, and
+the one cause that tools/causes finds there. Where that finds none, it says what the table of docs/FORMATS.md has for the number. Its words are
+the status, the line that the program printed, and the words of the command."""
 import os
 import re
 import sys
 
 import files
 import formats
+import words as command_words
+from causes import assembly, coverage, image, machine, near, program
+from causes import words as input_words
+from texts import machine as machine_reader
+from texts import program as program_reader
+from texts.tokens import lines_of, tokens_of
 
-# The word of a command's form that names the text which a refusal is about, and the table of its numbers, if it has one.
-TEXTS = {
-    "machine": ("M", "machine"),
-    "program": ("P", "program"),
-    "no unit": ("P", None),
-    "data": ("P", None),
-    "assembly": ("A", "assembly"),
-    "input": ("IN", None),
-    "stream": ("STREAM", None),
-    "links": ("LINKS", "links"),
-}
-# The tables of the numbers that a core's file is refused with.
-CORE_TABLES = ("machine", "image", "links")
 LONGEST = 120
+# A token that is longer than any name may be.
+LONG_NAME = re.compile("`([^` ]{64})[^` ]+`")
+# How a word that is a number has to be.
+RANGES = {"N": "a number of steps, cycles or rounds of at most 15 digits, below 2^48", "SEED": "a number below 2^32", "LINES": "a number from 1 to 20000"}
+ROUNDS = "a number of rounds of at most 7 digits, at most 1048576"
 
 
-def form_of(words):
-    """The form of a command, or nothing. In the place of `..` stand words like those before it."""
-    forms = [form for form, _ in formats.commands() if form[0] == words[0]]
-    return next((form for form in forms if len(form) == len(words) or form[-1] == ".." and len(form) <= len(words) + 1), [])
+class Said:
+    """What the program printed, and the words of the command that it is about."""
 
+    def __init__(self, status, line, words):
+        self.status, self.line, self.words = status, line, words
+        self.kind = line.split(":")[0]
 
-def file_of(name, words):
-    """The file that a command names in the place of this word of its form, or None."""
-    form = form_of(words)
-    return words[form.index(name)] if name in form else None
+    def number(self, word):
+        """The number after a word of the line, or None."""
+        found = re.search(rf"\b{word} (\d+)", self.line)
+        return int(found[1]) if found else None
+
+    def path(self, name):
+        """The file that the command names in the place of this word of one of its forms, or None."""
+        forms = [command_words.whole(form, self.words) for form, _ in formats.commands() if self.words and form[0] == self.words[0]]
+        found = [form for form in forms if len(form) == len(self.words) and name in form]
+        return self.words[found[0].index(name)] if found else None
+
+    def lines(self, name):
+        return lines_of(self.path(name))
+
+    def machine(self):
+        return machine_reader.read(self.lines("M"))
 
 
 def shown_line(path, number):
@@ -53,18 +65,106 @@ def codes(table, number):
     return [f"code {number}: {line}" for line in formats.meanings(table, number)]
 
 
-def of_text(kind, said, words):
-    name, table = TEXTS[kind]
-    path, number = file_of(name, words), re.search(r"line (\d+)", said)
-    found = shown_line(path, int(number[1])) if path and number else []
-    code = re.search(r"code (\d+)", said)
-    return found + (codes(table, code[1]) if table and code else [])
+def of_status(said):
+    return formats.meanings("status", said.status)[:1]
 
 
-def usage(words):
-    """The forms of a command, or where they are listed."""
-    forms = [" ".join(form) for form, _ in formats.commands() if words and form[0] == words[0]]
-    return [f"its words are: {form}" for form in forms] or ["./tta help lists the commands"]
+# ---- refused texts: the name of the word, and the cause of a refusal in its lines
+
+def machine_cause(said):
+    return machine.cause(said.lines("M"), said.number("line"), said.number("code"))
+
+
+def program_cause(said):
+    return program.cause(said.lines("P"), said.number("line"), said.number("code"))
+
+
+def assembly_cause(said):
+    return assembly.cause(said.lines("A"), said.number("line"), said.number("code"), said.machine())
+
+
+def input_cause(said):
+    return input_words.cause(said.lines("IN"), said.number("line"), said.machine().words("data"))
+
+
+def stream_cause(said):
+    return input_words.cause(said.lines("STREAM"), said.number("line"))
+
+
+def links_cause(said):
+    return input_words.links(said.lines("LINKS"), said.number("line"), said.number("code"), (len(said.words) - 3) // 3)
+
+
+def step_at(said):
+    number = said.number("line")
+    return program_reader.step_of(number, tokens_of(said.lines("P")[number - 1]))
+
+
+def unit_cause(said):
+    text = coverage.no_unit(said.machine(), step_at(said))
+    return machine.Cause(said.number("line"), text) if text else None
+
+
+def data_cause(said):
+    address = step_at(said).operands[0].value
+    return machine.Cause(said.number("line"), f"the data space has {near.count(said.number('have'), 'word')}, so the address {address} lies outside it: `space data` of the machine gives its size")
+
+
+TEXTS = {
+    "machine": ("M", "machine", machine_cause), "program": ("P", "program", program_cause), "assembly": ("A", "assembly", assembly_cause),
+    "input": ("IN", None, input_cause), "stream": ("STREAM", None, stream_cause), "links": ("LINKS", "links", links_cause),
+    "no unit": ("P", None, unit_cause), "data": ("P", None, data_cause),
+}
+
+
+def found(work, *given):
+    """What a finder of causes gives; nothing where it meets a text that is not as it expects. A reason is never worth a traceback."""
+    try:
+        return work(*given)
+    except (OSError, ValueError, IndexError, KeyError, AttributeError, TypeError, StopIteration):
+        return None
+
+
+def of_text(said):
+    name, table, finder = TEXTS[said.kind]
+    path, cause = said.path(name), found(finder, said)
+    line = cause.line if cause else said.number("line")
+    below = [cause.text] if cause else codes(table, said.number("code")) if table else of_status(said)
+    return (shown_line(path, line) if path and line else []) + [LONG_NAME.sub(r"`\1..`", text) for text in below]
+
+
+# ---- other refusals
+
+def of_coverage(said):
+    lines = found(coverage.rule, found(said.machine), said.number("rule"))
+    return lines or of_status(said)
+
+
+def of_frame(said):
+    return [f"the program needs {near.count(said.number('need'), 'word')} of the frame space, and the machine has {said.number('have')}: `space frame` gives their number"]
+
+
+def of_code(said):
+    have = said.number("have")
+    return [f"the code has {said.number('words')} instructions, and the machine has {have} addresses: `address {have.bit_length() - 1}` of its line `control` gives their bits"]
+
+
+def of_image(said, image_path=None, machine_path=None, code=None):
+    code = code or said.number("code")
+    text = found(image.cause, image_path or said.path("IMG"), machine_path or said.path("M"), code)
+    return [text] if text else codes("image", code)
+
+
+def of_core(said):
+    """A file of a core: a machine, an image for it, or the words of its data space."""
+    at, code = said.number("word"), said.number("code")
+    path, core, what = said.words[at], (at - 3) // 3, (at - 3) % 3
+    head = f"word {at} is {path!r}, the {('machine', 'image', 'data words')[what]} of core {core}"
+    if what == 1:
+        return [head, *of_image(said, path, said.words[at - 1], code)]
+    if what == 0:
+        return [head, *codes("machine", code), f"`./tta info {path}` says where"]
+    return [head, *codes("links", code)]
 
 
 def named(at, words):
@@ -72,43 +172,53 @@ def named(at, words):
     return f"word {at}, {words[at]!r}," if at else "standard input"
 
 
-def not_read(kind, at, words):
-    if kind == "too long":
-        return "has more than 16 MiB"
-    why = files.why_not_read(words[at]) if at else None
-    return f"cannot be read: {why}" if why else "cannot be read"
+def of_reading(said):
+    at = said.number("word")
+    if said.kind == "too long":
+        return [f"{named(at, said.words)} has more than 16 MiB"]
+    why = files.why_not_read(said.words[at]) if at else None
+    return [f"{named(at, said.words)} cannot be read{f': {why}' if why else ''}"]
 
 
-def not_written(words):
+def of_writing(said):
     """Which file could not be written, and why."""
-    path = file_of("OUT", words)
+    path = said.path("OUT")
     why = files.why_output_failed() if path is None else files.why_write_failed(path)
     what = "standard output" if path is None else repr(path)
-    return f"{what} cannot be written" + (f": {why}" if why else "")
+    return [f"{what} cannot be written{f': {why}' if why else ''}"]
 
 
-def reason(status, said, words):
+def of_usage(said):
+    """What is wrong with the words of a command, and its forms."""
+    words = said.words
+    forms = [form for form, _ in formats.commands() if words and form[0] == words[0]]
+    lines = []
+    for form in (command_words.whole(form, words) for form in forms):
+        wrong = [(name, word) for name, word in zip(form, words) if name in RANGES and not command_words.takes([form[0], name], [form[0], word])]
+        if len(form) == len(words) and wrong:
+            name, word = wrong[0]
+            lines = [f"{word[:LONGEST]!r} stands where {name} has to be {ROUNDS if form[0] == 'net' else RANGES[name]}"]
+    if not all(map(command_words.is_text, words)):
+        lines = ["a word has bytes that are no UTF-8"]
+    return lines + ([f"its words are: {' '.join(form)}" for form in forms] or ["./tta help lists the commands"])
+
+
+def of_fault(said):
+    return codes("fault", said.number("code")) or of_status(said)
+
+
+OTHERS = {
+    "usage": of_usage, "not covered": of_coverage, "frame full": of_frame, "code full": of_code, "image": of_image, "core file": of_core,
+    "read fault": of_reading, "too long": of_reading, "write fault": of_writing, "machine fault": of_fault, "unsafe": of_fault,
+}
+
+
+def reason(status, line, words):
     """Lines that say why."""
-    kind = said.split(":")[0]
-    if kind == "usage":
-        return usage(words)
-    if kind in TEXTS:
-        found = of_text(kind, said, words)
-        if found and TEXTS[kind][1]:
-            return found
-        return found + formats.meanings("status", status)[:1]
-    code, word = re.search(r"code (\d+)", said), re.search(r"word (\d+)", said)
-    if kind == "core file":
-        return [f"word {word[1]} is {words[int(word[1])]!r}"] + [line for table in CORE_TABLES for line in codes(table, code[1])]
-    if kind == "image" and code:
-        return codes("image", code[1])
-    if code and formats.meanings("fault", code[1]):
-        return codes("fault", code[1])
-    if word and kind in ("read fault", "too long") and int(word[1]) < len(words):
-        return [f"{named(int(word[1]), words)} {not_read(kind, int(word[1]), words)}"]
-    if kind == "write fault":
-        return [not_written(words)]
-    return formats.meanings("status", status)[:1]
+    said = Said(status, line, words)
+    if said.kind in TEXTS:
+        return of_text(said)
+    return found(OTHERS.get(said.kind, of_status), said) or of_status(said)
 
 
 def main(words):
