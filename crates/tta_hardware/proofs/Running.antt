@@ -1,0 +1,261 @@
+-- Runs of the circuit are runs of its machine.
+use Rattle.std.proofs.Common.{◌≡◌, ℕ, zero, suc, ◌+◌, ◌%◌, ◌<◌, ◌≤◌, ◌^◌, Bool, true, false, not, ◌&&◌, ◌||◌, List, [], ◌∷◌, ◌++◌, length, map, Some, None, refl, sym, ap, ◌∙◌, subst, arith, append-nil}
+use Rattle.std.specs.Prelude.{if◌then◌else◌, nat_lt, replicate}
+use Rattle.std.proofs.lemmas.Option.{none-some}
+use Rattle.std.proofs.lemmas.Bool.{false≢true, ltb-true, ltb-false}
+use Rattle.std.proofs.lemmas.List.{length-replicate}
+use Rattle.std.proofs.lemmas.Nat.{pow_pos}
+use Rattle.tta_ops.specs.Units.{Units}
+use Rattle.tta_arch.specs.Machine.{Machine}
+use Rattle.tta_arch.specs.Rules.{IsMachine}
+use Rattle.tta_arch.specs.Effects.{KeptPort}
+use Rattle.tta_code.specs.declared.code.Code.{Code as Program}
+use Rattle.tta_code.specs.Legal.{IsLegalCode}
+use Rattle.tta_code.specs.Cycle.{State, Outcome, Running, Halted, Waiting, Fault, next, start, cyc}
+use Rattle.tta_image.specs.Bits.{instruction_bits}
+use Rattle.tta_image.specs.Decoding.{number_of}
+use Rattle.tta_circuit.specs.Meaning.{bit, is_set}
+use Rattle.tta_hardware.specs.Signals.{Code, Data, Frame, Signal as Named, Pc, HasHalted, Underway, Goal, Ends, Keeps, IsDue, Due, HasBegun, Raw, IsInside, Asks, IsOffered, IsReady, IsReset, Whole, Gives, Goes, Puts, PutWord}
+use Rattle.tta_hardware.specs.Wires.{longest, loads}
+use Rattle.tta_hardware.specs.Stands.{Hardware, fresh_in, StandsFor, IsSettled, is_halted}
+use Rattle.tta_hardware.specs.Theorem.{is_fault, is_waiting, IsFed, HasStepped}
+use Rattle.tta_hardware.specs.Runs.{hardware, signals, cycles, put, HasRun, CircuitRuns}
+use Rattle.tta_hardware.proofs.Chained.{set_bit, going}
+use Rattle.tta_hardware.proofs.Fetching.{low, fetched_at}
+use Rattle.tta_hardware.proofs.Fresh.{same_fresh}
+use Rattle.tta_hardware.proofs.Stepping.{one_clock}
+use Rattle.tta_hardware.proofs.Circuits.{is_settled, has_clocked, has_stored, words_stay, reset_is, goes_not, pc_begins, whole_begins, halted_begins, underway_begins, is_due_begins, data_stays, frame_stays, rom_stays}
+
+-- ---- after clocks that begin anew
+
+-- such clocks leave the memories as they are, and neither carry anything out nor put anything out
+record HasWaited (u : Units) (m : Machine) (code : Program) (memory : List ℕ) (powers : Named → ℕ) (inputs : ℕ → Named → ℕ)
+    (t : ℕ) : Type 0 where
+  words : (hardware u m code memory powers inputs t).memories Data ≡ memory
+  frame : (hardware u m code memory powers inputs t).memories Frame ≡ replicate m.frame_words 0
+  rom : (hardware u m code memory powers inputs t).memories Code ≡ map (λ i. number_of (instruction_bits m i)) code.words
+  none : cycles u m code memory powers inputs t ≡ 0
+  silent : put u m code memory powers inputs t ≡ []
+
+module _ (u : Units) (m : Machine) (code : Program) (memory input : List ℕ) (powers : Named → ℕ) (inputs : ℕ → Named → ℕ)
+    (sized : length memory ≡ m.data_words) (legal : IsLegalCode m code)
+    (n : ℕ) (reset : (t : ℕ) → t ≤ n → is_set (inputs t IsReset) ≡ true) where
+  abbrev before : ℕ → Hardware
+  before t = hardware u m code memory powers inputs t
+
+  abbrev words : ℕ → Named → ℕ
+  words t = signals u m code memory powers inputs t
+
+  resets_at : (t : ℕ) → t ≤ n → is_set (words t IsReset) ≡ true
+  resets_at t le = ap is_set (reset_is u m code memory (before t) (inputs t)) ∙ reset t le
+
+  stops_at : (t : ℕ) → t ≤ n → is_set (words t Goes) ≡ false
+  stops_at t le = goes_not u m code memory (before t) (inputs t) (resets_at t le)
+
+  waited : (t : ℕ) → t ≤ n + 1 → HasWaited u m code memory powers inputs t
+  waited zero le = record { words = refl; frame = refl; rom = refl; none = refl; silent = refl }
+  waited (suc t) le =
+      let less : t ≤ n = omega (arith, le) in
+      let old = waited t (omega (arith, le)) in
+      let same : cycles u m code memory powers inputs t + 0 ≡ cycles u m code memory powers inputs t = omega arith in record {
+        words = data_stays u m code memory (before t) (inputs t) (stops_at t less) ∙ old.words;
+        frame = frame_stays u m code memory (before t) (inputs t) (stops_at t less) ∙ old.frame;
+        rom = rom_stays u m code memory (before t) (inputs t) (stops_at t less) ∙ old.rom;
+        none = ap (λ b. cycles u m code memory powers inputs t + bit b) (stops_at t less) ∙ same ∙ old.none;
+        silent = ap (λ b. put u m code memory powers inputs t ++ (if b then words t PutWord ∷ [] else []))
+            (ap is_set (is_settled u m code memory (before t) (inputs t)).puts ∙ set_bit (is_set (words t Goes) && is_set (words t Gives))
+            ∙ ap (λ b. b && is_set (words t Gives)) (stops_at t less))
+            ∙ append-nil (put u m code memory powers inputs t) ∙ old.silent;
+      }
+
+  abbrev begins : Hardware
+  begins = before n
+
+  abbrev first : Hardware
+  first = before (suc n)
+
+  -- the circuit stands for the state at the start after the last of them
+  first_stands : StandsFor m code first (start m memory input)
+  first_stands = record {
+    words = λ p w can has is. absurd (none-some w is);
+    ports = λ unit w less is. absurd (none-some w is);
+    coming = λ unit delay less some. none unit delay less some (nat_lt delay (longest m unit)) refl;
+    pending = record {
+      soon = λ p is. absurd (none-some p is);
+      underway = λ delay some most. ap is_set (underway_begins u m code memory begins (inputs n) resets delay some most);
+      ends = λ p is. absurd (none-some p is);
+      goal = λ p is. absurd (none-some p is);
+    };
+    pc = pc_is;
+    whole = fetched_at m code (begins.memories Code) (first.words Pc) (first.words Whole) 0 pc_is (waited n (omega arith)).rom
+        (whole_begins u m code memory begins (inputs n) resets) legal;
+    halted = ap is_set (halted_begins u m code memory begins (inputs n) resets);
+    rom = (waited (suc n) (omega arith)).rom;
+    spaces = record {
+      memory = (waited (suc n) (omega arith)).words;
+      frame = (waited (suc n) (omega arith)).frame;
+      memory_size = sized;
+      frame_size = length-replicate m.frame_words 0;
+    };
+  } where
+    resets : is_set (words n IsReset) ≡ true
+    resets = resets_at n (omega arith)
+
+    pc_is : first.words Pc ≡ 0 % 2 ^ m.control.address
+    pc_is = pc_begins u m code memory begins (inputs n) resets ∙ sym (low 0 (2 ^ m.control.address) (pow_pos m.control.address))
+
+    none : (unit delay : ℕ) → unit < length m.units → 0 < delay → (b : Bool) → nat_lt delay (longest m unit) ≡ b
+        → (if b && is_set (first.words (IsDue unit delay))
+        then Some (fresh_in m first.words unit (delay + 1) (first.words (Due unit delay))) else None) ≡ None
+    none unit delay less some true is =
+        ap (λ n. if is_set n then Some (fresh_in m first.words unit (delay + 1) (first.words (Due unit delay))) else None)
+        (is_due_begins u m code memory begins (inputs n) resets unit delay less some (ltb-true delay (longest m unit) is))
+    none unit delay less some false is = refl
+
+-- ---- a clock that carries nothing out
+
+-- what stands for a state still does
+still_stands : (m : Machine) (code : Program) (h g : Hardware) (s : State) → ((n : Named) → g.words n ≡ h.words n)
+    → g.memories Data ≡ h.memories Data → g.memories Frame ≡ h.memories Frame
+    → g.memories Code ≡ h.memories Code → StandsFor m code h s → StandsFor m code g s
+still_stands m code h g s words memory frame rom stands = record {
+  words = λ p w can has is. words (Keeps p) ∙ stands.words p w can has is;
+  ports = λ unit w less is. fresh unit 1 (Keeps (KeptPort unit)) ∙ stands.ports unit w less is;
+  coming = λ unit delay less some.
+      ap (λ n. if nat_lt delay (longest m unit) && is_set n then Some (fresh_in m g.words unit (delay + 1) (g.words (Due unit delay)))
+      else None) (words (IsDue unit delay))
+      ∙ ap (λ n. if nat_lt delay (longest m unit) && is_set (h.words (IsDue unit delay)) then Some n else None)
+      (fresh unit (delay + 1) (Due unit delay))
+      ∙ stands.coming unit delay less some;
+  pending = record {
+    soon = stands.pending.soon;
+    underway = λ delay some most. ap is_set (words (Underway delay)) ∙ stands.pending.underway delay some most;
+    ends = λ p is. ap is_set (words Ends) ∙ stands.pending.ends p is;
+    goal = λ p is goes_on. words Goal ∙ stands.pending.goal p is goes_on;
+  };
+  pc = words Pc ∙ stands.pc;
+  whole = λ i at. words Whole ∙ stands.whole i at;
+  halted = ap is_set (words HasHalted) ∙ stands.halted;
+  rom = rom ∙ stands.rom;
+  spaces = record {
+    memory = memory ∙ stands.spaces.memory;
+    frame = frame ∙ stands.spaces.frame;
+    memory_size = stands.spaces.memory_size;
+    frame_size = stands.spaces.frame_size;
+  };
+} where
+  fresh : (unit latency : ℕ) (n : Named) → fresh_in m g.words unit latency (g.words n) ≡ fresh_in m h.words unit latency (h.words n)
+  fresh unit latency n =
+      ap (fresh_in m g.words unit latency) (words n)
+      ∙ same_fresh g.words h.words unit (λ op. words (HasBegun unit op)) (λ op. words (Raw unit op)) (λ op. words (IsInside unit op))
+      (loads m unit latency) (h.words n)
+
+-- ---- every clock
+
+module _ (u : Units) (m : Machine) (code : Program) (memory input : List ℕ) (powers : Named → ℕ) (inputs : ℕ → Named → ℕ)
+    (rules : IsMachine m) (legal : IsLegalCode m code) (sized : length memory ≡ m.data_words)
+    (fine : (n : ℕ) → is_fault (cyc u m code memory input n).outcome ≡ false)
+    (n : ℕ) (reset : (t : ℕ) → t ≤ n → is_set (inputs t IsReset) ≡ true) (on : (t : ℕ) → n < t → is_set (inputs t IsReset) ≡ false)
+    (fed : (t : ℕ) → n < t
+    → IsFed (signals u m code memory powers inputs t) (cyc u m code memory input (cycles u m code memory powers inputs t)).rest) where
+  abbrev state : ℕ → State
+  state t = cyc u m code memory input (cycles u m code memory powers inputs t)
+
+  abbrev held : ℕ → Hardware
+  held t = hardware u m code memory powers inputs t
+
+  abbrev env : ℕ → Named → ℕ
+  env t = signals u m code memory powers inputs t
+
+  its_settled : (t : ℕ) → IsSettled u m (held t) (env t)
+  its_settled t = is_settled u m code memory (held t) (inputs t)
+
+  is_on : (t : ℕ) → n < t → is_set (env t IsReset) ≡ false
+  is_on t less = ap is_set (reset_is u m code memory (held t) (inputs t)) ∙ on t less
+
+  -- where a clock carries nothing out, it puts out nothing
+  quiet : (t : ℕ) → is_set (env t Goes) ≡ false → is_set (env t Puts) ≡ false
+  quiet t stops =
+      ap is_set (its_settled t).puts ∙ set_bit (is_set (env t Goes) && is_set (env t Gives)) ∙ ap (λ b. b && is_set (env t Gives)) stops
+
+  -- and all stays
+  stays : (t : ℕ) → is_set (env t IsReset) ≡ false → HasRun u m code memory powers inputs t (state t) → is_set (env t Goes) ≡ false
+      → HasRun u m code memory powers inputs (suc t) (state (suc t))
+  stays t going_on run stops =
+      let same : cycles u m code memory powers inputs t + bit (is_set (env t Goes)) ≡ cycles u m code memory powers inputs t =
+      ap (λ b. cycles u m code memory powers inputs t + bit b) stops ∙ omega arith in
+      subst (λ k. HasRun u m code memory powers inputs (suc t) (cyc u m code memory input k)) (sym same) (record {
+        stands = still_stands m code (held t) (held (suc t)) (state t) (words_stay u m code memory (held t) (inputs t) stops going_on)
+            (data_stays u m code memory (held t) (inputs t) stops)
+            (frame_stays u m code memory (held t) (inputs t) stops) (rom_stays u m code memory (held t) (inputs t) stops) run.stands;
+        output = ap (λ b. put u m code memory powers inputs t ++ (if b then env t PutWord ∷ [] else [])) (quiet t stops)
+            ∙ append-nil (put u m code memory powers inputs t) ∙ run.output;
+        goes_on = run.goes_on;
+      })
+
+  -- where it does, it makes a cycle
+  steps : (t : ℕ) → HasRun u m code memory powers inputs t (state t) → is_set (env t Goes) ≡ true
+      → HasStepped u m code (held (suc t)) (env t) (state t) (next u m code (state t))
+      → HasRun u m code memory powers inputs (suc t) (state (suc t))
+  steps t run goes stepped =
+      let more : cycles u m code memory powers inputs t + bit (is_set (env t Goes)) ≡ suc (cycles u m code memory powers inputs t) =
+      ap (λ b. cycles u m code memory powers inputs t + bit b) goes ∙ omega arith in
+      subst (λ k. HasRun u m code memory powers inputs (suc t) (cyc u m code memory input k)) (sym more) (record {
+        stands = stepped.stands;
+        output = ap (λ ws. ws ++ (if is_set (env t Puts) then env t PutWord ∷ [] else [])) run.output ∙ sym stepped.output;
+        goes_on = stepped.goes_on;
+      })
+
+  -- one more clock
+  one_more : (t : ℕ) → is_set (env t IsReset) ≡ false → IsFed (env t) (state t).rest → HasRun u m code memory powers inputs t (state t)
+      → HasRun u m code memory powers inputs (suc t) (state (suc t))
+  one_more t going_on feeds run = by (state t).outcome refl where
+    halts : is_halted (state t).outcome ≡ true → is_set (env t Goes) ≡ false
+    halts halted =
+        ap is_set (its_settled t).goes
+        ∙ going (is_set (env t IsReset)) (is_set (env t HasHalted)) (is_set (env t Asks)) (is_set (env t IsOffered)) (is_set (env t Gives))
+        (is_set (env t IsReady))
+        ∙ ap (λ b. not b
+        && (not (is_set (env t HasHalted))
+        && ((not (is_set (env t Asks)) || is_set (env t IsOffered)) && (not (is_set (env t Gives)) || is_set (env t IsReady)))))
+        going_on
+        ∙ ap (λ b. not b
+        && ((not (is_set (env t Asks)) || is_set (env t IsOffered)) && (not (is_set (env t Gives)) || is_set (env t IsReady))))
+        (ap is_set (its_settled t).halted ∙ run.stands.halted ∙ halted)
+
+    runs : (state t).outcome ≡ Running → (b : Bool) → is_set (env t Goes) ≡ b → HasRun u m code memory powers inputs (suc t) (state (suc t))
+    runs running true goes =
+        steps t run goes
+        ((one_clock u m code (held t) (held (suc t)) (env t) (state t) rules legal run.stands running
+        (fine (suc (cycles u m code memory powers inputs t))) (its_settled t) feeds going_on).0
+        goes (has_clocked u m code memory (held t) (inputs t) goes) (has_stored u m code memory (held t) (inputs t)))
+    runs running false stops = stays t going_on run stops
+
+    by : (o : Outcome) → (state t).outcome ≡ o → HasRun u m code memory powers inputs (suc t) (state (suc t))
+    by Running is = runs is (is_set (env t Goes)) refl
+    by Halted is = stays t going_on run (halts (ap is_halted is))
+    by Waiting is = absurd (false≢true (sym run.goes_on ∙ ap is_waiting is))
+    by (Fault number at) is = absurd (false≢true (sym (fine (cycles u m code memory powers inputs t)) ∙ ap is_fault is))
+
+  -- the first clock after those that begin anew
+  first_run : HasRun u m code memory powers inputs (suc n) (state (suc n))
+  first_run =
+      let all = waited u m code memory input powers inputs sized legal n reset (suc n) (omega arith) in
+      subst (λ k. HasRun u m code memory powers inputs (suc n) (cyc u m code memory input k)) (sym all.none)
+      (record { stands = first_stands u m code memory input powers inputs sized legal n reset; output = all.silent; goes_on = refl })
+
+  -- and so all
+  every : (t : ℕ) → n < t → HasRun u m code memory powers inputs t (state t)
+  every zero less = absurd (omega (arith, less))
+  every (suc t) less = by (nat_lt n t) refl (every t) where
+    by : (b : Bool) → nat_lt n t ≡ b → (n < t → HasRun u m code memory powers inputs t (state t))
+        → HasRun u m code memory powers inputs (suc t) (state (suc t))
+    by true is run = let lt = ltb-true n t is in one_more t (is_on t lt) (fed t lt) (run lt)
+    by false is run =
+        let le : t ≤ n = ltb-false n t is in
+        let same : n ≡ t = omega (arith, le, less) in
+        subst (λ k. HasRun u m code memory powers inputs (suc k) (state (suc k))) same first_run
+
+pub circuit_runs : CircuitRuns
+circuit_runs u m code memory input powers inputs rules legal sized fine n reset on fed t less =
+    every u m code memory input powers inputs rules legal sized fine n reset on fed t less
