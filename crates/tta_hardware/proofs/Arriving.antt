@@ -20,6 +20,7 @@ use Rattle.tta_hardware.specs.Fields.{slot_at}
 use Rattle.tta_hardware.specs.Wires.{hits, buses_to, reached}
 use Rattle.tta_hardware.specs.Stands.{Hardware}
 use Rattle.tta_hardware.specs.Laws.{Meet}
+use Rattle.tta_hardware.proofs.Bits.{dest_some}
 use Rattle.tta_hardware.proofs.Chained.{set_bit, any_found, first_found}
 use Rattle.tta_hardware.proofs.Carrying.{is_joined_at}
 
@@ -55,7 +56,7 @@ module _ (u : Units) (m : Machine) (h : Hardware) (env : Named → ℕ) (s : Sta
   hit bus below on =
       set_bit (is_set (env (Acts bus)) && is_set (bit (env (Fetched (DestOf bus)) == dest_code m bus dst)))
       ∙ ap (λ b. is_set (env (Acts bus)) && b) (set_bit (env (Fetched (DestOf bus)) == dest_code m bus dst))
-      ∙ ap (λ (n : ℕ). is_set (env (Acts bus)) && n == dest_code m bus dst) (meet.fetched.dest bus below)
+      ∙ ap (λ (n : ℕ). is_set (env (Acts bus)) && n == dest_code m bus dst) (meet.fetched.dest bus below (dest_some m bus dst on))
       ∙ by (slot_at i bus) refl
     where
       by : (o : Option Move) → slot_at i bus ≡ o

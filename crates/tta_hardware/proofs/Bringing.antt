@@ -4,7 +4,7 @@ use Rattle.std.specs.Prelude.{is_some, is_none, if◌then◌else◌, option_and_
 use Rattle.std.specs.Option.{option_map_or}
 use Rattle.std.specs.List.{list_any, list_all, position_or_len}
 use Rattle.std.proofs.lemmas.Option.{same_Some}
-use Rattle.std.proofs.lemmas.Bool.{and_parts, false≢true}
+use Rattle.std.proofs.lemmas.Bool.{and_parts, false≢true, ltb-true, lt-ltb}
 use Rattle.tta_ops.specs.Units.{Units}
 use Rattle.tta_arch.specs.declared.parts.File.{File}
 use Rattle.tta_arch.specs.declared.parts.ImmUnit.{ImmUnit}
@@ -32,6 +32,7 @@ use Rattle.tta_hardware.specs.Chains.{pick_from}
 use Rattle.tta_hardware.specs.Wires.{bus_acts, bus_word, passing, source_word, never, nothing}
 use Rattle.tta_hardware.specs.Stands.{fresh_in, Hardware, IsSettled, HasWords, HasPorts, has_place}
 use Rattle.tta_hardware.specs.Laws.{HasFetched, BusesBring}
+use Rattle.tta_hardware.proofs.Bits.{guard_some}
 use Rattle.tta_hardware.proofs.Picked.{first_at, at_map, picked}
 use Rattle.tta_hardware.proofs.Fresh.{fresh_value}
 
@@ -127,8 +128,21 @@ module _ (u : Units) (m : Machine) (rules : IsMachine m) (h : Hardware) (env : N
   -- whether the move acts
   pub acts : has_unset_guard (read_source s) (effect_of v) ≡ false → is_set (env (Acts bus)) ≡ is_active (read_source s) (effect_of v)
   acts set = ap is_set (settled.acts bus there) ∙ by v.guard refl ends.1 set where
-    code : value u h.memories env (OfSignal (Fetched (GuardOf bus))) ≡ guard_code m bus v.guard
-    code = fetched.guard bus v there here
+    code : 0 < guard_width m bus → value u h.memories env (OfSignal (Fetched (GuardOf bus))) ≡ guard_code m bus v.guard
+    code some = fetched.guard bus v there some here
+
+    choice : Expression
+    choice =
+        pick_from (guard_width m bus) (OfSignal (Fetched (GuardOf bus))) 0 (Const 1 1 ∷ map (λ g. passing g.on) (guards_on m bus)) never
+
+    -- without a guard it does
+    alone : v.guard ≡ None → (b : Bool) → nat_lt 0 (guard_width m bus) ≡ b
+        → is_set (value u h.memories env (if b then choice else Const 1 1)) ≡ true
+    alone is true some =
+        ap is_set (picked u h.memories env (guard_width m bus) (OfSignal (Fetched (GuardOf bus))) never
+        (Const 1 1 ∷ map (λ g. passing g.on) (guards_on m bus)) 0 0 (Const 1 1)
+        (code (ltb-true 0 (guard_width m bus) some) ∙ ap (guard_code m bus) is) refl)
+    alone is false none = refl
 
     word_of : (on : GuardRef) → has_guard m bus (Some on) ≡ true → (o : Option ℕ) → guard_word (read_source s) on ≡ o → is_none o ≡ false
         → is_set (value u h.memories env (passing on)) ≡ option_map_or (passes on) o false
@@ -141,18 +155,17 @@ module _ (u : Units) (m : Machine) (rules : IsMachine m) (h : Hardware) (env : N
         → option_map_or (λ g. is_none (guard_word (read_source s) g)) g false ≡ false
         → is_set (value u h.memories env (bus_acts m bus))
         ≡ option_map_or (λ g. option_map_or (passes g) (guard_word (read_source s) g) false) g true
-    by None is has some =
-        ap is_set (picked u h.memories env (guard_width m bus) (OfSignal (Fetched (GuardOf bus))) never
-        (Const 1 1 ∷ map (λ g. passing g.on) (guards_on m bus)) 0 0 (Const 1 1)
-        (code ∙ ap (guard_code m bus) is) refl)
+    by None is has some = alone is (nat_lt 0 (guard_width m bus)) refl
     by (Some on) is has some =
         let none : Guard = record { bus = bus; on = on } in
         let one = first_at (λ (g : Guard). is_same_guard g.on on) (guards_on m bus) none (guard_kept m bus on has) in
         let place : ℕ = position_or_len (λ (g : Guard). is_same_guard g.on on) (guards_on m bus) in
         let same : one.0.on ≡ on = same_guard one.0.on on one.1.1 in
-        ap is_set (picked u h.memories env (guard_width m bus) (OfSignal (Fetched (GuardOf bus))) never
+        let bits = guard_some m bus on has in
+        ap (λ b. is_set (value u h.memories env (if b then choice else Const 1 1))) (lt-ltb 0 (guard_width m bus) bits)
+        ∙ ap is_set (picked u h.memories env (guard_width m bus) (OfSignal (Fetched (GuardOf bus))) never
         (Const 1 1 ∷ map (λ g. passing g.on) (guards_on m bus)) 0 (suc place) (passing one.0.on)
-        (code ∙ ap (guard_code m bus) is ∙ omega arith)
+        (code bits ∙ ap (guard_code m bus) is ∙ omega arith)
         (at_map (λ (g : Guard). passing g.on) (guards_on m bus) place one.0 one.1.0))
         ∙ ap (λ (r : GuardRef). is_set (value u h.memories env (passing r))) same
         ∙ word_of on has (guard_word (read_source s) on) refl some

@@ -13,8 +13,8 @@ pub set_bit : (b : Bool) → is_set (bit b) ≡ b
 set_bit true = refl
 set_bit false = refl
 
--- whether a clock carries an instruction out, from tests: whether it begins anew, whether the machine has halted, whether a word is asked for and offered, and
--- whether one is given and taken
+-- whether a clock carries an instruction out, from tests: whether it begins anew, whether the machine has halted, whether a word is
+-- asked for and offered, and whether one is given and taken
 goes_on : (h a o g r : Bool)
     → is_set (bit
     (is_set (bit (not h)) && is_set (bit (is_set (bit (is_set (bit (not a)) || o)) && is_set (bit (is_set (bit (not g)) || r))))))

@@ -264,14 +264,16 @@ module _ (u : Units) (m : Machine) (h : Hardware) (env after : Named → ℕ) (s
             → ((v : ℕ) → o ≡ Some v → fresh_in m h.words unit 1 (h.words (Keeps (KeptPort unit))) ≡ v)
             → option_or p (option_or q o) ≡ Some w
             → fresh_word 1 (if is_set (value u h.memories env (begins m unit 1)) then value u h.memories env (made m unit 1)
-            else (if is_set (value u h.memories env (is_coming m unit 1)) then value u h.memories env (coming m unit 1) else env (Port unit)))
+            else (if is_set (value u h.memories env (is_coming m unit 1)) then value u h.memories env (coming m unit 1)
+            else env (Port unit)))
             ≡ w
         by (Some x) p_is q q_is o has is = rw (one.0 ∙ ap is_some p_is) (one.1 x p_is ∙ same_Some x w is)
         by None p_is (Some x) q_is o has is =
             rw (one.0 ∙ ap is_some p_is, two.0 ∙ ap is_some q_is) (stale 1 p_is (value u h.memories env (coming m unit 1)) ∙ two.1 x q_is
             ∙ same_Some x w is)
         by None p_is None q_is o has is = rw (one.0 ∙ ap is_some p_is, two.0 ∙ ap is_some q_is)
-            (stale 1 p_is (env (Port unit)) ∙ settled.port unit there ∙ fresh_value u m h env settled unit 1 (OfSignal (Keeps (KeptPort unit)))
+            (stale 1 p_is (env (Port unit)) ∙ settled.port unit there
+            ∙ fresh_value u m h env settled unit 1 (OfSignal (Keeps (KeptPort unit)))
             ∙ ap (fresh_in m h.words unit 1) (settled.places (KeptPort unit)) ∙ has w is)
 
 pub results_keep : ResultsKeep

@@ -1,126 +1,89 @@
--- Short words are extended to words.
-use Rattle.std.proofs.Common.{◌≡◌, ℕ, zero, suc, ◌+◌, ◌-◌, ◌*◌, ◌/◌, ◌%◌, ◌^◌, ◌<◌, ◌≤◌, Bool, true, false, ◌&&◌, List, length, slice_get, Some, refl, sym, ap, ◌∙◌, subst, inl, inr, arith}
-use Rattle.std.specs.Prelude.{if◌then◌else◌, nat_le}
+-- The word of a short field by its highest bit.
+use Rattle.std.proofs.Common.{◌≡◌, ℕ, zero, suc, ◌+◌, ◌-◌, ◌*◌, ◌/◌, ◌%◌, ◌^◌, ◌<◌, ◌≤◌, ◌==◌, Bool, true, false, nat_lt, is_some, if◌then◌else◌, List, [], ◌++◌, length, get_or, slice_get, Option, Some, None, refl, sym, ap, ◌∙◌, subst, inl, inr, arith}
+use Rattle.std.specs.Prelude.{option_and_then}
 use Rattle.std.specs.Option.{option_map_or}
-use Rattle.std.proofs.lemmas.Bool.{and_parts, leb-true, cases_lt, le-leb, lt-leb}
-use Rattle.std.proofs.lemmas.Nat.{mod_below, pow_pos, pow-add, div-mul-add}
-use Rattle.tta_list.proofs.Lists.{list_all_one}
+use Rattle.std.proofs.lemmas.Bool.{eqb-true, and_parts, ltb-true, ltb-false, le-leb, lt-leb, cases_lt, false_from_ne_true, false≢true, true≢false}
+use Rattle.std.proofs.lemmas.Nat.{mod_below, pow_pos, pow-add, div_below, shr_split}
+use Rattle.std.proofs.lemmas.Option.{slice_get-get_or, slice_get_past}
+use Rattle.std.proofs.lemmas.List.{append_assoc, append-nil}
+use Rattle.std.proofs.lemmas.List.Sums.{position_or_len_is}
 use Rattle.tta_ops.specs.Units.{Units}
-use Rattle.tta_arch.specs.declared.parts.Bus.{Bus}
+use Rattle.tta_arch.specs.declared.ends.Source.{Source}
 use Rattle.tta_arch.specs.declared.ends.Source.TheVariants as source
+use Rattle.tta_arch.specs.declared.parts.Template.{Template}
 use Rattle.tta_arch.specs.Machine.{Machine}
-use Rattle.tta_arch.specs.Rules.{IsMachine, is_bus, is_from_to}
-use Rattle.tta_arch.specs.Joins.{is_source_on, is_dest_on, has_guard}
-use Rattle.tta_arch.specs.Fields.{short_width}
+use Rattle.tta_arch.specs.Joins.{has_bit, is_source_on}
+use Rattle.tta_arch.specs.Fields.{same_source, sources_on, guard_width, short_width, payload_width, dest_width, template_width, taken_width, guard_code, source_code, dest_code}
+use Rattle.tta_arch.specs.Rules.{IsMachine}
+use Rattle.tta_arch.proofs.Widths.{width_for-enough, no_high}
 use Rattle.tta_code.specs.declared.code.Move.{Move}
+use Rattle.tta_code.specs.declared.code.Long.{Long}
 use Rattle.tta_code.specs.declared.code.Instruction.{Instruction}
-use Rattle.tta_code.specs.Legal.{is_legal}
-use Rattle.tta_image.specs.Bits.{instruction_bits}
+use Rattle.tta_code.specs.Legal.{is_long, is_legal}
+use Rattle.tta_image.specs.Bits.{bits_of, slot_bits, slots_bits, template_code, long_bits, instruction_bits}
+use Rattle.tta_image.specs.Fields.{buses_of}
+use Rattle.tta_image.specs.Sink.{bit_value}
 use Rattle.tta_image.specs.Decoding.{number_of, short_word, is_signed}
+use Rattle.tta_image.proofs.Unique.{length-bits_of}
+use Rattle.tta_image.proofs.Numbers.{number_of-bits_of_small}
+use Rattle.tta_image.proofs.BitLemmas.{low_whole}
+use Rattle.tta_image.proofs.EndsLemmas.{same_source_true}
+use Rattle.tta_image.proofs.CodesDecoded.{no_value_at}
 use Rattle.tta_image.proofs.ShortDecoded.{value_decoded}
-use Rattle.tta_circuit.specs.Circuit.{Const, Slice, Join, Select}
+use Rattle.tta_image.proofs.NarrowFields.{narrow}
+use Rattle.tta_image.proofs.SlotLemmas.{is_joined_slot, joined_parts}
+use Rattle.tta_image.proofs.InstructionLemmas.{slots_length, IsWhole, whole_of, template_inside, value_fits, length-long_bits, empty_where_taken}
+use Rattle.tta_image.proofs.InstructionEncoded.{taken_bits-slots_bits}
+use Rattle.tta_circuit.specs.Circuit.{Expr, Const, Join, Slice, Select}
 use Rattle.tta_circuit.specs.Meaning.{is_set, value}
-use Rattle.tta_hardware.specs.Signals.{Store, Signal as Named, Expression}
-use Rattle.tta_hardware.specs.Fields.{slot_at}
-use Rattle.tta_hardware.specs.Joined.{short_part, extended, WordHasShorts}
-use Rattle.tta_hardware.proofs.Carrying.{is_joined_at}
-use Rattle.tta_hardware.proofs.Members.{at_some}
-use Rattle.tta_hardware.proofs.Joining.{word_has_fields}
+use Rattle.tta_hardware.specs.Signals.{Field, GuardOf, IsShort, SourceOf, ShortOf, DestOf, TemplateOf, LongOf}
+use Rattle.tta_hardware.specs.Fields.{slot_at, short_mark, short_of, field_of}
+use Rattle.tta_hardware.specs.Fields.{word_of}
+use Rattle.tta_hardware.specs.Parts.{buses_width, below_bus, below_payload, below_tag, below_guard, template_part, takes_from, shares_from, long_from, with_high, short_part, dest_part}
+use Rattle.tta_hardware.proofs.Numbers.{low_low, part_in_part, piece_at}
+use Rattle.tta_hardware.proofs.Slots.{payload_of, is_value, HasSlot, has_slot, slot_stands, kept_at}
+use Rattle.tta_hardware.proofs.Templates.{takes_none, takes_some, long_none, long_some}
+use Rattle.tta_hardware.proofs.Shares.{own_from, shares-value}
 
--- the highest bit of a word of s bits tells whether it is at least half
-top_bit : (p s h : ℕ) → h ≡ 2 ^ s → p < 2 * h → is_set (p / h % 2 ^ 1) ≡ nat_le h p
-top_bit p s h is less = elim (cases_lt p h) [
-  | inl below ↦
-      let e : p ≡ 0 * h + p = omega arith in
-      let z : p / h ≡ 0 = ap (λ (n : ℕ). n / h) e ∙ div-mul-add 0 h p below in
-      ap (λ (n : ℕ). is_set (n % 2 ^ 1)) z ∙ sym (lt-leb h p below)
-  | inr above ↦
-      let e : p ≡ 1 * h + (p - h) = omega (arith, above) in
-      let z : p / h ≡ 1 = ap (λ (n : ℕ). n / h) e ∙ div-mul-add 1 h (p - h) (omega (arith, above, less)) in
-      ap (λ (n : ℕ). is_set (n % 2 ^ 1)) z ∙ sym (le-leb h p above)
-]
+one_less : (q p : ℕ) → 0 < q → (q - 1) * p ≡ q * p - p
+one_less zero p h = absurd (omega arith)
+one_less (suc q) p h = let e : suc q - 1 ≡ q = omega arith in let d : suc q * p ≡ q * p + p = grind arith in rw e (omega arith)
 
--- ones above a word
-ones_above : (p s : ℕ) → s ≤ 32 → (2 ^ (32 - s) - 1) * 2 ^ s + p ≡ p + (2 ^ 32 - 2 ^ s)
-ones_above p s few =
-    let e : 32 ≡ (32 - s) + s = omega (arith, few) in
-    let power : 2 ^ 32 ≡ 2 ^ (32 - s) * 2 ^ s = ap (λ (n : ℕ). 2 ^ n) e ∙ pow-add 2 (32 - s) s in
-    rows (2 ^ (32 - s)) (2 ^ s) p (2 ^ 32) (pow_pos (32 - s)) power
-  where
-    rows : (o r p t : ℕ) → 0 < o → t ≡ o * r → (o - 1) * r + p ≡ p + (t - r)
-    rows zero r p t some is = absurd (omega (arith, some))
-    rows (suc o) r p t some is =
-        let one : suc o - 1 ≡ o = omega arith in
-        let row : suc o * r ≡ o * r + r = grind arith in
-        ap (λ (n : ℕ). n * r + p) one ∙ omega (arith, is, row)
+-- the bits above the low w of a word
+high_part : (w : ℕ) → w ≤ 32 → (2 ^ (32 - w) - 1) * 2 ^ w ≡ 2 ^ 32 - 2 ^ w
+high_part w h =
+    let e : 32 - w + w ≡ 32 = omega arith in
+    let p : 2 ^ 32 ≡ 2 ^ (32 - w) * 2 ^ w = ap (λ (n : ℕ). 2 ^ n) (sym e) ∙ pow-add 2 (32 - w) w in
+    let less = one_less (2 ^ (32 - w)) (2 ^ w) (pow_pos (32 - w)) in
+    omega arith
 
-module _ (u : Units) (ms : Store → List ℕ) (env : Named → ℕ) (m : Machine) (i : Instruction) (whole : Expression) (bus w : ℕ) (v : Move)
-    (rules : IsMachine m) (legal : is_legal m i ≡ true)
-    (is : value u ms env whole ≡ number_of (instruction_bits m i)) (less : bus < length m.buses) (at : slot_at i bus ≡ Some v)
-    (src : v.src ≡ source.Value w) where
-  its_bus : (b : Bus) × (slice_get m.buses bus ≡ Some b)
-  its_bus = at_some m.buses bus less
+-- the highest of so many bits
+top_bit : (y k : ℕ) → y < 2 ^ (k + 1) → 2 ^ k ≤ y → y / 2 ^ k ≡ 1
+top_bit y k small ge =
+    let double : 2 ^ (k + 1) ≡ 2 ^ k * 2 = pow-add 2 k 1 in
+    let q = div_below y (2 ^ k) 2 (pow_pos k) (omega arith) in
+    let split = shr_split y k in
+    let below = mod_below y (2 ^ k) (pow_pos k) in
+    elim (cases_lt (y / 2 ^ k) 1) [
+      | inl lt ↦ let p : y / 2 ^ k * 2 ^ k ≡ 0 * 2 ^ k = ap (λ (x : ℕ). x * 2 ^ k) (omega arith) in absurd (omega arith)
+      | inr more ↦ omega arith
+    ]
 
-  good : is_from_to 1 32 its_bus.0.short ≡ true
-  good = list_all_one is_bus m.buses bus its_bus.0 rules.buses its_bus.1
-
-  width_is : short_width m bus ≡ its_bus.0.short
-  width_is = ap (λ o. option_map_or (λ (b : Bus). b.short) o 0) its_bus.1
-
-  bounds : (1 ≤ short_width m bus) × (short_width m bus ≤ 32)
-  bounds =
-      let p = and_parts (nat_le 1 its_bus.0.short) (nat_le its_bus.0.short 32) good in
-      let a = leb-true 1 its_bus.0.short p.0 in
-      let b = leb-true its_bus.0.short 32 p.1 in
-      (omega (arith, a, width_is), omega (arith, b, width_is))
-
-  part : value u ms env (short_part m whole bus) ≡ w % 2 ^ short_width m bus
-  part = ((word_has_fields u ms env m i whole rules legal is).1.0 bus v less at).short w src
-
-  on_source : is_source_on m bus (source.Value w) ≡ true
-  on_source =
-      let joined = is_joined_at m i legal bus v at in
-      let ends = and_parts (is_source_on m bus v.src && is_dest_on m bus v.dst) (has_guard m bus v.guard) joined in
-      subst (λ s. is_source_on m bus s ≡ true) src (and_parts (is_source_on m bus v.src) (is_dest_on m bus v.dst) ends.0).0
-
-  decoded : short_word (is_signed m bus) (short_width m bus) (w % 2 ^ short_width m bus) ≡ w
-  decoded = value_decoded m bus w rules.buses on_source
-
-  extended_is : value u ms env (extended m whole bus) ≡ short_word (is_signed m bus) (short_width m bus) (w % 2 ^ short_width m bus)
-  extended_is = by (is_signed m bus) where
-    half : 2 ^ short_width m bus ≡ 2 * 2 ^ (short_width m bus - 1)
-    half = let e : short_width m bus ≡ 1 + (short_width m bus - 1) = omega (arith, bounds.0) in ap (λ (n : ℕ). 2 ^ n) e
-        ∙ pow-add 2 1 (short_width m bus - 1)
-
-    small : w % 2 ^ short_width m bus < 2 * 2 ^ (short_width m bus - 1)
-    small = let b = mod_below w (2 ^ short_width m bus) (pow_pos (short_width m bus)) in omega (arith, b, half)
-
-    plain : 0 * 2 ^ short_width m bus + value u ms env (short_part m whole bus) ≡ w % 2 ^ short_width m bus
-    plain = none (2 ^ short_width m bus) (value u ms env (short_part m whole bus)) ∙ part where
-      none : (x y : ℕ) → 0 * x + y ≡ y
-      none x y = omega arith
-
-    by : (b : Bool) → value u ms env (if b
-        then Select (Slice (short_width m bus - 1) 1 (short_part m whole bus))
-        (Join (short_width m bus) (Const (32 - short_width m bus) (2 ^ (32 - short_width m bus) - 1)) (short_part m whole bus))
-        (Join (short_width m bus) (Const (32 - short_width m bus) 0) (short_part m whole bus))
-        else Join (short_width m bus) (Const (32 - short_width m bus) 0) (short_part m whole bus))
-        ≡ short_word b (short_width m bus) (w % 2 ^ short_width m bus)
-    by false = plain
-    by true =
-        ap (λ (k : ℕ). if is_set (k / 2 ^ (short_width m bus - 1) % 2 ^ 1)
-        then (2 ^ (32 - short_width m bus) - 1) * 2 ^ short_width m bus + value u ms env (short_part m whole bus)
-        else 0 * 2 ^ short_width m bus + value u ms env (short_part m whole bus)) part
-        ∙ ap (λ c. if c then (2 ^ (32 - short_width m bus) - 1) * 2 ^ short_width m bus + value u ms env (short_part m whole bus)
-        else 0 * 2 ^ short_width m bus + value u ms env (short_part m whole bus))
-        (top_bit (w % 2 ^ short_width m bus) (short_width m bus - 1) (2 ^ (short_width m bus - 1)) refl small)
-        ∙ ap (λ (k : ℕ). if nat_le (2 ^ (short_width m bus - 1)) (w % 2 ^ short_width m bus) then k
-        else 0 * 2 ^ short_width m bus + value u ms env (short_part m whole bus))
-        (ap (λ (k : ℕ). (2 ^ (32 - short_width m bus) - 1) * 2 ^ short_width m bus + k) part
-        ∙ ones_above (w % 2 ^ short_width m bus) (short_width m bus) bounds.1)
-        ∙ ap (λ (k : ℕ). if nat_le (2 ^ (short_width m bus - 1)) (w % 2 ^ short_width m bus)
-        then w % 2 ^ short_width m bus + (2 ^ 32 - 2 ^ short_width m bus) else k) plain
-
-pub word_has_shorts : WordHasShorts
-word_has_shorts u ms env m i whole bus w v rules legal is less at src =
-    extended_is u ms env m i whole bus w v rules legal is less at src ∙ decoded u ms env m i whole bus w v rules legal is less at src
+-- a short field with all its high bits, by its highest bit
+pub extended : (w y sign : ℕ) → 0 < w → w ≤ 32 → y < 2 ^ w → sign ≡ y / 2 ^ (w - 1) % 2 ^ 1
+    → (if is_set sign then (2 ^ (32 - w) - 1) * 2 ^ w + y else 0 * 2 ^ w + y) ≡ short_word true w y
+extended w y sign some most small is =
+    let k : ℕ = w - 1 in
+    let e : w ≡ k + 1 = omega arith in
+    let double : 2 ^ w ≡ 2 ^ (k + 1) = ap (λ (n : ℕ). 2 ^ n) e in
+    let high = high_part w most in
+    elim (cases_lt y (2 ^ k)) [
+      | inl lt ↦
+          let none : y / 2 ^ k ≡ 0 = no_high y k k lt (omega arith) in
+          let zero_sign : sign ≡ 0 = is ∙ ap (λ (x : ℕ). x % 2 ^ 1) none in
+          rw (zero_sign, lt-leb (2 ^ k) y lt) (omega arith)
+      | inr ge ↦
+          let one : y / 2 ^ k ≡ 1 = top_bit y k (omega arith) ge in
+          let one_sign : sign ≡ 1 = is ∙ ap (λ (x : ℕ). x % 2 ^ 1) one in
+          rw (one_sign, le-leb (2 ^ k) y ge) (omega arith)
+    ]

@@ -10,18 +10,13 @@ use Rattle.tta_arch.specs.Machine.{Machine}
 use Rattle.tta_code.specs.declared.code.Code.{Code as Program}
 use Rattle.tta_code.specs.declared.code.Instruction.{Instruction}
 use Rattle.tta_code.specs.Legal.{is_legal, IsLegalCode}
-use Rattle.tta_image.specs.Bits.{instruction_bits}
-use Rattle.tta_image.specs.Decoding.{number_of}
 use Rattle.tta_circuit.specs.Circuit.{Signal as OfSignal}
 use Rattle.tta_circuit.specs.Meaning.{value}
 use Rattle.tta_hardware.specs.Signals.{GuardOf, IsShort, SourceOf, ShortOf, DestOf, TemplateOf, LongOf, Pc, Whole}
-use Rattle.tta_hardware.specs.Fields.{slot_at, field_of}
-use Rattle.tta_hardware.specs.Joined.{template_part, dest_field, HasParts}
+use Rattle.tta_hardware.specs.Fields.{word_of}
 use Rattle.tta_hardware.specs.Laws.{FetchAlike, HasFetched}
 use Rattle.tta_hardware.proofs.Bringing.{within_list}
-use Rattle.tta_hardware.proofs.Joining.{word_has_fields}
-use Rattle.tta_hardware.proofs.LongJoined.{word_has_long}
-use Rattle.tta_hardware.proofs.Extending.{word_has_shorts}
+use Rattle.tta_hardware.proofs.Served.{fields_serve}
 
 -- a number below another is what is left of it
 pub low : (n w : ℕ) → n < w → n % w ≡ n
@@ -35,15 +30,15 @@ word_at f (y ∷ xs) (suc k) x at = word_at f xs k x at
 
 -- the word that is fetched at an address
 pub fetched_at : (m : Machine) (code : Program) (words : List ℕ) (pc whole at : ℕ) → pc ≡ at % 2 ^ m.control.address
-    → words ≡ map (λ i. number_of (instruction_bits m i)) code.words
+    → words ≡ map (word_of m) code.words
     → whole ≡ slice_index words pc → IsLegalCode m code → (i : Instruction) → slice_get code.words at ≡ Some i
-    → whole ≡ number_of (instruction_bits m i)
+    → whole ≡ word_of m i
 fetched_at m code words pc whole at pc_is rom fetched legal i here =
     let inside = within_list code.words at (ap is_some here) in
     fetched ∙ ap (λ ws. slice_index ws pc) rom
-    ∙ ap (λ k. slice_index (map (λ i. number_of (instruction_bits m i)) code.words) k)
+    ∙ ap (λ k. slice_index (map (word_of m) code.words) k)
     (pc_is ∙ low at (2 ^ m.control.address) (omega (arith, inside, legal.room)))
-    ∙ word_at (λ i. number_of (instruction_bits m i)) code.words at i here
+    ∙ word_at (word_of m) code.words at i here
 
 pub fetch_alike : FetchAlike
 fetch_alike u m code h env s i rules settled pc whole legal at = (fetched, pc_is) where
@@ -53,28 +48,11 @@ fetch_alike u m code h env s i rules settled pc whole legal at = (fetched, pc_is
       pc ∙ low s.pc (2 ^ m.control.address) (omega (arith, inside, legal.room))
 
   -- the instruction's word
-  word : env Whole ≡ number_of (instruction_bits m i)
+  word : env Whole ≡ word_of m i
   word = settled.whole ∙ whole
 
   good : is_legal m i ≡ true
   good = all_one (λ i. IsTrue (is_legal m i)) code.words s.pc i legal.words at
 
-  parts : (value u h.memories env (template_part m (OfSignal Whole)) ≡ field_of m i TemplateOf)
-      × (((bus : ℕ) (v : Move) → bus < length m.buses → slot_at i bus ≡ Some v → HasParts m (value u h.memories env) (OfSignal Whole) bus v)
-      × ((bus : ℕ) → bus < length m.buses → value u h.memories env (dest_field m (OfSignal Whole) bus) ≡ field_of m i (DestOf bus)))
-  parts = word_has_fields u h.memories env m i (OfSignal Whole) rules good word
-
-  is_there : (bus : ℕ) → bus < length m.buses → nat_lt bus (length m.buses) ≡ true
-  is_there bus less = lt-ltb bus (length m.buses) less
-
   fetched : HasFetched m env i
-  fetched = record {
-    template = settled.fetched TemplateOf refl ∙ parts.0;
-    long = λ l is. settled.fetched LongOf refl ∙ word_has_long u h.memories env m i (OfSignal Whole) l rules good word is;
-    dest = λ bus less. settled.fetched (DestOf bus) (is_there bus less) ∙ parts.1.1 bus less;
-    guard = λ bus v less here. settled.fetched (GuardOf bus) (is_there bus less) ∙ (parts.1.0 bus v less here).guard;
-    tag = λ bus v less here. settled.fetched (IsShort bus) (is_there bus less) ∙ (parts.1.0 bus v less here).tag;
-    code = λ bus v less here long. settled.fetched (SourceOf bus) (is_there bus less) ∙ (parts.1.0 bus v less here).code long;
-    short = λ bus v w less here is. settled.fetched (ShortOf bus) (is_there bus less)
-        ∙ word_has_shorts u h.memories env m i (OfSignal Whole) bus w v rules good word less here is;
-  }
+  fetched = fields_serve u h.memories env m i rules good word (λ f has. settled.fetched f has)

@@ -1,30 +1,26 @@
--- The instruction's word and its fields keep their widths.
-use Rattle.std.proofs.Common.{◌≡◌, ℕ, zero, suc, ◌+◌, ◌-◌, ◌^◌, ◌<◌, ◌≤◌, Bool, true, false, List, [], ◌∷◌, length, filter, sym, ap, ◌∙◌, subst, arith}
-use Rattle.std.specs.Prelude.{if◌then◌else◌, nat_le}
-use Rattle.std.specs.Option.{option_map_or}
-use Rattle.std.specs.List.{enumerate_from, range_with_len, sum_by, AllByRecursion}
-use Rattle.std.proofs.lemmas.Bool.{and_parts, leb-true, ltb-true}
+-- The fields of the instruction keep their widths and are plain.
+use Rattle.std.proofs.Common.{◌≡◌, ℕ, zero, suc, ◌+◌, ◌-◌, ◌^◌, ◌<◌, ◌≤◌, ◌==◌, min, Bool, true, false, ◌&&◌, List, [], ◌∷◌, length, refl, sym, ap, ◌∙◌, subst, inl, inr, arith}
+use Rattle.std.specs.Prelude.{if◌then◌else◌, nat_lt}
+use Rattle.std.specs.List.{range_with_len, sum_by, AllByRecursion}
+use Rattle.std.proofs.lemmas.Bool.{and_parts, false≢true, eq-eqb, eqb-true, ltb-true, ltb-false, lt-ltb, cases_lt}
 use Rattle.std.proofs.lemmas.List.Sums.{sum_by-cons}
 use Rattle.std.proofs.lemmas.Nat.{pow_pos}
-use Rattle.tta_list.proofs.Lists.{list_all_one}
-use Rattle.tta_arch.specs.declared.parts.Bus.{Bus}
 use Rattle.tta_arch.specs.declared.parts.Template.{Template}
 use Rattle.tta_arch.specs.Machine.{Machine}
-use Rattle.tta_arch.specs.Rules.{IsMachine, is_bus, is_from_to}
+use Rattle.tta_arch.specs.Rules.{IsMachine}
 use Rattle.tta_arch.specs.Joins.{has_bit}
-use Rattle.tta_arch.specs.Fields.{numbers, template_width, guard_width, short_width, payload_width, dest_width, bus_width, taken_width, word_width}
+use Rattle.tta_arch.specs.Fields.{template_width, guard_width, short_width, payload_width, dest_width, bus_width, taken_width, word_width}
 use Rattle.tta_image.specs.Decoding.{is_signed}
-use Rattle.tta_circuit.specs.Circuit.{Const, Signal, Slice, Join, Select, Equal}
+use Rattle.tta_image.proofs.NarrowFields.{narrow}
+use Rattle.tta_circuit.specs.Circuit.{Const, Signal, Slice, Join, Select, Either}
 use Rattle.tta_hardware.specs.Signals.{Field, GuardOf, IsShort, SourceOf, ShortOf, DestOf, TemplateOf, LongOf, Whole, Expression}
-use Rattle.tta_hardware.specs.Joined.{after_bus, template_part, short_part, extended, joined_to, long_part}
+use Rattle.tta_hardware.specs.Fields.{field_width}
+use Rattle.tta_hardware.specs.Parts.{buses_width, long_width, below_bus, below_payload, below_tag, below_guard, above, template_part, has_template, takes_from, shares_from, long_from, with_high, short_part}
 use Rattle.tta_hardware.specs.Wires.{fetched}
-use Rattle.tta_hardware.specs.Hardware.{field_width}
 use Rattle.tta_hardware.specs.Stands.{has_field}
 use Rattle.tta_hardware.specs.Sized.{Fits, FieldsAreSized}
-use Rattle.tta_hardware.proofs.Members.{at_some}
-use Rattle.tta_hardware.proofs.Fitting.{signal, const, slice, join, select, equal, any_fits, first_fits}
-use Rattle.tta_hardware.proofs.WiresFit.{kept_filter, as_word, enough}
-use Rattle.tta_hardware.proofs.RegistersFit.{numbered, weaker}
+use Rattle.tta_hardware.proofs.Bits.{enough, template_some, payload_some, word_some}
+use Rattle.tta_hardware.proofs.Fitting.{const, slice, join, select, either, equal}
 
 -- one number of some and those after it make no more than all
 part_sum : (f : ℕ → ℕ) (n a k j : ℕ) → a + k ≡ j → k < n
@@ -47,133 +43,181 @@ part_sum f (suc n) a (suc k) j e less =
     ap (λ (i : ℕ). sum_by f (range_with_len (j + 1) i)) count in
     omega (arith, cut, rest, same)
 
-below_all : (n a k : ℕ) → a + k ≤ n → AllByRecursion (λ i. i < n) (range_with_len a k)
-below_all n a zero few = tt
-below_all n a (suc k) few = (omega (arith, few), below_all n (a + 1) k (omega (arith, few)))
-
-enumerated : {A : Type 0} (P : A → Type 0) (j : ℕ) (xs : List A) → AllByRecursion P xs
-    → AllByRecursion (λ (t : ℕ × A). P t.1) (enumerate_from j xs)
-enumerated P j [] all = tt
-enumerated P j (x ∷ xs) all = (all.0, enumerated P (j + 1) xs all.1)
-
-both_all : {A : Type 0} (P Q : A → Type 0) (xs : List A) → AllByRecursion P xs → AllByRecursion Q xs → AllByRecursion (λ x. P x × Q x) xs
-both_all P Q [] first second = tt
-both_all P Q (x ∷ xs) first second = ((first.0, second.0), both_all P Q xs first.1 second.1)
+-- what is left of 32 bits above fewer
+room_above : (w : ℕ) → w ≤ 32 → (w == 32) ≡ false → 0 < 32 - w
+room_above w most is = elim (cases_lt w 32) [
+  | inl lt ↦ omega (arith, lt)
+  | inr ge ↦ let e : w ≡ 32 = omega (arith, most, ge) in absurd (false≢true (sym is ∙ eq-eqb w 32 e))
+]
 
 module _ (m : Machine) (rules : IsMachine m) where
-  whole : Fits m (Signal Whole) (word_width m)
-  whole = signal m Whole
+  word_bits : nat_lt 0 (word_width m) ≡ true
+  word_bits = lt-ltb 0 (word_width m) (word_some m rules)
 
-  room : (bus : ℕ) → bus < length m.buses → after_bus m bus + bus_width m bus ≤ word_width m
+  room : (bus : ℕ) → bus < length m.buses → below_bus m bus + bus_width m bus ≤ word_width m
   room bus less = let part = part_sum (bus_width m) (length m.buses) 0 bus bus (omega arith) less in omega (arith, part)
 
-  template_fits : Fits m (template_part m (Signal Whole)) (template_width m)
-  template_fits = slice m _ (template_width m) (word_width m) _ whole (omega arith)
+  -- ---- the template
 
-  tests_fit : AllByRecursion (λ (t : ℕ × Template). Fits m (Equal (template_part m (Signal Whole)) (Const (template_width m) (t.0 + 1))) 1)
-      (enumerate_from 0 m.templates)
-  tests_fit =
-      weaker (λ (t : ℕ × Template). t.0 < length m.templates)
-      (λ (t : ℕ × Template). Fits m (Equal (template_part m (Signal Whole)) (Const (template_width m) (t.0 + 1))) 1)
-      (enumerate_from 0 m.templates)
-      (λ t less. equal m (template_width m) _ _ template_fits
-      (const m (template_width m) (t.0 + 1) (let e = enough m rules (1 + length m.templates) (template_width m) (omega arith) in
-      omega (arith, e, less))))
-      (numbered (length m.templates) 0 m.templates (omega arith))
+  template_fits : 0 < template_width m → Fits m (template_part m (Signal Whole)) (template_width m)
+  template_fits some = slice m (buses_width m 0 (length m.buses)) (template_width m) Whole word_bits some (omega arith)
 
-  short_bounds : (bus : ℕ) → bus < length m.buses → (1 ≤ short_width m bus) × (short_width m bus ≤ 32)
-  short_bounds bus less =
-      let b = at_some m.buses bus less in
-      let good : is_from_to 1 32 b.0.short ≡ true = list_all_one is_bus m.buses bus b.0 rules.buses b.1 in
-      let p = and_parts (nat_le 1 b.0.short) (nat_le b.0.short 32) good in
-      let is : short_width m bus ≡ b.0.short = ap (λ o. option_map_or (λ (b : Bus). b.short) o 0) b.1 in
-      let least = leb-true 1 b.0.short p.0 in
-      let most = leb-true b.0.short 32 p.1 in
-      (omega (arith, is, least), omega (arith, is, most))
+  test_fits : (k : ℕ) → k < length m.templates → Fits m (has_template m (Signal Whole) k) 1
+  test_fits k less =
+      let some = template_some m k less in
+      let e = enough (1 + length m.templates) (template_width m) (omega arith) in
+      equal m (template_width m) _ _ (template_fits some)
+      (const m (template_width m) (k + 1) (lt-ltb 0 (template_width m) some) (omega (arith, e, less)))
 
-  extended_fits : (bus : ℕ) → bus < length m.buses → Fits m (extended m (Signal Whole) bus) 32
-  extended_fits bus less = by (is_signed m bus) where
-    bounds : (1 ≤ short_width m bus) × (short_width m bus ≤ 32)
-    bounds = short_bounds bus less
+  takes_fits : (bus k : ℕ) (ts : List Template) → k + length ts ≤ length m.templates → Fits m (takes_from m (Signal Whole) bus k ts) 1
+  takes_fits bus k [] few = const m 1 0 refl (omega arith)
+  takes_fits bus k (t ∷ ts) few = by (has_bit t.buses bus) (takes_fits bus (k + 1) ts (omega (arith, few))) where
+    by : (b : Bool) → Fits m (takes_from m (Signal Whole) bus (k + 1) ts) 1
+        → Fits m (if b then Either (has_template m (Signal Whole) k) (takes_from m (Signal Whole) bus (k + 1) ts)
+        else takes_from m (Signal Whole) bus (k + 1) ts) 1
+    by true rest = either m _ _ (test_fits k (omega (arith, few))) rest
+    by false rest = rest
 
-    part : Fits m (short_part m (Signal Whole) bus) (short_width m bus)
-    part = let r = room bus less in slice m _ (short_width m bus) (word_width m) _ whole (omega (arith, r))
+  -- ---- the long immediate
 
-    above : (x : ℕ) → x < 2 ^ (32 - short_width m bus)
-        → Fits m (Join (short_width m bus) (Const (32 - short_width m bus) x) (short_part m (Signal Whole) bus)) 32
-    above x small =
-        as_word m rules _ (32 - short_width m bus + short_width m bus) (omega (arith, bounds.1))
-        (join m (short_width m bus) (32 - short_width m bus) _ _ (const m (32 - short_width m bus) x small) part)
+  -- a part of a bus with bits below it
+  above_fits : (left low bus : ℕ) (rest : Expression) → low + bus_width m bus ≤ word_width m → left < 32
+      → (0 < left → Fits m rest (min 32 left))
+      → Fits m (above (Signal Whole) left low (min (bus_width m bus) (32 - left)) rest) (min 32 (bus_width m bus + left))
+  above_fits left low bus rest inside few more = by (left == 0) refl where
+    k : ℕ
+    k = min (bus_width m bus) (32 - left)
+
+    own : Fits m (Slice low k (Signal Whole)) k
+    own = slice m low k Whole word_bits (omega (arith, few)) (omega (arith, inside))
+
+    wide : (e : Expression) (a b : ℕ) → a ≡ b → Fits m e a → Fits m e b
+    wide e a b same f = subst (λ (n : ℕ). Fits m e n) same f
+
+    by : (b : Bool) → (left == 0) ≡ b
+        → Fits m (if b then Slice low k (Signal Whole) else Join left (Slice low k (Signal Whole)) rest) (min 32 (bus_width m bus + left))
+    by true is = let z : left ≡ 0 = eqb-true left 0 is in wide _ k (min 32 (bus_width m bus + left)) (omega (arith, z)) own
+    by false is = elim (cases_lt 0 left) [
+      | inl some ↦
+          wide _ (k + left) (min 32 (bus_width m bus + left)) (omega (arith, few))
+          (join m left k _ _ own (wide rest (min 32 left) left (omega (arith, few)) (more some)))
+      | inr none ↦ let z : left ≡ 0 = omega (arith, none) in absurd (false≢true (sym is ∙ eq-eqb left 0 z))
+    ]
+
+  shares_fit : (taken bus count : ℕ) → buses_width m bus count ≤ word_width m → 0 < long_width m taken bus count
+      → Fits m (shares_from m (Signal Whole) taken bus count) (min 32 (long_width m taken bus count))
+  shares_fit taken bus zero inside some = absurd (omega (arith, some))
+  shares_fit taken bus (suc count) inside some =
+      by (has_bit taken bus) (nat_lt left 32) refl refl
+      (λ less. let c = cut in shares_fit taken (bus + 1) count (omega (arith, c, inside)) less)
+    where
+      left : ℕ
+      left = long_width m taken (bus + 1) count
+
+      low : ℕ
+      low = buses_width m (bus + 1) count
+
+      rest : Expression
+      rest = shares_from m (Signal Whole) taken (bus + 1) count
+
+      cut : buses_width m bus (suc count) ≡ bus_width m bus + buses_width m (bus + 1) count
+      cut = sum_by-cons (bus_width m) bus (range_with_len (bus + 1) count)
+
+      all : long_width m taken bus (suc count) ≡ (if has_bit taken bus then bus_width m bus else 0) + long_width m taken (bus + 1) count
+      all = sum_by-cons (λ b. if has_bit taken b then bus_width m b else 0) bus (range_with_len (bus + 1) count)
+
+      wide : (e : Expression) (a b : ℕ) → a ≡ b → Fits m e a → Fits m e b
+      wide e a b same f = subst (λ (n : ℕ). Fits m e n) same f
+
+      total : (b : Bool) → has_bit taken bus ≡ b
+          → long_width m taken bus (suc count) ≡ (if b then bus_width m bus else 0) + long_width m taken (bus + 1) count
+      total b is = all ∙ ap (λ (c : Bool). (if c then bus_width m bus else 0) + long_width m taken (bus + 1) count) is
+
+      by : (b c : Bool) → has_bit taken bus ≡ b → nat_lt left 32 ≡ c → (0 < left → Fits m rest (min 32 left))
+          → Fits m (if b && c then above (Signal Whole) left low (min (bus_width m bus) (32 - left)) rest else rest)
+          (min 32 (long_width m taken bus (suc count)))
+      by true true is few more =
+          let t = total true is in let c = cut in let f = ltb-true left 32 few in
+          wide _ (min 32 (bus_width m bus + left)) (min 32 (long_width m taken bus (suc count))) (omega (arith, t))
+          (above_fits left low bus rest (omega (arith, c, inside)) f more)
+      by true false is few more =
+          let t = total true is in let f = ltb-false left 32 few in
+          wide rest (min 32 left) (min 32 (long_width m taken bus (suc count))) (omega (arith, t, f)) (more (omega (arith, f)))
+      by false c is few more =
+          let t = total false is in
+          wide rest (min 32 left) (min 32 (long_width m taken bus (suc count))) (omega (arith, t)) (more (omega (arith, t, some)))
+
+  long_fits : (k : ℕ) (ts : List Template) → k + length ts ≤ length m.templates → AllByRecursion (λ t. 32 ≤ taken_width m t.buses) ts
+      → Fits m (long_from m (Signal Whole) k ts) 32
+  long_fits k [] few wide = const m 32 0 refl (pow_pos 32)
+  long_fits k (t ∷ ts) few wide =
+      let w : 32 ≤ long_width m t.buses 0 (length m.buses) = wide.0 in
+      let inside : buses_width m 0 (length m.buses) ≤ word_width m = omega arith in
+      select m 32 _ _ _ (test_fits k (omega (arith, few)))
+      (subst (λ (n : ℕ). Fits m (shares_from m (Signal Whole) t.buses 0 (length m.buses)) n) (omega (arith, w))
+      (shares_fit t.buses 0 (length m.buses) inside (omega (arith, w))))
+      (long_fits (k + 1) ts (omega (arith, few)) wide.1)
+
+  -- ---- short words
+
+  high_fits : (bus high : ℕ) → bus < length m.buses → high < 2 ^ (32 - short_width m bus) → Fits m (with_high m (Signal Whole) bus high) 32
+  high_fits bus high less small = by (short_width m bus == 32) refl where
+    own : Fits m (Slice (below_payload m bus) (short_width m bus) (Signal Whole)) (short_width m bus)
+    own =
+        let r = room bus less in let n = narrow m bus rules less in let some = n.some_short in
+        slice m (below_payload m bus) (short_width m bus) Whole word_bits some (omega (arith, r))
+
+    by : (b : Bool) → (short_width m bus == 32) ≡ b → Fits m (if b then Slice (below_payload m bus) (short_width m bus) (Signal Whole)
+        else Join (short_width m bus) (Const (32 - short_width m bus) high)
+        (Slice (below_payload m bus) (short_width m bus) (Signal Whole))) 32
+    by true is = subst (λ (n : ℕ). Fits m (Slice (below_payload m bus) (short_width m bus) (Signal Whole)) n)
+        (eqb-true (short_width m bus) 32 is) own
+    by false is =
+        let n = narrow m bus rules less in let most = n.short in
+        subst (λ (n : ℕ). Fits m
+        (Join (short_width m bus) (Const (32 - short_width m bus) high) (Slice (below_payload m bus) (short_width m bus) (Signal Whole))) n)
+        (omega (arith, most))
+        (join m (short_width m bus) (32 - short_width m bus) _ _
+        (const m (32 - short_width m bus) high (lt-ltb 0 (32 - short_width m bus) (room_above (short_width m bus) most is)) small) own)
+
+  short_fits : (bus : ℕ) → bus < length m.buses → Fits m (short_part m (Signal Whole) bus) 32
+  short_fits bus less = by (is_signed m bus) where
+    some : 0 < 2 ^ (32 - short_width m bus)
+    some = pow_pos (32 - short_width m bus)
 
     by : (b : Bool) → Fits m (if b
-        then Select (Slice (short_width m bus - 1) 1 (short_part m (Signal Whole) bus))
-        (Join (short_width m bus) (Const (32 - short_width m bus) (2 ^ (32 - short_width m bus) - 1)) (short_part m (Signal Whole) bus))
-        (Join (short_width m bus) (Const (32 - short_width m bus) 0) (short_part m (Signal Whole) bus))
-        else Join (short_width m bus) (Const (32 - short_width m bus) 0) (short_part m (Signal Whole) bus)) 32
+        then Select (Slice (below_payload m bus + (short_width m bus - 1)) 1 (Signal Whole))
+        (with_high m (Signal Whole) bus (2 ^ (32 - short_width m bus) - 1)) (with_high m (Signal Whole) bus 0)
+        else with_high m (Signal Whole) bus 0) 32
     by true =
-        let some = pow_pos (32 - short_width m bus) in
-        select m 32 _ _ _ (slice m (short_width m bus - 1) 1 (short_width m bus) _ part (omega (arith, bounds.0)))
-        (above (2 ^ (32 - short_width m bus) - 1) (omega (arith, some))) (above 0 some)
-    by false = above 0 (pow_pos (32 - short_width m bus))
+        let r = room bus less in let n = narrow m bus rules less in let least = n.some_short in let s = some in
+        select m 32 _ _ _
+        (slice m (below_payload m bus + (short_width m bus - 1)) 1 Whole word_bits (omega arith) (omega (arith, r, least)))
+        (high_fits bus (2 ^ (32 - short_width m bus) - 1) less (omega (arith, s))) (high_fits bus 0 less some)
+    by false = high_fits bus 0 less some
 
-  joined_fits : (mask k : ℕ) (before : Expression) (ns : List ℕ) → AllByRecursion (λ bus. bus < length m.buses) ns → Fits m before k
-      → Fits m (joined_to m (Signal Whole) mask before ns) (k + sum_by (λ bus. if has_bit mask bus then bus_width m bus else 0) ns)
-  joined_fits mask k before [] all f = let e : k ≡ k + 0 = omega arith in subst (λ (n : ℕ). Fits m before n) e f
-  joined_fits mask k before (bus ∷ ns) all f =
-      let cut = sum_by-cons (λ bus. if has_bit mask bus then bus_width m bus else 0) bus ns in
-      subst (λ (n : ℕ). Fits m (joined_to m (Signal Whole) mask before (bus ∷ ns)) n) (sum cut)
-      (by (has_bit mask bus) (λ j e g. joined_fits mask j e ns all.1 g))
-    where
-      sum : sum_by (λ bus. if has_bit mask bus then bus_width m bus else 0) (bus ∷ ns)
-          ≡ (if has_bit mask bus then bus_width m bus else 0) + sum_by (λ bus. if has_bit mask bus then bus_width m bus else 0) ns
-          → k + (if has_bit mask bus then bus_width m bus else 0) + sum_by (λ bus. if has_bit mask bus then bus_width m bus else 0) ns
-          ≡ k + sum_by (λ bus. if has_bit mask bus then bus_width m bus else 0) (bus ∷ ns)
-      sum cut = omega (arith, cut)
-
-      by : (b : Bool)
-          → ((j : ℕ) (e : Expression) → Fits m e j
-          → Fits m (joined_to m (Signal Whole) mask e ns) (j + sum_by (λ bus. if has_bit mask bus then bus_width m bus else 0) ns))
-          → Fits m (joined_to m (Signal Whole) mask
-          (if b then Join (bus_width m bus) before (Slice (after_bus m bus) (bus_width m bus) (Signal Whole)) else before) ns)
-          (k + (if b then bus_width m bus else 0) + sum_by (λ bus. if has_bit mask bus then bus_width m bus else 0) ns)
-      by true more =
-          more (k + bus_width m bus) _
-          (join m (bus_width m bus) k _ _ f (slice m (after_bus m bus) (bus_width m bus) (word_width m) _ whole (room bus all.0)))
-      by false more = more (k + 0) before (let e : k ≡ k + 0 = omega arith in subst (λ (n : ℕ). Fits m before n) e f)
-
-  long_fits : (mask : ℕ) → 32 ≤ taken_width m mask → Fits m (long_part m (Signal Whole) mask) 32
-  long_fits mask wide =
-      slice m 0 32 (0 + taken_width m mask) _
-      (joined_fits mask 0 (Const 0 0) (numbers (length m.buses)) (below_all (length m.buses) 0 (length m.buses) (omega arith))
-      (const m 0 0 (omega arith))) (omega (arith, wide))
+  -- ---- all fields
 
   pub field_fits : (f : Field) → has_field m f ≡ true → Fits m (fetched m f) (field_width m f)
-  field_fits (GuardOf bus) has = let r = room bus (ltb-true bus (length m.buses) has) in
-      slice m _ (guard_width m bus) (word_width m) _ whole (omega (arith, r))
-  field_fits (IsShort bus) has = let r = room bus (ltb-true bus (length m.buses) has) in
-      slice m _ 1 (word_width m) _ whole (omega (arith, r))
-  field_fits (SourceOf bus) has = let r = room bus (ltb-true bus (length m.buses) has) in
-      slice m _ (payload_width m bus) (word_width m) _ whole (omega (arith, r))
-  field_fits (ShortOf bus) has = extended_fits bus (ltb-true bus (length m.buses) has)
-  field_fits (DestOf bus) has =
+  field_fits (GuardOf bus) has =
+      let p = and_parts (nat_lt bus (length m.buses)) (nat_lt 0 (guard_width m bus)) has in
+      let r = room bus (ltb-true bus (length m.buses) p.0) in
+      slice m (below_guard m bus) (guard_width m bus) Whole word_bits (ltb-true 0 (guard_width m bus) p.1) (omega (arith, r))
+  field_fits (IsShort bus) has =
       let r = room bus (ltb-true bus (length m.buses) has) in
-      select m (dest_width m bus) _ _ _
-      (any_fits m (λ (t : ℕ × Template). Equal (template_part m (Signal Whole)) (Const (template_width m) (t.0 + 1)))
-      (filter (λ t. has_bit t.1.buses bus) (enumerate_from 0 m.templates))
-      (kept_filter (λ (t : ℕ × Template). Fits m (Equal (template_part m (Signal Whole)) (Const (template_width m) (t.0 + 1))) 1)
-      (λ t. has_bit t.1.buses bus) (enumerate_from 0 m.templates) tests_fit))
-      (const m (dest_width m bus) 0 (pow_pos (dest_width m bus))) (slice m _ (dest_width m bus) (word_width m) _ whole (omega (arith, r)))
-  field_fits TemplateOf has = template_fits
-  field_fits LongOf has =
-      first_fits m 32 (λ (t : ℕ × Template). Equal (template_part m (Signal Whole)) (Const (template_width m) (t.0 + 1)))
-      (λ t. long_part m (Signal Whole) t.1.buses) (enumerate_from 0 m.templates) _
-      (both_all (λ (t : ℕ × Template). Fits m (Equal (template_part m (Signal Whole)) (Const (template_width m) (t.0 + 1))) 1)
-      (λ (t : ℕ × Template). Fits m (long_part m (Signal Whole) t.1.buses) 32)
-      (enumerate_from 0 m.templates) tests_fit
-      (weaker (λ (t : ℕ × Template). 32 ≤ taken_width m t.1.buses) (λ (t : ℕ × Template). Fits m (long_part m (Signal Whole) t.1.buses) 32)
-      (enumerate_from 0 m.templates) (λ t wide. long_fits t.1.buses wide)
-      (enumerated (λ (t : Template). 32 ≤ taken_width m t.buses) 0 m.templates rules.wide)))
-      (const m 32 0 (pow_pos 32))
+      slice m (below_tag m bus) 1 Whole word_bits (omega arith) (omega (arith, r))
+  field_fits (SourceOf bus) has =
+      let less = ltb-true bus (length m.buses) has in let r = room bus less in
+      slice m (below_payload m bus) (payload_width m bus) Whole word_bits (payload_some m bus rules less) (omega (arith, r))
+  field_fits (ShortOf bus) has = short_fits bus (ltb-true bus (length m.buses) has)
+  field_fits (DestOf bus) has =
+      let p = and_parts (nat_lt bus (length m.buses)) (nat_lt 0 (dest_width m bus)) has in
+      let r = room bus (ltb-true bus (length m.buses) p.0) in
+      select m (dest_width m bus) _ _ _ (takes_fits bus 0 m.templates (omega arith))
+      (const m (dest_width m bus) 0 p.1 (pow_pos (dest_width m bus)))
+      (slice m (below_bus m bus) (dest_width m bus) Whole word_bits (ltb-true 0 (dest_width m bus) p.1) (omega (arith, r)))
+  field_fits TemplateOf has = template_fits (ltb-true 0 (template_width m) has)
+  field_fits LongOf has = long_fits 0 m.templates (omega arith) rules.wide
 
 pub fields_are_sized : FieldsAreSized
 fields_are_sized m rules = field_fits m rules

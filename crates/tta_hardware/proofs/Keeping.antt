@@ -19,6 +19,7 @@ use Rattle.tta_hardware.specs.Signals.{Signal as Named, Keeps, Word, Operand, Pc
 use Rattle.tta_hardware.specs.Registers.{narrowed, kept_next}
 use Rattle.tta_hardware.specs.Stands.{Hardware, has_place, is_written}
 use Rattle.tta_hardware.specs.Laws.{Meet, carried, written_after, WordsKeep}
+use Rattle.tta_hardware.proofs.Bits.{delay_few}
 use Rattle.tta_hardware.proofs.Carrying.{buses_carry}
 use Rattle.tta_hardware.proofs.Bringing.{within_list}
 use Rattle.tta_hardware.proofs.Arriving.{bus_of, is_reached, arrives}
@@ -139,7 +140,7 @@ module _ (u : Units) (m : Machine) (h : Hardware) (env : Named → ℕ) (s : Sta
       as_found (Some b) self = refl
 
       most : m.control.delay ≤ 4
-      most = let c = meet.rules.control in grind (arith, c)
+      most = delay_few m meet.rules
 
       none : (x y : ℕ) → 0 * x + y ≡ y
       none x y = omega arith

@@ -1,3 +1,4 @@
+pub mod Bits
 pub mod Chained
 pub mod Timed
 pub mod Begun
@@ -17,6 +18,14 @@ pub mod Goings
 pub mod Started
 pub mod Steering
 pub mod Landing
+pub mod Numbers
+pub mod Slots
+pub mod Templates
+pub mod Shares
+pub mod Told
+pub mod Extending
+pub mod Served
+pub mod PartsRead
 pub mod Fetching
 pub mod Apart
 pub mod Single
@@ -32,12 +41,9 @@ pub mod Ordered
 pub mod Circuits
 pub mod Running
 pub mod Rows
-pub mod Cutting
-pub mod Pieces
-pub mod Joining
-pub mod LongJoined
-pub mod Extending
 pub mod Fitting
 pub mod WiresFit
 pub mod RegistersFit
 pub mod FieldsFit
+pub mod PlainWires
+pub mod Plainly

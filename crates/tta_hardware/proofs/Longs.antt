@@ -1,5 +1,5 @@
 -- What a long immediate writes.
-use Rattle.std.proofs.Common.{◌≡◌, ℕ, ◌+◌, ◌==◌, Bool, true, false, ◌&&◌, [], ◌∷◌, filter, slice_get, Option, Some, None, refl, sym, ap, ◌∙◌, arith}
+use Rattle.std.proofs.Common.{◌≡◌, ℕ, ◌+◌, ◌<◌, ◌==◌, Bool, true, false, ◌&&◌, [], ◌∷◌, filter, slice_get, Option, Some, None, refl, sym, ap, ◌∙◌, arith}
 use Rattle.std.specs.Prelude.{is_some, if◌then◌else◌, nat_lt, ◌^◌}
 use Rattle.std.specs.Option.{option_map_or}
 use Rattle.std.specs.List.{find, filter_map, enumerate_from}
@@ -21,6 +21,8 @@ use Rattle.tta_hardware.specs.Registers.{longs}
 use Rattle.tta_arch.specs.Fields.{template_width}
 use Rattle.tta_hardware.specs.Stands.{Hardware}
 use Rattle.tta_hardware.specs.Laws.{Meet}
+use Rattle.tta_hardware.proofs.Bits.{template_some}
+use Rattle.tta_hardware.proofs.Bringing.{within_list}
 use Rattle.tta_hardware.proofs.Chained.{set_bit, first_found}
 use Rattle.tta_hardware.proofs.Timed.{none_found, one_found}
 
@@ -109,36 +111,40 @@ module _ (u : Units) (m : Machine) (h : Hardware) (env : Named → ℕ) (s : Sta
           (find (λ t. has_code t.0) (filter writes (enumerate_from 0 m.templates))) self
           ≡ option_map_or (λ n. n) (long_of m unit index o) self
       by None is =
-          let zero_code : env (Fetched TemplateOf) ≡ 0 = meet.fetched.template
+          let zero_code : 0 < template_width m → env (Fetched TemplateOf) ≡ 0 = λ some. meet.fetched.template some
           ∙ ap (λ o. option_map_or (λ (l : Long). l.template + 1) o 0) is in
           ap (λ o. option_map_or (λ (t : ℕ × Template). env (Fetched LongOf)) o self)
           (none_found writes has_code m.templates 0 (λ k t at. set_bit (env (Fetched TemplateOf) == 0 + k + 1)
-          ∙ ne_eqb (env (Fetched TemplateOf)) (0 + k + 1) (λ e. omega (arith, e, zero_code))))
-      by (Some l) is = of (slice_get m.templates l.template) refl
-          (and_parts (is_some (slice_get m.templates l.template)) (nat_lt l.value (2 ^ 32))
-          (sym (ap (λ o. option_map_or (is_long m) o true) is) ∙ (legal_parts m i meet.legal).long)).0
-        where
-          code : env (Fetched TemplateOf) ≡ l.template + 1
-          code = meet.fetched.template ∙ ap (λ o. option_map_or (λ (l : Long). l.template + 1) o 0) is
+          ∙ ne_eqb (env (Fetched TemplateOf)) (0 + k + 1) (λ e.
+          let z = zero_code (template_some m k (within_list m.templates k (ap is_some at))) in omega (arith, e, z))))
+      by (Some l) is = of (slice_get m.templates l.template) refl exists where
+        exists : is_some (slice_get m.templates l.template) ≡ true
+        exists =
+            (and_parts (is_some (slice_get m.templates l.template)) (nat_lt l.value (2 ^ 32))
+            (sym (ap (λ o. option_map_or (is_long m) o true) is) ∙ (legal_parts m i meet.legal).long)).0
 
-          word : env (Fetched LongOf) ≡ l.value
-          word = meet.fetched.long l is
+        code : env (Fetched TemplateOf) ≡ l.template + 1
+        code = meet.fetched.template (template_some m l.template (within_list m.templates l.template exists))
+            ∙ ap (λ o. option_map_or (λ (l : Long). l.template + 1) o 0) is
 
-          same : (k : ℕ) (b : Bool) → (k == l.template) ≡ b → (env (Fetched TemplateOf) == k + 1) ≡ b
-          same k true e = let z : k ≡ l.template = eqb-true k l.template e in
-              eq-eqb (env (Fetched TemplateOf)) (k + 1) (omega (arith, code, z))
-          same k false e = ne_eqb (env (Fetched TemplateOf)) (k + 1) (λ z.
-              let w : k ≡ l.template = omega (arith, code, z) in absurd (false≢true (sym e ∙ eq-eqb k l.template w)))
+        word : env (Fetched LongOf) ≡ l.value
+        word = meet.fetched.long l is
 
-          of : (q : Option Template) → slice_get m.templates l.template ≡ q → is_some q ≡ true
-              → option_map_or (λ (t : ℕ × Template). env (Fetched LongOf))
-              (find (λ t. has_code t.0) (filter writes (enumerate_from 0 m.templates))) self
-              ≡ option_map_or (λ n. n) (long_into unit index q l.value) self
-          of None at some = absurd (false≢true some)
-          of (Some t) at some =
-              ap (λ o. option_map_or (λ (t : ℕ × Template). env (Fetched LongOf)) o self)
-              (one_found writes has_code m.templates 0 l.template l.template t (omega arith) at
-              (λ k x at'. set_bit (env (Fetched TemplateOf) == 0 + k + 1) ∙ same (0 + k) (0 + k == l.template) refl))
-              ∙ ap (λ (n : ℕ). option_map_or (λ (t : ℕ × Template). n) (if writes (l.template, t) then Some (l.template, t) else None)
-              self) word
-              ∙ one_if (t.imm == unit && t.reg == index) l.template t l.value self
+        same : (k : ℕ) (b : Bool) → (k == l.template) ≡ b → (env (Fetched TemplateOf) == k + 1) ≡ b
+        same k true e = let z : k ≡ l.template = eqb-true k l.template e in
+            eq-eqb (env (Fetched TemplateOf)) (k + 1) (omega (arith, code, z))
+        same k false e = ne_eqb (env (Fetched TemplateOf)) (k + 1) (λ z.
+            let w : k ≡ l.template = omega (arith, code, z) in absurd (false≢true (sym e ∙ eq-eqb k l.template w)))
+
+        of : (q : Option Template) → slice_get m.templates l.template ≡ q → is_some q ≡ true
+            → option_map_or (λ (t : ℕ × Template). env (Fetched LongOf))
+            (find (λ t. has_code t.0) (filter writes (enumerate_from 0 m.templates))) self
+            ≡ option_map_or (λ n. n) (long_into unit index q l.value) self
+        of None at some = absurd (false≢true some)
+        of (Some t) at some =
+            ap (λ o. option_map_or (λ (t : ℕ × Template). env (Fetched LongOf)) o self)
+            (one_found writes has_code m.templates 0 l.template l.template t (omega arith) at
+            (λ k x at'. set_bit (env (Fetched TemplateOf) == 0 + k + 1) ∙ same (0 + k) (0 + k == l.template) refl))
+            ∙ ap (λ (n : ℕ). option_map_or (λ (t : ℕ × Template). n) (if writes (l.template, t) then Some (l.template, t) else None)
+            self) word
+            ∙ one_if (t.imm == unit && t.reg == index) l.template t l.value self

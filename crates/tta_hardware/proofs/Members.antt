@@ -5,17 +5,17 @@ use Rattle.std.specs.Option.{option_map_or}
 use Rattle.std.specs.List.{list_any, flat_map, enumerate_from, range_with_len}
 use Rattle.std.proofs.lemmas.Option.{none-some}
 use Rattle.tta_arch.specs.declared.parts.UnitOp.{UnitOp}
-use Rattle.std.proofs.lemmas.Bool.{or_left, or_right, false≢true, ltb-true}
+use Rattle.std.proofs.lemmas.Bool.{and_parts, or_left, or_right, false≢true, ltb-true}
 use Rattle.tta_arch.specs.declared.parts.File.{File}
 use Rattle.tta_arch.specs.declared.parts.ImmUnit.{ImmUnit}
 use Rattle.tta_arch.specs.declared.parts.Unit.{Unit as OpUnit}
 use Rattle.tta_arch.specs.Machine.{Machine}
-use Rattle.tta_arch.specs.Fields.{numbers}
+use Rattle.tta_arch.specs.Fields.{numbers, guard_width, dest_width, template_width}
 use Rattle.tta_arch.specs.Effects.{Place, KeptReg, KeptImm, KeptOperand, KeptRa, KeptPort, op_at}
 use Rattle.tta_image.proofs.Places.{any_left, any_right, any_pieces, any_numbered}
 use Rattle.tta_hardware.specs.Signals.{Field, GuardOf, IsShort, SourceOf, ShortOf, DestOf, TemplateOf, LongOf, Signal as Named, Pc, HasHalted, Underway, Goal, Ends, Keeps, IsDue, Due, HasBegun, Raw, IsInside, Port, Whole, Fetched, Starts, Trigger, Operand, Controls, GoalNow, EndsNow, Lands, Asks, Gives, Goes, NextPc, Puts, PutWord, same_signal, same_field}
 use Rattle.tta_hardware.specs.Wires.{longest, is_load}
-use Rattle.tta_hardware.specs.Hardware.{all_fields, bus_wires, unit_wires, wire_names, first_wires, result_registers, load_registers, unit_registers, register_names}
+use Rattle.tta_hardware.specs.Hardware.{with_bits, bus_fields, all_fields, bus_wires, unit_wires, wire_names, first_wires, result_registers, load_registers, unit_registers, register_names}
 use Rattle.tta_hardware.specs.Stands.{has_place, has_field}
 use Rattle.tta_hardware.proofs.Bringing.{within_list}
 use Rattle.tta_hardware.proofs.Named.{signal_itself, field_itself}
@@ -230,29 +230,55 @@ module _ (m : Machine) where
       (or_left (same_signal (Operand unit) (Operand unit)) false (signal_itself (Operand unit))))
 
   -- the fields of an instruction
-  abbrev bus_fields : ℕ → List Field
-  bus_fields bus = GuardOf bus ∷ IsShort bus ∷ SourceOf bus ∷ ShortOf bus ∷ DestOf bus ∷ []
+  abbrev at_buses : List Field
+  at_buses = flat_map (bus_fields m) (numbers (length m.buses))
 
-  of_bus : (bus : ℕ) → nat_lt bus (length m.buses) ≡ true → (f : Field) → list_any (same_field f) (bus_fields bus) ≡ true
+  -- a field that has bits
+  bits_there : (q : Field → Bool) (width : ℕ) (f : Field) → nat_lt 0 width ≡ true → q f ≡ true → list_any q (with_bits width f) ≡ true
+  bits_there q width f some is = ap (λ b. list_any q (if b then f ∷ [] else [])) some ∙ or_left (q f) false is
+
+  of_bus : (bus : ℕ) → nat_lt bus (length m.buses) ≡ true → (f : Field) → list_any (same_field f) (bus_fields m bus) ≡ true
       → list_any (same_field f) (all_fields m) ≡ true
   of_bus bus less f any =
-      any_left (same_field f) (flat_map bus_fields (numbers (length m.buses))) (TemplateOf ∷ LongOf ∷ [])
-      (any_of_numbers (same_field f) bus_fields 0 (length m.buses) bus bus (omega arith) (ltb-true bus (length m.buses) less) any)
+      any_left (same_field f) (at_buses ++ with_bits (template_width m) TemplateOf) (LongOf ∷ [])
+      (any_left (same_field f) at_buses (with_bits (template_width m) TemplateOf)
+      (any_of_numbers (same_field f) (bus_fields m) 0 (length m.buses) bus bus (omega arith) (ltb-true bus (length m.buses) less) any))
+
+  -- those that each bus has
+  abbrev plain_fields : ℕ → List Field
+  plain_fields bus = IsShort bus ∷ SourceOf bus ∷ ShortOf bus ∷ with_bits (dest_width m bus) (DestOf bus)
+
+  of_plain : (bus : ℕ) → nat_lt bus (length m.buses) ≡ true → (f : Field) → list_any (same_field f) (plain_fields bus) ≡ true
+      → list_any (same_field f) (all_fields m) ≡ true
+  of_plain bus less f any =
+      of_bus bus less f (any_right (same_field f) (with_bits (guard_width m bus) (GuardOf bus)) (plain_fields bus) any)
 
   pub field_there : (f : Field) → has_field m f ≡ true → list_any (same_field f) (all_fields m) ≡ true
   field_there (GuardOf bus) has =
-      of_bus bus has (GuardOf bus) (or_left (same_field (GuardOf bus) (GuardOf bus)) false (field_itself (GuardOf bus)))
+      let p = and_parts (nat_lt bus (length m.buses)) (nat_lt 0 (guard_width m bus)) has in
+      of_bus bus p.0 (GuardOf bus)
+      (any_left (same_field (GuardOf bus)) (with_bits (guard_width m bus) (GuardOf bus)) (plain_fields bus)
+      (bits_there (same_field (GuardOf bus)) (guard_width m bus) (GuardOf bus) p.1 (field_itself (GuardOf bus))))
   field_there (IsShort bus) has =
-      of_bus bus has (IsShort bus) (or_left (same_field (IsShort bus) (IsShort bus)) false (field_itself (IsShort bus)))
+      of_plain bus has (IsShort bus)
+      (or_left (same_field (IsShort bus) (IsShort bus)) (list_any (same_field (IsShort bus)) (with_bits (dest_width m bus) (DestOf bus)))
+      (field_itself (IsShort bus)))
   field_there (SourceOf bus) has =
-      of_bus bus has (SourceOf bus) (or_left (same_field (SourceOf bus) (SourceOf bus)) false (field_itself (SourceOf bus)))
+      of_plain bus has (SourceOf bus)
+      (or_left (same_field (SourceOf bus) (SourceOf bus)) (list_any (same_field (SourceOf bus)) (with_bits (dest_width m bus) (DestOf bus)))
+      (field_itself (SourceOf bus)))
   field_there (ShortOf bus) has =
-      of_bus bus has (ShortOf bus) (or_left (same_field (ShortOf bus) (ShortOf bus)) false (field_itself (ShortOf bus)))
+      of_plain bus has (ShortOf bus)
+      (or_left (same_field (ShortOf bus) (ShortOf bus)) (list_any (same_field (ShortOf bus)) (with_bits (dest_width m bus) (DestOf bus)))
+      (field_itself (ShortOf bus)))
   field_there (DestOf bus) has =
-      of_bus bus has (DestOf bus) (or_left (same_field (DestOf bus) (DestOf bus)) false (field_itself (DestOf bus)))
-  field_there TemplateOf has = any_right (same_field TemplateOf) (flat_map bus_fields (numbers (length m.buses)))
-      (TemplateOf ∷ LongOf ∷ []) refl
-  field_there LongOf has = any_right (same_field LongOf) (flat_map bus_fields (numbers (length m.buses))) (TemplateOf ∷ LongOf ∷ []) refl
+      let p = and_parts (nat_lt bus (length m.buses)) (nat_lt 0 (dest_width m bus)) has in
+      of_plain bus p.0 (DestOf bus) (bits_there (same_field (DestOf bus)) (dest_width m bus) (DestOf bus) p.1 (field_itself (DestOf bus)))
+  field_there TemplateOf has =
+      any_left (same_field TemplateOf) (at_buses ++ with_bits (template_width m) TemplateOf) (LongOf ∷ [])
+      (any_right (same_field TemplateOf) at_buses (with_bits (template_width m) TemplateOf)
+      (bits_there (same_field TemplateOf) (template_width m) TemplateOf has refl))
+  field_there LongOf has = any_right (same_field LongOf) (at_buses ++ with_bits (template_width m) TemplateOf) (LongOf ∷ []) refl
 
   pub fetched_there : (f : Field) → has_field m f ≡ true → list_any (same_signal (Fetched f)) (wire_names m) ≡ true
   fetched_there f has =

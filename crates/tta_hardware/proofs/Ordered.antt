@@ -1,6 +1,6 @@
 -- The wires of a machine stand in order.
 use Rattle.std.proofs.Common.{◌≡◌, ℕ, ◌+◌, ◌≤◌, ◌==◌, Bool, true, false, ◌&&◌, List, [], ◌∷◌, ◌++◌, length, map, refl, ap, ◌∙◌, arith}
-use Rattle.std.specs.Prelude.{nat_le, if◌then◌else◌}
+use Rattle.std.specs.Prelude.{nat_le, nat_lt, if◌then◌else◌}
 use Rattle.std.specs.List.{flat_map, enumerate_from, AllByRecursion}
 use Rattle.std.proofs.lemmas.Bool.{and_parts, and_from, le-leb, leb-true}
 use Rattle.std.proofs.lemmas.List.{append_assoc}
@@ -23,15 +23,10 @@ use Rattle.tta_hardware.specs.Chains.{any_of, first_of, pick_from}
 use Rattle.tta_hardware.specs.Wires.{never, nothing, source_word, passing, hits, buses_to, reached, arrivals, ops_of, all_ops, made_of}
 use Rattle.tta_hardware.specs.Hardware.{all_fields, first_wires, bus_wires, unit_wires, wire_names, wire}
 use Rattle.tta_hardware.specs.Order.{rank}
-use Rattle.std.specs.Prelude.{◌-◌, ◌^◌, filter}
-use Rattle.tta_arch.specs.declared.parts.Template.{Template}
-use Rattle.tta_arch.specs.Joins.{has_bit}
-use Rattle.tta_arch.specs.Fields.{template_width, short_width, bus_width}
-use Rattle.tta_image.specs.Decoding.{is_signed}
-use Rattle.tta_circuit.specs.Circuit.{Const, Equal, Select, Slice, Join}
-use Rattle.tta_hardware.specs.Signals.{Field, Whole, IsShort, ShortOf, DestOf, TemplateOf, LongOf}
-use Rattle.tta_hardware.specs.Joined.{after_bus, template_part, short_part, is_taken, joined_to, long_part}
-use Rattle.tta_hardware.specs.Wires.{fetched, loads, read_word}
+use Rattle.tta_circuit.specs.Circuit.{Const, Join}
+use Rattle.tta_hardware.specs.Signals.{Whole}
+use Rattle.tta_hardware.specs.Wires.{loads, read_word}
+use Rattle.tta_hardware.proofs.PartsRead.{field_reads}
 
 -- ---- what expressions over lists read
 
@@ -109,48 +104,25 @@ module _ (m : Machine) where
   reach_3 : (dst : Dest) → reads_below rank 4 (reached m dst) ≡ true
   reach_3 dst = any_reads 4 (hits m dst) (buses_to m dst) (λ b. refl)
 
-  joined_reads : (mask : ℕ) (before : Expression) (ns : List ℕ) → reads_below rank 2 before ≡ true
-      → reads_below rank 2 (joined_to m (OfSignal Whole) mask before ns) ≡ true
-  joined_reads mask before [] is = is
-  joined_reads mask before (bus ∷ ns) is = by (has_bit mask bus) (λ e. joined_reads mask e ns) where
-    by : (b : Bool) → ((e : Expression) → lower 2 e ≡ true → lower 2 (joined_to m (OfSignal Whole) mask e ns) ≡ true)
-        → lower 2 (joined_to m (OfSignal Whole) mask
-        (if b then Join (bus_width m bus) before (Slice (after_bus m bus) (bus_width m bus) (OfSignal Whole)) else before) ns) ≡ true
-    by true more = more (Join (bus_width m bus) before (Slice (after_bus m bus) (bus_width m bus) (OfSignal Whole)))
-        (and_from (lower 2 before) true is refl)
-    by false more = more before is
-
-  -- a field reads the instruction's word alone
-  field_reads : (f : Field) → reads_below rank 2 (fetched m f) ≡ true
-  field_reads (GuardOf bus) = refl
-  field_reads (IsShort bus) = refl
-  field_reads (SourceOf bus) = refl
-  field_reads (ShortOf bus) = by (is_signed m bus) where
-    by : (b : Bool) → lower 2 (if b
-        then Select (Slice (short_width m bus - 1) 1 (short_part m (OfSignal Whole) bus))
-        (Join (short_width m bus) (Const (32 - short_width m bus) (2 ^ (32 - short_width m bus) - 1)) (short_part m (OfSignal Whole) bus))
-        (Join (short_width m bus) (Const (32 - short_width m bus) 0) (short_part m (OfSignal Whole) bus))
-        else Join (short_width m bus) (Const (32 - short_width m bus) 0) (short_part m (OfSignal Whole) bus)) ≡ true
-    by true = refl
+  -- whether a bus acts
+  acts_read : (bus : ℕ) → reads_below rank 3 (made_of m (Acts bus)) ≡ true
+  acts_read bus = by (nat_lt 0 (guard_width m bus)) where
+    by : (b : Bool) → lower 3 (if b
+        then pick_from (guard_width m bus) (OfSignal (Fetched (GuardOf bus))) 0 (Const 1 1 ∷ map (λ g. passing g.on) (guards_on m bus))
+        never
+        else Const 1 1) ≡ true
+    by true =
+        pick_reads 3 (guard_width m bus) 1 (OfSignal (Fetched (GuardOf bus))) (λ (g : Guard). passing g.on) (guards_on m bus) never refl
+        guard_reads refl
     by false = refl
-  field_reads (DestOf bus) =
-      and_from (reads_below rank 2 (is_taken m (OfSignal Whole) bus)) true
-      (any_reads 2 (λ (t : ℕ × Template). Equal (template_part m (OfSignal Whole)) (Const (template_width m) (t.0 + 1)))
-      (filter (λ t. has_bit t.1.buses bus) (enumerate_from 0 m.templates)) (λ t. refl)) refl
-  field_reads TemplateOf = refl
-  field_reads LongOf =
-      first_reads 2 (λ (t : ℕ × Template). Equal (template_part m (OfSignal Whole)) (Const (template_width m) (t.0 + 1)))
-      (λ t. long_part m (OfSignal Whole) t.1.buses) (enumerate_from 0 m.templates) (Const 32 0)
-      (λ t. refl) (λ t. joined_reads t.1.buses (Const 0 0) (numbers (length m.buses)) refl) refl
 
   -- a wire reads only what is of a lower rank
   pub reads_lower : (n : Named) → reads_below rank (rank n) (made_of m n) ≡ true
   reads_lower Whole = refl
-  reads_lower (Fetched f) = field_reads f
+  reads_lower (Fetched f) = field_reads rank 2 m (OfSignal Whole) refl f
   reads_lower (Word bus) = pick_reads 3 (payload_width m bus) 0 (OfSignal (Fetched (SourceOf bus))) (source_word m)
       (sources_on m bus) nothing refl source_reads refl
-  reads_lower (Acts bus) = pick_reads 3 (guard_width m bus) 1 (OfSignal (Fetched (GuardOf bus))) (λ (g : Guard). passing g.on)
-      (guards_on m bus) never refl guard_reads refl
+  reads_lower (Acts bus) = acts_read bus
   reads_lower (Starts unit op) = reach_3 (dest.Trigger unit op)
   reads_lower (Trigger unit) = over_ops unit (ops_of m unit)
   reads_lower (Operand unit) =

@@ -12,8 +12,7 @@ use Rattle.tta_arch.specs.Effects.{KeptPort}
 use Rattle.tta_code.specs.declared.code.Code.{Code as Program}
 use Rattle.tta_code.specs.Legal.{IsLegalCode}
 use Rattle.tta_code.specs.Cycle.{State, Outcome, Running, Halted, Waiting, Fault, next, start, cyc}
-use Rattle.tta_image.specs.Bits.{instruction_bits}
-use Rattle.tta_image.specs.Decoding.{number_of}
+use Rattle.tta_hardware.specs.Fields.{word_of}
 use Rattle.tta_circuit.specs.Meaning.{bit, is_set}
 use Rattle.tta_hardware.specs.Signals.{Code, Data, Frame, Signal as Named, Pc, HasHalted, Underway, Goal, Ends, Keeps, IsDue, Due, HasBegun, Raw, IsInside, Asks, IsOffered, IsReady, IsReset, Whole, Gives, Goes, Puts, PutWord}
 use Rattle.tta_hardware.specs.Wires.{longest, loads}
@@ -33,7 +32,7 @@ record HasWaited (u : Units) (m : Machine) (code : Program) (memory : List ℕ) 
     (t : ℕ) : Type 0 where
   words : (hardware u m code memory powers inputs t).memories Data ≡ memory
   frame : (hardware u m code memory powers inputs t).memories Frame ≡ replicate m.frame_words 0
-  rom : (hardware u m code memory powers inputs t).memories Code ≡ map (λ i. number_of (instruction_bits m i)) code.words
+  rom : (hardware u m code memory powers inputs t).memories Code ≡ map (word_of m) code.words
   none : cycles u m code memory powers inputs t ≡ 0
   silent : put u m code memory powers inputs t ≡ []
 

@@ -1,5 +1,5 @@
 -- A machine with its code as a circuit.
-use Rattle.std.specs.Prelude.{ℕ, ◌-◌, Bool, List, [], ◌∷◌, ◌++◌, length, map, replicate, None, Some, if◌then◌else◌}
+use Rattle.std.specs.Prelude.{ℕ, ◌-◌, Bool, nat_lt, List, [], ◌∷◌, ◌++◌, length, map, replicate, None, Some, if◌then◌else◌}
 use Rattle.std.specs.List.{flat_map, enumerate_from, range_with_len}
 use Rattle.tta_circuit.specs.Circuit.{Const, Signal, Both, Below, Wire, WritePort, Memory, Circuit}
 use Rattle.tta_arch.specs.declared.parts.Unit.{Unit as OpUnit}
@@ -9,21 +9,27 @@ use Rattle.tta_arch.specs.declared.parts.Op.TheVariants.{Stw, Stf}
 use Rattle.tta_arch.specs.Machine.{Machine}
 use Rattle.tta_arch.specs.Rules.{same_op}
 use Rattle.tta_arch.specs.Effects.{KeptReg, KeptImm, KeptOperand, KeptRa, KeptPort}
-use Rattle.tta_arch.specs.Fields.{numbers, guard_width, payload_width, dest_width, template_width, word_width}
+use Rattle.tta_arch.specs.Fields.{numbers, guard_width, dest_width, template_width, word_width}
 use Rattle.tta_code.specs.declared.code.Code.{Code as Program}
 use Rattle.tta_hardware.specs.Signals.{Field, GuardOf, IsShort, SourceOf, ShortOf, DestOf, TemplateOf, LongOf, Store, Code, Data, Frame, Signal as Named, Pc, HasHalted, Underway, Goal, Ends, Keeps, IsDue, Due, HasBegun, Raw, IsInside, Port, IsOffered, Offer, IsReady, IsReset, Whole, Fetched, Word, Acts, Starts, Trigger, Operand, Controls, GoalNow, EndsNow, Lands, Asks, Gives, Goes, NextPc, Puts, PutWord}
-use Rattle.tta_image.specs.Bits.{instruction_bits}
-use Rattle.tta_image.specs.Decoding.{number_of}
+use Rattle.tta_hardware.specs.Fields.{word_of, field_width}
 use Rattle.tta_hardware.specs.Wires.{made_of, is_load, some_start, word_of_start, longest}
 use Rattle.tta_hardware.specs.Registers.{register}
 
 -- ---- which signals there are
 
--- the fields of an instruction
+-- a field, if it has bits
+abbrev pub with_bits : (width : ℕ) → Field → List Field
+with_bits width f = if nat_lt 0 width then f ∷ [] else []
+
+-- the fields of a bus
+abbrev pub bus_fields : Machine → ℕ → List Field
+bus_fields m bus =
+    with_bits (guard_width m bus) (GuardOf bus) ++ IsShort bus ∷ SourceOf bus ∷ ShortOf bus ∷ with_bits (dest_width m bus) (DestOf bus)
+
+-- the fields of an instruction: none that has no bits, as that of the template where there are none
 abbrev pub all_fields : Machine → List Field
-all_fields m =
-    flat_map (λ bus. GuardOf bus ∷ IsShort bus ∷ SourceOf bus ∷ ShortOf bus ∷ DestOf bus ∷ []) (numbers (length m.buses))
-    ++ TemplateOf ∷ LongOf ∷ []
+all_fields m = flat_map (bus_fields m) (numbers (length m.buses)) ++ with_bits (template_width m) TemplateOf ++ LongOf ∷ []
 
 -- the wires of a bus
 abbrev pub bus_wires : ℕ → List Named
@@ -69,16 +75,6 @@ register_names m =
 
 -- ---- their definitions
 
--- how wide a field is
-abbrev pub field_width : Machine → Field → ℕ
-field_width m (GuardOf bus) = guard_width m bus
-field_width m (IsShort bus) = 1
-field_width m (SourceOf bus) = payload_width m bus
-field_width m (ShortOf bus) = 32
-field_width m (DestOf bus) = dest_width m bus
-field_width m TemplateOf = template_width m
-field_width m LongOf = 32
-
 -- how wide a wire is
 abbrev pub wire_width : Machine → Named → ℕ
 wire_width m NextPc = m.control.address
@@ -100,7 +96,7 @@ abbrev pub code_memory : Machine → Program → Memory Named Store
 code_memory m code = record {
   name = Code;
   width = word_width m;
-  words = map (λ i. number_of (instruction_bits m i)) code.words;
+  words = map (word_of m) code.words;
   port = None;
 }
 

@@ -12,11 +12,9 @@ use Rattle.tta_arch.specs.Rules.{IsMachine, same_op}
 use Rattle.tta_hardware.specs.Hardware.{store_port}
 use Rattle.tta_arch.specs.Joins.{joins}
 use Rattle.tta_arch.specs.Effects.{Brought, Written, is_active, has_unset_guard, target_of, bring, write_of, start_of, lacks_operand, Kind, first_some, control_of, store_data, store_frame, put_out, take_in}
-use Rattle.tta_arch.specs.Fields.{numbers, guard_code, source_code}
+use Rattle.tta_arch.specs.Fields.{numbers, guard_width, dest_width, template_width, guard_code, source_code}
 use Rattle.tta_arch.specs.declared.ends.Source.TheVariants as source
 use Rattle.tta_code.specs.declared.code.Long.{Long}
-use Rattle.tta_image.specs.Bits.{instruction_bits}
-use Rattle.tta_image.specs.Decoding.{number_of}
 use Rattle.tta_code.specs.declared.code.Move.{Move}
 use Rattle.tta_code.specs.declared.code.Instruction.{Instruction}
 use Rattle.tta_code.specs.Cycle.{State, result_of, read_source, effect_of, effects_of, moves_of, reads_unset_register, reads_unset_port, Running, jumps_in_delay, pending_after, lands}
@@ -25,9 +23,10 @@ use Rattle.tta_code.specs.Legal.{is_legal, IsLegalCode}
 use Rattle.tta_list.specs.Input.{left}
 use Rattle.tta_circuit.specs.Circuit.{WritePort}
 use Rattle.tta_circuit.specs.Meaning.{is_set, value}
-use Rattle.tta_hardware.specs.Signals.{GuardOf, IsShort, SourceOf, ShortOf, DestOf, TemplateOf, LongOf, Signal as Named, Store, Code, Data, Frame, Pc, Whole, HasHalted, Goal, Ends, Controls, GoalNow, EndsNow, Asks, Goes, Puts, PutWord, Offer, Fetched, Word, Acts, Starts}
-use Rattle.tta_hardware.specs.Fields.{slot_at, field_of, short_mark}
-use Rattle.tta_hardware.specs.Stands.{Hardware, IsSettled, HasClocked, HasWords, HasPorts, HasComing, HasPending, HasSpaces, Starting, start_in, halts, is_halted}
+use Rattle.tta_hardware.specs.Signals.{Field, GuardOf, IsShort, SourceOf, ShortOf, DestOf, TemplateOf, LongOf, Signal as Named, Store, Code, Data, Frame, Pc, Whole, HasHalted, Goal, Ends, Controls, GoalNow, EndsNow, Asks, Goes, Puts, PutWord, Offer, Fetched, Word, Acts, Starts}
+use Rattle.tta_hardware.specs.Fields.{word_of, slot_at, field_of, short_mark}
+use Rattle.tta_hardware.specs.Wires.{fetched}
+use Rattle.tta_hardware.specs.Stands.{Hardware, has_field, IsSettled, HasClocked, HasWords, HasPorts, HasComing, HasPending, HasSpaces, Starting, start_in, halts, is_halted}
 
 -- What is known of the operations that a cycle starts: no two are of one unit, each result shows in a later cycle, and the circuit
 -- starts the same. Where one takes a word of the input, that word is offered.
@@ -48,13 +47,14 @@ ResultsKeep =
 
 -- ---- buses
 
--- The circuit has the fields of an instruction: the template's code and the long immediate, where each bus leads, and of each move
--- the codes of its guard and source, or its short word.
+-- The circuit has the fields of an instruction, as far as they have bits: the template's code and the long immediate, where each bus
+-- leads, and of each move the codes of its guard and source, or its short word.
 pub record HasFetched (m : Machine) (env : Named → ℕ) (i : Instruction) : Type 0 where
-  pub template : env (Fetched TemplateOf) ≡ field_of m i TemplateOf
+  pub template : 0 < template_width m → env (Fetched TemplateOf) ≡ field_of m i TemplateOf
   pub long : (l : Long) → i.long ≡ Some l → env (Fetched LongOf) ≡ l.value
-  pub dest : (bus : ℕ) → bus < length m.buses → env (Fetched (DestOf bus)) ≡ field_of m i (DestOf bus)
-  pub guard : (bus : ℕ) (v : Move) → bus < length m.buses → slot_at i bus ≡ Some v → env (Fetched (GuardOf bus)) ≡ guard_code m bus v.guard
+  pub dest : (bus : ℕ) → bus < length m.buses → 0 < dest_width m bus → env (Fetched (DestOf bus)) ≡ field_of m i (DestOf bus)
+  pub guard : (bus : ℕ) (v : Move) → bus < length m.buses → 0 < guard_width m bus → slot_at i bus ≡ Some v
+      → env (Fetched (GuardOf bus)) ≡ guard_code m bus v.guard
   pub tag : (bus : ℕ) (v : Move) → bus < length m.buses → slot_at i bus ≡ Some v → env (Fetched (IsShort bus)) ≡ short_mark v.src
   pub code : (bus : ℕ) (v : Move) → bus < length m.buses → slot_at i bus ≡ Some v → short_mark v.src ≡ 0
       → env (Fetched (SourceOf bus)) ≡ source_code m bus v.src
@@ -159,12 +159,18 @@ ControlKeeps =
 
 -- ---- fetching
 
+-- Parts of the word of a legal instruction serve the circuit as its fields.
+abbrev pub FieldsServe : Type 0
+FieldsServe =
+    (u : Units) (ms : Store → List ℕ) (env : Named → ℕ) (m : Machine) (i : Instruction) → IsMachine m → is_legal m i ≡ true
+    → env Whole ≡ word_of m i → ((f : Field) → has_field m f ≡ true → env (Fetched f) ≡ value u ms env (fetched m f)) → HasFetched m env i
+
 -- The circuit has the fields of the instruction at the address, where it has its word.
 abbrev pub FetchAlike : Type 0
 FetchAlike =
     (u : Units) (m : Machine) (code : Program) (h : Hardware) (env : Named → ℕ) (s : State) (i : Instruction) → IsMachine m
     → IsSettled u m h env
-    → h.words Pc ≡ s.pc % 2 ^ m.control.address → h.words Whole ≡ number_of (instruction_bits m i)
+    → h.words Pc ≡ s.pc % 2 ^ m.control.address → h.words Whole ≡ word_of m i
     → IsLegalCode m code → slice_get code.words s.pc ≡ Some i → HasFetched m env i × (h.words Pc ≡ s.pc)
 
 -- ---- spaces, input and output

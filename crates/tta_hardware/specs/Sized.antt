@@ -1,5 +1,5 @@
--- The widths of a machine's signals and memories, and that its circuit keeps them.
-use Rattle.std.specs.Prelude.{◌≡◌, ℕ, Bool, true}
+-- The widths of a machine's signals and memories, and that its circuit keeps them and is plain.
+use Rattle.std.specs.Prelude.{◌≡◌, ℕ, ◌<◌, Bool, true, List, length}
 use Rattle.tta_arch.specs.Machine.{Machine}
 use Rattle.tta_arch.specs.Rules.{IsMachine}
 use Rattle.tta_arch.specs.Fields.{word_width}
@@ -7,10 +7,15 @@ use Rattle.tta_arch.specs.Effects.{Place}
 use Rattle.tta_arch.specs.declared.parts.Op.{Op}
 use Rattle.tta_circuit.specs.Circuit.{WritePort}
 use Rattle.tta_circuit.specs.Widths.{width_of, is_sized}
+use Rattle.tta_circuit.specs.Plain.{is_plain, IsPlain}
+use Rattle.tta_circuit.specs.Order.{is_ordered}
+use Rattle.tta_code.specs.declared.code.Code.{Code as Program}
 use Rattle.tta_hardware.specs.Signals.{Field, Store, Code, Data, Frame, Signal as Named, Pc, HasHalted, Underway, Goal, Ends, Keeps, IsDue, Due, HasBegun, Raw, IsInside, Port, IsOffered, Offer, IsReady, IsReset, Whole, Word, Acts, Starts, Trigger, Operand, Controls, GoalNow, EndsNow, Lands, Asks, Gives, Goes, NextPc, Puts, PutWord, Expression}
 use Rattle.tta_hardware.specs.Wires.{made_of, fetched}
 use Rattle.tta_hardware.specs.Registers.{register_width, becomes, enabled}
-use Rattle.tta_hardware.specs.Hardware.{wire_width, field_width, store_port}
+use Rattle.tta_hardware.specs.Fields.{field_width}
+use Rattle.tta_hardware.specs.Hardware.{wire_width, store_port, circuit_of}
+use Rattle.tta_hardware.specs.Order.{rank}
 use Rattle.tta_hardware.specs.Stands.{has_field}
 
 -- how wide a signal is
@@ -37,15 +42,16 @@ store_width m Code = word_width m
 store_width m Data = 32
 store_width m Frame = 32
 
--- An expression keeps all widths, and has this one.
+-- An expression keeps all widths, has this one, and is plain.
 pub record Fits (m : Machine) (e : Expression) (width : ℕ) : Type 0 where
+  pub plain : is_plain (signal_width m) (store_width m) e ≡ true
   pub sized : is_sized (signal_width m) (store_width m) e ≡ true
   pub wide : width_of (signal_width m) (store_width m) e ≡ width
 
--- All wires but the fields of the instruction and the address of the next keep the widths that they are declared with.
+-- All wires but the fields of the instruction and the address of the next have the widths that they are declared with, and are plain.
 pub record WiresFit (m : Machine) : Type 0 where
   pub port : (unit : ℕ) → Fits m (made_of m (Port unit)) 32
-  pub word : (bus : ℕ) → Fits m (made_of m (Word bus)) 32
+  pub word : (bus : ℕ) → bus < length m.buses → Fits m (made_of m (Word bus)) 32
   pub acts : (bus : ℕ) → Fits m (made_of m (Acts bus)) 1
   pub starts : (unit op : ℕ) → Fits m (made_of m (Starts unit op)) 1
   pub trigger : (unit : ℕ) → Fits m (made_of m (Trigger unit)) 32
@@ -96,3 +102,10 @@ RegistersAreSized = (m : Machine) → IsMachine m → RegistersFit m
 abbrev pub FieldsAreSized : Type 0
 FieldsAreSized =
     (m : Machine) → IsMachine m → (f : Field) → has_field m f ≡ true → Fits m (fetched m f) (field_width m f)
+
+-- Of every machine with code, all wires, registers and ports are plain and sized, and each wire reads only what stands before it.
+abbrev pub CircuitIsPlain : Type 0
+CircuitIsPlain =
+    (m : Machine) (code : Program) (memory : List ℕ) → IsMachine m
+    → IsPlain (signal_width m) (store_width m) (circuit_of m code memory)
+    × (is_ordered rank 1 (circuit_of m code memory).wires ≡ true)

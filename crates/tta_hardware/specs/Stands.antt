@@ -5,6 +5,7 @@ use Rattle.std.specs.List.{find}
 use Rattle.tta_ops.specs.Units.{Units}
 use Rattle.tta_arch.specs.declared.parts.UnitOp.{UnitOp}
 use Rattle.tta_arch.specs.Machine.{Machine}
+use Rattle.tta_arch.specs.Fields.{guard_width, dest_width, template_width}
 use Rattle.tta_arch.specs.Effects.{Place, KeptReg, KeptImm, KeptOperand, KeptRa, KeptPort, Kind, Halts, kept, op_at, Start, operand_word}
 use Rattle.tta_code.specs.declared.code.Code.{Code as Program}
 use Rattle.tta_code.specs.declared.code.Instruction.{Instruction}
@@ -12,8 +13,7 @@ use Rattle.tta_code.specs.Cycle.{State, Pending, Outcome, Halted, port}
 use Rattle.tta_sim.specs.Results.{due_at, word_due}
 use Rattle.tta_circuit.specs.Meaning.{Held, is_set, value}
 use Rattle.tta_hardware.specs.Signals.{Field, GuardOf, IsShort, SourceOf, ShortOf, DestOf, TemplateOf, LongOf, Store, Code, Data, Frame, Signal as Named, Pc, HasHalted, Underway, Goal, Ends, Keeps, IsDue, Due, HasBegun, Raw, IsInside, Port, Whole, Fetched, Word, Acts, Starts, Trigger, Operand, Controls, GoalNow, EndsNow, Lands, Asks, Gives, Goes, NextPc, Puts, PutWord}
-use Rattle.tta_image.specs.Bits.{instruction_bits}
-use Rattle.tta_image.specs.Decoding.{number_of}
+use Rattle.tta_hardware.specs.Fields.{word_of}
 use Rattle.tta_hardware.specs.Wires.{made_of, is_load, loads, longest}
 use Rattle.tta_hardware.specs.Registers.{next_of}
 
@@ -31,14 +31,14 @@ has_place m (KeptOperand unit) = is_some (slice_get m.units unit)
 has_place m KeptRa = true
 has_place m (KeptPort unit) = is_some (slice_get m.units unit)
 
--- whether an instruction of a machine has a field
+-- whether an instruction of a machine has a field that has bits
 abbrev pub has_field : Machine → Field → Bool
-has_field m (GuardOf bus) = nat_lt bus (length m.buses)
+has_field m (GuardOf bus) = nat_lt bus (length m.buses) && nat_lt 0 (guard_width m bus)
 has_field m (IsShort bus) = nat_lt bus (length m.buses)
 has_field m (SourceOf bus) = nat_lt bus (length m.buses)
 has_field m (ShortOf bus) = nat_lt bus (length m.buses)
-has_field m (DestOf bus) = nat_lt bus (length m.buses)
-has_field m TemplateOf = true
+has_field m (DestOf bus) = nat_lt bus (length m.buses) && nat_lt 0 (dest_width m bus)
+has_field m TemplateOf = nat_lt 0 (template_width m)
 has_field m LongOf = true
 
 -- whether moves and long immediates are written into a place; result ports are no such places
@@ -113,9 +113,9 @@ pub record StandsFor (m : Machine) (code : Program) (h : Hardware) (s : State) :
   pub coming : HasComing m h.words s
   pub pending : HasPending m h.words s
   pub pc : h.words Pc ≡ s.pc % 2 ^ m.control.address
-  pub whole : (i : Instruction) → slice_get code.words s.pc ≡ Some i → h.words Whole ≡ number_of (instruction_bits m i)
+  pub whole : (i : Instruction) → slice_get code.words s.pc ≡ Some i → h.words Whole ≡ word_of m i
   pub halted : is_set (h.words HasHalted) ≡ is_halted s.outcome
-  pub rom : h.memories Code ≡ map (λ i. number_of (instruction_bits m i)) code.words
+  pub rom : h.memories Code ≡ map (word_of m) code.words
   pub spaces : HasSpaces m h s
 
 -- ---- one cycle
