@@ -47,3 +47,8 @@ pub mod RegistersFit
 pub mod FieldsFit
 pub mod PlainWires
 pub mod Plainly
+pub mod Kept
+pub mod Imaged
+pub mod Filled
+pub mod Imaging
+pub mod Staying

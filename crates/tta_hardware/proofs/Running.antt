@@ -1,9 +1,9 @@
 -- Runs of the circuit are runs of its machine.
 use Rattle.std.proofs.Common.{◌≡◌, ℕ, zero, suc, ◌+◌, ◌%◌, ◌<◌, ◌≤◌, ◌^◌, Bool, true, false, not, ◌&&◌, ◌||◌, List, [], ◌∷◌, ◌++◌, length, map, Some, None, refl, sym, ap, ◌∙◌, subst, arith, append-nil}
-use Rattle.std.specs.Prelude.{if◌then◌else◌, nat_lt, replicate}
+use Rattle.std.specs.Prelude.{if◌then◌else◌, nat_lt, replicate, drop, slice_get}
 use Rattle.std.proofs.lemmas.Option.{none-some}
 use Rattle.std.proofs.lemmas.Bool.{false≢true, ltb-true, ltb-false}
-use Rattle.std.proofs.lemmas.List.{length-replicate}
+use Rattle.std.proofs.lemmas.List.{length-replicate, drop-drop}
 use Rattle.std.proofs.lemmas.Nat.{pow_pos}
 use Rattle.tta_ops.specs.Units.{Units}
 use Rattle.tta_arch.specs.Machine.{Machine}
@@ -18,7 +18,9 @@ use Rattle.tta_hardware.specs.Signals.{Code, Data, Frame, Signal as Named, Pc, H
 use Rattle.tta_hardware.specs.Wires.{longest, loads}
 use Rattle.tta_hardware.specs.Stands.{Hardware, fresh_in, StandsFor, IsSettled, is_halted}
 use Rattle.tta_hardware.specs.Theorem.{is_fault, is_waiting, IsFed, HasStepped}
-use Rattle.tta_hardware.specs.Runs.{hardware, signals, cycles, put, HasRun, CircuitRuns}
+use Rattle.tta_list.specs.Input.{left}
+use Rattle.tta_hardware.specs.Hardware.{circuit_of}
+use Rattle.tta_hardware.specs.Runs.{taken, AreClocks, hardware, signals, cycles, put, HasRun, CircuitRuns}
 use Rattle.tta_hardware.proofs.Chained.{set_bit, going}
 use Rattle.tta_hardware.proofs.Fetching.{low, fetched_at}
 use Rattle.tta_hardware.proofs.Fresh.{same_fresh}
@@ -34,7 +36,12 @@ record HasWaited (u : Units) (m : Machine) (code : Program) (memory : List ℕ) 
   frame : (hardware u m code memory powers inputs t).memories Frame ≡ replicate m.frame_words 0
   rom : (hardware u m code memory powers inputs t).memories Code ≡ map (word_of m) code.words
   none : cycles u m code memory powers inputs t ≡ 0
+  untaken : taken u m code memory powers inputs t ≡ 0
   silent : put u m code memory powers inputs t ≡ []
+
+-- nothing more
+untaken_still : (n : ℕ) → n + 0 ≡ n
+untaken_still n = omega arith
 
 module _ (u : Units) (m : Machine) (code : Program) (memory input : List ℕ) (powers : Named → ℕ) (inputs : ℕ → Named → ℕ)
     (sized : length memory ≡ m.data_words) (legal : IsLegalCode m code)
@@ -52,7 +59,7 @@ module _ (u : Units) (m : Machine) (code : Program) (memory input : List ℕ) (p
   stops_at t le = goes_not u m code memory (before t) (inputs t) (resets_at t le)
 
   waited : (t : ℕ) → t ≤ n + 1 → HasWaited u m code memory powers inputs t
-  waited zero le = record { words = refl; frame = refl; rom = refl; none = refl; silent = refl }
+  waited zero le = record { words = refl; frame = refl; rom = refl; none = refl; untaken = refl; silent = refl }
   waited (suc t) le =
       let less : t ≤ n = omega (arith, le) in
       let old = waited t (omega (arith, le)) in
@@ -61,6 +68,8 @@ module _ (u : Units) (m : Machine) (code : Program) (memory input : List ℕ) (p
         frame = frame_stays u m code memory (before t) (inputs t) (stops_at t less) ∙ old.frame;
         rom = rom_stays u m code memory (before t) (inputs t) (stops_at t less) ∙ old.rom;
         none = ap (λ b. cycles u m code memory powers inputs t + bit b) (stops_at t less) ∙ same ∙ old.none;
+        untaken = ap (λ b. taken u m code memory powers inputs t + bit (b && is_set (words t Asks))) (stops_at t less)
+            ∙ untaken_still (taken u m code memory powers inputs t) ∙ old.untaken;
         silent = ap (λ b. put u m code memory powers inputs t ++ (if b then words t PutWord ∷ [] else []))
             (ap is_set (is_settled u m code memory (before t) (inputs t)).puts ∙ set_bit (is_set (words t Goes) && is_set (words t Gives))
             ∙ ap (λ b. b && is_set (words t Gives)) (stops_at t less))
@@ -151,12 +160,15 @@ still_stands m code h g s words memory frame rom stands = record {
 
 -- ---- every clock
 
+-- what is left of what was left
+left_taken : (input : List ℕ) (k : ℕ) (b : Bool) → left b (drop k input) ≡ drop (k + bit b) input
+left_taken input k true = drop-drop 1 k input
+left_taken input k false = ap (λ (n : ℕ). drop n input) (sym (untaken_still k))
+
 module _ (u : Units) (m : Machine) (code : Program) (memory input : List ℕ) (powers : Named → ℕ) (inputs : ℕ → Named → ℕ)
     (rules : IsMachine m) (legal : IsLegalCode m code) (sized : length memory ≡ m.data_words)
     (fine : (n : ℕ) → is_fault (cyc u m code memory input n).outcome ≡ false)
-    (n : ℕ) (reset : (t : ℕ) → t ≤ n → is_set (inputs t IsReset) ≡ true) (on : (t : ℕ) → n < t → is_set (inputs t IsReset) ≡ false)
-    (fed : (t : ℕ) → n < t
-    → IsFed (signals u m code memory powers inputs t) (cyc u m code memory input (cycles u m code memory powers inputs t)).rest) where
+    (n : ℕ) (clocks : AreClocks u (circuit_of m code memory) input powers inputs n) where
   abbrev state : ℕ → State
   state t = cyc u m code memory input (cycles u m code memory powers inputs t)
 
@@ -170,7 +182,7 @@ module _ (u : Units) (m : Machine) (code : Program) (memory input : List ℕ) (p
   its_settled t = is_settled u m code memory (held t) (inputs t)
 
   is_on : (t : ℕ) → n < t → is_set (env t IsReset) ≡ false
-  is_on t less = ap is_set (reset_is u m code memory (held t) (inputs t)) ∙ on t less
+  is_on t less = ap is_set (reset_is u m code memory (held t) (inputs t)) ∙ clocks.on t less
 
   -- where a clock carries nothing out, it puts out nothing
   quiet : (t : ℕ) → is_set (env t Goes) ≡ false → is_set (env t Puts) ≡ false
@@ -178,37 +190,48 @@ module _ (u : Units) (m : Machine) (code : Program) (memory input : List ℕ) (p
       ap is_set (its_settled t).puts ∙ set_bit (is_set (env t Goes) && is_set (env t Gives)) ∙ ap (λ b. b && is_set (env t Gives)) stops
 
   -- and all stays
-  stays : (t : ℕ) → is_set (env t IsReset) ≡ false → HasRun u m code memory powers inputs t (state t) → is_set (env t Goes) ≡ false
-      → HasRun u m code memory powers inputs (suc t) (state (suc t))
+  stays : (t : ℕ) → is_set (env t IsReset) ≡ false → HasRun u m code memory input powers inputs t (state t) → is_set (env t Goes) ≡ false
+      → HasRun u m code memory input powers inputs (suc t) (state (suc t))
   stays t going_on run stops =
       let same : cycles u m code memory powers inputs t + bit (is_set (env t Goes)) ≡ cycles u m code memory powers inputs t =
       ap (λ b. cycles u m code memory powers inputs t + bit b) stops ∙ omega arith in
-      subst (λ k. HasRun u m code memory powers inputs (suc t) (cyc u m code memory input k)) (sym same) (record {
+      subst (λ k. HasRun u m code memory input powers inputs (suc t) (cyc u m code memory input k)) (sym same) (record {
         stands = still_stands m code (held t) (held (suc t)) (state t) (words_stay u m code memory (held t) (inputs t) stops going_on)
             (data_stays u m code memory (held t) (inputs t) stops)
             (frame_stays u m code memory (held t) (inputs t) stops) (rom_stays u m code memory (held t) (inputs t) stops) run.stands;
         output = ap (λ b. put u m code memory powers inputs t ++ (if b then env t PutWord ∷ [] else [])) (quiet t stops)
             ∙ append-nil (put u m code memory powers inputs t) ∙ run.output;
+        rest = run.rest
+            ∙ sym (ap (λ b. drop (taken u m code memory powers inputs t + bit (b && is_set (env t Asks))) input) stops
+            ∙ ap (λ (k : ℕ). drop k input) (untaken_still (taken u m code memory powers inputs t)));
         goes_on = run.goes_on;
       })
 
   -- where it does, it makes a cycle
-  steps : (t : ℕ) → HasRun u m code memory powers inputs t (state t) → is_set (env t Goes) ≡ true
+  steps : (t : ℕ) → HasRun u m code memory input powers inputs t (state t) → is_set (env t Goes) ≡ true
       → HasStepped u m code (held (suc t)) (env t) (state t) (next u m code (state t))
-      → HasRun u m code memory powers inputs (suc t) (state (suc t))
+      → HasRun u m code memory input powers inputs (suc t) (state (suc t))
   steps t run goes stepped =
       let more : cycles u m code memory powers inputs t + bit (is_set (env t Goes)) ≡ suc (cycles u m code memory powers inputs t) =
       ap (λ b. cycles u m code memory powers inputs t + bit b) goes ∙ omega arith in
-      subst (λ k. HasRun u m code memory powers inputs (suc t) (cyc u m code memory input k)) (sym more) (record {
+      subst (λ k. HasRun u m code memory input powers inputs (suc t) (cyc u m code memory input k)) (sym more) (record {
         stands = stepped.stands;
         output = ap (λ ws. ws ++ (if is_set (env t Puts) then env t PutWord ∷ [] else [])) run.output ∙ sym stepped.output;
+        rest = stepped.rest ∙ ap (left (is_set (env t Asks))) run.rest
+            ∙ left_taken input (taken u m code memory powers inputs t) (is_set (env t Asks))
+            ∙ sym (ap (λ b. drop (taken u m code memory powers inputs t + bit (b && is_set (env t Asks))) input) goes);
         goes_on = stepped.goes_on;
       })
 
+  -- a word that is offered is the next of the rest
+  feeds : (t : ℕ) → n < t → HasRun u m code memory input powers inputs t (state t) → IsFed (env t) (state t).rest
+  feeds t less run offered = ap (λ (l : List ℕ). slice_get l 0) run.rest ∙ clocks.fed t less offered
+
   -- one more clock
-  one_more : (t : ℕ) → is_set (env t IsReset) ≡ false → IsFed (env t) (state t).rest → HasRun u m code memory powers inputs t (state t)
-      → HasRun u m code memory powers inputs (suc t) (state (suc t))
-  one_more t going_on feeds run = by (state t).outcome refl where
+  one_more : (t : ℕ) → is_set (env t IsReset) ≡ false → IsFed (env t) (state t).rest
+      → HasRun u m code memory input powers inputs t (state t)
+      → HasRun u m code memory input powers inputs (suc t) (state (suc t))
+  one_more t going_on fed run = by (state t).outcome refl where
     halts : is_halted (state t).outcome ≡ true → is_set (env t Goes) ≡ false
     halts halted =
         ap is_set (its_settled t).goes
@@ -222,39 +245,45 @@ module _ (u : Units) (m : Machine) (code : Program) (memory input : List ℕ) (p
         && ((not (is_set (env t Asks)) || is_set (env t IsOffered)) && (not (is_set (env t Gives)) || is_set (env t IsReady))))
         (ap is_set (its_settled t).halted ∙ run.stands.halted ∙ halted)
 
-    runs : (state t).outcome ≡ Running → (b : Bool) → is_set (env t Goes) ≡ b → HasRun u m code memory powers inputs (suc t) (state (suc t))
+    runs : (state t).outcome ≡ Running → (b : Bool) → is_set (env t Goes) ≡ b
+        → HasRun u m code memory input powers inputs (suc t) (state (suc t))
     runs running true goes =
         steps t run goes
         ((one_clock u m code (held t) (held (suc t)) (env t) (state t) rules legal run.stands running
-        (fine (suc (cycles u m code memory powers inputs t))) (its_settled t) feeds going_on).0
+        (fine (suc (cycles u m code memory powers inputs t))) (its_settled t) fed going_on).0
         goes (has_clocked u m code memory (held t) (inputs t) goes) (has_stored u m code memory (held t) (inputs t)))
     runs running false stops = stays t going_on run stops
 
-    by : (o : Outcome) → (state t).outcome ≡ o → HasRun u m code memory powers inputs (suc t) (state (suc t))
+    by : (o : Outcome) → (state t).outcome ≡ o → HasRun u m code memory input powers inputs (suc t) (state (suc t))
     by Running is = runs is (is_set (env t Goes)) refl
     by Halted is = stays t going_on run (halts (ap is_halted is))
     by Waiting is = absurd (false≢true (sym run.goes_on ∙ ap is_waiting is))
     by (Fault number at) is = absurd (false≢true (sym (fine (cycles u m code memory powers inputs t)) ∙ ap is_fault is))
 
   -- the first clock after those that begin anew
-  first_run : HasRun u m code memory powers inputs (suc n) (state (suc n))
+  first_run : HasRun u m code memory input powers inputs (suc n) (state (suc n))
   first_run =
-      let all = waited u m code memory input powers inputs sized legal n reset (suc n) (omega arith) in
-      subst (λ k. HasRun u m code memory powers inputs (suc n) (cyc u m code memory input k)) (sym all.none)
-      (record { stands = first_stands u m code memory input powers inputs sized legal n reset; output = all.silent; goes_on = refl })
+      let all = waited u m code memory input powers inputs sized legal n clocks.reset (suc n) (omega arith) in
+      subst (λ k. HasRun u m code memory input powers inputs (suc n) (cyc u m code memory input k)) (sym all.none)
+      (record {
+        stands = first_stands u m code memory input powers inputs sized legal n clocks.reset;
+        output = all.silent;
+        rest = sym (ap (λ (k : ℕ). drop k input) all.untaken);
+        goes_on = refl;
+      })
 
   -- and so all
-  every : (t : ℕ) → n < t → HasRun u m code memory powers inputs t (state t)
+  every : (t : ℕ) → n < t → HasRun u m code memory input powers inputs t (state t)
   every zero less = absurd (omega (arith, less))
   every (suc t) less = by (nat_lt n t) refl (every t) where
-    by : (b : Bool) → nat_lt n t ≡ b → (n < t → HasRun u m code memory powers inputs t (state t))
-        → HasRun u m code memory powers inputs (suc t) (state (suc t))
-    by true is run = let lt = ltb-true n t is in one_more t (is_on t lt) (fed t lt) (run lt)
+    by : (b : Bool) → nat_lt n t ≡ b → (n < t → HasRun u m code memory input powers inputs t (state t))
+        → HasRun u m code memory input powers inputs (suc t) (state (suc t))
+    by true is run = let lt = ltb-true n t is in one_more t (is_on t lt) (feeds t lt (run lt)) (run lt)
     by false is run =
         let le : t ≤ n = ltb-false n t is in
         let same : n ≡ t = omega (arith, le, less) in
-        subst (λ k. HasRun u m code memory powers inputs (suc k) (state (suc k))) same first_run
+        subst (λ k. HasRun u m code memory input powers inputs (suc k) (state (suc k))) same first_run
 
 pub circuit_runs : CircuitRuns
-circuit_runs u m code memory input powers inputs rules legal sized fine n reset on fed t less =
-    every u m code memory input powers inputs rules legal sized fine n reset on fed t less
+circuit_runs u m code memory input powers inputs rules legal sized fine last clocks t less =
+    every u m code memory input powers inputs rules legal sized fine last clocks t less

@@ -183,6 +183,10 @@ after_length m taken bus count long many = by (has_bit taken bus) refl where
   by true is = let left = left_taken m taken bus count is in let d = length-drop (bus_width m bus) long in rw is (omega arith)
   by false is = let left = left_kept m taken bus count is in rw is (omega arith)
 
+-- bits before others that are cut
+grown : (own bits front after : List Bool) → bits ≡ front ++ after → own ++ bits ≡ (own ++ front) ++ after
+grown own bits front after is = ap (λ (l : List Bool). own ++ l) is ∙ sym (append_assoc own front after)
+
 -- the slot of a bus stands between the bits of those before it and of those after it
 pub record SlotStands (m : Machine) (bits : List Bool) (bus after : ℕ) (slot : Option Move) : Type 0 where
   pub front : List Bool
@@ -216,8 +220,9 @@ slot_stands m taken bus here (suc k) after long (s ∷ ss) slot many legal is si
     record {
       front = own_bits m taken bus long s ++ more.front;
       rest = more.rest;
-      cut = slots_cut m taken bus long s ss ∙ ap (λ (l : List Bool). own_bits m taken bus long s ++ l) more.cut
-          ∙ sym (append_assoc (own_bits m taken bus long s) more.front (slot_bits m here slot ++ more.rest));
+      cut = slots_cut m taken bus long s ss
+          ∙ grown (own_bits m taken bus long s) (slots_bits m taken (long_after m taken bus long) (bus + 1) ss) more.front
+          (slot_bits m here slot ++ more.rest) more.cut;
       below = more.below;
       joined = more.joined;
     }

@@ -91,14 +91,17 @@ wire_width m n = 1
 abbrev pub wire : Machine → Named → Wire Named Store
 wire m n = record { name = n; width = wire_width m n; word = made_of m n }
 
--- the code's memory: the bits of each instruction as a number
+-- the words of code: the bits of each instruction as a number
+abbrev pub code_words : Machine → Program → List ℕ
+code_words m code = map (word_of m) code.words
+
+-- a memory of code, which nothing writes
+abbrev pub rom : Machine → (words : List ℕ) → Memory Named Store
+rom m words = record { name = Code; width = word_width m; words = words; port = None }
+
+-- the code's memory
 abbrev pub code_memory : Machine → Program → Memory Named Store
-code_memory m code = record {
-  name = Code;
-  width = word_width m;
-  words = map (word_of m) code.words;
-  port = None;
-}
+code_memory m code = rom m (code_words m code)
 
 -- Where a space is written: by the unit that stores, at the address in its operand port, and never past its end.
 abbrev pub store_port : Machine → (size : ℕ) → (Op → Bool) → WritePort Named Store
@@ -110,15 +113,19 @@ store_port m size test =
       word = word_of_start m test (λ unit. Signal (Trigger unit));
     }
 
--- A machine with code as a circuit, whose data space begins with these words.
-abbrev pub circuit_of : Machine → Program → (memory : List ℕ) → Circuit Named Store
-circuit_of m code memory = record {
+-- A machine as a circuit, whose memory of code has these words, and whose data space begins with these.
+abbrev pub circuit_with : Machine → (words memory : List ℕ) → Circuit Named Store
+circuit_with m words memory = record {
   inputs = (IsOffered, 1) ∷ (Offer, 32) ∷ (IsReady, 1) ∷ (IsReset, 1) ∷ [];
   wires = map (wire m) (wire_names m);
   registers = map (register m) (register_names m);
   memories =
-      code_memory m code
+      rom m words
       ∷ record { name = Data; width = 32; words = memory; port = Some (store_port m m.data_words (same_op Stw)) }
       ∷ record { name = Frame; width = 32; words = replicate m.frame_words 0; port = Some (store_port m m.frame_words (same_op Stf)) } ∷ [];
   outputs = HasHalted ∷ Asks ∷ Gives ∷ Goes ∷ Puts ∷ PutWord ∷ [];
 }
+
+-- A machine with code as a circuit, whose data space begins with these words.
+abbrev pub circuit_of : Machine → Program → (memory : List ℕ) → Circuit Named Store
+circuit_of m code memory = circuit_with m (code_words m code) memory
