@@ -30,14 +30,14 @@ use Rattle.tta_hardware.proofs.Circuits.{is_settled, has_clocked, has_stored, wo
 -- ---- after clocks that begin anew
 
 -- such clocks leave the memories as they are, and neither carry anything out nor put anything out
-record HasWaited (u : Units) (m : Machine) (code : Program) (memory : List ℕ) (powers : Named → ℕ) (inputs : ℕ → Named → ℕ)
+pub record HasWaited (u : Units) (m : Machine) (code : Program) (memory : List ℕ) (powers : Named → ℕ) (inputs : ℕ → Named → ℕ)
     (t : ℕ) : Type 0 where
-  words : (hardware u m code memory powers inputs t).memories Data ≡ memory
-  frame : (hardware u m code memory powers inputs t).memories Frame ≡ replicate m.frame_words 0
-  rom : (hardware u m code memory powers inputs t).memories Code ≡ map (word_of m) code.words
-  none : cycles u m code memory powers inputs t ≡ 0
-  untaken : taken u m code memory powers inputs t ≡ 0
-  silent : put u m code memory powers inputs t ≡ []
+  pub words : (hardware u m code memory powers inputs t).memories Data ≡ memory
+  pub frame : (hardware u m code memory powers inputs t).memories Frame ≡ replicate m.frame_words 0
+  pub rom : (hardware u m code memory powers inputs t).memories Code ≡ map (word_of m) code.words
+  pub none : cycles u m code memory powers inputs t ≡ 0
+  pub untaken : taken u m code memory powers inputs t ≡ 0
+  pub silent : put u m code memory powers inputs t ≡ []
 
 -- nothing more
 untaken_still : (n : ℕ) → n + 0 ≡ n
@@ -58,7 +58,7 @@ module _ (u : Units) (m : Machine) (code : Program) (memory input : List ℕ) (p
   stops_at : (t : ℕ) → t ≤ n → is_set (words t Goes) ≡ false
   stops_at t le = goes_not u m code memory (before t) (inputs t) (resets_at t le)
 
-  waited : (t : ℕ) → t ≤ n + 1 → HasWaited u m code memory powers inputs t
+  pub waited : (t : ℕ) → t ≤ n + 1 → HasWaited u m code memory powers inputs t
   waited zero le = record { words = refl; frame = refl; rom = refl; none = refl; untaken = refl; silent = refl }
   waited (suc t) le =
       let less : t ≤ n = omega (arith, le) in

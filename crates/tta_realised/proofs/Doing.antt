@@ -1,0 +1,163 @@
+-- The circuit of code that agrees with a program does what the program does.
+use Rattle.std.proofs.Common.{◌≡◌, ℕ, zero, suc, ◌+◌, ◌*◌, ◌<◌, ◌≤◌, Bool, true, false, List, [], ◌∷◌, ◌++◌, length, refl, sym, ap, ◌∙◌, subst, arith}
+use Rattle.std.specs.Prelude.{if◌then◌else◌, nat_lt, nat_le, drop}
+use Rattle.std.proofs.lemmas.Bool.{false≢true, ltb-true, ltb-false, leb-true, leb-false}
+use Rattle.tta_list.specs.Prefix.{IsPrefixOf}
+use Rattle.tta_list.specs.Laid.{over}
+use Rattle.tta_list.proofs.Prefixes.{prefix_chain}
+use Rattle.tta_list.proofs.Sets.{over-length}
+use Rattle.tta_list.proofs.Iterated.{iterate-later}
+use Rattle.tta_ops.specs.Units.{Units}
+use Rattle.tta_arch.specs.Machine.{Machine}
+use Rattle.tta_arch.specs.Rules.{IsMachine}
+use Rattle.tta_program.specs.Program.{Program, step_count}
+use Rattle.tta_program.specs.Sequential as program
+use Rattle.tta_code.specs.declared.code.Code.{Code}
+use Rattle.tta_code.specs.Whole.{Whole, data_in}
+use Rattle.tta_code.specs.Legal.{IsLegalWhole}
+use Rattle.tta_code.specs.Cycle.{State, Outcome, Running, Halted, Waiting, Fault, next, start, cyc}
+use Rattle.tta_agree.specs.Agrees.{IsGiven, AgreesAt, program_at, code_at}
+use Rattle.tta_circuit.specs.Circuit.{Circuit}
+use Rattle.tta_circuit.specs.Meaning.{bit, is_set}
+use Rattle.tta_hardware.specs.Signals.{Store, Signal as Named, HasHalted, Goes, Puts, PutWord}
+use Rattle.tta_hardware.specs.Hardware.{code_words}
+use Rattle.tta_hardware.specs.Stands.{is_halted}
+use Rattle.tta_hardware.specs.Theorem.{is_fault}
+use Rattle.tta_hardware.specs.Runs.{held_at, signals_at, cycles_at, put_at, AreClocks}
+use Rattle.tta_hardware.specs.Words.{image_words}
+use Rattle.tta_hardware.specs.Images.{ShowsRun}
+use Rattle.tta_hardware.proofs.Running.{waited}
+use Rattle.tta_hardware.proofs.Imaging.{shows_run}
+use Rattle.tta_hardware.proofs.Imaged.{image_kept}
+use Rattle.tta_realised.specs.Realised.{circuit_on, HasHaltedBy, HaltsAs, DoesAs}
+use Rattle.tta_realised.specs.Laws.{CircuitDoes, ImageDoes}
+
+-- ---- outcomes
+
+halted_is : (o : Outcome) → is_halted o ≡ true → o ≡ Halted
+halted_is Running h = absurd (false≢true h)
+halted_is Halted h = refl
+halted_is Waiting h = absurd (false≢true h)
+halted_is (Fault number at) h = absurd (false≢true h)
+
+-- a state that has halted is its own next one
+rests : (u : Units) (m : Machine) (code : Code) (s : State) → s.outcome ≡ Halted → next u m code s ≡ s
+unfolding next
+rests u m code s is = rw is refl
+
+-- ---- the circuit
+
+module _ (u : Units) (m : Machine) (p : Program) (rate : ℕ) (whole : Whole) (memory input : List ℕ) (powers : Named → ℕ)
+    (inputs : ℕ → Named → ℕ) (rules : IsMachine m) (legal : IsLegalWhole m whole) (agrees : AgreesAt u m p rate whole)
+    (given : IsGiven m memory input) (last : ℕ)
+    (clocks : AreClocks u (circuit_on m whole (code_words m whole.code) memory) input powers inputs last) where
+  abbrev c : Circuit Named Store
+  c = circuit_on m whole (code_words m whole.code) memory
+
+  abbrev made : ℕ → ℕ
+  made t = cycles_at u c powers inputs t
+
+  abbrev put : ℕ → List ℕ
+  put t = put_at u c powers inputs t
+
+  abbrev code : ℕ → State
+  code k = code_at u m whole memory input k
+
+  fine : (k : ℕ) → is_fault (code k).outcome ≡ false
+  fine k = by (code k).outcome refl where
+    by : (o : Outcome) → (code k).outcome ≡ o → is_fault o ≡ false
+    by Running is = refl
+    by Halted is = refl
+    by Waiting is = refl
+    by (Fault number at) is = absurd (agrees.no_fault memory input k number at given is)
+
+  sized : length (over (data_in whole) memory) ≡ m.data_words
+  sized = over-length (data_in whole) memory ∙ given.size
+
+  shows : (t : ℕ) → last < t → ShowsRun u m (code_words m whole.code) (over (data_in whole) memory) input powers inputs t (code (made t))
+  shows t less =
+      shows_run u m whole.code (over (data_in whole) memory) input powers inputs rules legal.code sized fine last clocks t less
+
+  -- the clocks that begin anew make no cycle
+  none : made (suc last) ≡ 0
+  none =
+      (waited u m whole.code (over (data_in whole) memory) input powers inputs sized legal.code last clocks.reset (suc last)
+      (omega arith)).none
+
+  -- where so many cycles are made, the output of the program's steps begins what was put out
+  at_once : (t n : ℕ) → last < t → length whole.code.words * (n + 1) ≡ made t → IsPrefixOf (program_at u p memory input n).output (put t)
+  at_once t n less is =
+      subst (λ (l : List ℕ). IsPrefixOf (program_at u p memory input n).output l) (sym (shows t less).output)
+      (subst (λ (k : ℕ). IsPrefixOf (program_at u p memory input n).output (code k).output) is (agrees.output memory input n given))
+
+  -- what was put out begins what is put out later
+  grows : (t : ℕ) → IsPrefixOf (put t) (put (suc t))
+  grows t = (if is_set (signals_at u c powers inputs t Puts) then signals_at u c powers inputs t PutWord ∷ [] else [], refl)
+
+  -- a clock makes a cycle or none
+  one_cycle : (b : Bool) → bit b ≤ 1
+  one_cycle true = omega arith
+  one_cycle false = omega arith
+
+  reaches : (t n : ℕ) → last < t → length whole.code.words * (n + 1) ≤ made t → IsPrefixOf (program_at u p memory input n).output (put t)
+  reaches zero n less enough = absurd (omega (arith, less))
+  reaches (suc t) n less enough = by (nat_lt last t) refl (nat_le (length whole.code.words * (n + 1)) (made t)) refl (reaches t n) where
+    size : ℕ
+    size = length whole.code.words * (n + 1)
+
+    by : (b : Bool) → nat_lt last t ≡ b → (d : Bool) → nat_le size (made t) ≡ d
+        → (last < t → size ≤ made t → IsPrefixOf (program_at u p memory input n).output (put t))
+        → IsPrefixOf (program_at u p memory input n).output (put (suc t))
+    by false is d near before =
+        let same : last ≡ t = omega (arith, less, ltb-false last t is) in
+        let zero_cycles : made (suc t) ≡ 0 = ap (λ (k : ℕ). made (suc k)) (sym same) ∙ none in
+        at_once (suc t) n less (omega (arith, enough, zero_cycles))
+    by true is true near before =
+        prefix_chain (program_at u p memory input n).output (put t) (put (suc t))
+        (before (ltb-true last t is) (leb-true size (made t) near))
+        (grows t)
+    by true is false near before =
+        let far = leb-false size (made t) near in
+        let one = one_cycle (is_set (signals_at u c powers inputs t Goes)) in
+        at_once (suc t) n less (omega (arith, enough, far, one))
+
+  halted_as : (t : ℕ) → last < t → HasHaltedBy u c input powers inputs t
+      → HaltsAs u c input powers inputs t (program_at u p memory input (rate * (made t + 1)))
+  halted_as t less has =
+      let run = shows t less in
+      let alike = agrees.halts_only memory input (made t) given (halted_is (code (made t)).outcome (sym run.halted ∙ has)) in
+      record {
+        program = alike.program;
+        output = run.output ∙ alike.output;
+        memory = run.data_space ∙ alike.memory;
+        rest = sym run.rest ∙ alike.rest;
+      }
+
+  halts_too : (t n : ℕ) → last < t → (program_at u p memory input n).outcome ≡ program.Halted → length whole.code.words * (n + 1) ≤ made t
+      → HasHaltedBy u c input powers inputs t
+  halts_too t n less is enough =
+      let size : ℕ = length whole.code.words * (n + 1) in
+      let alike = agrees.halts memory input n given is in
+      let still = iterate-later (next u m whole.code) size (made t) (start m (over (data_in whole) memory) input) enough
+      (rests u m whole.code (code size) alike.code) in
+      (shows t less).halted ∙ ap (λ (s : State). is_halted s.outcome) still ∙ ap is_halted alike.code
+
+  pub does : (t : ℕ) → last < t → DoesAs u c input powers inputs p memory rate (length whole.code.words) t
+  does t less = record {
+    output = subst (λ (l : List ℕ). IsPrefixOf l (program_at u p memory input (rate * (made t + 1))).output) (sym (shows t less).output)
+        (agrees.output_only memory input (made t) given);
+    reaches = λ n enough. reaches t n less enough;
+    halted = halted_as t less;
+    halts = λ n is enough. halts_too t n less is enough;
+  }
+
+pub circuit_does : CircuitDoes
+circuit_does u m p rate whole memory input powers inputs rules legal agrees given last clocks t less =
+    does u m p rate whole memory input powers inputs rules legal agrees given last clocks t less
+
+pub image_does : ImageDoes
+image_does u m p whole digest bytes memory input powers inputs rules legal agrees many image given =
+    subst (λ (ws : List ℕ). (last : ℕ) → AreClocks u (circuit_on m whole ws memory) input powers inputs last → (t : ℕ) → last < t
+    → DoesAs u (circuit_on m whole ws memory) input powers inputs p memory (step_count p) (length whole.code.words) t)
+    (sym (image_kept m digest whole bytes rules many image))
+    (circuit_does u m p (step_count p) whole memory input powers inputs rules legal agrees given)

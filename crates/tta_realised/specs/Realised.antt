@@ -1,0 +1,43 @@
+-- What a circuit does beside a program.
+use Rattle.std.specs.Prelude.{◌≡◌, ℕ, ◌+◌, ◌*◌, ◌≤◌, true, List, length, drop}
+use Rattle.tta_list.specs.Prefix.{IsPrefixOf}
+use Rattle.tta_list.specs.Laid.{over}
+use Rattle.tta_ops.specs.Units.{Units}
+use Rattle.tta_arch.specs.Machine.{Machine}
+use Rattle.tta_program.specs.Program.{Program}
+use Rattle.tta_program.specs.Sequential as program
+use Rattle.tta_code.specs.Whole.{Whole, data_in}
+use Rattle.tta_agree.specs.Agrees.{program_at}
+use Rattle.tta_circuit.specs.Circuit.{Circuit}
+use Rattle.tta_circuit.specs.Meaning.{is_set}
+use Rattle.tta_hardware.specs.Signals.{Store, Data, Signal as Named, HasHalted}
+use Rattle.tta_hardware.specs.Hardware.{circuit_with}
+use Rattle.tta_hardware.specs.Runs.{held_at, cycles_at, taken_at, put_at}
+
+-- the circuit of a machine whose memory of code has these words, and whose data space has the data of code over a memory
+abbrev pub circuit_on : Machine → Whole → (words memory : List ℕ) → Circuit Named Store
+circuit_on m whole words memory = circuit_with m words (over (data_in whole) memory)
+
+module _ (u : Units) (c : Circuit Named Store) (input : List ℕ) (powers : Named → ℕ) (inputs : ℕ → Named → ℕ) where
+  -- whether a circuit has halted after so many clocks
+  abbrev pub HasHaltedBy : ℕ → Type 0
+  HasHaltedBy t = is_set ((held_at u c powers inputs t).words HasHalted) ≡ true
+
+  -- It has put out the output of a program's state that has halted, has its memory, and has taken the same of the input.
+  pub record HaltsAs (t : ℕ) (s : program.State) : Type 0 where
+    pub program : s.outcome ≡ program.Halted
+    pub output : put_at u c powers inputs t ≡ s.output
+    pub memory : (held_at u c powers inputs t).memories Data ≡ s.memory
+    pub rest : drop (taken_at u c powers inputs t) input ≡ s.rest
+
+  -- After so many clocks a circuit has done what a program does. What it put out begins the program's output; and the output of so many
+  -- steps begins what it put out, once it has made enough cycles for them. Where it has halted, the program has, with the same output,
+  -- memory and rest of the input; and where the program has, it has, once it has made enough cycles. A cycle stands for at most `rate`
+  -- steps, and a step takes at most `size` cycles.
+  pub record DoesAs (p : Program) (memory : List ℕ) (rate size t : ℕ) : Type 0 where
+    pub output : IsPrefixOf (put_at u c powers inputs t) (program_at u p memory input (rate * (cycles_at u c powers inputs t + 1))).output
+    pub reaches : (n : ℕ) → size * (n + 1) ≤ cycles_at u c powers inputs t
+        → IsPrefixOf (program_at u p memory input n).output (put_at u c powers inputs t)
+    pub halted : HasHaltedBy t → HaltsAs t (program_at u p memory input (rate * (cycles_at u c powers inputs t + 1)))
+    pub halts : (n : ℕ) → (program_at u p memory input n).outcome ≡ program.Halted → size * (n + 1) ≤ cycles_at u c powers inputs t
+        → HasHaltedBy t

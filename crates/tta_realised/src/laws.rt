@@ -1,0 +1,14 @@
+//! Laws of the circuits of code that agrees with a program. A law is a function that does nothing, and
+//! whose contract is the law.
+
+ghost use Rattle.tta_realised.specs.Laws.{CircuitDoes, ImageDoes};
+
+/// The circuit of code that agrees with a program does what the program does.
+pub fn circuit_does()
+    ensures { CircuitDoes }
+{}
+
+/// So does the circuit whose memory of code has the bits of an image of that code.
+pub fn image_does()
+    ensures { ImageDoes }
+{}

@@ -1,0 +1,6 @@
+//! The circuit of a built image does what the program does.
+#![tactic(auto)]
+
+mod laws;
+
+pub use laws::{circuit_does, image_does};
