@@ -34,6 +34,7 @@ pub mod Owners
 pub mod Spaces
 pub mod Reading
 pub mod Faultless
+pub mod Meeting
 pub mod Stepping
 pub mod Named
 pub mod Members
@@ -52,3 +53,4 @@ pub mod Imaged
 pub mod Filled
 pub mod Imaging
 pub mod Staying
+pub mod Pins

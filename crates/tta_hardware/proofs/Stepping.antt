@@ -28,6 +28,7 @@ use Rattle.tta_hardware.proofs.Coming.{results_keep}
 use Rattle.tta_hardware.proofs.Started.{starts_alike}
 use Rattle.tta_hardware.proofs.Apart.{all_later}
 use Rattle.tta_hardware.proofs.Serving.{apart}
+use Rattle.tta_hardware.proofs.Meeting as known
 use Rattle.tta_hardware.proofs.Landing.{control_keeps}
 use Rattle.tta_hardware.proofs.Spaces.{spaces_keep, streams_alike}
 use Rattle.tta_hardware.proofs.Faultless.{no_first, IsSame, itself, lands_same}
@@ -40,59 +41,24 @@ module _ (u : Units) (m : Machine) (code : Program) (h g : Hardware) (env : Name
     (on : is_set (env IsReset) ≡ false)
     (i : Instruction) (at : slice_get code.words s.pc ≡ Some i)
     (no_fault : fault_of s (effects_of m i) (brought m s i) (started_in m s i) ≡ None) where
-  first : (list_any (reads_unset_register s) (effects_of m i) ≡ false)
-      × (first_fault ((list_any (reads_unset_port s) (effects_of m i), 61) ∷ (list_any lacks_operand (started_in m s i), 62) ∷
-      (list_any (clashes s) (started_in m s i), 63)
-      ∷ (jumps_in_delay s (brought m s i), 64) ∷ []) ≡ None)
-  first = no_first (list_any (reads_unset_register s) (effects_of m i)) 60
-      ((list_any (reads_unset_port s) (effects_of m i), 61) ∷ (list_any lacks_operand (started_in m s i), 62) ∷
-      (list_any (clashes s) (started_in m s i), 63)
-      ∷ (jumps_in_delay s (brought m s i), 64) ∷ []) no_fault
-
-  second : (list_any (reads_unset_port s) (effects_of m i) ≡ false)
-      × (first_fault
-      ((list_any lacks_operand (started_in m s i), 62) ∷ (list_any (clashes s) (started_in m s i), 63) ∷
-      (jumps_in_delay s (brought m s i), 64) ∷ []) ≡ None)
-  second = no_first (list_any (reads_unset_port s) (effects_of m i)) 61
-      ((list_any lacks_operand (started_in m s i), 62) ∷ (list_any (clashes s) (started_in m s i), 63) ∷
-      (jumps_in_delay s (brought m s i), 64) ∷ []) first.1
-
   third : (list_any lacks_operand (started_in m s i) ≡ false)
       × (first_fault ((list_any (clashes s) (started_in m s i), 63) ∷ (jumps_in_delay s (brought m s i), 64) ∷ []) ≡ None)
-  third = no_first (list_any lacks_operand (started_in m s i)) 62
-      ((list_any (clashes s) (started_in m s i), 63) ∷ (jumps_in_delay s (brought m s i), 64) ∷ []) second.1
-
-  fourth : (list_any (clashes s) (started_in m s i) ≡ false) × (first_fault ((jumps_in_delay s (brought m s i), 64) ∷ []) ≡ None)
-  fourth = no_first (list_any (clashes s) (started_in m s i)) 63 ((jumps_in_delay s (brought m s i), 64) ∷ []) third.1
+  third = known.third u m code h env s rules legal stands settled i at no_fault
 
   fifth : (jumps_in_delay s (brought m s i) ≡ false) × (first_fault [] ≡ None)
-  fifth = no_first (jumps_in_delay s (brought m s i)) 64 [] fourth.1
-
-  is_legal_here : is_legal m i ≡ true
-  is_legal_here = all_one (λ i. IsTrue (is_legal m i)) code.words s.pc i legal.words at
+  fifth = known.fifth u m code h env s rules legal stands settled i at no_fault
 
   meet : Meet u m h env s i
-  meet = record {
-    rules = rules;
-    legal = is_legal_here;
-    settled = settled;
-    words = stands.words;
-    ports = stands.ports;
-    fetched = (fetch_alike u m code h env s i rules settled stands.pc (stands.whole i at) legal at).0;
-    lacks = (first.0, second.0);
-  }
+  meet = known.meet u m code h env s rules legal stands settled i at no_fault
 
   pc_is : h.words Pc ≡ s.pc
-  pc_is = (fetch_alike u m code h env s i rules settled stands.pc (stands.whole i at) legal at).1
+  pc_is = known.pc_is u m code h env s rules legal stands settled i at no_fault
 
   small : s.pc < 65536
-  small =
-      let inside = within_list code.words s.pc (ap is_some at) in
-      let most : 2 ^ m.control.address ≤ 2 ^ 16 = pow_le m.control.address 16 (address_most m rules) in
-      omega (arith, inside, legal.room, most)
+  small = known.small u m code h env s rules legal stands settled i at no_fault
 
   streams : Streams env s (started_in m s i)
-  streams = streams_alike u m h env s i meet third.0
+  streams = known.streams u m code h env s rules legal stands settled i at no_fault
 
   -- whether the clock carries the instruction out
   goes_is : is_set (env Goes) ≡ ((not (is_set (env Asks)) || is_set (env IsOffered)) && (not (is_set (env Gives)) || is_set (env IsReady)))
@@ -200,7 +166,7 @@ module _ (u : Units) (m : Machine) (code : Program) (h g : Hardware) (env : Name
 
 -- ---- the cycle of a state that runs
 
-next_is : (u : Units) (m : Machine) (code : Program) (s : State) → s.outcome ≡ Running
+pub next_is : (u : Units) (m : Machine) (code : Program) (s : State) → s.outcome ≡ Running
     → next u m code s ≡ carry_out u m s (slice_get code.words s.pc)
 unfolding next
 next_is u m code s runs = ap (next_of u m code s) runs
