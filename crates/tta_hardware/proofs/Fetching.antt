@@ -1,18 +1,14 @@
 -- What the circuit fetches.
-use Rattle.std.proofs.Common.{◌≡◌, ℕ, zero, suc, ◌+◌, ◌*◌, ◌%◌, ◌^◌, ◌<◌, List, [], ◌∷◌, length, map, slice_get, Some, refl, ap, ◌∙◌, true, arith}
-use Rattle.std.specs.Prelude.{slice_index, is_some, nat_lt, IsTrue}
-use Rattle.std.proofs.lemmas.Bool.{lt-ltb}
+use Rattle.std.proofs.Common.{◌≡◌, ℕ, zero, suc, ◌+◌, ◌*◌, ◌%◌, ◌^◌, ◌<◌, List, [], ◌∷◌, map, slice_get, Some, ap, ◌∙◌, true, arith}
+use Rattle.std.specs.Prelude.{slice_index, is_some, IsTrue}
 use Rattle.std.proofs.lemmas.Option.{none-some, same_Some}
 use Rattle.std.proofs.lemmas.Nat.{mod-mul-add}
 use Rattle.tta_list.proofs.Lists.{all_one}
-use Rattle.tta_code.specs.declared.code.Move.{Move}
 use Rattle.tta_arch.specs.Machine.{Machine}
 use Rattle.tta_code.specs.declared.code.Code.{Code as Program}
 use Rattle.tta_code.specs.declared.code.Instruction.{Instruction}
 use Rattle.tta_code.specs.Legal.{is_legal, IsLegalCode}
-use Rattle.tta_circuit.specs.Circuit.{Signal as OfSignal}
-use Rattle.tta_circuit.specs.Meaning.{value}
-use Rattle.tta_hardware.specs.Signals.{GuardOf, IsShort, SourceOf, ShortOf, DestOf, TemplateOf, LongOf, Pc, Whole}
+use Rattle.tta_hardware.specs.Signals.{Pc, Whole}
 use Rattle.tta_hardware.specs.Fields.{word_of}
 use Rattle.tta_hardware.specs.Laws.{FetchAlike, HasFetched}
 use Rattle.tta_hardware.proofs.Bringing.{within_list}

@@ -14,7 +14,7 @@ use Rattle.tta_hardware.specs.Hardware.{register_names, wire_names, wire, store_
 use Rattle.tta_hardware.specs.Registers.{register}
 use Rattle.tta_hardware.specs.Runs.{held_at}
 use Rattle.tta_hardware.specs.Words.{filled}
-use Rattle.tta_hardware.specs.Images.{RunsAlike, FilledRuns}
+use Rattle.tta_hardware.specs.Images.{FilledRuns}
 use Rattle.tta_hardware.proofs.Kept.{filled_reads}
 
 -- two circuits hold the same, but for what stands past the code

@@ -1,42 +1,25 @@
 -- Moves that go to a destination, and lists that are searched for them.
-use Rattle.std.proofs.Common.{◌≡◌, ℕ, zero, suc, ◌+◌, ◌<◌, ◌==◌, Bool, true, false, ◌&&◌, ◌||◌, List, [], ◌∷◌, ◌++◌, length, map, slice_get, Option, Some, None, refl, sym, ap, ◌∙◌, subst, arith, append-nil}
-use Rattle.std.specs.Prelude.{is_some, is_none, if◌then◌else◌, option_and_then, nat_lt}
+use Rattle.std.proofs.Common.{◌≡◌, ℕ, zero, suc, ◌+◌, ◌==◌, Bool, true, false, ◌&&◌, List, [], ◌∷◌, ◌++◌, slice_get, Option, Some, None, refl, sym, ap, ◌∙◌, arith}
+use Rattle.std.specs.Prelude.{if◌then◌else◌}
 use Rattle.std.specs.Option.{option_map_or}
-use Rattle.std.specs.List.{find, list_any, filter_map, flat_map, enumerate_from}
+use Rattle.std.specs.List.{find, list_any, enumerate_from}
 use Rattle.std.proofs.lemmas.Option.{none-some, same_Some}
-use Rattle.std.proofs.lemmas.Bool.{and_parts, and_from, or_parts, or_left, or_right, false≢true, eq-eqb, eqb-true, ltb-true}
-use Rattle.std.proofs.lemmas.List.Elements.{filter_map-append}
+use Rattle.std.proofs.lemmas.Bool.{and_parts, or_parts, or_left, or_right, false≢true, eq-eqb}
 use Rattle.tta_ops.specs.Units.{Units}
 use Rattle.tta_arch.specs.declared.parts.UnitOp.{UnitOp}
-use Rattle.tta_arch.specs.declared.parts.Unit.{Unit as OpUnit}
-use Rattle.tta_arch.specs.declared.parts.Template.{Template}
 use Rattle.tta_arch.specs.declared.ends.Dest.{Dest}
 use Rattle.tta_arch.specs.declared.ends.Dest.TheVariants as dest
 use Rattle.tta_arch.specs.Machine.{Machine}
-use Rattle.tta_arch.specs.Joins.{within, has_socket, is_source_on, is_dest_on, has_guard}
-use Rattle.tta_arch.specs.Legal.{same_place}
-use Rattle.tta_arch.specs.Fields.{numbers, same_dest}
-use Rattle.tta_arch.specs.Effects.{KeptOperand, Start, kept, start_of, bring, op_at, operand_of, operand_word, lacks_operand, long_effect}
-use Rattle.tta_image.proofs.EndsLemmas.{same_dest_true, same_dest_itself}
+use Rattle.tta_arch.specs.Fields.{same_dest}
+use Rattle.tta_image.proofs.EndsLemmas.{same_dest_true}
 use Rattle.tta_code.specs.declared.code.Move.{Move}
-use Rattle.tta_code.specs.declared.code.Long.{Long}
 use Rattle.tta_code.specs.declared.code.Instruction.{Instruction}
-use Rattle.tta_code.specs.Cycle.{State, read_source, effect_of, moves_of, long_effects}
-use Rattle.tta_circuit.specs.Circuit.{Signal as OfSignal}
 use Rattle.tta_circuit.specs.Meaning.{is_set, value}
-use Rattle.tta_hardware.specs.Signals.{Signal as Named, Word, Acts, Operand, Expression}
+use Rattle.tta_hardware.specs.Signals.{Signal as Named, Acts, Expression}
 use Rattle.tta_hardware.specs.Chains.{first_of}
 use Rattle.tta_hardware.specs.Fields.{slot_at}
-use Rattle.tta_hardware.specs.Wires.{arrivals, ops_of, nothing}
-use Rattle.tta_hardware.specs.Stands.{Hardware, Starting, StartsOne, start_in}
-use Rattle.tta_hardware.specs.Laws.{Meet, carried, brought, written_after, StartsAlike}
-use Rattle.tta_hardware.proofs.Chained.{some_if}
-use Rattle.tta_hardware.proofs.Carrying.{is_joined_at, buses_carry}
-use Rattle.tta_hardware.proofs.Shown.{some_at}
-use Rattle.tta_hardware.proofs.Arriving.{goes, bus_of, is_reached, arrives}
-use Rattle.tta_hardware.proofs.Sole.{one_bus}
-use Rattle.tta_hardware.proofs.Starting.{find_none, find_only, find_passes, find_weaker, find_within, is_trigger, start_with, triggers, from_bus, has_op, started_by}
-use Rattle.tta_hardware.proofs.Keeping.{operand_next}
+use Rattle.tta_hardware.specs.Stands.{Hardware}
+use Rattle.tta_hardware.proofs.Arriving.{goes}
 
 -- ---- what goes to a destination
 

@@ -1,23 +1,20 @@
 -- The words of code among the bits of its image.
-use Rattle.std.proofs.Common.{◌≡◌, ℕ, zero, suc, ◌+◌, ◌-◌, ◌*◌, ◌^◌, Bool, false, List, [], ◌∷◌, ◌++◌, length, map, take, replicate, slice_get, IsTrue, Some, refl, sym, ap, ◌∙◌, arith}
+use Rattle.std.proofs.Common.{◌≡◌, ℕ, zero, suc, ◌+◌, ◌*◌, Bool, false, List, [], ◌∷◌, ◌++◌, length, map, take, replicate, slice_get, IsTrue, Some, refl, sym, ap, ◌∙◌, arith}
 use Rattle.std.specs.List.{flat_map, range_with_len, AllByRecursion}
 use Rattle.std.proofs.lemmas.Option.{none-some, same_Some}
 use Rattle.std.proofs.lemmas.List.{append_assoc, drop-drop, drop_at, take_at}
 use Rattle.tta_arch.specs.Machine.{Machine}
 use Rattle.tta_arch.specs.Fields.{numbers, word_width}
-use Rattle.tta_arch.specs.Rules.{IsMachine}
 use Rattle.tta_code.specs.declared.code.Instruction.{Instruction}
-use Rattle.tta_code.specs.Whole.{Whole}
 use Rattle.tta_code.specs.Legal.{is_legal}
 use Rattle.tta_image.specs.Bits.{instruction_bits}
-use Rattle.tta_image.specs.Image.{Image, header, version_of, data_section}
+use Rattle.tta_image.specs.Image.{header, version_of, data_section}
 use Rattle.tta_image.specs.Decoding.{number_of, field}
 use Rattle.tta_image.specs.Reading.{word_count}
 use Rattle.tta_image.proofs.ImageLemmas.{words_fit}
 use Rattle.tta_image.proofs.InstructionLemmas.{length-instruction_bits}
 use Rattle.tta_image.proofs.PairsDecoded.{data_stands}
 use Rattle.tta_hardware.specs.Fields.{word_of}
-use Rattle.tta_hardware.specs.Hardware.{code_words}
 use Rattle.tta_hardware.specs.Words.{word_in, image_words, ImageKept}
 use Rattle.std.proofs.lemmas.Nat.{from_be_bytes-to_be_bytes_4}
 

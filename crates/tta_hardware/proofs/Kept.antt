@@ -1,22 +1,20 @@
 -- The words of code in a memory.
-use Rattle.std.proofs.Common.{◌≡◌, ℕ, zero, suc, ◌-◌, ◌^◌, ◌<◌, ◌≤◌, true, List, [], ◌∷◌, ◌++◌, length, map, replicate, get_or, slice_get, IsTrue, Option, Some, None, refl, sym, ap, ◌∙◌, arith}
+use Rattle.std.proofs.Common.{◌≡◌, ℕ, zero, suc, ◌-◌, ◌^◌, ◌<◌, true, List, [], ◌∷◌, ◌++◌, length, map, replicate, get_or, slice_get, IsTrue, Some, refl, ap, ◌∙◌, arith}
 use Rattle.std.specs.Prelude.{slice_index, option_map}
 use Rattle.std.specs.List.{AllByRecursion}
 use Rattle.std.proofs.lemmas.Nat.{pow_pos}
-use Rattle.std.proofs.lemmas.Option.{slice_get-map, slice_get_within, get_or_from_slice_get}
-use Rattle.std.proofs.lemmas.List.{length-append, length-map, length-replicate, get_or_append_left, get_or-append_right}
-use Rattle.std.proofs.Math.ListN.{get_or-eq_default}
+use Rattle.std.proofs.lemmas.Option.{slice_get-map, get_or_from_slice_get}
+use Rattle.std.proofs.lemmas.List.{length-append, length-map, length-replicate}
 use Rattle.tta_arch.specs.Machine.{Machine}
 use Rattle.tta_arch.specs.Fields.{word_width}
-use Rattle.tta_code.specs.declared.code.Code.{Code}
 use Rattle.tta_code.specs.declared.code.Instruction.{Instruction}
-use Rattle.tta_code.specs.Legal.{is_legal, IsLegalCode}
+use Rattle.tta_code.specs.Legal.{is_legal}
 use Rattle.tta_image.specs.Bits.{instruction_bits}
 use Rattle.tta_image.proofs.Numbers.{number_of-below}
 use Rattle.tta_image.proofs.InstructionLemmas.{length-instruction_bits}
 use Rattle.tta_hardware.specs.Fields.{word_of}
 use Rattle.tta_hardware.specs.Hardware.{code_words}
-use Rattle.tta_hardware.specs.Words.{filled, HasCode, WordsKept}
+use Rattle.tta_hardware.specs.Words.{WordsKept}
 
 -- ---- lists
 

@@ -1,36 +1,25 @@
 -- What is known of a circuit and a state whose next cycle is no fault.
-use Rattle.std.proofs.Common.{◌≡◌, ℕ, ◌+◌, ◌≤◌, ◌<◌, ◌^◌, ◌==◌, Bool, true, false, not, ◌&&◌, ◌||◌, List, [], ◌∷◌, ◌++◌, Option, Some, None, slice_get, refl, sym, ap, ◌∙◌, subst, arith}
-use Rattle.std.specs.Prelude.{is_some, is_none, if◌then◌else◌, slice_index, fold, IsTrue}
-use Rattle.std.specs.List.{list_any, filter_map}
-use Rattle.std.proofs.lemmas.Option.{none-some, same_Some}
-use Rattle.std.proofs.lemmas.Bool.{false≢true, and_parts}
+use Rattle.std.proofs.Common.{◌≡◌, ℕ, ◌≤◌, ◌<◌, ◌^◌, true, false, [], ◌∷◌, Some, None, slice_get, ap, arith}
+use Rattle.std.specs.Prelude.{is_some, IsTrue}
+use Rattle.std.specs.List.{list_any}
 use Rattle.tta_arch.proofs.Widths.{pow_le}
 use Rattle.tta_list.proofs.Lists.{all_one}
 use Rattle.tta_ops.specs.Units.{Units}
 use Rattle.tta_arch.specs.Machine.{Machine}
 use Rattle.tta_arch.specs.Rules.{IsMachine}
-use Rattle.tta_arch.specs.Effects.{Kind, Jumps, Calls, Halts, store_data, store_frame, put_out, take_in, takes, lacks_operand, first_some, control_of}
+use Rattle.tta_arch.specs.Effects.{lacks_operand}
 use Rattle.tta_arch.proofs.Facts.{address_most}
 use Rattle.tta_code.specs.declared.code.Code.{Code as Program}
 use Rattle.tta_code.specs.declared.code.Instruction.{Instruction}
 use Rattle.tta_code.specs.Legal.{is_legal, IsLegalCode}
-use Rattle.tta_code.specs.Cycle.{State, Pending, Running, Waiting, next, next_of, carry_out, or_fault, or_wait, waits, acts, lands, takes_effect, fault_of, first_fault, effects_of, result_of, pending_after, clashes, jumps_in_delay, reads_unset_register, reads_unset_port}
-use Rattle.tta_circuit.specs.Meaning.{is_set}
-use Rattle.tta_hardware.specs.Signals.{Signal as Named, Pc, Whole, Code, HasHalted, IsOffered, Offer, IsReady, IsReset, Asks, Gives, Goes}
-use Rattle.tta_hardware.specs.Stands.{Hardware, StandsFor, IsSettled, HasClocked, HasComing, HasPorts, is_halted}
-use Rattle.tta_hardware.specs.Laws.{Meet, AreStarted, HasStored, HasSteered, Streams, brought, written_after, started_in}
-use Rattle.tta_hardware.specs.Theorem.{is_fault, is_waiting, IsFed, HasStepped, HasStalled, OneClock}
-use Rattle.tta_hardware.proofs.Chained.{going}
+use Rattle.tta_code.specs.Cycle.{State, fault_of, first_fault, effects_of, clashes, jumps_in_delay, reads_unset_register, reads_unset_port}
+use Rattle.tta_hardware.specs.Signals.{Signal as Named, Pc}
+use Rattle.tta_hardware.specs.Stands.{Hardware, StandsFor, IsSettled}
+use Rattle.tta_hardware.specs.Laws.{Meet, Streams, brought, started_in}
 use Rattle.tta_hardware.proofs.Bringing.{within_list}
-use Rattle.tta_hardware.proofs.Fetching.{fetch_alike, fetched_at}
-use Rattle.tta_hardware.proofs.Keeping.{words_keep}
-use Rattle.tta_hardware.proofs.Coming.{results_keep}
-use Rattle.tta_hardware.proofs.Started.{starts_alike}
-use Rattle.tta_hardware.proofs.Apart.{all_later}
-use Rattle.tta_hardware.proofs.Serving.{apart}
-use Rattle.tta_hardware.proofs.Landing.{control_keeps}
-use Rattle.tta_hardware.proofs.Spaces.{spaces_keep, streams_alike}
-use Rattle.tta_hardware.proofs.Faultless.{no_first, IsSame, itself, lands_same}
+use Rattle.tta_hardware.proofs.Fetching.{fetch_alike}
+use Rattle.tta_hardware.proofs.Spaces.{streams_alike}
+use Rattle.tta_hardware.proofs.Faultless.{no_first}
 
 module _ (u : Units) (m : Machine) (code : Program) (h : Hardware) (env : Named → ℕ) (s : State) (rules : IsMachine m)
     (legal : IsLegalCode m code) (stands : StandsFor m code h s) (settled : IsSettled u m h env)

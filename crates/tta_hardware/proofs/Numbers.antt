@@ -1,8 +1,8 @@
 -- Parts of numbers, and of the numbers that bits make.
-use Rattle.std.proofs.Common.{◌≡◌, ℕ, ◌+◌, ◌-◌, ◌*◌, ◌/◌, ◌%◌, ◌^◌, ◌<◌, ◌≤◌, ◌==◌, min, Bool, true, false, if◌then◌else◌, List, ◌++◌, length, refl, sym, ap, ◌∙◌, inl, inr, arith}
-use Rattle.std.proofs.lemmas.Bool.{eqb-true, cases_lt}
+use Rattle.std.proofs.Common.{◌≡◌, ℕ, ◌+◌, ◌-◌, ◌*◌, ◌/◌, ◌%◌, ◌^◌, ◌<◌, ◌≤◌, min, Bool, List, ◌++◌, length, sym, ap, ◌∙◌, inl, inr, arith}
+use Rattle.std.proofs.lemmas.Bool.{cases_lt}
 use Rattle.std.proofs.lemmas.List.{append_assoc}
-use Rattle.std.proofs.lemmas.Nat.{shr-shr, shr_high, shr_split, mod_low, mod_below, mod-pow-add, pow_pos}
+use Rattle.std.proofs.lemmas.Nat.{shr-shr, shr_high, mod_low, mod_below, mod-pow-add, pow_pos}
 use Rattle.std.proofs.Math.Pow.{mod-mod-pow}
 use Rattle.tta_image.specs.Decoding.{number_of}
 use Rattle.tta_image.proofs.BitLemmas.{low_whole}

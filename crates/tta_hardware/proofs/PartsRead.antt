@@ -4,7 +4,7 @@ use Rattle.std.proofs.lemmas.Bool.{and_from}
 use Rattle.tta_arch.specs.declared.parts.Template.{Template}
 use Rattle.tta_arch.specs.Machine.{Machine}
 use Rattle.tta_arch.specs.Joins.{has_bit}
-use Rattle.tta_arch.specs.Fields.{sources_on, bus_width, guard_width, short_width, payload_width, dest_width, template_width}
+use Rattle.tta_arch.specs.Fields.{bus_width, short_width}
 use Rattle.tta_image.specs.Decoding.{is_signed}
 use Rattle.tta_circuit.specs.Circuit.{Expr, Const, Slice, Join, Select, Either}
 use Rattle.tta_circuit.specs.Order.{reads_below}

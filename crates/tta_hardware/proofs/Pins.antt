@@ -1,5 +1,5 @@
 -- The pins by which words come and go.
-use Rattle.std.proofs.Common.{◌≡◌, ℕ, suc, ◌<◌, ◌≤◌, ◌==◌, Bool, true, false, not, ◌&&◌, ◌||◌, List, length, Option, Some, None, slice_get, refl, sym, ap, ◌∙◌, arith}
+use Rattle.std.proofs.Common.{◌≡◌, ℕ, suc, Bool, true, false, not, ◌&&◌, ◌||◌, List, length, Option, Some, None, slice_get, refl, sym, ap, ◌∙◌}
 use Rattle.std.specs.Prelude.{is_some, nat_lt}
 use Rattle.std.specs.List.{find, list_any}
 use Rattle.std.proofs.lemmas.Option.{same_Some}
@@ -13,11 +13,11 @@ use Rattle.tta_arch.specs.Effects.{Start, lacks_operand}
 use Rattle.tta_code.specs.declared.code.Code.{Code as Program}
 use Rattle.tta_code.specs.declared.code.Instruction.{Instruction}
 use Rattle.tta_code.specs.Legal.{IsLegalCode}
-use Rattle.tta_code.specs.Cycle.{State, Outcome, Running, Halted, Waiting, Fault, next, carry_out, or_fault, or_wait, waits, acts, fault_of, effects_of, cyc}
-use Rattle.tta_circuit.specs.Meaning.{bit, is_set, value}
-use Rattle.tta_hardware.specs.Signals.{Signal as Named, HasHalted, IsOffered, IsReady, IsReset, Asks, Gives, Goes, Puts}
+use Rattle.tta_code.specs.Cycle.{State, Outcome, Running, Halted, Waiting, Fault, carry_out, or_fault, or_wait, waits, acts, fault_of, effects_of, cyc}
+use Rattle.tta_circuit.specs.Meaning.{bit, is_set}
+use Rattle.tta_hardware.specs.Signals.{Signal as Named, HasHalted, IsOffered, IsReady, IsReset, Asks, Gives, Goes}
 use Rattle.tta_hardware.specs.Hardware.{circuit_of}
-use Rattle.tta_hardware.specs.Stands.{Hardware, StandsFor, IsSettled, start_in, is_halted}
+use Rattle.tta_hardware.specs.Stands.{Hardware, IsSettled, start_in, is_halted}
 use Rattle.tta_hardware.specs.Laws.{Meet, brought, written_after, started_in}
 use Rattle.tta_hardware.specs.Theorem.{is_fault, is_waiting}
 use Rattle.tta_hardware.specs.Runs.{hardware, signals, cycles, AreClocks, HasRun}

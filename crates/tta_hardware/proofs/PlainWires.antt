@@ -1,29 +1,20 @@
 -- The wires of a machine's circuit are plain.
-use Rattle.std.proofs.Common.{◌≡◌, ℕ, zero, suc, ◌+◌, ◌<◌, ◌≤◌, Bool, true, false, ◌&&◌, List, [], ◌∷◌, ◌++◌, ◌-◌, length, map, refl, arith}
+use Rattle.std.proofs.Common.{◌≡◌, ℕ, zero, suc, ◌+◌, ◌<◌, ◌≤◌, Bool, true, false, List, [], ◌∷◌, ◌++◌, length, map, refl, arith}
 use Rattle.std.specs.Prelude.{if◌then◌else◌, nat_lt}
 use Rattle.std.specs.List.{flat_map, enumerate_from, range_with_len, AllByRecursion}
 use Rattle.std.proofs.lemmas.Bool.{and_parts, and_from, ltb-true, lt-ltb}
 use Rattle.tta_arch.specs.declared.parts.Unit.{Unit as OpUnit}
-use Rattle.tta_arch.specs.declared.parts.UnitOp.{UnitOp}
-use Rattle.tta_arch.specs.declared.parts.Op.{Op}
-use Rattle.tta_arch.specs.declared.parts.Op.TheVariants.{Stw, Stf}
 use Rattle.tta_arch.specs.Machine.{Machine}
-use Rattle.tta_arch.specs.Rules.{IsMachine, same_op}
-use Rattle.tta_arch.specs.Fields.{numbers, guard_width, dest_width, template_width, word_width}
-use Rattle.tta_arch.specs.Effects.{Place, KeptReg, KeptImm, KeptOperand, KeptRa, KeptPort}
-use Rattle.tta_code.specs.declared.code.Code.{Code as Program}
-use Rattle.tta_circuit.specs.Circuit.{Wire, Register, WritePort}
-use Rattle.tta_circuit.specs.Plain.{IsWritten, IsWrittenWire, IsWrittenRegister, IsWrittenPort, IsPlain}
-use Rattle.tta_hardware.specs.Signals.{Field, GuardOf, IsShort, SourceOf, ShortOf, DestOf, TemplateOf, LongOf, Store, Signal as Named, Expression, Pc, HasHalted, Underway, Goal, Ends, Keeps, IsDue, Due, HasBegun, Raw, IsInside, Port, Whole, Fetched, Word, Acts, Starts, Trigger, Operand, Controls, GoalNow, EndsNow, Lands, Asks, Gives, Goes, NextPc, Puts, PutWord}
+use Rattle.tta_arch.specs.Rules.{IsMachine}
+use Rattle.tta_arch.specs.Fields.{numbers, guard_width, dest_width, template_width}
+use Rattle.tta_circuit.specs.Plain.{IsWritten, IsWrittenWire}
+use Rattle.tta_hardware.specs.Signals.{Field, GuardOf, IsShort, SourceOf, ShortOf, DestOf, TemplateOf, LongOf, Signal as Named, Expression, Port, Fetched, Starts, Trigger, Operand, Controls, GoalNow, EndsNow, Lands, Asks, Gives, Goes, NextPc, Puts, PutWord}
 use Rattle.tta_hardware.specs.Fields.{field_width}
-use Rattle.tta_hardware.specs.Wires.{is_load, longest}
-use Rattle.tta_hardware.specs.Registers.{register}
-use Rattle.tta_hardware.specs.Hardware.{with_bits, bus_fields, all_fields, bus_wires, unit_wires, first_wires, wire_names, result_registers, load_registers, unit_registers, register_names, wire, circuit_of}
+use Rattle.tta_hardware.specs.Hardware.{with_bits, bus_fields, all_fields, bus_wires, unit_wires, first_wires, wire_names, wire}
 use Rattle.tta_hardware.specs.Stands.{has_field}
-use Rattle.tta_hardware.specs.Sized.{signal_width, store_width, Fits, WiresFit, RegistersFit, PortFits, CircuitIsPlain}
-use Rattle.tta_hardware.proofs.Bits.{payload_some, word_some, address_some}
-use Rattle.tta_hardware.proofs.Ordered.{in_order}
-use Rattle.tta_hardware.proofs.WiresFit.{both_lists, all_map, file_bits, wires_fit}
+use Rattle.tta_hardware.specs.Sized.{signal_width, store_width, Fits, WiresFit}
+use Rattle.tta_hardware.proofs.Bits.{payload_some, address_some}
+use Rattle.tta_hardware.proofs.WiresFit.{both_lists, all_map, wires_fit}
 use Rattle.tta_hardware.proofs.RegistersFit.{weaker, registers_fit}
 use Rattle.tta_hardware.proofs.FieldsFit.{field_fits}
 

@@ -1,10 +1,10 @@
 -- What the circuit starts is what the cycle starts.
-use Rattle.std.proofs.Common.{◌≡◌, ℕ, zero, suc, ◌+◌, ◌<◌, ◌==◌, Bool, true, false, ◌&&◌, ◌||◌, List, [], ◌∷◌, ◌++◌, length, map, slice_get, Option, Some, None, refl, sym, ap, ◌∙◌, subst, arith, append-nil}
+use Rattle.std.proofs.Common.{◌≡◌, ℕ, ◌<◌, ◌==◌, Bool, true, false, ◌&&◌, ◌||◌, List, [], ◌∷◌, ◌++◌, length, map, slice_get, Option, Some, None, refl, sym, ap, ◌∙◌, subst, arith, append-nil}
 use Rattle.std.specs.Prelude.{is_some, is_none, if◌then◌else◌, option_and_then, nat_lt}
 use Rattle.std.specs.Option.{option_map_or}
 use Rattle.std.specs.List.{find, list_any, filter_map, flat_map, enumerate_from}
 use Rattle.std.proofs.lemmas.Option.{none-some, same_Some}
-use Rattle.std.proofs.lemmas.Bool.{and_parts, and_from, or_parts, or_left, or_right, false≢true, eq-eqb, eqb-true, ltb-true}
+use Rattle.std.proofs.lemmas.Bool.{and_parts, and_from, false≢true, eq-eqb, eqb-true, ltb-true}
 use Rattle.std.proofs.lemmas.List.Elements.{filter_map-append}
 use Rattle.tta_ops.specs.Units.{Units}
 use Rattle.tta_arch.specs.declared.parts.UnitOp.{UnitOp}
@@ -17,14 +17,14 @@ use Rattle.tta_arch.specs.Joins.{within, has_socket, is_source_on, is_dest_on, h
 use Rattle.tta_arch.specs.Legal.{same_place}
 use Rattle.tta_arch.specs.Fields.{numbers, same_dest}
 use Rattle.tta_arch.specs.Effects.{KeptOperand, Start, kept, start_of, bring, op_at, operand_of, operand_word, lacks_operand, long_effect}
-use Rattle.tta_image.proofs.EndsLemmas.{same_dest_true, same_dest_itself}
+use Rattle.tta_image.proofs.EndsLemmas.{same_dest_itself}
 use Rattle.tta_code.specs.declared.code.Move.{Move}
 use Rattle.tta_code.specs.declared.code.Long.{Long}
 use Rattle.tta_code.specs.declared.code.Instruction.{Instruction}
 use Rattle.tta_code.specs.Cycle.{State, read_source, effect_of, moves_of, long_effects}
 use Rattle.tta_circuit.specs.Circuit.{Signal as OfSignal}
 use Rattle.tta_circuit.specs.Meaning.{is_set, value}
-use Rattle.tta_hardware.specs.Signals.{Signal as Named, Word, Acts, Operand, Expression}
+use Rattle.tta_hardware.specs.Signals.{Signal as Named, Word, Acts, Operand}
 use Rattle.tta_hardware.specs.Chains.{first_of}
 use Rattle.tta_hardware.specs.Fields.{slot_at}
 use Rattle.tta_hardware.specs.Wires.{arrivals, ops_of, nothing}

@@ -1,19 +1,14 @@
 -- What stands in the word of a legal instruction: its template, its long immediate, and the slots of its buses.
-use Rattle.std.proofs.Common.{◌≡◌, ℕ, zero, suc, ◌+◌, ◌-◌, ◌*◌, ◌/◌, ◌%◌, ◌^◌, ◌<◌, ◌≤◌, ◌==◌, Bool, true, false, nat_lt, is_some, if◌then◌else◌, List, [], ◌++◌, length, get_or, slice_get, Option, Some, None, refl, sym, ap, ◌∙◌, subst, inl, inr, arith}
-use Rattle.std.specs.Prelude.{option_and_then}
+use Rattle.std.proofs.Common.{◌≡◌, ℕ, ◌+◌, ◌-◌, ◌/◌, ◌%◌, ◌^◌, ◌<◌, ◌==◌, Bool, true, false, nat_lt, is_some, List, [], ◌++◌, length, slice_get, Option, Some, None, refl, sym, ap, ◌∙◌, subst, arith}
 use Rattle.std.specs.Option.{option_map_or}
-use Rattle.std.proofs.lemmas.Bool.{eqb-true, and_parts, ltb-true, ltb-false, le-leb, lt-leb, cases_lt, false_from_ne_true, false≢true, true≢false}
-use Rattle.std.proofs.lemmas.Nat.{mod_below, pow_pos, pow-add, div_below, shr_split}
-use Rattle.std.proofs.lemmas.Option.{slice_get-get_or, slice_get_past}
+use Rattle.std.proofs.lemmas.Bool.{and_parts, ltb-true, false≢true}
+use Rattle.std.proofs.lemmas.Nat.{pow_pos}
 use Rattle.std.proofs.lemmas.List.{append_assoc, append-nil}
-use Rattle.std.proofs.lemmas.List.Sums.{position_or_len_is}
 use Rattle.tta_ops.specs.Units.{Units}
-use Rattle.tta_arch.specs.declared.ends.Source.{Source}
-use Rattle.tta_arch.specs.declared.ends.Source.TheVariants as source
 use Rattle.tta_arch.specs.declared.parts.Template.{Template}
 use Rattle.tta_arch.specs.Machine.{Machine}
-use Rattle.tta_arch.specs.Joins.{has_bit, is_source_on}
-use Rattle.tta_arch.specs.Fields.{same_source, sources_on, guard_width, short_width, payload_width, dest_width, template_width, taken_width, guard_code, source_code, dest_code}
+use Rattle.tta_arch.specs.Joins.{has_bit}
+use Rattle.tta_arch.specs.Fields.{template_width, taken_width}
 use Rattle.tta_arch.specs.Rules.{IsMachine}
 use Rattle.tta_arch.proofs.Widths.{width_for-enough, no_high}
 use Rattle.tta_code.specs.declared.code.Move.{Move}
@@ -22,26 +17,19 @@ use Rattle.tta_code.specs.declared.code.Instruction.{Instruction}
 use Rattle.tta_code.specs.Legal.{is_long, is_legal}
 use Rattle.tta_image.specs.Bits.{bits_of, slot_bits, slots_bits, template_code, long_bits, instruction_bits}
 use Rattle.tta_image.specs.Fields.{buses_of}
-use Rattle.tta_image.specs.Sink.{bit_value}
-use Rattle.tta_image.specs.Decoding.{number_of, short_word, is_signed}
+use Rattle.tta_image.specs.Decoding.{number_of}
 use Rattle.tta_image.proofs.Unique.{length-bits_of}
 use Rattle.tta_image.proofs.Numbers.{number_of-bits_of_small}
 use Rattle.tta_image.proofs.BitLemmas.{low_whole}
-use Rattle.tta_image.proofs.EndsLemmas.{same_source_true}
-use Rattle.tta_image.proofs.CodesDecoded.{no_value_at}
-use Rattle.tta_image.proofs.ShortDecoded.{value_decoded}
-use Rattle.tta_image.proofs.NarrowFields.{narrow}
-use Rattle.tta_image.proofs.SlotLemmas.{is_joined_slot, joined_parts}
-use Rattle.tta_image.proofs.InstructionLemmas.{slots_length, IsWhole, whole_of, template_inside, value_fits, length-long_bits, empty_where_taken}
+use Rattle.tta_image.proofs.SlotLemmas.{is_joined_slot}
+use Rattle.tta_image.proofs.InstructionLemmas.{slots_length, IsWhole, whole_of, template_inside, value_fits, length-long_bits}
 use Rattle.tta_image.proofs.InstructionEncoded.{taken_bits-slots_bits}
-use Rattle.tta_circuit.specs.Circuit.{Expr, Const, Join, Slice, Select}
+use Rattle.tta_circuit.specs.Circuit.{Expr}
 use Rattle.tta_circuit.specs.Meaning.{is_set, value}
-use Rattle.tta_hardware.specs.Signals.{Field, GuardOf, IsShort, SourceOf, ShortOf, DestOf, TemplateOf, LongOf}
-use Rattle.tta_hardware.specs.Fields.{slot_at, short_mark, short_of, field_of}
 use Rattle.tta_hardware.specs.Fields.{word_of}
-use Rattle.tta_hardware.specs.Parts.{buses_width, below_bus, below_payload, below_tag, below_guard, template_part, takes_from, shares_from, long_from, with_high, short_part, dest_part}
-use Rattle.tta_hardware.proofs.Numbers.{low_low, part_in_part, piece_at}
-use Rattle.tta_hardware.proofs.Slots.{payload_of, is_value, HasSlot, has_slot, slot_stands, kept_at}
+use Rattle.tta_hardware.specs.Parts.{buses_width, template_part, takes_from, shares_from, long_from}
+use Rattle.tta_hardware.proofs.Numbers.{piece_at}
+use Rattle.tta_hardware.proofs.Slots.{HasSlot, has_slot, slot_stands}
 use Rattle.tta_hardware.proofs.Templates.{takes_none, takes_some, long_none, long_some}
 use Rattle.tta_hardware.proofs.Shares.{own_from, shares-value}
 

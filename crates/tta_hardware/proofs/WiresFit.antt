@@ -1,5 +1,5 @@
 -- The wires of a machine keep their widths and are plain.
-use Rattle.std.proofs.Common.{◌≡◌, ℕ, ◌+◌, ◌^◌, ◌<◌, ◌≤◌, ◌==◌, Bool, true, false, ◌&&◌, List, [], ◌∷◌, ◌++◌, length, map, filter, slice_get, Option, Some, None, refl, ap, subst, arith}
+use Rattle.std.proofs.Common.{◌≡◌, ℕ, ◌+◌, ◌<◌, ◌==◌, Bool, true, false, ◌&&◌, List, [], ◌∷◌, ◌++◌, length, map, filter, slice_get, Option, Some, None, refl, ap, subst, arith}
 use Rattle.std.specs.Prelude.{if◌then◌else◌, nat_lt}
 use Rattle.std.specs.Option.{option_map_or}
 use Rattle.std.specs.List.{list_all, flat_map, AllByRecursion}
@@ -17,7 +17,7 @@ use Rattle.tta_arch.specs.declared.ends.Dest.TheVariants as dest
 use Rattle.tta_arch.specs.Machine.{Machine}
 use Rattle.tta_arch.specs.Rules.{IsMachine, is_file, is_guard, same_op}
 use Rattle.tta_arch.specs.Joins.{is_dest_on}
-use Rattle.tta_arch.specs.Fields.{numbers, width_for, guards_on, sources_on, dests_on, guard_width, payload_width, dest_width, dest_code}
+use Rattle.tta_arch.specs.Fields.{numbers, guards_on, sources_on, dests_on, guard_width, payload_width, dest_width, dest_code}
 use Rattle.tta_arch.specs.Effects.{KeptReg, KeptImm, KeptRa, KeptOperand, KeptPort, width_of}
 use Rattle.tta_image.proofs.EndsLemmas.{dest_code_inside}
 use Rattle.tta_circuit.specs.Circuit.{Const, Signal, Not, Join}

@@ -1,6 +1,6 @@
 -- The circuit of code that agrees with a program does what the program does.
-use Rattle.std.proofs.Common.{◌≡◌, ℕ, zero, suc, ◌+◌, ◌*◌, ◌<◌, ◌≤◌, Bool, true, false, List, [], ◌∷◌, ◌++◌, length, refl, sym, ap, ◌∙◌, subst, arith}
-use Rattle.std.specs.Prelude.{if◌then◌else◌, nat_lt, nat_le, drop}
+use Rattle.std.proofs.Common.{◌≡◌, ℕ, zero, suc, ◌+◌, ◌*◌, ◌<◌, ◌≤◌, Bool, true, false, List, [], ◌∷◌, length, refl, sym, ap, ◌∙◌, subst, arith}
+use Rattle.std.specs.Prelude.{if◌then◌else◌, nat_lt, nat_le}
 use Rattle.std.proofs.lemmas.Bool.{false≢true, ltb-true, ltb-false, leb-true, leb-false}
 use Rattle.tta_list.specs.Prefix.{IsPrefixOf}
 use Rattle.tta_list.specs.Laid.{over}
@@ -15,16 +15,15 @@ use Rattle.tta_program.specs.Sequential as program
 use Rattle.tta_code.specs.declared.code.Code.{Code}
 use Rattle.tta_code.specs.Whole.{Whole, data_in}
 use Rattle.tta_code.specs.Legal.{IsLegalWhole}
-use Rattle.tta_code.specs.Cycle.{State, Outcome, Running, Halted, Waiting, Fault, next, start, cyc}
+use Rattle.tta_code.specs.Cycle.{State, Outcome, Running, Halted, Waiting, Fault, next, start}
 use Rattle.tta_agree.specs.Agrees.{IsGiven, AgreesAt, program_at, code_at}
 use Rattle.tta_circuit.specs.Circuit.{Circuit}
 use Rattle.tta_circuit.specs.Meaning.{bit, is_set}
-use Rattle.tta_hardware.specs.Signals.{Store, Signal as Named, HasHalted, Goes, Puts, PutWord}
+use Rattle.tta_hardware.specs.Signals.{Store, Signal as Named, Goes, Puts, PutWord}
 use Rattle.tta_hardware.specs.Hardware.{code_words}
 use Rattle.tta_hardware.specs.Stands.{is_halted}
 use Rattle.tta_hardware.specs.Theorem.{is_fault}
-use Rattle.tta_hardware.specs.Runs.{held_at, signals_at, cycles_at, put_at, AreClocks}
-use Rattle.tta_hardware.specs.Words.{image_words}
+use Rattle.tta_hardware.specs.Runs.{signals_at, cycles_at, put_at, AreClocks}
 use Rattle.tta_hardware.specs.Images.{ShowsRun}
 use Rattle.tta_hardware.proofs.Running.{waited}
 use Rattle.tta_hardware.proofs.Imaging.{shows_run}
