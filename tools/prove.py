@@ -8,6 +8,7 @@ import time
 
 sys.path.insert(0, os.path.join(os.path.dirname(os.path.abspath(__file__)), "plain"))
 import ending
+import units
 from build import CannotBuild, alone, crates_of
 
 TOP = os.path.normpath(os.path.join(os.path.dirname(os.path.abspath(__file__)), ".."))
@@ -86,6 +87,11 @@ def stands(built, begun, log):
 
 def main(words):
     program, = words
+    try:
+        units.check(program)
+    except units.Faulty as error:
+        ending.say(str(error))
+        return CANNOT_BUILD
     log = os.path.join(TOP, "crates", f"{program}.log")
     ending.say("proving and building the proved program, from nothing in an hour or more; --plain before a command asks for the plain one, in half a minute")
     try:

@@ -7,6 +7,7 @@ import sys
 
 import files
 import formats
+import units
 import words as command_words
 from causes import assembly, coverage, image, machine, near, program
 from causes import words as input_words
@@ -207,9 +208,16 @@ def of_fault(said):
     return codes("fault", said.number("code")) or of_status(said)
 
 
+def of_memory(said):
+    """There is no memory; or a program with units of its own does not start, for their names."""
+    if os.environ.get("TTA_CRATE", "tta").startswith("tta_with_"):
+        return ["there is no memory; or units share a name, or have a reserved one, in a way that the script did not see in their sources"]
+    return of_status(said)
+
+
 OTHERS = {
     "usage": of_usage, "not covered": of_coverage, "frame full": of_frame, "code full": of_code, "image": of_image, "core file": of_core,
-    "read fault": of_reading, "too long": of_reading, "write fault": of_writing, "machine fault": of_fault, "unsafe": of_fault,
+    "read fault": of_reading, "too long": of_reading, "write fault": of_writing, "machine fault": of_fault, "unsafe": of_fault, "no memory": of_memory,
 }
 
 
@@ -223,6 +231,7 @@ def reason(status, line, words):
 
 def main(words):
     status, said, *words = words
+    program_reader.ARITY.update(units.own_operations(os.environ.get("TTA_CRATE", "tta")))
     if said.startswith("tta: ") and "\n" not in said:
         for line in reason(int(status), said.removeprefix("tta: "), words):
             print(f"  {line}", file=sys.stderr)

@@ -8,7 +8,6 @@ WITHOUT_RESULT = ["stw", "stf", "out"]
 WITH_RESULT = ["ldw", "ldf", "in"]
 # Which operations one unit alone may have, and what they serve.
 PAIRS = {"ldw": "the data space", "stw": "the data space", "ldf": "the frame space", "stf": "the frame space", "out": "the output or the input", "in": "the output or the input"}
-TWO_WORDS = ["stw", "stf", *(op for op, count in ARITY.items() if count == 2)]
 LONGEST_NAME = 64
 # The most of each part, and the ranges of the numbers of a line, by the word before them.
 MOST = {"bus": ("buses", 16), "socket": ("sockets", 128), "file": ("files", 8), "imm": ("imms", 4), "unit": ("units", 32), "template": ("templates", 8)}
@@ -139,7 +138,7 @@ def of_ports(lines, number, found, m):
         lacks = "bus" if not m.buses else "control unit"
         return f"a machine has a {lacks}, and no line declares one" + ("" if m.buses else ": `bus NAME short BITS signed`") + (": `control delay 0 address 8 t SOCKET`" if m.buses else "")
     unit, op = found[1][1].text, found[2][1].text
-    if op in TWO_WORDS and not m.units[unit].o:
+    if (op in ("stw", "stf") or ARITY.get(op) == 2) and not m.units[unit].o:
         return f"`{op}` takes two words, and the unit `{unit}` of line {m.units[unit].line} has no operand port `o`"
     return f"`{op}` has a result, and the unit `{unit}` of line {m.units[unit].line} has no result port `r`"
 
