@@ -16,6 +16,8 @@ from texts import program as program_reader
 from texts.tokens import lines_of, tokens_of
 
 LONGEST = 120
+# No cause is looked for in a longer text, which takes memory and time.
+LONGEST_TEXT = 1 << 22
 # A token that is longer than any name may be.
 LONG_NAME = re.compile("`([^` ]{64})[^` ]+`")
 # How a word that is a number has to be.
@@ -128,7 +130,9 @@ def found(work, *given):
 
 def of_text(said):
     name, table, finder = TEXTS[said.kind]
-    path, cause = said.path(name), found(finder, said)
+    path = said.path(name)
+    is_short = path and os.path.isfile(path) and os.path.getsize(path) <= LONGEST_TEXT
+    cause = found(finder, said) if is_short else None
     line = cause.line if cause else said.number("line")
     below = [cause.text] if cause else codes(table, said.number("code")) if table else of_status(said)
     return (shown_line(path, line) if path and line else []) + [LONG_NAME.sub(r"`\1..`", text) for text in below]

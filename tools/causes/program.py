@@ -26,7 +26,7 @@ def of_operation(lines, program, number):
     if step.kind != "operation":
         return Cause(number, f"no unit offers the operation that `{step.relation}` needs")
     words = step.tokens[3:]
-    if words and words[0].text.startswith("-"):
+    if len(words) == 1 and words[0].text.startswith("-"):
         return Cause(number, f"`{step.name}` stands in the place of an operation: a difference is `{step.dest.text} = sub {step.name} {words[0].text[1:]}`")
     known = line.OTHER_NAMES.get(step.name)
     if known:

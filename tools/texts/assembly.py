@@ -3,6 +3,8 @@ from collections import namedtuple
 
 from texts.tokens import tokens_of
 
+# A line may have a whole text of assembly.
+MOST_TOKENS = 1 << 24
 # Lines stand beside tokens; that of the end is the line after the text.
 Placed = namedtuple("Placed", "line token")
 Datum = namedtuple("Datum", "line address")
@@ -27,7 +29,7 @@ class Reader:
     """The tokens of a text, taken one by one, and what they were found to be."""
 
     def __init__(self, lines):
-        self.all = [Placed(number, token) for number, line in enumerate(lines, 1) for token in tokens_of(line)]
+        self.all = [Placed(number, token) for number, line in enumerate(lines, 1) for token in tokens_of(line, MOST_TOKENS)]
         self.end, self.at = len(lines) + 1, 0
         self.data, self.items, self.misfit = [], [], None
 

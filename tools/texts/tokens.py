@@ -8,6 +8,7 @@ TOKEN = re.compile(r"(?P<name>[A-Za-z_][A-Za-z0-9_]*)|(?P<run>-?[0-9][A-Za-z0-9_
 BLANKS = " \t\r"
 WORDS = 2**32
 LONGEST_FILE = 1 << 24
+MOST_TOKENS = 10_000
 
 
 def of_run(text, at):
@@ -22,10 +23,10 @@ def of_run(text, at):
     return Token("bad" if value is None else "number", text, value, at)
 
 
-def tokens_of(line):
-    """The tokens of a line without its comment."""
+def tokens_of(line, most=MOST_TOKENS):
+    """The tokens of a line without its comment, at most so many: no line of a form has more."""
     found, at, line = [], 0, line.split("#")[0]
-    while at < len(line):
+    while at < len(line) and len(found) < most:
         if line[at] in BLANKS:
             at += 1
             continue
@@ -35,11 +36,16 @@ def tokens_of(line):
     return found
 
 
-def lines_of(path):
-    """The lines of a text; each byte is a character. There is no file where this fails."""
-    with open(path, "rb") as f:
-        lines = f.read(LONGEST_FILE).decode("latin-1").split("\n")
+def split(data):
+    """The lines of a text; each byte is a character."""
+    lines = data.decode("latin-1").split("\n")
     return lines if lines[-1] else lines[:-1]
+
+
+def lines_of(path):
+    """The lines of a file."""
+    with open(path, "rb") as f:
+        return split(f.read(LONGEST_FILE))
 
 
 def shown(token):
