@@ -88,9 +88,8 @@ streams_apart u m code h env s rules legal stands runs fine settled =
     by (slice_get code.words s.pc) refl (sym (ap (λ t. is_fault t.outcome) (next_is u m code s runs)) ∙ fine) where
       fetched : (i : Instruction) → slice_get code.words s.pc ≡ Some i → (o : Option ℕ)
           → fault_of s (effects_of m i) (brought m s i) (started_in m s i) ≡ o
-          → is_fault
-          (or_fault s o (or_wait s (waits s (started_in m s i)) (acts u m s (brought m s i) (started_in m s i) (written_after m s i)))).outcome
-          ≡ false
+          → is_fault (or_fault s o
+          (or_wait s (waits s (started_in m s i)) (acts u m s (brought m s i) (started_in m s i) (written_after m s i)))).outcome ≡ false
           → is_set (env Asks) ≡ true → is_set (env Gives) ≡ false
       fetched i at (Some n) is fine = absurd (false≢true (sym fine))
       fetched i at None is fine =
@@ -105,7 +104,7 @@ streams_apart u m code h env s rules legal stands runs fine settled =
 -- ---- tests
 
 -- whether a clock goes, from whether it begins anew, whether the machine has halted, and what is asked, offered, given and taken
-abbrev goes_by : (x h a o g r : Bool) → Bool
+abbrev pub goes_by : (x h a o g r : Bool) → Bool
 goes_by x h a o g r = not x && (not h && ((not a || o) && (not g || r)))
 
 and_false : (b : Bool) → (b && false) ≡ false
@@ -166,7 +165,7 @@ module _ (u : Units) (m : Machine) (code : Program) (memory input : List ℕ) (p
       by Waiting is = absurd (false≢true (sym run.goes_on ∙ ap is_waiting is))
       by (Fault number place) is = absurd (false≢true (sym (fine (cycles u m code memory powers inputs t)) ∙ ap is_fault is))
 
-  goes_is : is_set (env Goes) ≡ goes_by (is_set (env IsReset)) (is_set (env HasHalted)) (is_set (env Asks)) (is_set (env IsOffered))
+  pub goes_is : is_set (env Goes) ≡ goes_by (is_set (env IsReset)) (is_set (env HasHalted)) (is_set (env Asks)) (is_set (env IsOffered))
       (is_set (env Gives)) (is_set (env IsReady))
   goes_is =
       ap is_set its.goes ∙ going (is_set (env IsReset)) (is_set (env HasHalted)) (is_set (env Asks)) (is_set (env IsOffered))

@@ -2,7 +2,7 @@
 use Rattle.std.proofs.Common.{◌≡◌, ℕ, zero, suc, ◌+◌, ◌%◌, ◌<◌, ◌≤◌, ◌^◌, Bool, true, false, not, ◌&&◌, ◌||◌, List, [], ◌∷◌, ◌++◌, length, map, Some, None, refl, sym, ap, ◌∙◌, subst, arith, append-nil}
 use Rattle.std.specs.Prelude.{if◌then◌else◌, nat_lt, replicate, drop, slice_get}
 use Rattle.std.proofs.lemmas.Option.{none-some}
-use Rattle.std.proofs.lemmas.Bool.{false≢true, ltb-true, ltb-false}
+use Rattle.std.proofs.lemmas.Bool.{or_left, or_right, false≢true, ltb-true, ltb-false}
 use Rattle.std.proofs.lemmas.List.{length-replicate, drop-drop}
 use Rattle.std.proofs.lemmas.Nat.{pow_pos}
 use Rattle.tta_ops.specs.Units.{Units}
@@ -20,7 +20,7 @@ use Rattle.tta_hardware.specs.Stands.{Hardware, fresh_in, StandsFor, IsSettled, 
 use Rattle.tta_hardware.specs.Theorem.{is_fault, is_waiting, IsFed, HasStepped}
 use Rattle.tta_list.specs.Input.{left}
 use Rattle.tta_hardware.specs.Hardware.{circuit_of}
-use Rattle.tta_hardware.specs.Runs.{taken, AreClocks, hardware, signals, cycles, put, HasRun, CircuitRuns}
+use Rattle.tta_hardware.specs.Runs.{taken, AreClocks, hardware, signals, cycles, put, HasRun, IsStill, CircuitRuns, StandsStill}
 use Rattle.tta_hardware.proofs.Chained.{set_bit, going}
 use Rattle.tta_hardware.proofs.Fetching.{low, fetched_at}
 use Rattle.tta_hardware.proofs.Fresh.{same_fresh}
@@ -284,6 +284,34 @@ module _ (u : Units) (m : Machine) (code : Program) (memory input : List ℕ) (p
         let same : n ≡ t = omega (arith, le, less) in
         subst (λ k. HasRun u m code memory input powers inputs (suc k) (state (suc k))) same first_run
 
+  -- a clock that carries nothing out
+  still : (t : ℕ) → n < t → is_set (env t Goes) ≡ false → IsStill u m code (env t) (state t)
+  still t less stops = by (state t).outcome refl where
+    run : HasRun u m code memory input powers inputs t (state t)
+    run = every t less
+
+    by : (o : Outcome) → (state t).outcome ≡ o → IsStill u m code (env t) (state t)
+    by Running is =
+        let stalled =
+        (one_clock u m code (held t) (held (suc t)) (env t) (state t) rules legal run.stands is
+        (fine (suc (cycles u m code memory powers inputs t))) (its_settled t) (feeds t less run) (is_on t less)).1 stops in
+        record {
+          why = or_right (is_halted (state t).outcome) (is_set (env t Asks) && not (is_set (env t IsOffered))
+              || is_set (env t Gives) && not (is_set (env t IsReady))) stalled.why;
+          waits = λ runs. stalled.waits;
+        }
+    by Halted is = record {
+      why = or_left (is_halted (state t).outcome) (is_set (env t Asks) && not (is_set (env t IsOffered))
+          || is_set (env t Gives) && not (is_set (env t IsReady))) (ap is_halted is);
+      waits = λ runs. absurd (false≢true (sym runs ∙ ap is_halted is));
+    }
+    by Waiting is = absurd (false≢true (sym run.goes_on ∙ ap is_waiting is))
+    by (Fault number at) is = absurd (false≢true (sym (fine (cycles u m code memory powers inputs t)) ∙ ap is_fault is))
+
 pub circuit_runs : CircuitRuns
 circuit_runs u m code memory input powers inputs rules legal sized fine last clocks t less =
     every u m code memory input powers inputs rules legal sized fine last clocks t less
+
+pub stands_still : StandsStill
+stands_still u m code memory input powers inputs rules legal sized fine last clocks t less stops =
+    still u m code memory input powers inputs rules legal sized fine last clocks t less stops

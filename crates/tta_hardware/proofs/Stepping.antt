@@ -199,7 +199,7 @@ one_clock u m code h g env s rules legal stands runs fine settled fed on =
                 (or_wait s (waits s (started_in m s i)) (acts u m s (brought m s i) (started_in m s i) (written_after m s i)))) is
                 ∙ ap (λ b. or_wait s b (acts u m s (brought m s i) (started_in m s i) (written_after m s i)))
                 (waits_too u m code h g env s rules legal stands runs settled fed on i at is stops asks none) in
-                ap (λ t. is_waiting t.outcome) it;
+                it;
           },
     )
 

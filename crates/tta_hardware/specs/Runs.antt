@@ -1,16 +1,16 @@
 -- Runs of a circuit, and runs of its machine.
-use Rattle.std.specs.Prelude.{◌≡◌, ℕ, zero, suc, ◌+◌, ◌<◌, ◌≤◌, true, false, List, [], ◌∷◌, ◌++◌, length, drop, ◌&&◌, if◌then◌else◌}
+use Rattle.std.specs.Prelude.{◌≡◌, ℕ, zero, suc, ◌+◌, ◌<◌, ◌≤◌, true, false, not, ◌||◌, List, [], ◌∷◌, ◌++◌, length, drop, ◌&&◌, if◌then◌else◌}
 use Rattle.tta_ops.specs.Units.{Units}
 use Rattle.tta_arch.specs.Machine.{Machine}
 use Rattle.tta_arch.specs.Rules.{IsMachine}
 use Rattle.tta_code.specs.declared.code.Code.{Code as Program}
 use Rattle.tta_code.specs.Legal.{IsLegalCode}
-use Rattle.tta_code.specs.Cycle.{State, cyc}
+use Rattle.tta_code.specs.Cycle.{State, Waiting, next, cyc}
 use Rattle.tta_circuit.specs.Circuit.{Circuit}
 use Rattle.tta_circuit.specs.Meaning.{bit, is_set, settled, held_from, powered}
-use Rattle.tta_hardware.specs.Signals.{Signal as Named, Store, IsReset, Asks, Goes, Puts, PutWord, same_signal, same_store}
+use Rattle.tta_hardware.specs.Signals.{Signal as Named, Store, IsOffered, IsReady, IsReset, Asks, Gives, Goes, Puts, PutWord, same_signal, same_store}
 use Rattle.tta_hardware.specs.Hardware.{circuit_of}
-use Rattle.tta_hardware.specs.Stands.{Hardware, StandsFor}
+use Rattle.tta_hardware.specs.Stands.{Hardware, StandsFor, is_halted}
 use Rattle.tta_hardware.specs.Theorem.{is_fault, is_waiting, IsFed}
 
 module _ (u : Units) (c : Circuit Named Store) (powers : Named → ℕ) (inputs : ℕ → Named → ℕ) where
@@ -82,3 +82,21 @@ CircuitRuns =
     → ((n : ℕ) → is_fault (cyc u m code memory input n).outcome ≡ false)
     → (last : ℕ) → AreClocks u (circuit_of m code memory) input powers inputs last → (t : ℕ) → last < t
     → HasRun u m code memory input powers inputs t (cyc u m code memory input (cycles u m code memory powers inputs t))
+
+-- Why a clock carries nothing out: the machine has halted, or the circuit asks for a word and none is offered, or it has one to put
+-- out that nobody takes. Where it runs and asks for a word and none is left, the machine waits in its next cycle.
+pub record IsStill (u : Units) (m : Machine) (code : Program) (env : Named → ℕ) (s : State) : Type 0 where
+  pub why : (is_halted s.outcome
+      || (is_set (env Asks) && not (is_set (env IsOffered)) || is_set (env Gives) && not (is_set (env IsReady)))) ≡ true
+  pub waits : is_halted s.outcome ≡ false → is_set (env Asks) ≡ true → s.rest ≡ [] → next u m code s ≡ record s { outcome = Waiting }
+
+-- The circuit stands still only so, once it does not begin anew, under the same premises.
+abbrev pub StandsStill : Type 0
+StandsStill =
+    (u : Units) (m : Machine) (code : Program) (memory input : List ℕ) (powers : Named → ℕ) (inputs : ℕ → Named → ℕ)
+    → IsMachine m → IsLegalCode m code → length memory ≡ m.data_words
+    → ((n : ℕ) → is_fault (cyc u m code memory input n).outcome ≡ false)
+    → (last : ℕ) → AreClocks u (circuit_of m code memory) input powers inputs last → (t : ℕ) → last < t
+    → is_set (signals u m code memory powers inputs t Goes) ≡ false
+    → IsStill u m code (signals u m code memory powers inputs t)
+    (cyc u m code memory input (cycles u m code memory powers inputs t))

@@ -42,7 +42,7 @@ pub record HasStepped (u : Units) (m : Machine) (code : Program) (g : Hardware) 
 -- word and none is left, the machine waits too.
 pub record HasStalled (u : Units) (m : Machine) (code : Program) (env : Named → ℕ) (s : State) : Type 0 where
   pub why : (is_set (env Asks) && not (is_set (env IsOffered)) || is_set (env Gives) && not (is_set (env IsReady))) ≡ true
-  pub waits : is_set (env Asks) ≡ true → s.rest ≡ [] → is_waiting (next u m code s).outcome ≡ true
+  pub waits : is_set (env Asks) ≡ true → s.rest ≡ [] → next u m code s ≡ record s { outcome = Waiting }
 
 -- One clock, where the circuit stands for a state that runs, and whose next cycle is no fault: a clock that carries the instruction out
 -- makes that cycle, and any other one waits.

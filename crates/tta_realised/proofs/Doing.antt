@@ -1,7 +1,8 @@
 -- The circuit of code that agrees with a program does what the program does.
-use Rattle.std.proofs.Common.{◌≡◌, ℕ, zero, suc, ◌+◌, ◌*◌, ◌<◌, ◌≤◌, Bool, true, false, List, [], ◌∷◌, length, refl, sym, ap, ◌∙◌, subst, arith}
+use Rattle.std.proofs.Common.{◌≡◌, ℕ, zero, suc, ◌+◌, ◌*◌, ◌<◌, ◌≤◌, Bool, true, false, not, ◌&&◌, List, [], ◌∷◌, length, slice_get, refl, sym, ap, ◌∙◌, subst, arith}
 use Rattle.std.specs.Prelude.{if◌then◌else◌, nat_lt, nat_le}
 use Rattle.std.proofs.lemmas.Bool.{false≢true, ltb-true, ltb-false, leb-true, leb-false}
+use Rattle.std.proofs.lemmas.Option.{none-some}
 use Rattle.tta_list.specs.Prefix.{IsPrefixOf}
 use Rattle.tta_list.specs.Laid.{over}
 use Rattle.tta_list.proofs.Prefixes.{prefix_chain}
@@ -16,19 +17,20 @@ use Rattle.tta_code.specs.declared.code.Code.{Code}
 use Rattle.tta_code.specs.Whole.{Whole, data_in}
 use Rattle.tta_code.specs.Legal.{IsLegalWhole}
 use Rattle.tta_code.specs.Cycle.{State, Outcome, Running, Halted, Waiting, Fault, next, start}
-use Rattle.tta_agree.specs.Agrees.{IsGiven, AgreesAt, program_at, code_at}
+use Rattle.tta_agree.specs.Agrees.{IsGiven, WaitAlike, AgreesAt, program_at, code_at}
 use Rattle.tta_circuit.specs.Circuit.{Circuit}
 use Rattle.tta_circuit.specs.Meaning.{bit, is_set}
-use Rattle.tta_hardware.specs.Signals.{Store, Signal as Named, Goes, Puts, PutWord}
+use Rattle.tta_hardware.specs.Signals.{Store, Signal as Named, HasHalted, IsOffered, Offer, IsReady, IsReset, Gives, Goes, Puts, PutWord}
 use Rattle.tta_hardware.specs.Hardware.{code_words}
 use Rattle.tta_hardware.specs.Stands.{is_halted}
 use Rattle.tta_hardware.specs.Theorem.{is_fault}
-use Rattle.tta_hardware.specs.Runs.{signals_at, cycles_at, put_at, AreClocks}
+use Rattle.tta_hardware.specs.Runs.{signals_at, cycles_at, put_at, AreClocks, IsStill}
 use Rattle.tta_hardware.specs.Images.{ShowsRun}
-use Rattle.tta_hardware.proofs.Running.{waited}
+use Rattle.tta_hardware.proofs.Running.{waited, stands_still}
+use Rattle.tta_hardware.proofs.Pins.{goes_by, goes_is}
 use Rattle.tta_hardware.proofs.Imaging.{shows_run}
 use Rattle.tta_hardware.proofs.Imaged.{image_kept}
-use Rattle.tta_realised.specs.Realised.{circuit_on, HasHaltedBy, HaltsAs, DoesAs}
+use Rattle.tta_realised.specs.Realised.{circuit_on, HasHaltedBy, HaltsAs, AsksInVain, WaitsAs, DoesAs}
 use Rattle.tta_realised.specs.Laws.{CircuitDoes, ImageDoes}
 
 -- ---- outcomes
@@ -141,6 +143,52 @@ module _ (u : Units) (m : Machine) (p : Program) (rate : ℕ) (whole : Whole) (m
       (rests u m whole.code (code size) alike.code) in
       (shows t less).halted ∙ ap (λ (s : State). is_halted s.outcome) still ∙ ap is_halted alike.code
 
+  -- ---- asking in vain
+
+  offered_not : (t : ℕ) → last < t → AsksInVain u c input powers inputs t → is_set (signals_at u c powers inputs t IsOffered) ≡ false
+  offered_not t less vain = by (is_set (signals_at u c powers inputs t IsOffered)) refl where
+    by : (b : Bool) → is_set (signals_at u c powers inputs t IsOffered) ≡ b → is_set (signals_at u c powers inputs t IsOffered) ≡ false
+    by true is =
+        absurd (none-some (signals_at u c powers inputs t Offer)
+        (sym (ap (λ (l : List ℕ). slice_get l 0) vain.none) ∙ clocks.fed t less is))
+    by false is = is
+
+  stops : (t : ℕ) → last < t → AsksInVain u c input powers inputs t → is_set (signals_at u c powers inputs t Goes) ≡ false
+  stops t less vain =
+      goes_is u m whole.code (over (data_in whole) memory) input powers inputs rules legal.code sized fine last clocks t
+      ∙ ap (λ b. goes_by (is_set (signals_at u c powers inputs t IsReset)) (is_set (signals_at u c powers inputs t HasHalted)) b
+      (is_set (signals_at u c powers inputs t IsOffered)) (is_set (signals_at u c powers inputs t Gives))
+      (is_set (signals_at u c powers inputs t IsReady))) vain.asks
+      ∙ ap (λ b. goes_by (is_set (signals_at u c powers inputs t IsReset)) (is_set (signals_at u c powers inputs t HasHalted)) true b
+      (is_set (signals_at u c powers inputs t Gives)) (is_set (signals_at u c powers inputs t IsReady))) (offered_not t less vain)
+      ∙ never (is_set (signals_at u c powers inputs t IsReset)) (is_set (signals_at u c powers inputs t HasHalted)) where
+        never : (x h : Bool) → (not x && (not h && false)) ≡ false
+        never true h = refl
+        never false true = refl
+        never false false = refl
+
+  waits_as : (t : ℕ) → last < t → AsksInVain u c input powers inputs t
+      → WaitsAs u c input powers inputs t (program_at u p memory input (rate * (made t + 2)))
+  waits_as t less vain =
+      subst (λ (k : ℕ). WaitsAs u c input powers inputs t (program_at u p memory input (rate * k))) (omega arith) (record {
+        program = alike.program;
+        output = run.output ∙ sym (ap (λ (s : State). s.output) waiting) ∙ alike.output;
+        rest = sym alike.rest ∙ ap (λ (s : State). s.rest) waiting ∙ run.rest ∙ vain.none;
+      }) where
+        run : ShowsRun u m (code_words m whole.code) (over (data_in whole) memory) input powers inputs t (code (made t))
+        run = shows t less
+
+        still : IsStill u m whole.code (signals_at u c powers inputs t) (code (made t))
+        still =
+            stands_still u m whole.code (over (data_in whole) memory) input powers inputs rules legal.code sized fine last clocks t less
+            (stops t less vain)
+
+        waiting : code (suc (made t)) ≡ record (code (made t)) { outcome = Waiting }
+        waiting = still.waits (sym run.halted ∙ vain.runs) vain.asks (run.rest ∙ vain.none)
+
+        alike : WaitAlike (program_at u p memory input (rate * (suc (made t) + 1))) (code (suc (made t)))
+        alike = agrees.waits_only memory input (suc (made t)) given (ap (λ (s : State). s.outcome) waiting)
+
   pub does : (t : ℕ) → last < t → DoesAs u c input powers inputs p memory rate (length whole.code.words) t
   does t less = record {
     output = subst (λ (l : List ℕ). IsPrefixOf l (program_at u p memory input (rate * (made t + 1))).output) (sym (shows t less).output)
@@ -148,6 +196,7 @@ module _ (u : Units) (m : Machine) (p : Program) (rate : ℕ) (whole : Whole) (m
     reaches = λ n enough. reaches t n less enough;
     halted = halted_as t less;
     halts = λ n is enough. halts_too t n less is enough;
+    waits = waits_as t less;
   }
 
 pub circuit_does : CircuitDoes

@@ -1,5 +1,5 @@
 -- What a circuit does beside a program.
-use Rattle.std.specs.Prelude.{◌≡◌, ℕ, ◌+◌, ◌*◌, ◌≤◌, true, List, drop}
+use Rattle.std.specs.Prelude.{◌≡◌, ℕ, ◌+◌, ◌*◌, ◌≤◌, true, false, List, [], drop}
 use Rattle.tta_list.specs.Prefix.{IsPrefixOf}
 use Rattle.tta_list.specs.Laid.{over}
 use Rattle.tta_ops.specs.Units.{Units}
@@ -10,9 +10,9 @@ use Rattle.tta_code.specs.Whole.{Whole, data_in}
 use Rattle.tta_agree.specs.Agrees.{program_at}
 use Rattle.tta_circuit.specs.Circuit.{Circuit}
 use Rattle.tta_circuit.specs.Meaning.{is_set}
-use Rattle.tta_hardware.specs.Signals.{Store, Data, Signal as Named, HasHalted}
+use Rattle.tta_hardware.specs.Signals.{Store, Data, Signal as Named, HasHalted, Asks}
 use Rattle.tta_hardware.specs.Hardware.{circuit_with}
-use Rattle.tta_hardware.specs.Runs.{held_at, cycles_at, taken_at, put_at}
+use Rattle.tta_hardware.specs.Runs.{held_at, signals_at, cycles_at, taken_at, put_at}
 
 -- the circuit of a machine whose memory of code has these words, and whose data space has the data of code over a memory
 abbrev pub circuit_on : Machine → Whole → (words memory : List ℕ) → Circuit Named Store
@@ -30,10 +30,23 @@ module _ (u : Units) (c : Circuit Named Store) (input : List ℕ) (powers : Name
     pub memory : (held_at u c powers inputs t).memories Data ≡ s.memory
     pub rest : drop (taken_at u c powers inputs t) input ≡ s.rest
 
+  -- It runs and asks for a word, and all of the input was taken.
+  pub record AsksInVain (t : ℕ) : Type 0 where
+    pub runs : is_set ((held_at u c powers inputs t).words HasHalted) ≡ false
+    pub asks : is_set (signals_at u c powers inputs t Asks) ≡ true
+    pub none : drop (taken_at u c powers inputs t) input ≡ []
+
+  -- It has put out the output of a program's state that waits for a word, and none is left.
+  pub record WaitsAs (t : ℕ) (s : program.State) : Type 0 where
+    pub program : s.outcome ≡ program.Waiting
+    pub output : put_at u c powers inputs t ≡ s.output
+    pub rest : s.rest ≡ []
+
   -- After so many clocks a circuit has done what a program does. What it put out begins the program's output; and the output of so many
   -- steps begins what it put out, once it has made enough cycles for them. Where it has halted, the program has, with the same output,
-  -- memory and rest of the input; and where the program has, it has, once it has made enough cycles. A cycle stands for at most `rate`
-  -- steps, and a step takes at most `size` cycles.
+  -- memory and rest of the input; and where the program has, it has, once it has made enough cycles. Where it asks for a word and none
+  -- is left, the program waits for one, with the same output. A cycle stands for at most `rate` steps, and a step takes at most `size`
+  -- cycles.
   pub record DoesAs (p : Program) (memory : List ℕ) (rate size t : ℕ) : Type 0 where
     pub output : IsPrefixOf (put_at u c powers inputs t) (program_at u p memory input (rate * (cycles_at u c powers inputs t + 1))).output
     pub reaches : (n : ℕ) → size * (n + 1) ≤ cycles_at u c powers inputs t
@@ -41,3 +54,4 @@ module _ (u : Units) (c : Circuit Named Store) (input : List ℕ) (powers : Name
     pub halted : HasHaltedBy t → HaltsAs t (program_at u p memory input (rate * (cycles_at u c powers inputs t + 1)))
     pub halts : (n : ℕ) → (program_at u p memory input n).outcome ≡ program.Halted → size * (n + 1) ≤ cycles_at u c powers inputs t
         → HasHaltedBy t
+    pub waits : AsksInVain t → WaitsAs t (program_at u p memory input (rate * (cycles_at u c powers inputs t + 2)))
