@@ -1,0 +1,19 @@
+//! The circuit of a machine with its code, as a module of Verilog.
+#![tactic(auto)]
+
+mod buses;
+mod control;
+mod fields;
+mod functions;
+mod names;
+mod on;
+mod pipes;
+mod reach;
+mod registers;
+mod results;
+mod spaces;
+mod starts;
+mod templates;
+mod whole;
+
+pub use whole::write_rtl;
