@@ -67,7 +67,8 @@ guard_there buses bus files on (g ∷ gs) all some =
     by false is any good rest = rest any
 
 -- a register whose file has a socket
-reg_there : (m : Machine) (bus file index : ℕ) → has_source_socket m bus (source.Reg file index) ≡ true → has_place m (KeptReg file index)
+pub reg_there : (m : Machine) (bus file index : ℕ) → has_source_socket m bus (source.Reg file index) ≡ true
+    → has_place m (KeptReg file index)
     ≡ true
 reg_there m bus file index on = by (slice_get m.files file) on where
   in_size : (f : File) (b : Bool) → has_socket m false (if b then Some f.out else None) bus ≡ true → b ≡ true
@@ -80,7 +81,8 @@ reg_there m bus file index on = by (slice_get m.files file) on where
   by (Some f) is = in_size f (nat_lt index f.size) is
 
 -- an immediate register whose unit has one
-imm_there : (m : Machine) (bus unit index : ℕ) → has_source_socket m bus (source.Imm unit index) ≡ true → has_place m (KeptImm unit index)
+pub imm_there : (m : Machine) (bus unit index : ℕ) → has_source_socket m bus (source.Imm unit index) ≡ true
+    → has_place m (KeptImm unit index)
     ≡ true
 imm_there m bus unit index on = by (slice_get m.imms unit) on where
   in_size : (f : ImmUnit) (b : Bool) → has_socket m false (if b then Some f.out else None) bus ≡ true → b ≡ true
@@ -98,7 +100,7 @@ within_list [] k is = absurd (false≢true is)
 within_list (x ∷ xs) zero is = omega arith
 within_list (x ∷ xs) (suc k) is = let rest = within_list xs k is in omega (arith, rest)
 
-unit_there : (m : Machine) (bus unit : ℕ) → has_source_socket m bus (source.Shown unit) ≡ true → unit < length m.units
+pub unit_there : (m : Machine) (bus unit : ℕ) → has_source_socket m bus (source.Shown unit) ≡ true → unit < length m.units
 unit_there m bus unit on = within_list m.units unit (by (slice_get m.units unit) on) where
   by : (o : Option OpUnit) → has_socket m false (option_and_then (λ q. q.result) o) bus ≡ true → is_some o ≡ true
   by None is = absurd (false≢true is)

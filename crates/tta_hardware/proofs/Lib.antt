@@ -54,3 +54,8 @@ pub mod Filled
 pub mod Imaging
 pub mod Staying
 pub mod Pins
+pub mod There
+pub mod OnlyThere
+pub mod WiresRead
+pub mod RegistersRead
+pub mod ReadsThere

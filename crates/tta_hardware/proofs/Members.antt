@@ -41,7 +41,7 @@ any_of_numbers q f a (suc n) (suc k) j e less any =
     (any_of_numbers q f (a + 1) n k j (omega (arith, e)) (omega (arith, less)) any)
 
 -- an element of a list that is made of another
-any_made : {A B : Type 0} (q : B → Bool) (p : A → Bool) (f : A → B) (xs : List A) → ((x : A) → p x ≡ true → q (f x) ≡ true)
+pub any_made : {A B : Type 0} (q : B → Bool) (p : A → Bool) (f : A → B) (xs : List A) → ((x : A) → p x ≡ true → q (f x) ≡ true)
     → list_any p xs ≡ true → list_any q (map f xs) ≡ true
 any_made q p f [] more any = any
 any_made q p f (x ∷ xs) more any = by (p x) refl any (any_made q p f xs more) where

@@ -20,18 +20,18 @@ use Rattle.tta_hardware.proofs.FieldsFit.{field_fits}
 
 -- ---- lists
 
-below_all : (n a k : ℕ) → a + k ≤ n → AllByRecursion (λ i. i < n) (range_with_len a k)
+pub below_all : (n a k : ℕ) → a + k ≤ n → AllByRecursion (λ i. i < n) (range_with_len a k)
 below_all n a zero few = tt
 below_all n a (suc k) few = (omega (arith, few), below_all n (a + 1) k (omega (arith, few)))
 
-all_each : {A : Type 0} (P : A → Type 0) (xs : List A) → ((x : A) → P x) → AllByRecursion P xs
+pub all_each : {A : Type 0} (P : A → Type 0) (xs : List A) → ((x : A) → P x) → AllByRecursion P xs
 all_each P [] each = tt
 all_each P (x ∷ xs) each = (each x, all_each P xs each)
 
 pub all_made : {A B : Type 0} (P : B → Type 0) (f : A → B) (xs : List A) → ((x : A) → P (f x)) → AllByRecursion P (map f xs)
 all_made P f xs each = all_map P f xs (all_each (λ x. P (f x)) xs each)
 
-all_pieces : {A B : Type 0} (Q : A → Type 0) (P : B → Type 0) (f : A → List B) (xs : List A) → AllByRecursion Q xs
+pub all_pieces : {A B : Type 0} (Q : A → Type 0) (P : B → Type 0) (f : A → List B) (xs : List A) → AllByRecursion Q xs
     → ((x : A) → Q x → AllByRecursion P (f x)) → AllByRecursion P (flat_map f xs)
 all_pieces Q P f [] all each = tt
 all_pieces Q P f (x ∷ xs) all each = both_lists P (f x) (flat_map f xs) (each x all.0) (all_pieces Q P f xs all.1 each)
@@ -74,7 +74,7 @@ module _ (m : Machine) (rules : IsMachine m) where
       there : nat_lt bus (length m.buses) ≡ true
       there = lt-ltb bus (length m.buses) less
 
-  fields_have : AllByRecursion (λ f. has_field m f ≡ true) (all_fields m)
+  pub fields_have : AllByRecursion (λ f. has_field m f ≡ true) (all_fields m)
   fields_have =
       both_lists (λ f. has_field m f ≡ true) (flat_map (bus_fields m) (numbers (length m.buses)) ++ with_bits (template_width m) TemplateOf)
       (LongOf ∷ [])

@@ -16,7 +16,7 @@ use Rattle.tta_circuit.specs.Meaning.{is_set}
 use Rattle.tta_hardware.specs.Signals.{Signal as Named, Pc, Whole, Code, HasHalted, IsOffered, Offer, IsReady, IsReset, Asks, Gives, Goes}
 use Rattle.tta_hardware.specs.Stands.{Hardware, StandsFor, IsSettled, HasClocked, HasComing, HasPorts, is_halted}
 use Rattle.tta_hardware.specs.Laws.{Meet, AreStarted, HasStored, HasSteered, Streams, brought, written_after, started_in}
-use Rattle.tta_hardware.specs.Theorem.{is_fault, is_waiting, IsFed, HasStepped, HasStalled, OneClock}
+use Rattle.tta_hardware.specs.Theorem.{is_fault, IsFed, HasStepped, HasStalled, OneClock}
 use Rattle.tta_hardware.proofs.Chained.{going}
 use Rattle.tta_hardware.proofs.Fetching.{fetched_at}
 use Rattle.tta_hardware.proofs.Keeping.{words_keep}

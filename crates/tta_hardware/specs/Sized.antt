@@ -9,8 +9,9 @@ use Rattle.tta_circuit.specs.Circuit.{WritePort}
 use Rattle.tta_circuit.specs.Widths.{width_of, is_sized}
 use Rattle.tta_circuit.specs.Plain.{is_plain, IsPlain}
 use Rattle.tta_circuit.specs.Order.{is_ordered}
+use Rattle.tta_circuit.specs.Closed.{IsClosed}
 use Rattle.tta_code.specs.declared.code.Code.{Code as Program}
-use Rattle.tta_hardware.specs.Signals.{Field, Store, Code, Data, Frame, Signal as Named, Pc, HasHalted, Underway, Goal, Ends, Keeps, IsDue, Due, HasBegun, Raw, IsInside, Port, IsOffered, Offer, IsReady, IsReset, Whole, Word, Acts, Starts, Trigger, Operand, Controls, GoalNow, EndsNow, Lands, Asks, Gives, Goes, NextPc, Puts, PutWord, Expression}
+use Rattle.tta_hardware.specs.Signals.{Field, Store, Code, Data, Frame, Signal as Named, Pc, HasHalted, Underway, Goal, Ends, Keeps, IsDue, Due, HasBegun, Raw, IsInside, Port, IsOffered, Offer, IsReady, IsReset, Whole, Word, Acts, Starts, Trigger, Operand, Controls, GoalNow, EndsNow, Lands, Asks, Gives, Goes, NextPc, Puts, PutWord, Expression, same_signal}
 use Rattle.tta_hardware.specs.Wires.{made_of, fetched}
 use Rattle.tta_hardware.specs.Registers.{register_width, becomes, enabled}
 use Rattle.tta_hardware.specs.Fields.{field_width}
@@ -109,3 +110,7 @@ CircuitIsPlain =
     (m : Machine) (code : Program) (memory : List ℕ) → IsMachine m
     → IsPlain (signal_width m) (store_width m) (circuit_of m code memory)
     × (is_ordered rank 1 (circuit_of m code memory).wires ≡ true)
+
+-- Every expression of it reads only signals that the circuit has.
+abbrev pub CircuitIsClosed : Type 0
+CircuitIsClosed = (m : Machine) (code : Program) (memory : List ℕ) → IsMachine m → IsClosed same_signal (circuit_of m code memory)
