@@ -1,5 +1,5 @@
--- Circuits that read only signals that they have.
-use Rattle.std.specs.Prelude.{◌≡◌, Bool, true, ◌||◌, if◌then◌else◌, Option, None, Some, ⊤}
+-- Circuits that read only signals that they have, and have each once.
+use Rattle.std.specs.Prelude.{◌≡◌, Bool, true, not, ◌&&◌, ◌||◌, if◌then◌else◌, List, [], ◌∷◌, ◌++◌, map, Option, None, Some, ⊤}
 use Rattle.std.specs.List.{list_any, AllByRecursion}
 use Rattle.tta_circuit.specs.Circuit.{Expr, WritePort, Circuit}
 use Rattle.tta_circuit.specs.Meaning.{is_input}
@@ -25,3 +25,12 @@ module _ {N M : Type 0} where
     pub registers : AllByRecursion
         (λ r. (reads_only (has_signal same c) r.enable ≡ true) × (reads_only (has_signal same c) r.next ≡ true)) c.registers
     pub memories : AllByRecursion (λ x. PortReads (has_signal same c) x.port) c.memories
+
+-- whether no two of some names are one
+abbrev pub are_apart : {N : Type 0} → (same : N → N → Bool) → List N → Bool
+are_apart same [] = true
+are_apart same (x ∷ xs) = not (list_any (same x) xs) && are_apart same xs
+
+-- all signals of a circuit: its inputs, its wires and its registers
+abbrev pub signals_of : {N M : Type 0} → Circuit N M → List N
+signals_of c = map (λ i. i.0) c.inputs ++ map (λ w. w.name) c.wires ++ map (λ r. r.name) c.registers

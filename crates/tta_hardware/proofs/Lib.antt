@@ -59,3 +59,9 @@ pub mod OnlyThere
 pub mod WiresRead
 pub mod RegistersRead
 pub mod ReadsThere
+pub mod Different
+pub mod FieldsApart
+pub mod TellingApart
+pub mod WiresApart
+pub mod RegistersApart
+pub mod NamesApart

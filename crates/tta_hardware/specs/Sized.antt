@@ -1,5 +1,5 @@
 -- The widths of a machine's signals and memories, and that its circuit keeps them and is plain.
-use Rattle.std.specs.Prelude.{◌≡◌, ℕ, ◌<◌, Bool, true, List, length}
+use Rattle.std.specs.Prelude.{◌≡◌, ℕ, ◌<◌, Bool, true, List, length, map}
 use Rattle.tta_arch.specs.Machine.{Machine}
 use Rattle.tta_arch.specs.Rules.{IsMachine}
 use Rattle.tta_arch.specs.Fields.{word_width}
@@ -9,9 +9,9 @@ use Rattle.tta_circuit.specs.Circuit.{WritePort}
 use Rattle.tta_circuit.specs.Widths.{width_of, is_sized}
 use Rattle.tta_circuit.specs.Plain.{is_plain, IsPlain}
 use Rattle.tta_circuit.specs.Order.{is_ordered}
-use Rattle.tta_circuit.specs.Closed.{IsClosed}
+use Rattle.tta_circuit.specs.Closed.{IsClosed, are_apart, signals_of}
 use Rattle.tta_code.specs.declared.code.Code.{Code as Program}
-use Rattle.tta_hardware.specs.Signals.{Field, Store, Code, Data, Frame, Signal as Named, Pc, HasHalted, Underway, Goal, Ends, Keeps, IsDue, Due, HasBegun, Raw, IsInside, Port, IsOffered, Offer, IsReady, IsReset, Whole, Word, Acts, Starts, Trigger, Operand, Controls, GoalNow, EndsNow, Lands, Asks, Gives, Goes, NextPc, Puts, PutWord, Expression, same_signal}
+use Rattle.tta_hardware.specs.Signals.{Field, Store, Code, Data, Frame, Signal as Named, Pc, HasHalted, Underway, Goal, Ends, Keeps, IsDue, Due, HasBegun, Raw, IsInside, Port, IsOffered, Offer, IsReady, IsReset, Whole, Word, Acts, Starts, Trigger, Operand, Controls, GoalNow, EndsNow, Lands, Asks, Gives, Goes, NextPc, Puts, PutWord, Expression, same_signal, same_store}
 use Rattle.tta_hardware.specs.Wires.{made_of, fetched}
 use Rattle.tta_hardware.specs.Registers.{register_width, becomes, enabled}
 use Rattle.tta_hardware.specs.Fields.{field_width}
@@ -114,3 +114,9 @@ CircuitIsPlain =
 -- Every expression of it reads only signals that the circuit has.
 abbrev pub CircuitIsClosed : Type 0
 CircuitIsClosed = (m : Machine) (code : Program) (memory : List ℕ) → IsMachine m → IsClosed same_signal (circuit_of m code memory)
+
+-- No two signals of it have one name, and neither have two memories.
+abbrev pub NamesDiffer : Type 0
+NamesDiffer =
+    (m : Machine) (code : Program) (memory : List ℕ) → (are_apart same_signal (signals_of (circuit_of m code memory)) ≡ true)
+    × (are_apart same_store (map (λ x. x.name) (circuit_of m code memory).memories) ≡ true)
