@@ -77,7 +77,7 @@ pub record PortFits (m : Machine) (p : WritePort Named Store) : Type 0 where
   pub word : Fits m p.word 32
 
 -- What each register becomes has its width, the tests that let it take it and the address of the next instruction have theirs, and the
--- spaces are written with words of 32 bits.
+-- spaces are written with words of 32 bits; and all of them are plain.
 pub record RegistersFit (m : Machine) : Type 0 where
   pub enables : (n : Named) → Fits m (enabled n) 1
   pub next_pc : Fits m (made_of m NextPc) m.control.address
@@ -99,7 +99,7 @@ pub record RegistersFit (m : Machine) : Type 0 where
 abbrev pub RegistersAreSized : Type 0
 RegistersAreSized = (m : Machine) → IsMachine m → RegistersFit m
 
--- The fields of the instruction do, too.
+-- The fields of the instruction have the widths that they are declared with, and are plain.
 abbrev pub FieldsAreSized : Type 0
 FieldsAreSized =
     (m : Machine) → IsMachine m → (f : Field) → has_field m f ≡ true → Fits m (fetched m f) (field_width m f)
