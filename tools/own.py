@@ -60,6 +60,6 @@ def main(words):
     options, words = words[2:2 + count], words[2 + count:]
     for own in OWN:
         if words and words[0] in (form.split()[0] for form in own.forms):
-            module, name = own.work.split(".")
+            module, _, name = own.work.rpartition(".")
             return getattr(importlib.import_module(module), name)([script, *options], words[1:])
     return no_command(words)

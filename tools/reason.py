@@ -9,7 +9,7 @@ import files
 import formats
 import units
 import words as command_words
-from causes import assembly, coverage, image, machine, near, program
+from causes import assembly, coverage, fault, image, machine, near, program
 from causes import words as input_words
 from texts import machine as machine_reader
 from texts import program as program_reader
@@ -209,7 +209,13 @@ def of_usage(said):
 
 
 def of_fault(said):
-    return codes("fault", said.number("code")) or of_status(said)
+    """The instruction at the fault, where it can be found, and what the number means."""
+    program, lines = os.environ.get("TTA_RUNS"), []
+    if program and said.kind == "machine fault" and said.words[0] == "run":
+        lines = found(fault.of_run, program, said.words, said.number("cycle")) or []
+    elif program and said.kind == "unsafe":
+        lines = found(fault.instruction, program, said.path("M"), said.path("IMG"), said.number("word")) or []
+    return lines + codes("fault", said.number("code")) or of_status(said)
 
 
 def of_memory(said):
