@@ -10,13 +10,15 @@ use Rattle.tta_designer.specs.declared.request.Request.{Request as Asked}
 use Rattle.tta_designer.specs.declared.request.Request.TheVariants as for
 
 -- what can be asked for: a view of a machine, one of the code of an image for a machine, one of a run of such code or of a program,
--- a session at a prompt over a run of code, or the stages of a program for a machine
+-- a session at a prompt over a run of code, the stages of a program for a machine, or the circuit of a machine with the code of an
+-- image
 pub data Request : Type 0 where
   OfMachine : (view : View) (machine : List ℕ) → Request
   OfCode : (view : View) (machine image : List ℕ) → Request
   OfRun : (view : RunView) (machine subject input : List ℕ) (stream : Option (List ℕ)) (bound : ℕ) → Request
   OfPrompt : (machine image input : List ℕ) (stream : Option (List ℕ)) → Request
   OfStages : (machine program : List ℕ) → Request
+  OfRtl : (machine image : List ℕ) → Request
 
 -- the view that a word names
 abbrev pub view_of : (word : List ℕ) → Option View
@@ -47,10 +49,16 @@ is_view word = is_some (view_of word) || is_some (run_view_of word)
 abbrev pub is_stages : (word : List ℕ) → Bool
 is_stages word = bytes_eq word (codes "stages")
 
+-- whether a word is the name of the command that shows a circuit
+abbrev pub is_rtl : (word : List ℕ) → Bool
+is_rtl word = bytes_eq word (codes "rtl")
+
 -- the request of the name of a command with two files
 abbrev pub pair_request : (word machine second : List ℕ) → Option Request
 pair_request word machine second =
-    if is_stages word then Some (OfStages machine second) else option_map (λ view. OfCode view machine second) (view_of word)
+    if is_stages word then Some (OfStages machine second)
+    else if is_rtl word then Some (OfRtl machine second)
+    else option_map (λ view. OfCode view machine second) (view_of word)
 
 -- the request of some words; none where they are no command
 abbrev pub request_of : List (List ℕ) → Option Request
@@ -65,7 +73,7 @@ request_of words = None
 -- whether a command line begins with the name of a command that is carried out here
 abbrev pub is_named : List (List ℕ) → Bool
 is_named [] = false
-is_named (word ∷ words) = is_view word || is_prompt word || is_stages word
+is_named (word ∷ words) = is_view word || is_prompt word || is_stages word || is_rtl word
 
 -- what the code's request asks for
 abbrev pub asked : Asked → Request
@@ -74,3 +82,4 @@ asked (for.Code names) = OfCode names.view names.machine.now names.image.now
 asked (for.Run run) = OfRun run.view run.machine.now run.subject.now run.input.now (option_map (λ s. s.now) run.stream) run.bound
 asked (for.Prompt names) = OfPrompt names.machine.now names.image.now names.input.now (option_map (λ s. s.now) names.stream)
 asked (for.Stages names) = OfStages names.machine.now names.program.now
+asked (for.Rtl names) = OfRtl names.machine.now names.image.now

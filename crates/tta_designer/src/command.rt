@@ -15,6 +15,7 @@ use crate::prompting::prompt_image;
 use crate::request::Request;
 use crate::running::run_subject;
 use crate::staging::put_stages;
+use crate::writing::put_circuit;
 use crate::view::View;
 use std::alloc::Global;
 use tta_draw::{draw_code, draw_machine};
@@ -128,6 +129,7 @@ fn carry_out<F: Files, L: Lines, S: Sink>(
         Request::Run(run) => run_subject(alloc, units, files, sink, run),
         Request::Prompt(names) => prompt_image(alloc, units, files, lines, sink, names),
         Request::Stages(names) => put_stages(alloc, units, files, sink, names),
+        Request::Rtl(names) => put_circuit(alloc, units, files, sink, names),
     }
 }
 
@@ -150,6 +152,9 @@ fn carry_out<F: Files, L: Lines, S: Sink>(
 ///
 /// `stages M P` outputs what `build` does on the way from the program of the file P to code for the
 /// machine of the file M: blocks, homes, register code, the lists of each block, and the code.
+///
+/// `rtl M IMG` outputs the circuit of that machine with the code and data of that image, as a module of
+/// Verilog.
 ///
 /// The output takes a text in one piece, and nothing where there is none. No file changes.
 ///

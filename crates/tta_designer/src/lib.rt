@@ -12,6 +12,7 @@ mod running;
 mod staging;
 mod subject;
 mod view;
+mod writing;
 
 pub use command::show;
 pub use laws::{

@@ -27,6 +27,14 @@ pub struct StagesRequest<'w> {
     pub program: &'w str,
 }
 
+/// The circuit of a machine with the code of an image that is asked for: the names of the machine's file
+/// and of the image's.
+#[derive(Clone, Copy)]
+pub struct RtlRequest<'w> {
+    pub machine: &'w str,
+    pub image: &'w str,
+}
+
 /// A view of a run that is asked for: the names of the run's files, that of the input where it has one,
 /// and how many cycles it makes at most.
 #[derive(Clone, Copy)]

@@ -2,17 +2,17 @@
 
 ghost use Rattle.std.specs.Prelude.{◌≡◌, ◌∷◌, [], map, option_map};
 ghost use Rattle.std.specs.String.{string_bytes};
-ghost use Rattle.tta_designer.specs.Request.{asked, is_named, is_stages, is_view, pair_request};
+ghost use Rattle.tta_designer.specs.Request.{asked, is_named, is_rtl, is_stages, is_view, pair_request};
 ghost use Rattle.tta_designer.specs.Request.{is_prompt, prompt_request, request_of, run_request};
 ghost use Rattle.tta_designer.specs.Request.{run_view_of, view_of};
 
-use crate::names::{CodeRequest, MachineRequest, PromptRequest, RunRequest, StagesRequest};
+use crate::names::{CodeRequest, MachineRequest, PromptRequest, RtlRequest, RunRequest, StagesRequest};
 use crate::view::{RunView, View};
 use tta_given::bound_of;
 
 /// What is asked for: a view of a machine, one of the code of an image for a machine, one of a run of
-/// such code or of a program, a session at a prompt over a run of code, or the stages of a program for a
-/// machine.
+/// such code or of a program, a session at a prompt over a run of code, the stages of a program for a
+/// machine, or the circuit of a machine with the code of an image.
 #[derive(Clone, Copy)]
 pub enum Request<'w> {
     Machine(MachineRequest<'w>),
@@ -20,6 +20,7 @@ pub enum Request<'w> {
     Run(RunRequest<'w>),
     Prompt(PromptRequest<'w>),
     Stages(StagesRequest<'w>),
+    Rtl(RtlRequest<'w>),
 }
 
 /// The view that a word names.
@@ -62,6 +63,13 @@ fn is_stages(word: &str) -> bool
     word == "stages"
 }
 
+/// Whether a word is the name of the command that shows a circuit.
+fn is_rtl(word: &str) -> bool
+    ensures { result ≡ is_rtl word.now }
+{
+    word == "rtl"
+}
+
 /// Whether a word is the name of the command that is a session at a prompt.
 fn is_prompt(word: &str) -> bool
     ensures { result ≡ is_prompt word.now }
@@ -75,7 +83,10 @@ pub fn is_named(words: &Vec<String>) -> bool
 {
     match words.as_slice() {
         [word, ..] => {
-            is_view(word.as_str()) || is_prompt(word.as_str()) || is_stages(word.as_str())
+            is_view(word.as_str())
+                || is_prompt(word.as_str())
+                || is_stages(word.as_str())
+                || is_rtl(word.as_str())
         }
         _ => false,
     }
@@ -152,6 +163,12 @@ fn of_pair<'w>(word: &str, machine: &'w str, second: &'w str) -> Option<Request<
         return Some(Request::Stages(StagesRequest {
             machine,
             program: second,
+        }));
+    }
+    if is_rtl(word) {
+        return Some(Request::Rtl(RtlRequest {
+            machine,
+            image: second,
         }));
     }
     let view = view_of(word)?;
