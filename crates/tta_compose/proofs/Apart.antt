@@ -1,34 +1,142 @@
 -- Trigger ports and home registers are no scratch registers.
-use Rattle.std.proofs.Common.{◌≡◌, ◌≤◌, ◌+◌, ◌-◌, ℕ, suc, Bool, true, false, List, [], ◌∷◌, ◌++◌, Option, refl, sym, ap, subst, ◌∙◌, arith, slice_get}
-use Rattle.std.specs.Prelude.{◌==◌, ◌&&◌, nat_lt}
+use Rattle.std.proofs.Common.{◌≡◌, ◌≤◌, ◌+◌, ◌-◌, ℕ, suc, Bool, true, false, List, [], ◌∷◌, ◌++◌, Option, Some, None, refl, sym, ap, subst, ◌∙◌, arith, slice_get}
+use Rattle.std.specs.Prelude.{◌==◌, ◌&&◌, if◌then◌else◌, nat_lt, count_by, option_map}
 use Rattle.std.specs.Option.{option_map_or}
-use Rattle.std.specs.List.{list_any}
+use Rattle.std.specs.List.{list_any, sum_by}
+use Rattle.std.proofs.lemmas.Bool.{and_parts}
+use Rattle.std.proofs.lemmas.List.Sums.{sum_by-cons}
 use Rattle.std.proofs.lemmas.Bool.Decides.{nat_tests}
+use Rattle.tta_arch.specs.declared.parts.Op.{Op}
+use Rattle.tta_arch.specs.declared.parts.Op.TheVariants.{Ldw, Stw, Ldf, Stf, Out, Take as TakeIn, Set}
+use Rattle.tta_arch.specs.declared.parts.UnitOp.{UnitOp}
 use Rattle.tta_arch.specs.Machine.{Machine}
-use Rattle.tta_arch.specs.Effects.{Target, Reg, Imm, Operand, Trigger, Control}
+use Rattle.tta_arch.specs.Effects.{Target, Reg, Imm, Operand, Trigger, Control, op_at}
+use Rattle.tta_arch.specs.Rules.{same_op, is_frame_op}
+use Rattle.tta_moves.specs.declared.items.Item.{Item}
+use Rattle.tta_moves.specs.Touches.{target_of_item}
 use Rattle.tta_connect.specs.declared.choice.Choice.{Choice}
 use Rattle.tta_connect.specs.Coverage.{IsChoice, registers_from, homes_from}
 use Rattle.tta_moves.proofs.Places.{either}
-use Rattle.tta_optim.specs.Kept.{is_scratch}
-use Rattle.tta_select.specs.Counts.{is_trigger_of, is_frame_trigger, is_home}
+use Rattle.tta_optim.specs.Kept.{Aim, ToReg, ToImm, ToOperand, ToStart, ToControl, aim_of, is_scratch}
+use Rattle.tta_select.specs.Counts.{targets, is_trigger_of, is_start_of, is_frame_trigger, is_home}
 use Rattle.tta_select.proofs.HomeLists.{Each, each_append, each_weaker, registers_each, Other, files_from}
 use Rattle.tta_select.proofs.Covering.{hub_there}
 
--- a trigger of an operation is no register
-pub trigger_apart : (m : Machine) (unit op : ℕ) (t : Target) → is_scratch m t ≡ true → is_trigger_of unit op t ≡ false
-trigger_apart m unit op (Reg file index) e = refl
-trigger_apart m unit op (Imm i index) e = refl
-trigger_apart m unit op (Operand i) e = refl
-trigger_apart m unit op (Trigger i k) e = absurd cc
-trigger_apart m unit op (Control kind) e = refl
+-- what a target is, by the tests that count
+abbrev pub starts_aim : Op → Aim → Bool
+starts_aim does (ToReg file index) = false
+starts_aim does (ToImm unit index) = false
+starts_aim does ToOperand = false
+starts_aim does (ToStart o) = option_map_or (λ q. same_op q does) o false
+starts_aim does (ToControl kind) = false
+
+abbrev pub frame_aim : Aim → Bool
+frame_aim (ToReg file index) = false
+frame_aim (ToImm unit index) = false
+frame_aim ToOperand = false
+frame_aim (ToStart o) = option_map_or (λ q. is_frame_op q) o false
+frame_aim (ToControl kind) = false
+
+abbrev pub home_aim : Choice → Aim → Bool
+home_aim c (ToReg file index) = list_any (λ h. h.0 == file && h.1 == index) c.homes
+home_aim c (ToImm unit index) = false
+home_aim c ToOperand = false
+home_aim c (ToStart o) = false
+home_aim c (ToControl kind) = false
+
+pub start_aim : (m : Machine) (does : Op) (t : Target) → starts_aim does (aim_of m t) ≡ is_start_of m does t
+start_aim m does (Reg file index) = refl
+start_aim m does (Imm i index) = refl
+start_aim m does (Operand i) = refl
+start_aim m does (Control kind) = refl
+start_aim m does (Trigger i k) = on (op_at m i k) where
+  on : (o : Option UnitOp) → option_map_or (λ q. same_op q does) (option_map (λ o. o.op) o) false ≡ option_map_or (λ o. same_op o.op does) o false
+  on None = refl
+  on (Some o) = refl
+
+pub frame_aimed : (m : Machine) (t : Target) → frame_aim (aim_of m t) ≡ is_frame_trigger m t
+frame_aimed m (Reg file index) = refl
+frame_aimed m (Imm i index) = refl
+frame_aimed m (Operand i) = refl
+frame_aimed m (Control kind) = refl
+frame_aimed m (Trigger i k) = on (op_at m i k) where
+  on : (o : Option UnitOp) → option_map_or (λ q. is_frame_op q) (option_map (λ o. o.op) o) false ≡ option_map_or (λ o. is_frame_op o.op) o false
+  on None = refl
+  on (Some o) = refl
+
+pub home_aimed : (m : Machine) (c : Choice) (t : Target) → home_aim c (aim_of m t) ≡ is_home c t
+home_aimed m c (Reg file index) = refl
+home_aimed m c (Imm i index) = refl
+home_aimed m c (Operand i) = refl
+home_aimed m c (Trigger i k) = refl
+home_aimed m c (Control kind) = refl
+
+-- a start of an operation is no register
+pub start_apart : (m : Machine) (does : Op) (t : Target) → is_scratch m t ≡ true → starts_aim does (aim_of m t) ≡ false
+start_apart m does (Reg file index) e = refl
+start_apart m does (Imm i index) e = refl
+start_apart m does (Operand i) e = refl
+start_apart m does (Trigger i k) e = absurd cc
+start_apart m does (Control kind) e = refl
 
 -- nor is a trigger of the frame space
-pub frame_apart : (m : Machine) (t : Target) → is_scratch m t ≡ true → is_frame_trigger m t ≡ false
+pub frame_apart : (m : Machine) (t : Target) → is_scratch m t ≡ true → frame_aim (aim_of m t) ≡ false
 frame_apart m (Reg file index) e = refl
 frame_apart m (Imm i index) e = refl
 frame_apart m (Operand i) e = refl
 frame_apart m (Trigger i k) e = absurd cc
 frame_apart m (Control kind) e = refl
+
+-- ---- counts by what targets are
+
+-- items are counted by a test of their targets as by the same of what these are
+pub counted_aims : (m : Machine) (p : Aim → Bool) (test : Target → Bool) → ((t : Target) → p (aim_of m t) ≡ test t) → (items : List Item)
+    → count_by (λ x. p (aim_of m (target_of_item x))) items ≡ targets test items
+counted_aims m p test same [] = refl
+counted_aims m p test same (x ∷ items) =
+    let f : Item → ℕ = λ y. if p (aim_of m (target_of_item y)) then 1 else 0 in
+    let g : Item → ℕ = λ y. if test (target_of_item y) then 1 else 0 in
+    sum_by-cons f x items ∙ ap (λ (b : Bool). (if b then 1 else 0) + sum_by f items) (same (target_of_item x))
+    ∙ ap (λ (n : ℕ). g x + n) (counted_aims m p test same items) ∙ sym (sum_by-cons g x items)
+
+-- a test that passes less counts less
+counted_less : (less more : Target → Bool) → ((t : Target) → less t ≡ true → more t ≡ true) → (items : List Item) → targets less items ≤ targets more items
+counted_less less more h [] = omega arith
+counted_less less more h (x ∷ items) =
+    let rest = counted_less less more h items in
+    let a = sum_by-cons (λ (y : Item). if less (target_of_item y) then 1 else 0) x items in
+    let b = sum_by-cons (λ (y : Item). if more (target_of_item y) then 1 else 0) x items in
+    let one = here (less (target_of_item x)) (more (target_of_item x)) (h (target_of_item x)) in
+    omega (arith, rest, a, b, one) where
+      here : (a b : Bool) → (a ≡ true → b ≡ true) → (if a then 1 else 0) ≤ (if b then 1 else 0)
+      here false b h = omega arith
+      here true b h = rw (h refl) (omega arith)
+
+-- a trigger of an operation of a unit starts the operation
+start_of_trigger : (m : Machine) (unit k : ℕ) (o : UnitOp) → op_at m unit k ≡ Some o → (t : Target) → is_trigger_of unit k t ≡ true → is_start_of m o.op t ≡ true
+start_of_trigger m unit k o there (Reg file index) e = absurd cc
+start_of_trigger m unit k o there (Imm i index) e = absurd cc
+start_of_trigger m unit k o there (Operand i) e = absurd cc
+start_of_trigger m unit k o there (Control kind) e = absurd cc
+start_of_trigger m unit k o there (Trigger i j) e =
+    let two = and_parts (i == unit) (j == k) e in
+    let same_unit : unit ≡ i = grind (arith, nat_tests, two.0) in
+    let same_k : k ≡ j = grind (arith, nat_tests, two.1) in
+    let here : op_at m i j ≡ Some o = subst (λ (n : ℕ). op_at m n j ≡ Some o) same_unit (subst (λ (n : ℕ). op_at m unit n ≡ Some o) same_k there) in
+    rw here (itself o.op) where
+      itself : (op : Op) → same_op op op ≡ true
+      itself Ldw = refl
+      itself Stw = refl
+      itself Ldf = refl
+      itself Stf = refl
+      itself Out = refl
+      itself TakeIn = refl
+      itself (Set id) = grind (arith, nat_tests)
+
+-- so it is triggered no more often than the operation is started on all units together
+pub one_of_all : (m : Machine) (unit k : ℕ) (o : UnitOp) → op_at m unit k ≡ Some o → (items : List Item)
+    → targets (is_trigger_of unit k) items ≤ targets (is_start_of m o.op) items
+one_of_all m unit k o there items = counted_less (is_trigger_of unit k) (is_start_of m o.op) (start_of_trigger m unit k o there) items
 
 module _ (m : Machine) (c : Choice) (choice : IsChoice m c) where
   -- a register that is none of the first three of the hub
@@ -73,7 +181,7 @@ module _ (m : Machine) (c : Choice) (choice : IsChoice m c) where
             let z : true ≡ false = sym e ∙ no in cc
 
   -- nor is a home register one of the first three of the hub
-  pub home_apart : (t : Target) → is_scratch m t ≡ true → is_home c t ≡ false
+  pub home_apart : (t : Target) → is_scratch m t ≡ true → home_aim c (aim_of m t) ≡ false
   home_apart (Reg file index) e =
       let at : (c.hub == file && nat_lt index 3) ≡ true = sym (ap (λ (o : Option ℕ). option_map_or (λ h. h == file && nat_lt index 3) o false) choice.hub) ∙ e in
       none_is file index c.homes at homes_kept

@@ -1,10 +1,11 @@
 -- The list of a direct pair is planned for its program.
-use Rattle.std.proofs.Common.{◌≡◌, ℕ, true, List, [], ◌∷◌, Some, refl, sym, ap, subst, ◌∙◌, arith, length, map, slice_get}
+use Rattle.std.proofs.Common.{◌≡◌, ◌≤◌, ℕ, true, List, [], ◌∷◌, Some, refl, sym, ap, subst, ◌∙◌, arith, length, map, slice_get}
 use Rattle.std.specs.Prelude.{◌==◌, option_map}
 use Rattle.std.proofs.lemmas.Bool.Decides.{nat_tests}
 use Rattle.std.proofs.lemmas.List.{length-map}
 use Rattle.std.proofs.lemmas.Option.{slice_get-map}
 use Rattle.tta_ops.specs.Units.{Units}
+use Rattle.tta_arch.specs.declared.parts.Op.{Op}
 use Rattle.tta_arch.specs.Machine.{Machine}
 use Rattle.tta_arch.specs.Rules.{IsMachine}
 use Rattle.tta_connect.specs.declared.choice.Choice.{Choice}
@@ -24,6 +25,7 @@ use Rattle.tta_flow.specs.Live.{IsLive}
 use Rattle.tta_alloc.specs.declared.homes.Homes.{Homes}
 use Rattle.tta_alloc.specs.Allotted.{AreAllotted}
 use Rattle.tta_lower.specs.declared.part.Part.{Part}
+use Rattle.tta_lower.specs.Counts.{asks_part}
 use Rattle.tta_lower.specs.Law.{IsRegisterCode}
 use Rattle.tta_lower.specs.Lower.{parts, block_of}
 use Rattle.tta_lower.specs.Known.{first_by, known_by}
@@ -32,7 +34,7 @@ use Rattle.tta_lower.proofs.SameHomes.{answers_know}
 use Rattle.tta_moves.specs.declared.items.Item.{Item}
 use Rattle.tta_moves.specs.declared.items.BlockList.{BlockList}
 use Rattle.tta_moves.specs.Forms.{none_after, is_bypassable, is_redundant, is_lively}
-use Rattle.tta_select.specs.Counts.{is_need}
+use Rattle.tta_select.specs.Counts.{targets, is_start_of, is_need}
 use Rattle.tta_select.specs.Select.{home_pair}
 use Rattle.tta_select.specs.Direct.{out_of, constants_out}
 use Rattle.tta_select.proofs.OutputJoins.{CanOutput, can}
@@ -41,6 +43,7 @@ use Rattle.tta_compose.specs.Direct.{constants_of, list_of_direct, is_direct}
 use Rattle.tta_compose.specs.Planned.{IsListOf, ArePlanned, HasForms}
 use Rattle.tta_compose.specs.Packed.{homes_on, IsPlan}
 use Rattle.tta_compose.proofs.Directly.{direct_lowers, direct_is_list, direct_means, only_one}
+use Rattle.tta_compose.proofs.Apart.{one_of_all}
 use Rattle.tta_compose.proofs.Pairs.{is_alone}
 use Rattle.tta_compose.proofs.NoVariables.{any_allotted}
 use Rattle.tta_lower.proofs.Lists.{has-in as in_get}
@@ -102,15 +105,18 @@ module _ (u : Units) (m : Machine) (p : Program) (machine : IsMachine m) (progra
     list_of k x b e same =
         let is = block_is k x e in
         let i = in_get parts_of k x e in
+        let started : (op : Op) → targets (is_start_of m op) (constants_out (out_of m) words) ≤ asks_part u (is_need op) p (known_by p blocks l h).home x =
+        λ op.
+        let a = triggers u m (out_of m) words outputs op in
+        let b : asks u (is_need op) (one_block words) ≡ asks u (is_need op) (block x) = ap (asks u (is_need op)) is in
+        let q = law.asked (is_need op) x i in omega (arith, a, b, q) in
         subst (IsListOf u m choice p (known_by p blocks l h) x) same (record {
           live = ap (λ (r : RBlock). map (home_pair m choice) r.live_out) is;
           list = direct_is_list m p machine program direct;
           addresses = no_address (length parts_of) (out_of m) words;
           straight = straight m (out_of m) words [];
-          triggers = λ unit k o there plain.
-              let a = triggers u m (out_of m) words outputs unit k o there in
-              let b : asks u (is_need o.op) (one_block words) ≡ asks u (is_need o.op) (block x) = ap (asks u (is_need o.op)) is in
-              let q = law.asked (is_need o.op) x i in omega (arith, a, b, q);
+          triggers = λ unit k o there plain. let less = one_of_all m unit k o there (constants_out (out_of m) words) in let a = started o.op in omega (arith, less, a);
+          total = λ op plain. started op;
           frame = let a = frames m (out_of m) words outputs in omega (arith, a);
           homes = let a = homes choice (out_of m) words in omega (arith, a);
         })

@@ -7,7 +7,10 @@ use Rattle.std.proofs.lemmas.Bool.Decides.{nat_tests}
 use Rattle.std.proofs.lemmas.List.{length-map}
 use Rattle.std.proofs.lemmas.Option.{slice_get-map}
 use Rattle.tta_ops.specs.Units.{Units}
+use Rattle.tta_arch.specs.declared.parts.Op.{Op}
 use Rattle.tta_arch.specs.Machine.{Machine}
+use Rattle.tta_arch.specs.Rules.{is_frame_op}
+use Rattle.tta_arch.specs.Effects.{Target}
 use Rattle.tta_connect.specs.declared.choice.Choice.{Choice}
 use Rattle.tta_connect.specs.Coverage.{hub_of}
 use Rattle.tta_program.specs.Program.{Program}
@@ -19,15 +22,16 @@ use Rattle.tta_moves.specs.Touches.{source_of}
 use Rattle.tta_moves.specs.Forms.{is_straight}
 use Rattle.tta_list.specs.Legs.{AllPairs}
 use Rattle.tta_list.proofs.Lists.{list_all_one}
-use Rattle.tta_optim.specs.Kept.{is_address}
+use Rattle.tta_optim.specs.Kept.{Aim, aim_of, is_scratch, is_address, AsksNoMore}
 use Rattle.tta_optim.specs.Kept as kept
 use Rattle.tta_lower.specs.declared.part.Part.{Part}
 use Rattle.tta_rcode.specs.declared.code.RBlock.{RBlock}
+use Rattle.tta_lower.specs.Counts.{asks_part}
 use Rattle.tta_lower.specs.Liveness.{Known}
 use Rattle.tta_lower.specs.Lower.{parts, block_of}
 use Rattle.tta_select.specs.Select.{list_of}
 use Rattle.tta_rcode.specs.Counts.{names, assigns_block}
-use Rattle.tta_select.specs.Counts.{targets, is_trigger_of, is_frame_trigger, is_home, is_need}
+use Rattle.tta_select.specs.Counts.{targets, is_start_of, is_frame_trigger, is_home, is_need}
 use Rattle.tta_select.specs.Lists.{is_closed}
 use Rattle.tta_select.specs.Statement.{IsListFor, TriggersNoMore, IsSelection}
 use Rattle.tta_select.proofs.Selecting.{selects}
@@ -36,7 +40,7 @@ use Rattle.tta_optim.specs.Kept.{IsStandIn}
 use Rattle.tta_compose.specs.Compiler.{IsPair, AreStandIns, raw}
 use Rattle.tta_compose.specs.Planned.{IsListOf, ArePlanned, ListsPlanned}
 use Rattle.tta_compose.proofs.Composed.{code, law, given, pairs_length}
-use Rattle.tta_compose.proofs.Apart.{trigger_apart, frame_apart, home_apart}
+use Rattle.tta_compose.proofs.Apart.{starts_aim, frame_aim, home_aim, start_aim, frame_aimed, home_aimed, start_apart, frame_apart, home_apart, counted_aims, one_of_all}
 use Rattle.tta_lower.proofs.Lists.{has-in as in_get}
 
 -- ---- addresses
@@ -84,6 +88,14 @@ pair_at P (a ∷ xs) (b ∷ ys) all zero x y at is =
     subst (λ (z : _). P x z) this (subst (λ (z : _). P z b) same all.0)
 pair_at P (a ∷ xs) (b ∷ ys) all (suc k) x y at is = pair_at P xs ys all.1 k x y at is
 
+-- ---- counts
+
+-- a list that asks for no more passes a test of targets no more often, where the test looks at no unit and at no scratch register
+asks_less : (m : Machine) (items others : List Item) → AsksNoMore m items others → (p : Aim → Bool) (test : Target → Bool) → ((t : Target) → p (aim_of m t) ≡ test t)
+    → ((t : Target) → is_scratch m t ≡ true → p (aim_of m t) ≡ false) → targets test others ≤ targets test items
+asks_less m items others n p test same apart =
+    let a = n.targets p apart in let b = counted_aims m p test same items in let c = counted_aims m p test same others in omega (arith, a, b, c)
+
 -- ---- all lists
 
 module _ (u : Units) (m : Machine) (c : Choice) (p : Program) (known : Known)
@@ -124,15 +136,22 @@ module _ (u : Units) (m : Machine) (c : Choice) (p : Program) (known : Known)
       let n = t.spare in
       let w = law u m c p known pair is_known in
       let i = in_get (parts p known.blocks known.first) k x e in
+      let asked = asks_less m l.items o.items n in
+      let started : (op : Op) → is_frame_op op ≡ false → targets (is_start_of m op) o.items ≤ asks_part u (is_need op) p known.home x =
+      λ op plain.
+      let a = asked (starts_aim op) (is_start_of m op) (start_aim m op) (start_apart m op) in
+      let s = triggers op plain in
+      let r = w.asked (is_need op) x i in omega (arith, a, s, r) in
       record {
         live = t.stands.live ∙ f.live_out;
         list = n.list f.list;
         addresses = all_closed (length (parts p known.blocks known.first)) l.items o.items
             (subst (λ (t : ℕ). list_all (λ y. is_closed t (source_of y)) l.items ≡ true) count closed) n.addresses;
         straight = n.straight straight;
-        triggers = λ unit k o there plain. let a = n.targets (is_trigger_of unit k) (trigger_apart m unit k) in let t = triggers unit k o there plain in let q = w.asked (is_need o.op) x i in omega (arith, a, t, q);
-        frame = let a = n.targets (is_frame_trigger m) (frame_apart m) in let q = w.slots x i in omega (arith, a, frame, q);
-        homes = let a = n.targets (is_home c) (home_apart m c pair.choice) in let q = w.assigned x i in omega (arith, a, homes, q);
+        triggers = λ unit j q there plain. let less = one_of_all m unit j q there o.items in let a = started q.op plain in omega (arith, less, a);
+        total = started;
+        frame = let a = asked frame_aim (is_frame_trigger m) (frame_aimed m) (frame_apart m) in let q = w.slots x i in omega (arith, a, frame, q);
+        homes = let a = asked (home_aim c) (is_home c) (home_aimed m c) (home_apart m c pair.choice) in let q = w.assigned x i in omega (arith, a, homes, q);
       }
 
   pub planned : ArePlanned u m c p known lists

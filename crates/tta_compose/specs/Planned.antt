@@ -2,6 +2,7 @@
 use Rattle.std.specs.Prelude.{◌≡◌, ◌≤◌, ℕ, true, false, List, length, map, Some, slice_get}
 use Rattle.std.specs.List.{list_all}
 use Rattle.tta_ops.specs.Units.{Units}
+use Rattle.tta_arch.specs.declared.parts.Op.{Op}
 use Rattle.tta_arch.specs.declared.parts.UnitOp.{UnitOp}
 use Rattle.tta_arch.specs.Machine.{Machine}
 use Rattle.tta_arch.specs.Effects.{op_at}
@@ -18,20 +19,21 @@ use Rattle.tta_lower.specs.Liveness.{Known}
 use Rattle.tta_lower.specs.Lower.{parts, block_of}
 use Rattle.tta_lower.specs.Counts.{traffic, asks_part, assigns_part}
 use Rattle.tta_select.specs.Select.{home_pair}
-use Rattle.tta_select.specs.Counts.{targets, is_trigger_of, is_frame_trigger, is_home, is_need}
+use Rattle.tta_select.specs.Counts.{targets, is_trigger_of, is_start_of, is_frame_trigger, is_home, is_need}
 use Rattle.tta_select.specs.Lists.{is_closed}
 use Rattle.tta_lower.specs.Law.{IsKnown}
 use Rattle.tta_compose.specs.Compiler.{IsPair, AreStandIns, raw}
 
 module _ (u : Units) (m : Machine) (c : Choice) (p : Program) (known : Known) where
   -- The list of a part: with the part's registers that stay; a list for the machine whose addresses are those of blocks;
-  -- straight; and it triggers and writes no more than the part asks for.
+  -- straight; and it triggers and writes no more than the part asks for: each operation of a unit, and on all units together.
   pub record IsListOf (x : Part) (l : BlockList) : Type 0 where
     pub live : l.live_out ≡ map (home_pair m c) (block_of p known (length c.homes) x).live_out
     pub list : is_list m l.items ≡ true
     pub addresses : list_all (λ y. is_closed (length (parts p known.blocks known.first)) (source_of y)) l.items ≡ true
     pub straight : is_straight m (hub_of m) l.items ≡ true
     pub triggers : (unit k : ℕ) (o : UnitOp) → op_at m unit k ≡ Some o → is_frame_op o.op ≡ false → targets (is_trigger_of unit k) l.items ≤ asks_part u (is_need o.op) p known.home x
+    pub total : (op : Op) → is_frame_op op ≡ false → targets (is_start_of m op) l.items ≤ asks_part u (is_need op) p known.home x
     pub frame : targets (is_frame_trigger m) l.items ≤ traffic p known.home known.first x
     pub homes : targets (is_home c) l.items ≤ assigns_part p known.home known.first x
 

@@ -4,7 +4,7 @@ use Rattle.tta_arch.specs.Machine.{Machine}
 use Rattle.tta_connect.specs.Coverage.{hub_of}
 use Rattle.tta_moves.specs.declared.items.Item.{Item}
 use Rattle.tta_moves.specs.declared.items.BlockList.{BlockList}
-use Rattle.tta_optim.specs.Kept.{KeepsMeaning, KeepsFramed, DoesNoMore, AsksNoMore, IsStandIn}
+use Rattle.tta_optim.specs.Kept.{KeepsMeaning, KeepsFramed, DoesNoMore, AsksNoMore, IsStandIn, aim_of}
 use Rattle.tta_optim.specs.Passes.{optimise_items}
 use Rattle.tta_optim.proofs.Meanings.{framed_of, framed_next, optimise_meaning}
 use Rattle.tta_optim.proofs.NoMore.{optimise_no_more}
@@ -14,7 +14,7 @@ pub asks_of : (m : Machine) (items others : List Item) → DoesNoMore m items ot
 asks_of m items others d = record {
   few = d.few;
   list = d.list;
-  targets = λ p apart. d.targets p;
+  targets = λ p apart. d.targets (λ t. p (aim_of m t));
   addresses = d.addresses;
   straight = d.straight (hub_of m);
 }

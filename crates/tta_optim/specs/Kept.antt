@@ -1,11 +1,12 @@
 -- When one list of items can stand for another.
-use Rattle.std.specs.Prelude.{◌≡◌, ◌≢◌, ℕ, ◌≤◌, ◌==◌, Bool, true, false, ◌&&◌, nat_lt, List, length, count_by, Option, Some, None}
+use Rattle.std.specs.Prelude.{◌≡◌, ◌≢◌, ℕ, ◌≤◌, ◌==◌, Bool, true, false, ◌&&◌, nat_lt, List, length, count_by, Option, Some, None, option_map}
 use Rattle.std.specs.Option.{option_map_or}
 use Rattle.std.specs.List.{list_any, filter_map}
 use Rattle.tta_ops.specs.Units.{Units}
 use Rattle.tta_arch.specs.declared.ends.GuardRef.{GuardRef}
+use Rattle.tta_arch.specs.declared.parts.Op.{Op}
 use Rattle.tta_arch.specs.Machine.{Machine}
-use Rattle.tta_arch.specs.Effects.{Target, Reg, Imm, Operand, Trigger, Control, Place, kept}
+use Rattle.tta_arch.specs.Effects.{Target, Reg, Imm, Operand, Trigger, Control, Kind, Place, kept, op_at}
 use Rattle.tta_connect.specs.Coverage.{hub_of}
 use Rattle.tta_moves.specs.declared.items.ItemSource.{ItemSource}
 use Rattle.tta_moves.specs.declared.items.ItemSource.TheVariants.{Port, Address}
@@ -84,14 +85,29 @@ is_scratch m (Operand unit) = false
 is_scratch m (Trigger unit op) = false
 is_scratch m (Control kind) = false
 
+-- what a target is, whichever unit it belongs to: an operand port, or the trigger port of an operation
+pub data Aim : Type 0 where
+  ToReg : (file index : ℕ) → Aim
+  ToImm : (unit index : ℕ) → Aim
+  ToOperand : Aim
+  ToStart : Option Op → Aim
+  ToControl : Kind → Aim
+
+abbrev pub aim_of : Machine → Target → Aim
+aim_of m (Reg file index) = ToReg file index
+aim_of m (Imm unit index) = ToImm unit index
+aim_of m (Operand unit) = ToOperand
+aim_of m (Trigger unit op) = ToStart (option_map (λ o. o.op) (op_at m unit op))
+aim_of m (Control kind) = ToControl kind
+
 -- A list asks for no more than another: it has no more items and is a list of the machine where that is one; it brings
--- words to targets of any kind but scratch registers, as to a trigger port, no more often; the addresses in it stand in
--- the other; and it is straight where the other is.
+-- words to targets of any kind but scratch registers, as to the trigger ports of an operation on all units together, no more
+-- often; the addresses in it stand in the other; and it is straight where the other is.
 pub record AsksNoMore (m : Machine) (items others : List Item) : Type 0 where
   pub few : length others ≤ length items
   pub list : is_list m items ≡ true → is_list m others ≡ true
-  pub targets : (p : Target → Bool) → ((t : Target) → is_scratch m t ≡ true → p t ≡ false)
-      → count_by (λ x. p (target_of_item x)) others ≤ count_by (λ x. p (target_of_item x)) items
+  pub targets : (p : Aim → Bool) → ((t : Target) → is_scratch m t ≡ true → p (aim_of m t) ≡ false)
+      → count_by (λ x. p (aim_of m (target_of_item x))) others ≤ count_by (λ x. p (aim_of m (target_of_item x))) items
   pub addresses : (block : ℕ) → list_any (names block) others ≡ true → list_any (names block) items ≡ true
   pub straight : is_straight m (hub_of m) items ≡ true → is_straight m (hub_of m) others ≡ true
 

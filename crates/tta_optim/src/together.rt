@@ -6,6 +6,7 @@ ghost use Rattle.tta_moves.specs.Slots.{is_list};
 ghost use Rattle.tta_moves.specs.Forms.{is_bypassed, is_shared, is_lively};
 ghost use Rattle.tta_optim.specs.Kept.{KeepsMeaning, DoesNoMore};
 ghost use Rattle.tta_optim.specs.Passes.{optimise_items};
+ghost use Rattle.tta_optim.specs.Passed.{IsPassed};
 
 use crate::bypass_walk::bypass_items;
 use crate::dead_walk::dead_items;
@@ -17,6 +18,26 @@ use std::alloc::{AllocError, Global};
 use tta_arch::Machine;
 use tta_connect::{Joined, Net};
 use tta_moves::BlockList;
+
+/// A list after each of the three passes.
+#[derive(Drop)]
+pub struct Passed {
+    /// With reads served by result ports.
+    pub bypassed: BlockList,
+    /// After that without the operands that their ports have already.
+    pub shared: BlockList,
+    /// After that without the writes that nothing reads.
+    pub lively: BlockList,
+}
+
+impl Passed {
+    /// The list after all three passes.
+    pub fn last(&self) -> &BlockList
+        ensures { result.now ≡ self.now.lively }
+    {
+        &self.lively
+    }
+}
 
 /// The three passes with the tables that they keep, which serve one list after another.
 #[derive(Drop)]
@@ -33,8 +54,35 @@ impl Passes {
         Ok(Passes { notes, wanted })
     }
 
-    /// Bypasses, shares and leaves dead writes out, in this order. It fails only where there is no
-    /// memory.
+    /// A list after each of the three passes: it bypasses, shares and leaves dead writes out, in this
+    /// order. It fails only where there is no memory.
+    pub fn passed(
+        &mut self,
+        alloc: Global,
+        b: &BlockList,
+        m: &Machine,
+        net: &Net,
+    ) -> Result<Passed, AllocError>
+        requires net { IsNetOf net.now m.now }
+        requires list { is_list m.now b.now.items ≡ true }
+        ensures { IfOk result (λ r. IsPassed m.now b.now r) }
+    {
+        let on = Joined { machine: m, net };
+        let live = b.live_out.as_slice();
+        let one = bypass_items(alloc, &mut self.notes, &on, b.items.as_slice())?;
+        let bypassed = with_items(alloc, b, one)?;
+        let two = share_items(alloc, &mut self.notes, m, bypassed.items.as_slice())?;
+        let shared = with_items(alloc, b, two)?;
+        let three = dead_items(alloc, &mut self.wanted, m, live, shared.items.as_slice())?;
+        let lively = with_items(alloc, b, three)?;
+        Ok(Passed {
+            bypassed,
+            shared,
+            lively,
+        })
+    }
+
+    /// The list after all three passes. It fails only where there is no memory.
     pub fn optimise(
         &mut self,
         alloc: Global,
@@ -52,13 +100,8 @@ impl Passes {
         ensures no_more { IfOk result (λ r. DoesNoMore m.now b.now.items r.items) }
         ensures live { IfOk result (λ r. r.live_out ≡ b.now.live_out) }
     {
-        let on = Joined { machine: m, net };
-        let live = b.live_out.as_slice();
-        let one = bypass_items(alloc, &mut self.notes, &on, b.items.as_slice())?;
-        let two = share_items(alloc, &mut self.notes, m, one.as_slice())?;
-        let three = dead_items(alloc, &mut self.wanted, m, live, two.as_slice())?;
-        let r = with_items(alloc, b, three)?;
-        Ok(r)
+        let Passed { lively, .. } = self.passed(alloc, b, m, net)?;
+        Ok(lively)
     }
 }
 

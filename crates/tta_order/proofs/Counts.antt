@@ -9,7 +9,7 @@ use Rattle.tta_moves.specs.declared.items.Item.{Item}
 use Rattle.tta_moves.specs.Touches.{target_of_item}
 use Rattle.tta_moves.specs.Slots.{has_slot, control_is_last, is_list}
 use Rattle.tta_connect.specs.Coverage.{hub_of}
-use Rattle.tta_optim.specs.Kept.{names, AsksNoMore}
+use Rattle.tta_optim.specs.Kept.{names, aim_of, AsksNoMore}
 use Rattle.tta_order.specs.Channels.{Division}
 use Rattle.tta_order.specs.Orders.{Numbered, bare, AreDrawn, AreUnmarked, IsOrder}
 use Rattle.tta_order.proofs.Straight.{straight_keeps}
@@ -84,7 +84,7 @@ pub orders_ask_no_more : (m : Machine) (live : List (ℕ × ℕ)) (items : List 
 orders_ask_no_more m live items order o = record {
   few = few;
   list = list;
-  targets = λ p apart. counts (λ x. p (target_of_item x)) m live items order o;
+  targets = λ p apart. counts (λ x. p (aim_of m (target_of_item x))) m live items order o;
   addresses = λ block. any_keeps (names block) m o.division live items [] order o.drawn;
   straight = straight_keeps m o.division live items order o.drawn (hub_of m);
 } where

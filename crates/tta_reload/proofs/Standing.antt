@@ -16,7 +16,7 @@ use Rattle.tta_moves.specs.declared.items.BlockList.{BlockList}
 use Rattle.tta_moves.specs.Touches.{target_of_item}
 use Rattle.tta_moves.specs.Forms.{is_straight}
 use Rattle.tta_moves.proofs.Places.{either}
-use Rattle.tta_optim.specs.Kept.{KeepsMeaning, names, is_scratch, AsksNoMore, IsStandIn}
+use Rattle.tta_optim.specs.Kept.{KeepsMeaning, names, aim_of, is_scratch, AsksNoMore, IsStandIn}
 use Rattle.tta_optim.specs.Passes.{with_source}
 use Rattle.tta_optim.proofs.Meanings.{framed_of, framed_next}
 use Rattle.tta_reload.specs.Reworked.{IsReworked}
@@ -154,9 +154,10 @@ reworked_stands m hub b more r hub_is d meaning no_more live few straight = reco
     few = few;
     list = λ e. no_more.list d.list;
     targets = λ p apart.
-        let a = copied_targets p d.fresh b.items d.with_copies (λ q is. apart (Reg q.0 q.1) (spare_scratch m hub d.fresh q hub_is d.spare.scratch is)) d.copied in
-        let c = served_targets p m [] d.with_copies d.with_served d.served in
-        let f = thinned_targets p m [] d.with_served more.items d.thinned in
+        let t : Target → Bool = λ z. p (aim_of m z) in
+        let a = copied_targets t d.fresh b.items d.with_copies (λ q is. apart (Reg q.0 q.1) (spare_scratch m hub d.fresh q hub_is d.spare.scratch is)) d.copied in
+        let c = served_targets t m [] d.with_copies d.with_served d.served in
+        let f = thinned_targets t m [] d.with_served more.items d.thinned in
         let g = no_more.targets p apart in
         omega (arith, a, c, f, g);
     addresses = λ block e.

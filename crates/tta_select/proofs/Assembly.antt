@@ -180,7 +180,7 @@ module _ (u : Units) (m : Machine) (c : Choice) (rules : IsMachine m) (over : St
     exit_offered = (and_parts (is_exit_of m c blocks b.exit) (is_offered m c (op_of_exit u b.exit)) fit.1).1
 
     pub triggers_no_more : TriggersNoMore u m b (list_of m c u b)
-    triggers_no_more unit k o there other = op_counted u m c serve over (serve Ldf loads) (serve Stf store) unit k o there other b (offered_steps b.steps fit.0) exit_offered
+    triggers_no_more does other = op_counted u m c serve over (serve Ldf loads) (serve Stf store) does other b (offered_steps b.steps fit.0) exit_offered
 
     pub frames_no_more : targets (is_frame_trigger m) (items_of_block m c u b) ≤ names b
     frames_no_more = frame_counted u m c serve b (offered_steps b.steps fit.0) exit_offered

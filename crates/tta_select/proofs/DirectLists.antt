@@ -1,6 +1,6 @@
 -- The list of a block of constants is a selection.
-use Rattle.std.proofs.Common.{◌≡◌, ◌≤◌, ◌+◌, ◌^◌, ℕ, Bool, true, false, List, [], ◌∷◌, Some, refl, sym, ap, subst, ◌∙◌, arith, length, map}
-use Rattle.std.specs.Prelude.{◌==◌, ◌&&◌, nat_le, if◌then◌else◌}
+use Rattle.std.proofs.Common.{◌≡◌, ◌≤◌, ◌+◌, ◌^◌, ℕ, Bool, true, false, List, [], ◌∷◌, refl, sym, ap, subst, ◌∙◌, arith, length, map}
+use Rattle.std.specs.Prelude.{nat_le, if◌then◌else◌}
 use Rattle.std.specs.Option.{option_map_or}
 use Rattle.std.specs.List.{list_all, sum_by}
 use Rattle.std.proofs.lemmas.Bool.{and_parts}
@@ -9,11 +9,12 @@ use Rattle.std.proofs.lemmas.List.{length-map}
 use Rattle.std.proofs.lemmas.List.Sums.{sum_by-cons}
 use Rattle.tta_ops.specs.Units.{Units}
 use Rattle.tta_arch.specs.declared.parts.UnitOp.{UnitOp}
+use Rattle.tta_arch.specs.declared.parts.Op.{Op}
 use Rattle.tta_arch.specs.declared.parts.Op.TheVariants.{Out}
 use Rattle.tta_arch.specs.declared.ends.Source.TheVariants as source
 use Rattle.tta_arch.specs.Machine.{Machine}
-use Rattle.tta_arch.specs.Effects.{op_at}
-use Rattle.tta_arch.specs.Rules.{IsMachine, is_frame_op}
+use Rattle.tta_arch.specs.Effects.{target_of, op_at}
+use Rattle.tta_arch.specs.Rules.{IsMachine, same_op, is_frame_op}
 use Rattle.tta_connect.specs.declared.choice.Choice.{Choice}
 use Rattle.tta_connect.specs.declared.calls.Call.{Call}
 use Rattle.tta_connect.specs.Coverage.{hub_of}
@@ -29,13 +30,14 @@ use Rattle.tta_rcode.specs.declared.code.RBlock.{RBlock}
 use Rattle.tta_rcode.specs.declared.code.Rir.{Rir}
 use Rattle.tta_rcode.specs.Counts.{asks_rstep, weight_step}
 use Rattle.tta_rcode.specs.Direct.{one_block}
-use Rattle.tta_select.specs.Counts.{targets, is_trigger_of, is_frame_trigger, is_home, is_need}
+use Rattle.tta_select.specs.Counts.{targets, is_start_of, is_frame_trigger, is_home, is_need}
 use Rattle.tta_select.specs.Lists.{is_closed}
 use Rattle.tta_select.specs.Select.{goes, trigger_at}
 use Rattle.tta_select.specs.Direct.{out_of, brings, constants_out, direct_list, direct_lists}
 use Rattle.tta_select.specs.Statement.{IsDirect, IsDirectSelection, IsSelection, SelectsDirect}
 use Rattle.tta_select.proofs.Constants.{lists_are}
 use Rattle.tta_select.proofs.OneList.{alike}
+use Rattle.tta_select.proofs.Offers.{same_op_is}
 use Rattle.tta_select.proofs.OutputJoins.{CanOutput, can_output, can, halt_joined}
 
 -- ---- the list
@@ -68,26 +70,22 @@ straight m f (w ∷ words) before = straight m f words _
 -- ---- the counts
 
 -- each constant triggers the output once, for which the block asks
-pub triggers : (u : Units) (m : Machine) (f : Call) (words : List ℕ) → CanOutput m f words → (unit k : ℕ) (o : UnitOp) → op_at m unit k ≡ Some o
-    → targets (is_trigger_of unit k) (constants_out f words) ≤ sum_by (asks_rstep u (is_need o.op)) (map (λ w. rstep.Put (rsrc.Word w)) words)
-triggers u m f [] can unit k o there = omega arith
-triggers u m f (w ∷ words) can unit k o there =
-    let more = triggers u m f words (can_output m f words can) unit k o there in
-    let one = here (f.unit == unit && f.op == k) refl in
-    let a = sum_by-cons (λ (x : Item). if is_trigger_of unit k (target_of_item x) then 1 else 0) (goes (Port (source.Value w)) (trigger_at f)) (constants_out f words) in
-    let b = sum_by-cons (asks_rstep u (is_need o.op)) (rstep.Put (rsrc.Word w)) (map (λ w. rstep.Put (rsrc.Word w)) words) in
+pub triggers : (u : Units) (m : Machine) (f : Call) (words : List ℕ) → CanOutput m f words → (does : Op)
+    → targets (is_start_of m does) (constants_out f words) ≤ sum_by (asks_rstep u (is_need does)) (map (λ w. rstep.Put (rsrc.Word w)) words)
+triggers u m f [] can does = omega arith
+triggers u m f (w ∷ words) can does =
+    let more = triggers u m f words (can_output m f words can) does in
+    let one = here (is_start_of m does (target_of (trigger_at f))) refl in
+    let a = sum_by-cons (λ (x : Item). if is_start_of m does (target_of_item x) then 1 else 0) (goes (Port (source.Value w)) (trigger_at f)) (constants_out f words) in
+    let b = sum_by-cons (asks_rstep u (is_need does)) (rstep.Put (rsrc.Word w)) (map (λ w. rstep.Put (rsrc.Word w)) words) in
     omega (arith, more, one, a, b) where
-      here : (b : Bool) → (f.unit == unit && f.op == k) ≡ b → (if b then 1 else 0) ≤ asks_rstep u (is_need o.op) (rstep.Put (rsrc.Word w))
+      here : (b : Bool) → is_start_of m does (target_of (trigger_at f)) ≡ b → (if b then 1 else 0) ≤ asks_rstep u (is_need does) (rstep.Put (rsrc.Word w))
       here false e = omega arith
       here true e =
-          let both = and_parts (f.unit == unit) (f.op == k) e in
-          let same_unit : f.unit ≡ unit = grind (arith, nat_tests, both.0) in
-          let same_op : f.op ≡ k = grind (arith, nat_tests, both.1) in
-          let is : op_at m unit k ≡ Some (record { op = Out; arity = 1; latency = can.0 }) =
-          subst (λ (n : ℕ). op_at m n k ≡ Some (record { op = Out; arity = 1; latency = can.0 })) same_unit
-          (subst (λ (n : ℕ). op_at m f.unit n ≡ Some (record { op = Out; arity = 1; latency = can.0 })) same_op can.1) in
-          let one : o ≡ record { op = Out; arity = 1; latency = can.0 } = cc in
-          rw one (omega arith)
+          let there = can.1 in
+          let same : same_op Out does ≡ true = rw there at e in
+          let one : Out ≡ does = same_op_is Out does same in
+          subst (λ (o : Op). 1 ≤ asks_rstep u (is_need o) (rstep.Put (rsrc.Word w))) one (omega arith)
 
 -- none is on the frame
 pub frames : (m : Machine) (f : Call) (words : List ℕ) → CanOutput m f words → targets (is_frame_trigger m) (constants_out f words) ≡ 0
@@ -145,7 +143,7 @@ module _ (m : Machine) (words : List ℕ) (machine : IsMachine m) (few : length 
     };
     each = (record { list = can_direct; live_out = refl }, tt);
     straight = rw (straight m (out_of m) words []) refl;
-    triggers = (λ unit k o there plain. let a = triggers u m (out_of m) words outputs_all unit k o there in omega (arith, a), tt);
+    triggers = (λ does plain. let a = triggers u m (out_of m) words outputs_all does in omega (arith, a), tt);
     frame = (let a = frames m (out_of m) words outputs_all in omega (arith, a), tt);
     homes = (let a = homes c (out_of m) words in omega (arith, a), tt);
   }

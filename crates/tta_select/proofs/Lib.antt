@@ -32,3 +32,4 @@ pub mod Selecting
 pub mod OutputJoins
 pub mod OneList
 pub mod DirectLists
+pub mod Together

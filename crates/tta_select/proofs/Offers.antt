@@ -20,7 +20,7 @@ use Rattle.tta_select.specs.Select.{call_of}
 use Rattle.tta_select.specs.Ground.{IsServed}
 use Rattle.tta_select.proofs.Firsts.{first_there}
 
-same_op_is : (o q : Op) → same_op o q ≡ true → o ≡ q
+pub same_op_is : (o q : Op) → same_op o q ≡ true → o ≡ q
 same_op_is Ldw Ldw e = refl
 same_op_is Stw Stw e = refl
 same_op_is Ldf Ldf e = refl

@@ -1,17 +1,16 @@
 -- The triggers of a block's list, and its items.
-use Rattle.std.proofs.Common.{◌≡◌, ◌<◌, ◌≤◌, ℕ, Bool, true, false, Option, Some, None, refl, sym, ap, subst, arith, ◌∙◌, length, is_some, slice_get}
-use Rattle.std.specs.Prelude.{if◌then◌else◌, ◌==◌, ◌&&◌}
+use Rattle.std.proofs.Common.{◌≡◌, ◌<◌, ◌≤◌, ℕ, Bool, true, false, Option, Some, None, refl, sym, ap, arith, ◌∙◌, length, is_some, slice_get}
+use Rattle.std.specs.Prelude.{if◌then◌else◌, ◌==◌}
 use Rattle.std.specs.Option.{option_map_or}
 use Rattle.std.specs.List.{list_all}
 use Rattle.std.proofs.lemmas.Bool.Decides.{nat_tests}
 use Rattle.std.proofs.lemmas.Option.{slice_get_within}
 use Rattle.tta_ops.specs.Units.{Units, named}
-use Rattle.tta_arch.specs.declared.parts.UnitOp.{UnitOp}
 use Rattle.tta_arch.specs.declared.parts.Op.{Op}
 use Rattle.tta_arch.specs.declared.parts.Op.TheVariants.{Ldw, Stw, Ldf, Stf, Out, Take as TakeIn, Set}
 use Rattle.tta_arch.specs.Machine.{Machine}
-use Rattle.tta_arch.specs.Effects.{target_of, op_at}
-use Rattle.tta_arch.specs.Rules.{is_frame_op}
+use Rattle.tta_arch.specs.Effects.{target_of}
+use Rattle.tta_arch.specs.Rules.{same_op, is_frame_op}
 use Rattle.tta_connect.specs.declared.choice.Choice.{Choice}
 use Rattle.tta_connect.specs.Coverage.{offered}
 use Rattle.tta_program.specs.declared.operand.Rel.{Rel}
@@ -30,7 +29,8 @@ use Rattle.tta_select.specs.Select.{call_of, trigger_at, test_op, items_of_block
 use Rattle.tta_arch.specs.Over.{StandsOver}
 use Rattle.tta_select.specs.Ground.{IsServed}
 use Rattle.tta_select.specs.Needs.{op_of_step, op_of_exit, is_offered}
-use Rattle.tta_select.specs.Counts.{targets, is_frame_trigger, is_trigger_of, is_need}
+use Rattle.tta_select.specs.Counts.{targets, is_frame_trigger, is_start_of, is_need}
+use Rattle.tta_select.proofs.Offers.{same_op_is}
 use Rattle.tta_select.proofs.Values.{does_of}
 use Rattle.tta_select.proofs.Counting.{step_cost, exit_cost, src_cost, result_cost, trigger_cost, block_counts}
 use Rattle.tta_select.proofs.Counted.{counted_item, counted_dest, constant_counts, carry_counts, move_counts}
@@ -98,56 +98,52 @@ module _ (u : Units) (m : Machine) (c : Choice) (serve : (op : Op) → is_some (
       block_counts m c u (counted_dest (is_frame_trigger m)) 0 0 0 (counted_item (is_frame_trigger m)) (constant_counts m c (is_frame_trigger m) refl (λ i k. refl)) (carry_counts m c (is_frame_trigger m) refl (λ i k. refl))
       (move_counts m c (is_frame_trigger m) refl (λ i k. refl)) (λ r. is_offered m c (op_of_step u r)) names_step (names_exit b.exit) (λ r e. frame_less r e) b all (frame_exit b.exit e)
 
-  -- ---- one operation of a unit
+  -- ---- one operation, on all units
 
-  module _ (over : StandsOver u m) (loads : IsServed m c Ldf) (store : IsServed m c Stf) (unit k : ℕ) (o : UnitOp) (there : op_at m unit k ≡ Some o) (other : is_frame_op o.op ≡ false) where
+  module _ (over : StandsOver u m) (loads : IsServed m c Ldf) (store : IsServed m c Stf) (does : Op) (other : is_frame_op does ≡ false) where
     abbrev op_cost : Op → ℕ
-    op_cost op = trigger_cost m c u (counted_dest (is_trigger_of unit k)) 0 0 0 op
+    op_cost op = trigger_cost m c u (counted_dest (is_start_of m does)) 0 0 0 op
 
     -- what is triggered there is this operation
-    is_this : (op : Op) → IsServed m c op → ((call_of m c op).unit == unit && (call_of m c op).op == k) ≡ true → o.op ≡ op
-    is_this op served e =
-        let a : (call_of m c op).unit ≡ unit = grind (arith, nat_tests) in
-        let b : (call_of m c op).op ≡ k = grind (arith, nat_tests) in
-        let t : op_at m (call_of m c op).unit (call_of m c op).op ≡ Some o = subst (λ i. op_at m i (call_of m c op).op ≡ Some o) (sym a) (subst (λ j. op_at m unit j ≡ Some o) (sym b) there) in
-        ap (λ q. option_map_or (λ x. x.op) q o.op) (sym t ∙ served.there)
+    is_this : (op : Op) → IsServed m c op → is_start_of m does (target_of (trigger_at (call_of m c op))) ≡ true → op ≡ does
+    is_this op served e = let there = served.there in let same : same_op op does ≡ true = rw there at e in same_op_is op does same
 
-    op_at_most : (op : Op) (need : Need) → IsServed m c op → is_need op need ≡ true → op_cost op ≤ (if is_need o.op need then 1 else 0)
-    op_at_most op need served yes_need = on ((call_of m c op).unit == unit && (call_of m c op).op == k) refl where
-      on : (b : Bool) → ((call_of m c op).unit == unit && (call_of m c op).op == k) ≡ b → (if b then 1 else 0) ≤ (if is_need o.op need then 1 else 0)
+    op_at_most : (op : Op) (need : Need) → IsServed m c op → is_need op need ≡ true → op_cost op ≤ (if is_need does need then 1 else 0)
+    op_at_most op need served yes_need = on (is_start_of m does (target_of (trigger_at (call_of m c op)))) refl where
+      on : (b : Bool) → is_start_of m does (target_of (trigger_at (call_of m c op))) ≡ b → (if b then 1 else 0) ≤ (if is_need does need then 1 else 0)
       on false e = omega arith
-      on true e = let same = is_this op served e in let t : is_need o.op need ≡ true = ap (λ q. is_need q need) same ∙ yes_need in rw t (omega arith)
+      on true e = let same = is_this op served e in let t : is_need does need ≡ true = ap (λ q. is_need q need) (sym same) ∙ yes_need in rw t (omega arith)
 
     no_frame : (op : Op) → IsServed m c op → is_frame_op op ≡ true → op_cost op ≡ 0
-    no_frame op served frame = on ((call_of m c op).unit == unit && (call_of m c op).op == k) refl where
-      on : (b : Bool) → ((call_of m c op).unit == unit && (call_of m c op).op == k) ≡ b → ◌≡◌ {A = ℕ} (if b then 1 else 0) 0
+    no_frame op served frame = on (is_start_of m does (target_of (trigger_at (call_of m c op)))) refl where
+      on : (b : Bool) → is_start_of m does (target_of (trigger_at (call_of m c op))) ≡ b → ◌≡◌ {A = ℕ} (if b then 1 else 0) 0
       on false e = refl
-      on true e = let same = is_this op served e in let t : true ≡ false = sym frame ∙ ap (λ q. is_frame_op q) (sym same) ∙ other in absurd cc
+      on true e = let same = is_this op served e in let t : true ≡ false = sym frame ∙ ap (λ q. is_frame_op q) same ∙ other in absurd cc
 
-    op_src : (s : RSrc) → src_cost m c u (counted_dest (is_trigger_of unit k)) 0 0 0 s ≡ 0
+    op_src : (s : RSrc) → src_cost m c u (counted_dest (is_start_of m does)) 0 0 0 s ≡ 0
     op_src (rsrc.Word w) = refl
     op_src (rsrc.At (place.Reg r)) = refl
     op_src (rsrc.At (place.Frame f)) = let a = no_frame Ldf loads refl in omega (arith, a)
 
-    op_result : (d : RPlace) → result_cost m c u (counted_dest (is_trigger_of unit k)) 0 0 0 d ≡ 0
+    op_result : (d : RPlace) → result_cost m c u (counted_dest (is_start_of m does)) 0 0 0 d ≡ 0
     op_result (place.Reg r) = refl
     op_result (place.Frame f) = let a = no_frame Stf store refl in omega (arith, a)
 
     -- a condition asks for its operation
-    test_most : (rel : Rel) → IsServed m c (test_op u rel) → op_cost (test_op u rel) ≤ counts_test u (is_need o.op) rel
+    test_most : (rel : Rel) → IsServed m c (test_op u rel) → op_cost (test_op u rel) ≤ counts_test u (is_need does) rel
     test_most rel served = on (named u (test_name rel)) (named_there u m c over rel served) (op_at_most (test_op u rel) (Named (option_map_or (λ id. id) (named u (test_name rel)) 65536)) served same) where
       same : (option_map_or (λ id. id) (named u (test_name rel)) 65536 == option_map_or (λ id. id) (named u (test_name rel)) 65536) ≡ true
       same = grind (arith, nat_tests)
 
-      on : (n : Option ℕ) → (id : ℕ) × (n ≡ Some id) → op_cost (test_op u rel) ≤ (if is_need o.op (Named (option_map_or (λ id. id) n 65536)) then 1 else 0)
-          → op_cost (test_op u rel) ≤ option_map_or (λ op. if is_need o.op (Named op) then 1 else 0) n 0
+      on : (n : Option ℕ) → (id : ℕ) × (n ≡ Some id) → op_cost (test_op u rel) ≤ (if is_need does (Named (option_map_or (λ id. id) n 65536)) then 1 else 0)
+          → op_cost (test_op u rel) ≤ option_map_or (λ op. if is_need does (Named op) then 1 else 0) n 0
       on (Some id) a le = le
       on None a le = let b : None ≡ Some a.0 = a.1 in absurd cc
 
     same_id : (n : ℕ) → (n == n) ≡ true
     same_id n = grind (arith, nat_tests)
 
-    op_less : (r : RStep) → is_offered m c (op_of_step u r) ≡ true → step_cost m c u (counted_dest (is_trigger_of unit k)) 0 0 0 r ≤ asks_rstep u (is_need o.op) r
+    op_less : (r : RStep) → is_offered m c (op_of_step u r) ≡ true → step_cost m c u (counted_dest (is_start_of m does)) 0 0 0 r ≤ asks_rstep u (is_need does) r
     op_less (Copy (place.Reg i) s) e = let a = op_src s in omega (arith, a)
     op_less (Copy (place.Frame f) s) e = let a = op_src s in let b = no_frame Stf store refl in omega (arith, a, b)
     op_less (Apply d op a b) e = let t = op_at_most (Set op) (Named op.0) (serve (Set op) e) (same_id op.0) in let x = op_src a in let y = op_src b in let z = op_result d in omega (arith, x, y, z, t)
@@ -161,7 +157,7 @@ module _ (u : Units) (m : Machine) (c : Choice) (serve : (op : Op) → is_some (
         omega (arith, x, y, w, t, i, j)
     op_less (SaveRa slot) e = let b = no_frame Stf store refl in omega (arith, b)
 
-    op_exit : (x : RExit) → is_offered m c (op_of_exit u x) ≡ true → exit_cost m c u (counted_dest (is_trigger_of unit k)) 0 0 0 x ≤ asks_exit u (is_need o.op) x
+    op_exit : (x : RExit) → is_offered m c (op_of_exit u x) ≡ true → exit_cost m c u (counted_dest (is_start_of m does)) 0 0 0 x ≤ asks_exit u (is_need does) x
     op_exit rexit.Next e = omega arith
     op_exit (rexit.Goto to) e = omega arith
     op_exit (rexit.If rel a b to) e = let t = test_most rel (serve (test_op u rel) e) in let x = op_src a in let y = op_src b in omega (arith, x, y, t)
@@ -169,7 +165,7 @@ module _ (u : Units) (m : Machine) (c : Choice) (serve : (op : Op) → is_some (
     op_exit (rexit.Back slot) e = let a = no_frame Ldf loads refl in omega (arith, a)
     op_exit rexit.Halt e = omega arith
 
-    pub op_counted : (b : RBlock) → list_all (λ r. is_offered m c (op_of_step u r)) b.steps ≡ true → is_offered m c (op_of_exit u b.exit) ≡ true → targets (is_trigger_of unit k) (items_of_block m c u b) ≤ asks u (is_need o.op) b
+    pub op_counted : (b : RBlock) → list_all (λ r. is_offered m c (op_of_step u r)) b.steps ≡ true → is_offered m c (op_of_exit u b.exit) ≡ true → targets (is_start_of m does) (items_of_block m c u b) ≤ asks u (is_need does) b
     op_counted b all e =
-        block_counts m c u (counted_dest (is_trigger_of unit k)) 0 0 0 (counted_item (is_trigger_of unit k)) (constant_counts m c (is_trigger_of unit k) refl (λ i k. refl)) (carry_counts m c (is_trigger_of unit k) refl (λ i k. refl))
-        (move_counts m c (is_trigger_of unit k) refl (λ i k. refl)) (λ r. is_offered m c (op_of_step u r)) (asks_rstep u (is_need o.op)) (asks_exit u (is_need o.op) b.exit) (λ r e. op_less r e) b all (op_exit b.exit e)
+        block_counts m c u (counted_dest (is_start_of m does)) 0 0 0 (counted_item (is_start_of m does)) (constant_counts m c (is_start_of m does) refl (λ i k. refl)) (carry_counts m c (is_start_of m does) refl (λ i k. refl))
+        (move_counts m c (is_start_of m does) refl (λ i k. refl)) (λ r. is_offered m c (op_of_step u r)) (asks_rstep u (is_need does)) (asks_exit u (is_need does) b.exit) (λ r e. op_less r e) b all (op_exit b.exit e)

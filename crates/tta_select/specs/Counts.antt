@@ -6,7 +6,7 @@ use Rattle.tta_arch.specs.declared.parts.Op.{Op}
 use Rattle.tta_arch.specs.declared.parts.Op.TheVariants.{Ldw, Stw, Out, Take, Set}
 use Rattle.tta_arch.specs.Machine.{Machine}
 use Rattle.tta_arch.specs.Effects.{Target, Reg, Imm, Operand, Trigger, Control, op_at}
-use Rattle.tta_arch.specs.Rules.{is_frame_op}
+use Rattle.tta_arch.specs.Rules.{same_op, is_frame_op}
 use Rattle.tta_connect.specs.declared.choice.Choice.{Choice}
 use Rattle.tta_moves.specs.declared.items.Item.{Item}
 use Rattle.tta_moves.specs.declared.items.BlockList.{BlockList}
@@ -40,6 +40,14 @@ is_trigger_of unit op (Imm i index) = false
 is_trigger_of unit op (Operand i) = false
 is_trigger_of unit op (Trigger i k) = i == unit && k == op
 is_trigger_of unit op (Control kind) = false
+
+-- whether a target starts an operation, on whichever unit
+abbrev pub is_start_of : Machine → Op → Target → Bool
+is_start_of m does (Reg file index) = false
+is_start_of m does (Imm i index) = false
+is_start_of m does (Operand i) = false
+is_start_of m does (Trigger unit op) = option_map_or (λ o. same_op o.op does) (op_at m unit op) false
+is_start_of m does (Control kind) = false
 
 -- whether an operation is what is needed
 abbrev pub is_need : Op → Need → Bool

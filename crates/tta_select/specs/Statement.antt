@@ -1,11 +1,10 @@
 -- What selection gives: lists of moves that do what register code does.
-use Rattle.std.specs.Prelude.{◌≡◌, ◌≤◌, ◌+◌, ◌^◌, ℕ, true, false, List, [], ◌∷◌, length, map, Some}
+use Rattle.std.specs.Prelude.{◌≡◌, ◌≤◌, ◌+◌, ◌^◌, ℕ, true, false, List, [], ◌∷◌, length, map}
 use Rattle.std.specs.List.{list_all}
 use Rattle.tta_list.specs.Legs.{AllPairs}
 use Rattle.tta_ops.specs.Units.{Units}
-use Rattle.tta_arch.specs.declared.parts.UnitOp.{UnitOp}
+use Rattle.tta_arch.specs.declared.parts.Op.{Op}
 use Rattle.tta_arch.specs.Machine.{Machine}
-use Rattle.tta_arch.specs.Effects.{op_at}
 use Rattle.tta_arch.specs.Over.{StandsOver}
 use Rattle.tta_arch.specs.Rules.{IsMachine, is_frame_op}
 use Rattle.tta_connect.specs.declared.choice.Choice.{Choice}
@@ -20,7 +19,7 @@ use Rattle.tta_rcode.specs.Counts.{names, asks, assigns_block, weight}
 use Rattle.tta_rcode.specs.Direct.{one_block}
 use Rattle.tta_select.specs.Select.{home_pair, selected}
 use Rattle.tta_select.specs.Keeps.{IsFit, KeepsMeaning}
-use Rattle.tta_select.specs.Counts.{targets, is_trigger_of, is_frame_trigger, is_home, is_need, items_in}
+use Rattle.tta_select.specs.Counts.{targets, is_start_of, is_frame_trigger, is_home, is_need, items_in}
 use Rattle.tta_select.specs.Lists.{is_closed}
 use Rattle.tta_select.specs.Direct.{brings, direct_lists}
 
@@ -38,11 +37,10 @@ pub record IsListFor (m : Machine) (c : Choice) (b : RBlock) (l : BlockList) : T
   pub list : is_list m l.items ≡ true
   pub live_out : l.live_out ≡ map (home_pair m c) b.live_out
 
--- The list of a block triggers each operation of a unit, other than those on the frame, at most as often as the block
--- asks for it.
+-- The list of a block triggers each operation, other than those on the frame, on all units together at most as often as the
+-- block asks for it.
 abbrev pub TriggersNoMore : Units → Machine → RBlock → BlockList → Type 0
-TriggersNoMore u m b l =
-    (unit k : ℕ) (o : UnitOp) → op_at m unit k ≡ Some o → is_frame_op o.op ≡ false → targets (is_trigger_of unit k) l.items ≤ asks u (is_need o.op) b
+TriggersNoMore u m b l = (does : Op) → is_frame_op does ≡ false → targets (is_start_of m does) l.items ≤ asks u (is_need does) b
 
 -- What the lists of register code are, for a machine and what is chosen on it.
 pub record IsSelection (u : Units) (m : Machine) (c : Choice) (r : Rir) (lists : List BlockList) : Type 0 where
@@ -55,7 +53,8 @@ pub record IsSelection (u : Units) (m : Machine) (c : Choice) (r : Rir) (lists :
   pub each : AllPairs (IsListFor m c) r.blocks lists
   -- Each list is straight: no move takes by a detour what a bus brings to it at once.
   pub straight : list_all (λ l. is_straight m (hub_of m) l.items) lists ≡ true
-  -- Each list triggers each operation of a unit but loads and stores of the frame at most as often as its block asks.
+  -- Each list triggers each operation but loads and stores of the frame, on all units together, at most as often as its
+  -- block asks.
   pub triggers : AllPairs (TriggersNoMore u m) r.blocks lists
   -- Each list triggers loads and stores of the frame together at most as often as its block names slots.
   pub frame : AllPairs (λ b l. targets (is_frame_trigger m) l.items ≤ names b) r.blocks lists
