@@ -31,6 +31,7 @@ module _ (u : Units) (m : Machine) (p q : Program) (rules : IsProgram p) (is : C
     packed = b.packed;
     room = omega (arith, b.room, room_converted m p q is);
     compiled = b.compiled;
+    made = b.made;
   }
 
   pub cause_so : (e : BuildError) → HasCause u m q e → HasConvertedCause u m p e

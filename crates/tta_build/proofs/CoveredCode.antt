@@ -14,7 +14,10 @@ use Rattle.tta_program.specs.Program.{Program}
 use Rattle.tta_program.specs.Rules.{IsProgram}
 use Rattle.tta_program.specs.Sizes.{frame_need}
 use Rattle.tta_rcode.specs.declared.code.Rir.{Rir}
+use Rattle.tta_alloc.specs.declared.homes.Homes.{Homes}
 use Rattle.tta_lower.specs.Law.{IsKnown}
+use Rattle.tta_lower.specs.Statement.{IsCodeOf as IsRegisterCode}
+use Rattle.tta_alloc.specs.Allotted.{AreAllotted}
 use Rattle.tta_lower.specs.Lower.{lowered, parts}
 use Rattle.tta_lower.specs.Known.{first_by, known_by}
 use Rattle.tta_lower.proofs.SameHomes.{answers_know}
@@ -39,11 +42,15 @@ use Rattle.tta_compose.proofs.Linking.{lists_link, lists_agree}
 use Rattle.tta_compose.proofs.Room.{lists_fit}
 use Rattle.tta_build.specs.declared.error.BuildError.{BuildError}
 use Rattle.tta_build.specs.declared.error.BuildError.TheVariants as cause
-use Rattle.tta_build.specs.declared.register.Sharing.{Sharing}
 use Rattle.tta_build.specs.Statement.{IsAccepted, Covered, unsupplied}
 use Rattle.tta_build.specs.Candidates.{AreChosen}
-use Rattle.tta_build.specs.Compiled.{AreSelected, AreListsOf, ArePlacedFor, CompilesTo}
-use Rattle.tta_build.specs.Parts.{IsLowered, IsLoweredBy, AreSelectedBy, IsCodeFor, IsOverlong, IsCodeCause, IsLinkCause}
+use Rattle.tta_build.specs.Compiled.{AreSelected, CompilesTo}
+use Rattle.tta_build.specs.Parts.{AreListsOf, ArePlacedFor}
+use Rattle.tta_build.specs.declared.register.Analysed.{Analysed}
+use Rattle.tta_build.specs.Compiled.{AreChosenFor}
+use Rattle.tta_build.specs.Parts.{AreSelectedWith, AreChosenWith}
+use Rattle.tta_build.specs.Lowered.{IsAnalysed}
+use Rattle.tta_build.specs.Parts.{IsLowered, IsCodeFor, IsOverlong, IsCodeCause, IsLinkCause}
 use Rattle.tta_build.proofs.Placements.{IsCodeOf, IsTooLong, IsListsCause, is_code, is_cause}
 use Rattle.tta_build.proofs.Shortest.{have_lists}
 
@@ -55,6 +62,19 @@ all_by test [] (y ∷ ys) same each = absurd (omega arith)
 all_by test (x ∷ xs) (y ∷ ys) same each =
     and_from (test y) (list_all test ys) (each 0 x y refl refl)
     (all_by test xs ys (omega arith) (λ k a b e f. each (suc k) a b e f))
+
+-- register code of a program by its blocks, its liveness and these homes
+abbrev pub lowered_with : (p : Program) (known : Analysed) (kept : Homes) (homes frame_words words : ℕ) (r : Rir) → IsAnalysed p known → AreAllotted p homes kept
+    → words ≡ frame_words → IsRegisterCode p known.flow.blocks known.live kept words r → IsLowered p homes frame_words r
+lowered_with p known kept homes frame_words words r is allotted same code = record {
+  blocks = known.flow.blocks;
+  live = known.live;
+  kept = kept;
+  flow = is.flow;
+  lives = is.lives;
+  allotted = allotted;
+  code = subst (λ (k : ℕ). IsRegisterCode p known.flow.blocks known.live kept k r) same code;
+}
 
 -- ---- the register code of a pair
 
@@ -101,11 +121,14 @@ module _ (u : Units) (m : Machine) (c : Choice) (p : Program) (machine : IsMachi
     are = selected_are r is lists same;
   }
 
-  -- and with homes that are given in a way they are selected by it
-  pub selected_by : (sharing : Sharing) (r : Rir) (lists : List BlockList) → IsLoweredBy sharing p (length c.homes) m.frame_words r → lists ≡ selected m c u r
-      → AreSelectedBy sharing u m c p lists
+  -- and they are selected with the homes of its variables
+  pub selected_with : (known : Analysed) (kept : Homes) (words : ℕ) (r : Rir) (lists : List BlockList) → IsAnalysed p known → AreAllotted p (length c.homes) kept
+      → words ≡ m.frame_words → IsRegisterCode p known.flow.blocks known.live kept words r → lists ≡ selected m c u r → AreSelectedWith kept u m c p lists
   unfolding selected_of
-  selected_by sharing r lists is same = record { of = selected_of r lists is.lowered same; given = is.given }
+  selected_with known kept words r lists is allotted room code same = record {
+    of = selected_of r lists (lowered_with p known kept (length c.homes) m.frame_words words r is allotted room code) same;
+    homes = refl;
+  }
 
   -- they are lists of the machine
   pub selected_lists : (lists : List BlockList) → AreSelected u m c p lists → list_all (λ (b : BlockList). is_list m b.items) lists ≡ true
@@ -232,3 +255,18 @@ module _ (u : Units) (m : Machine) (c : Choice) (p : Program) (ps qs : List Plac
       → IfErr r (λ e. IsLinkCause m qs e) → IfErr r (λ e. IsCodeCause u m p e)
   err_for other kept supplied r cause =
       err_of u m c p for.lists machine over choice program offers for.are other kept supplied r (is_cause m for.lists ps qs r for.first for.roomy same cause)
+
+-- ---- placements that are chosen for a pair
+
+module _ (u : Units) (m : Machine) (c : Choice) (p : Program) (machine : IsMachine m) (over : StandsOver u m) (choice : IsChoice m c)
+    (program : IsProgram p) (offers : are_offered u m c p ≡ true) where
+  -- they are few
+  pub few_placed : (kept : Homes) (ps : List Placed) → AreChosenWith kept u m c p ps → length ps ≤ 16777216
+  few_placed kept ps is =
+      (are_blocks u m c p ps ps machine over choice program offers
+      (placed_for u m c p machine over choice program offers is.lists ps is.selected.of is.chosen) refl).few
+
+  -- they are placed for the program
+  pub placed_as_chosen : (ps : List Placed) → AreChosenFor u m c p ps → ArePlacedFor u m c p ps
+  placed_as_chosen ps is =
+      placed_for u m c p machine over choice program offers is.by.lists ps is.by.selected.of is.by.chosen

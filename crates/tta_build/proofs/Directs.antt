@@ -1,8 +1,6 @@
 -- The code of a direct pair.
 use Rattle.std.proofs.Common.{◌≡◌, ℕ, ◌+◌, ◌*◌, ◌<◌, ◌≤◌, true, List, [], ◌∷◌, length, refl, sym, ◌∙◌, ap, subst, arith}
-use Rattle.std.specs.Prelude.{Result, Ok, Err, IfOk, IfErr, Vec}
-use Rattle.std.specs.Global.{Global}
-use Rattle.std.specs.declared.alloc.AllocError.{AllocError}
+use Rattle.std.specs.Prelude.{Result, Ok, Err, IfOk, IfErr}
 use Rattle.std.specs.List.{list_all}
 use Rattle.std.proofs.Math.Nat.{mul-le-mul}
 use Rattle.tta_ops.specs.Units.{Units}
@@ -25,9 +23,11 @@ use Rattle.tta_moves.specs.declared.items.Placed.{Placed}
 use Rattle.tta_moves.specs.Slots.{is_list}
 use Rattle.tta_select.specs.Direct.{out_of, direct_list}
 use Rattle.tta_link.specs.Blocks.{AreBlocks, total_length}
+use Rattle.tta_link.specs.Linked.{IsLinked}
 use Rattle.tta_link.proofs.Whole.{linked_length}
 use Rattle.tta_sched.specs.Room.{longest, HasRoom}
 use Rattle.tta_code.specs.declared.code.Code.{Code}
+use Rattle.tta_code.specs.Legal.{IsLegalCode}
 use Rattle.tta_compose.specs.Direct.{is_direct, constants_of, list_of_direct}
 use Rattle.tta_compose.specs.Linking.{AreRespected, AreFirstFits}
 use Rattle.tta_compose.specs.Room.{AreRoomy, room_on}
@@ -38,8 +38,12 @@ use Rattle.tta_build.specs.declared.error.BuildError.{BuildError}
 use Rattle.tta_build.specs.declared.error.BuildError.TheVariants as cause
 use Rattle.tta_build.specs.Compiled.{CompilesTo, OfOneList}
 use Rattle.tta_build.specs.Statement.{Direct, LacksRoom, HasCause}
-use Rattle.tta_build.specs.Parts.{IsLowered, AreDirect, IsCodeFor}
-use Rattle.tta_build.proofs.Placements.{IsCodeOf, IsTooLong, IsListsCause}
+use Rattle.tta_build.specs.declared.register.Lowered.{Lowered}
+use Rattle.tta_build.specs.declared.choosing.Planned.{Planned}
+use Rattle.tta_build.specs.Lowered.{IsLoweredAs}
+use Rattle.tta_build.specs.Value.{AreDirectLists}
+use Rattle.tta_build.specs.Parts.{IsLowered, AreDirect, IsCodeFor, IsLinkCause}
+use Rattle.tta_build.proofs.Placements.{IsCodeOf, IsTooLong, IsListsCause, is_code, is_cause}
 use Rattle.tta_select.proofs.DirectLists.{size as length-constants_out}
 
 -- ---- frames
@@ -183,9 +187,52 @@ err_for m p lists machine program direct of (Err (cause.CodeFull words have)) is
 err_for m p lists machine program direct of (Err cause.NoMemory) is = λ u. tt
 err_for m p lists machine program direct of (Err e) is = absurd is
 
--- the one list, whether the selection answers it
-pub lists_for : (m : Machine) (p : Program) (r : Rir) → IsProgram p → is_direct m p ≡ true → IsLowered p 0 4096 r → (q : Result (Vec BlockList Global) AllocError)
-    → IfOk q (λ lists. (words : List ℕ) → r.blocks ≡ one_block words ∷ [] → lists.items ≡ direct_list (out_of m) words ∷ [])
-    → IfOk q (λ lists. AreDirect m p lists.items)
-lists_for m p r program direct is (Ok lists) one = list_is m p r lists.items program direct is one
-lists_for m p r program direct is (Err e) one = tt
+-- ---- the one list, as it is lowered and placed
+
+-- the register code is the program's
+is_lowered : (p : Program) (r : Lowered) → IsLoweredAs p 0 4096 r → IsLowered p 0 4096 r.code
+is_lowered p r is = record {
+  blocks = r.known.flow.blocks;
+  live = r.known.live;
+  kept = r.homes;
+  flow = is.known.flow;
+  lives = is.known.lives;
+  allotted = is.allotted;
+  code = is.code;
+}
+
+module _ (m : Machine) (p : Program) (r : Lowered) (program : IsProgram p) (pair : is_direct m p ≡ true) (is : IsLoweredAs p 0 4096 r) where
+  -- the list that is selected is that of the pair
+  pub direct_lists : (lists : List BlockList) → ((words : List ℕ) → r.code.blocks ≡ one_block words ∷ [] → lists ≡ direct_list (out_of m) words ∷ [])
+      → AreDirect m p lists
+  direct_lists lists one = list_is m p r.code lists program pair (is_lowered p r is) one
+
+  -- so it is by what is placed
+  are_direct : (all : Planned) → AreDirectLists m p all → AreDirect m p all.selected.items
+  are_direct all are = record {
+    blocks = r.known.flow.blocks;
+    live = r.known.live;
+    kept = r.homes;
+    flow = is.known.flow;
+    lives = is.known.lives;
+    allotted = is.allotted;
+    are = are.selected;
+  }
+
+  module _ (machine : IsMachine m) (all : Planned) (are : AreDirectLists m p all) (ps : List Placed) (same : ps ≡ all.placed.items) where
+    -- its placement can be linked
+    pub are_blocks : AreBlocks m ps
+    are_blocks = subst (AreBlocks m) (sym same) (can_link m p all.selected.items (are_direct all are) all.placed.items are.roomy.respected)
+
+    -- what is linked from it is code for the pair, and why nothing is linked is why there is none
+    pub linked_for : (code : Code) → IsLinked m code ps → IsLegalCode m code → (u : Units) → IsCodeFor u m p code
+    linked_for code linked legal =
+        let r : Result Code BuildError = Ok code in
+        ok_for m p all.selected.items machine program pair (are_direct all are) r
+        (is_code m all.selected.items all.placed.items ps r are.first are.roomy same linked legal)
+
+    pub cause_for : (e : BuildError) → IsLinkCause m ps e → (u : Units) → HasCause u m p e
+    cause_for e cause =
+        let r : Result Code BuildError = Err e in
+        err_for m p all.selected.items machine program pair (are_direct all are) r
+        (is_cause m all.selected.items all.placed.items ps r are.first are.roomy same cause)

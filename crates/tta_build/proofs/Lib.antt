@@ -5,10 +5,13 @@ pub mod Served
 pub mod Only
 pub mod Sorted
 pub mod Placements
+pub mod Trails
 pub mod Along
 pub mod Shortest
+pub mod EachBlock
 pub mod NoLonger
-pub mod Standing
+pub mod WithHomes
+pub mod Compiling
 pub mod CoveredCode
 pub mod Directs
 pub mod Completes

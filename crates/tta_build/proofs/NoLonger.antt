@@ -24,8 +24,9 @@ use Rattle.tta_build.specs.declared.error.BuildError.TheVariants as cause
 use Rattle.tta_build.specs.declared.register.Sharing.TheVariants.{InTurn}
 use Rattle.tta_build.specs.Candidates.{IsChosen}
 use Rattle.tta_build.specs.Plain.{IsNoLonger, OfDirect, OfOther}
-use Rattle.tta_build.specs.Compiled.{AreNoLonger, AreCompiledFor, AreCompiled, CompilesTo, IsWithinPlain, CompiledIsShort, OfOneList, OfLists}
-use Rattle.tta_build.specs.Parts.{AreSelectedBy, AreChosenBy, IsOverlong, IsCodeCause, IsLinkCause}
+use Rattle.tta_build.specs.Compiled.{AreNoLonger, AreChosenFor, AreCompiled, CompilesTo, IsWithinPlain, CompiledIsShort, OfOneList, OfLists}
+use Rattle.tta_build.specs.Compiled.{AreSelectedBy, AreChosenBy}
+use Rattle.tta_build.specs.Parts.{IsOverlong, IsCodeCause, IsLinkCause}
 use Rattle.tta_build.specs.Statement.{LacksRoom, HasCause}
 use Rattle.tta_build.proofs.Along.{Along}
 use Rattle.tta_build.proofs.Shortest.{one_first}
@@ -33,7 +34,7 @@ use Rattle.tta_build.proofs.Shortest.{one_first}
 -- ---- the placements of blocks
 
 -- the list after the passes is a candidate, so its first fit is no shorter than the placement that is chosen
-one_no_longer : (m : Machine) (b : BlockList) (p : Placed) → IsChosen m b p → IsNoLonger m b p
+pub one_no_longer : (m : Machine) (b : BlockList) (p : Placed) → IsChosen m b p → IsNoLonger m b p
 one_no_longer m b p c =
     let s = c.shortest in
     let low = slice_get_within c.lists 0 (optimised m b) c.candidates.first in
@@ -117,7 +118,7 @@ compiled_is_short u m p words is = by is.are where
 -- ---- the answers
 
 module _ (u : Units) (m : Machine) (c : Choice) (p : Program) (ps qs : List Placed) (choice : IsChoice m c) (other : is_direct m p ≡ false)
-    (of : AreCompiledFor u m c p ps) (same : qs ≡ ps) where
+    (of : AreChosenFor u m c p ps) (same : qs ≡ ps) where
   -- so many words are what is compiled, where the placements take them
   compiles : (words : ℕ) → words ≡ total_length qs → CompilesTo u m p words
   compiles words takes = record { placements = ps; are = OfLists other c choice of; takes = takes ∙ ap total_length same }

@@ -1,9 +1,8 @@
 -- The shortest of some placements, list by list, and the lists whose placements were chosen.
-use Rattle.std.proofs.Common.{◌≡◌, ◌<◌, ◌≤◌, ◌+◌, ◌⊎◌, inl, inr, ℕ, zero, suc, Bool, true, false, List, [], ◌∷◌, ◌++◌, Some, refl, sym, ap, subst, ◌∙◌, arith, length, get_or, take, slice_get}
-use Rattle.std.specs.Prelude.{if◌then◌else◌, nat_lt, Result, Ok, Err, IfOk}
-use Rattle.std.specs.declared.alloc.AllocError.{AllocError}
+use Rattle.std.proofs.Common.{◌≡◌, ◌<◌, ◌≤◌, ◌⊎◌, inl, inr, ℕ, zero, suc, Bool, true, false, List, [], ◌∷◌, ◌++◌, Some, refl, sym, ap, subst, ◌∙◌, arith, length, slice_get}
+use Rattle.std.specs.Prelude.{if◌then◌else◌, nat_lt}
 use Rattle.std.proofs.lemmas.Bool.Decides.{nat_tests}
-use Rattle.std.proofs.lemmas.List.{take_more, map-append}
+use Rattle.std.proofs.lemmas.List.{map-append}
 use Rattle.std.proofs.lemmas.Option.{slice_get_within}
 use Rattle.tta_arch.specs.Machine.{Machine}
 use Rattle.tta_moves.specs.declared.items.BlockList.{BlockList}
@@ -12,15 +11,16 @@ use Rattle.tta_moves.specs.Bounds.{Respects}
 use Rattle.tta_moves.specs.FirstFit.{IsFirstFit}
 use Rattle.tta_list.proofs.Lists.{slice_get-push, slice_get-longer, element, item_behind as last_there, length_more as push_length}
 use Rattle.tta_sched.specs.Room.{HasRoom}
-use Rattle.tta_compose.specs.Compiler.{AreStandIns}
+use Rattle.tta_compose.specs.Compiler.{AreStandIns, optimised}
 use Rattle.tta_compose.specs.Planned.{HasForms}
 use Rattle.tta_compose.specs.Linking.{AreFirstFits}
 use Rattle.tta_compose.specs.Room.{AreRoomy}
 use Rattle.tta_build.specs.Candidates.{IsCandidate, IsShortest, IsChosen, AreChosen}
-use Rattle.tta_build.specs.declared.candidates.Way.{Way}
-use Rattle.tta_build.specs.declared.candidates.Candidate.{Candidate}
 use Rattle.tta_build.specs.declared.choosing.Chosen.{Chosen}
-use Rattle.tta_build.specs.Ways.{CameBy, lists_of, AreOfBlock, IsFitOf, IsKept, IsChosenBy}
+use Rattle.tta_build.specs.declared.trail.Trail.{Trail}
+use Rattle.tta_build.specs.Trail.{IsTrail, AreTrailsOf, last_of, lasts_of}
+use Rattle.tta_build.specs.Placing.{IsFitOf, IsKept, IsBest}
+use Rattle.tta_build.proofs.Trails.{are_candidates}
 use Rattle.tta_build.proofs.Placements.{SoFar}
 
 -- a list with its placement
@@ -123,79 +123,64 @@ shortest_more m lists b p q r s is same = by (nat_lt q.length p.length) refl sam
   by true e this = let less : q.length < p.length = grind (arith, nat_tests) in subst (λ (x : Placed). IsShortest m (lists ++ b ∷ []) x) (sym this) (shorter less)
   by false e this = let more : p.length ≤ q.length = grind (arith, nat_tests) in subst (λ (x : Placed). IsShortest m (lists ++ b ∷ []) x) (sym this) (stays more)
 
--- ---- with the ways
+-- ---- with the trails
 
--- of one candidate its placement is kept
-pub kept_one : (m : Machine) (c : Candidate) (r : Chosen) → IsFitOf m c r → IsKept m (c ∷ []) r
-kept_one m c r is = record {
-  shortest = shortest_one m c.list r.placed (record { first = is.first; respects = is.respects; room = is.room });
+-- the placement is a first fit of the list to which the trail leads that is kept
+fit_of : (m : Machine) (t : Trail) (r : Chosen) → IsFitOf m t r → IsFirstFit m (last_of r.trail).items r.placed
+fit_of m t r is = subst (λ (x : Trail). IsFirstFit m (last_of x).items r.placed) (sym is.is) is.first
+
+-- of one trail its placement is kept
+pub kept_one : (m : Machine) (t : Trail) (r : Chosen) → IsFitOf m t r → IsKept m (t ∷ []) r
+kept_one m t r is = record {
+  shortest = shortest_one m (last_of t) r.placed (record { first = is.first; respects = is.respects; room = is.room });
   at = 0;
-  one = c;
-  there = refl;
-  way = sym is.way;
-  fit = is.first;
+  there = ap Some (sym is.is);
+  fit = fit_of m t r is;
 }
 
--- with a candidate more that with the shorter of two placements is kept, and the one before on a tie
-pub kept_more : (m : Machine) (cs : List Candidate) (c : Candidate) (p q r : Chosen) → IsKept m cs p → IsFitOf m c q
-    → r ≡ (if nat_lt q.placed.length p.placed.length then q else p) → IsKept m (cs ++ c ∷ []) r
-kept_more m cs c p q r k is same = by (nat_lt q.placed.length p.placed.length) refl same where
-  fits : IsPlacedBy m c.list q.placed
+-- with a trail more that with the shorter of two placements is kept, and the one before on a tie
+pub kept_more : (m : Machine) (ts : List Trail) (t : Trail) (p q r : Chosen) → IsKept m ts p → IsFitOf m t q
+    → r ≡ (if nat_lt q.placed.length p.placed.length then q else p) → IsKept m (ts ++ t ∷ []) r
+kept_more m ts t p q r k is same = by (nat_lt q.placed.length p.placed.length) refl same where
+  fits : IsPlacedBy m (last_of t) q.placed
   fits = record { first = is.first; respects = is.respects; room = is.room }
 
-  short : (x : Placed) → x ≡ (if nat_lt q.placed.length p.placed.length then q.placed else p.placed) → IsShortest m (lists_of (cs ++ c ∷ [])) x
+  short : (x : Placed) → x ≡ (if nat_lt q.placed.length p.placed.length then q.placed else p.placed) → IsShortest m (lasts_of (ts ++ t ∷ [])) x
   short x e =
-      subst (λ (ls : List BlockList). IsShortest m ls x) (sym (map-append (λ (y : Candidate). y.list) cs (c ∷ [])))
-      (shortest_more m (lists_of cs) c.list p.placed q.placed x k.shortest fits e)
+      subst (λ (ls : List BlockList). IsShortest m ls x) (sym (map-append last_of ts (t ∷ [])))
+      (shortest_more m (lasts_of ts) (last_of t) p.placed q.placed x k.shortest fits e)
 
-  newer : nat_lt q.placed.length p.placed.length ≡ true → IsKept m (cs ++ c ∷ []) q
+  newer : nat_lt q.placed.length p.placed.length ≡ true → IsKept m (ts ++ t ∷ []) q
   newer e = record {
     shortest = short q.placed (sym (ap (λ (b : Bool). if b then q.placed else p.placed) e));
-    at = length cs;
-    one = c;
-    there = last_there cs c;
-    way = sym is.way;
-    fit = is.first;
+    at = length ts;
+    there = last_there ts t ∙ ap Some (sym is.is);
+    fit = fit_of m t q is;
   }
 
-  stays : nat_lt q.placed.length p.placed.length ≡ false → IsKept m (cs ++ c ∷ []) p
+  stays : nat_lt q.placed.length p.placed.length ≡ false → IsKept m (ts ++ t ∷ []) p
   stays e = record {
     shortest = short p.placed (sym (ap (λ (b : Bool). if b then q.placed else p.placed) e));
     at = k.at;
-    one = k.one;
-    there = slice_get-longer cs (c ∷ []) k.at k.one k.there;
-    way = k.way;
+    there = slice_get-longer ts (t ∷ []) k.at p.trail k.there;
     fit = k.fit;
   }
 
-  by : (b : Bool) → nat_lt q.placed.length p.placed.length ≡ b → r ≡ (if b then q else p) → IsKept m (cs ++ c ∷ []) r
-  by true e this = subst (λ (x : Chosen). IsKept m (cs ++ c ∷ []) x) (sym this) (newer e)
-  by false e this = subst (λ (x : Chosen). IsKept m (cs ++ c ∷ []) x) (sym this) (stays e)
+  by : (b : Bool) → nat_lt q.placed.length p.placed.length ≡ b → r ≡ (if b then q else p) → IsKept m (ts ++ t ∷ []) r
+  by true e this = subst (λ (x : Chosen). IsKept m (ts ++ t ∷ []) x) (sym this) (newer e)
+  by false e this = subst (λ (x : Chosen). IsKept m (ts ++ t ∷ []) x) (sym this) (stays e)
 
--- what is kept of a block's candidates is chosen by its way
-pub kept_chosen : (m : Machine) (b : BlockList) (cs : List Candidate) (r : Chosen) → AreOfBlock m b cs → IsKept m cs r → IsChosenBy m b r.way r.placed
-kept_chosen m b cs r are k = record {
-  chosen = record { lists = lists_of cs; candidates = are.are; shortest = k.shortest };
-  list = k.one.list;
-  came = subst (λ (w : Way). CameBy m w b k.one.list) k.way (are.came k.at k.one k.there);
+-- what is kept of a block's candidates is the best
+pub kept_best : (m : Machine) (b : BlockList) (t : Trail) (ts : List Trail) (r : Chosen) → IsTrail m b t → last_of t ≡ optimised m b → AreTrailsOf m b ts
+    → IsKept m (t ∷ ts) r → IsBest m b r
+kept_best m b t ts r first plain others k = record {
+  chosen = record { lists = lasts_of (t ∷ ts); candidates = are_candidates m b t ts first plain others; shortest = k.shortest };
+  trail = there k.at k.there;
   fit = k.fit;
-}
-
-pub chosen_of : (m : Machine) (b : BlockList) (cs ds : List Candidate) (r : Result Chosen AllocError) → AreOfBlock m b cs → ds ≡ cs
-    → IfOk r (λ x. IsKept m ds x) → IfOk r (λ x. IsChosenBy m b x.way x.placed)
-chosen_of m b cs ds (Ok x) are same k = kept_chosen m b cs x are (subst (λ (es : List Candidate). IsKept m es x) same k)
-chosen_of m b cs ds (Err e) are same k = tt
-
--- ---- along a list
-
--- the first element
-pub first_taken : {A : Type 0} (xs : List A) (x : A) → 0 < length xs → x ≡ get_or xs 0 x → take 1 xs ≡ x ∷ []
-first_taken [] x some is = absurd (omega arith)
-first_taken (y ∷ xs) x some is = ap (λ (z : _). z ∷ []) (sym is)
-
--- one element more
-pub next_taken : {A : Type 0} (xs : List A) (i : ℕ) (x : A) → i < length xs → x ≡ get_or xs i x → take (i + 1) xs ≡ take i xs ++ x ∷ []
-next_taken xs i x low is = take_more xs i x low ∙ ap (λ (z : _). take i xs ++ z ∷ []) (sym is)
+} where
+  there : (n : ℕ) → slice_get (t ∷ ts) n ≡ Some r.trail → IsTrail m b r.trail
+  there zero e = let same : t ≡ r.trail = cc in subst (IsTrail m b) same first
+  there (suc n) e = others n r.trail e
 
 -- ---- the lists whose placements were chosen
 

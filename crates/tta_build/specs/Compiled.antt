@@ -1,5 +1,5 @@
 -- What is compiled of a pair: the placements of which its code consists, and how many words they take.
-use Rattle.std.specs.Prelude.{◌≡◌, ◌≤◌, true, false, ℕ, List, [], ◌∷◌, length, Some, slice_get}
+use Rattle.std.specs.Prelude.{◌≡◌, ◌≤◌, true, false, ℕ, List, [], ◌∷◌, length}
 use Rattle.tta_ops.specs.Units.{Units}
 use Rattle.tta_arch.specs.Machine.{Machine}
 use Rattle.tta_connect.specs.declared.choice.Choice.{Choice}
@@ -16,11 +16,12 @@ use Rattle.tta_lower.specs.Known.{known_by}
 use Rattle.tta_moves.specs.declared.items.BlockList.{BlockList}
 use Rattle.tta_moves.specs.declared.items.Placed.{Placed}
 use Rattle.tta_link.specs.Blocks.{total_length}
-use Rattle.tta_compose.specs.Compiler.{AreStandIns, raw}
+use Rattle.tta_compose.specs.Compiler.{raw}
 use Rattle.tta_compose.specs.Direct.{is_direct, list_of_direct}
-use Rattle.tta_compose.specs.Planned.{HasForms}
 use Rattle.tta_compose.specs.Linking.{AreFirstFits}
-use Rattle.tta_compose.specs.Room.{AreRoomy}
+use Rattle.tta_build.specs.declared.register.Sharing.{Sharing}
+use Rattle.tta_build.specs.Sharing.{AreGivenBy}
+use Rattle.tta_build.specs.Candidates.{AreChosen}
 use Rattle.tta_build.specs.Plain.{IsPlain, IsPlainCode}
 
 -- ---- its parts
@@ -36,38 +37,38 @@ pub record AreSelected (u : Units) (m : Machine) (c : Choice) (p : Program) (lis
   pub room : frame_need p ≤ m.frame_words
   pub are : lists ≡ raw u m c p (known_by p blocks live kept)
 
--- The lists that are placed for a program: each may be placed for the selected one, and is in all forms.
-pub record AreListsOf (u : Units) (m : Machine) (c : Choice) (p : Program) (lists : List BlockList) : Type 0 where
-  pub selected : List BlockList
-  pub of : AreSelected u m c p selected
-  pub stand : AreStandIns m selected lists
-  pub forms : (k : ℕ) (l : BlockList) → slice_get lists k ≡ Some l → HasForms m l
-
--- First fits of such lists, which have room.
-pub record ArePlacedFor (u : Units) (m : Machine) (c : Choice) (p : Program) (placements : List Placed) : Type 0 where
-  pub lists : List BlockList
-  pub are : AreListsOf u m c p lists
-  pub first : AreFirstFits m lists placements
-  pub roomy : AreRoomy m lists placements
-
 -- Placements are together no longer than plain ones.
 pub record AreNoLonger (u : Units) (m : Machine) (c : Choice) (p : Program) (placements : List Placed) : Type 0 where
   pub plain : List Placed
   pub is : IsPlain u m c p plain
   pub no_longer : total_length placements ≤ total_length plain
 
--- Placements are those of a program for what is chosen on a machine: they are placed for it, and no longer than plain ones.
-pub record AreCompiledFor (u : Units) (m : Machine) (c : Choice) (p : Program) (placements : List Placed) : Type 0 where
-  pub placed : ArePlacedFor u m c p placements
+-- The lists that are selected for a program, whose home registers are given in this way.
+pub record AreSelectedBy (sharing : Sharing) (u : Units) (m : Machine) (c : Choice) (p : Program) (lists : List BlockList) : Type 0 where
+  pub of : AreSelected u m c p lists
+  pub given : AreGivenBy sharing p (length c.homes) of.kept
+
+-- Placements that are chosen for such lists: for each the shortest of its candidates, of which the first is the list after
+-- the passes.
+pub record AreChosenBy (sharing : Sharing) (u : Units) (m : Machine) (c : Choice) (p : Program) (placements : List Placed) : Type 0 where
+  pub lists : List BlockList
+  pub selected : AreSelectedBy sharing u m c p lists
+  pub chosen : AreChosen m lists placements
+
+-- Placements are chosen for a program: home registers are given in one of the two ways, and they are together no longer
+-- than plain ones.
+pub record AreChosenFor (u : Units) (m : Machine) (c : Choice) (p : Program) (placements : List Placed) : Type 0 where
+  pub sharing : Sharing
+  pub by : AreChosenBy sharing u m c p placements
   pub short : AreNoLonger u m c p placements
 
 -- ---- the answer
 
--- Placements are compiled of a pair: of a direct pair its one list is placed by first fit; of any other pair they are placed
--- for the program and what is chosen on the machine, and are no longer than plain ones.
+-- Placements are compiled of a pair: of a direct pair its one list is placed by first fit; of any other pair they are chosen
+-- for the program and what is chosen on the machine.
 pub data AreCompiled (u : Units) (m : Machine) (p : Program) (placements : List Placed) : Type 0 where
   OfOneList : is_direct m p ≡ true → AreFirstFits m (list_of_direct m p ∷ []) placements → AreCompiled u m p placements
-  OfLists : is_direct m p ≡ false → (c : Choice) → IsChoice m c → AreCompiledFor u m c p placements → AreCompiled u m p placements
+  OfLists : is_direct m p ≡ false → (c : Choice) → IsChoice m c → AreChosenFor u m c p placements → AreCompiled u m p placements
 
 -- What is compiled of a pair takes so many words.
 pub record CompilesTo (u : Units) (m : Machine) (p : Program) (words : ℕ) : Type 0 where

@@ -15,12 +15,14 @@ use Rattle.tta_build.specs.declared.error.BuildError.{BuildError}
 use Rattle.tta_build.specs.declared.error.BuildError.TheVariants.{NotCovered, NoUnit, FrameFull, CodeFull, NoMemory}
 use Rattle.tta_build.specs.Plain.{IsPlainCode}
 use Rattle.tta_build.specs.Compiled.{CompilesTo}
+use Rattle.tta_build.specs.Value.{IsMadeOf}
 use Rattle.tta_build.specs.Statement.{IsAccepted, BreaksRule, LacksUnit, LacksFrames}
 use Rattle.tta_build.specs.Completes.{IsRoomy}
 
 -- Code with data that does what the program does, where a cycle stands for at most twice as many steps as the program has.
 -- The machine can carry it out, its data lie in the data space, it is packed for the converted program, it has no more
--- instructions than the room of the program itself, and it has those that are compiled of the converted program.
+-- instructions than the room of the program itself, it has those that are compiled of the converted program, and it is
+-- the code of what the compiler makes of that.
 pub record IsBuiltConverted (u : Units) (m : Machine) (p : Program) (whole : Whole) : Type 0 where
   pub accepted : IsAccepted u m p
   pub agrees : AgreesAt u m p (2 * step_count p) whole
@@ -30,6 +32,7 @@ pub record IsBuiltConverted (u : Units) (m : Machine) (p : Program) (whole : Who
   pub packed : IsPacked u m converted whole.code
   pub room : length whole.code.words ≤ room_on m p
   pub compiled : CompilesTo u m converted (length whole.code.words)
+  pub made : IsMadeOf u m converted whole.code
 
 -- What is compiled of the converted program of a pair that is accepted takes more instructions than the machine has
 -- addresses. Packed code of it has as many; and they are no more than the room of the program itself.

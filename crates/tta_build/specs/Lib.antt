@@ -7,6 +7,9 @@ pub mod Data
 pub mod Parts
 pub mod Completes
 pub mod Converted
-pub mod Ways
+pub mod Lowered
+pub mod Trail
+pub mod Placing
 pub mod Sharing
 pub mod Excludes
+pub mod Value

@@ -1,5 +1,5 @@
 -- What the parts of `build` give one another.
-use Rattle.std.specs.Prelude.{◌≡◌, ◌<◌, ◌≤◌, ◌^◌, ℕ, List, [], ◌∷◌, length}
+use Rattle.std.specs.Prelude.{◌≡◌, ◌<◌, ◌≤◌, ◌^◌, ℕ, List, [], ◌∷◌, length, Some, slice_get}
 use Rattle.tta_ops.specs.Units.{Units}
 use Rattle.tta_arch.specs.Machine.{Machine}
 use Rattle.tta_connect.specs.declared.choice.Choice.{Choice}
@@ -21,16 +21,42 @@ use Rattle.tta_code.specs.declared.whole.Datum.{Datum}
 use Rattle.tta_code.specs.Whole.{laid_by}
 use Rattle.tta_code.specs.Legal.{IsLegalCode}
 use Rattle.tta_agree.specs.Agrees.{Agrees}
+use Rattle.tta_compose.specs.Compiler.{AreStandIns}
 use Rattle.tta_compose.specs.Direct.{list_of_direct}
-use Rattle.tta_compose.specs.Room.{room_on}
+use Rattle.tta_compose.specs.Planned.{HasForms}
+use Rattle.tta_compose.specs.Linking.{AreFirstFits}
+use Rattle.tta_compose.specs.Room.{room_on, AreRoomy}
 use Rattle.tta_compose.specs.Packed.{IsPacked, IsLength}
 use Rattle.tta_build.specs.declared.error.BuildError.{BuildError}
 use Rattle.tta_build.specs.declared.error.BuildError.TheVariants.{CodeFull, NoMemory}
-use Rattle.tta_build.specs.declared.register.Sharing.{Sharing}
-use Rattle.tta_build.specs.Sharing.{AreGivenBy}
 use Rattle.tta_build.specs.Candidates.{AreChosen}
 use Rattle.tta_build.specs.Compiled.{AreSelected, CompilesTo}
 use Rattle.tta_build.specs.Statement.{IsAccepted}
+
+-- The lists that are selected for a program, with these homes of its variables.
+pub record AreSelectedWith (kept : Homes) (u : Units) (m : Machine) (c : Choice) (p : Program) (lists : List BlockList) : Type 0 where
+  pub of : AreSelected u m c p lists
+  pub homes : of.kept ≡ kept
+
+-- Placements that are chosen for such lists.
+pub record AreChosenWith (kept : Homes) (u : Units) (m : Machine) (c : Choice) (p : Program) (placements : List Placed) : Type 0 where
+  pub lists : List BlockList
+  pub selected : AreSelectedWith kept u m c p lists
+  pub chosen : AreChosen m lists placements
+
+-- The lists that are placed for a program: each may be placed for the selected one, and is in all forms.
+pub record AreListsOf (u : Units) (m : Machine) (c : Choice) (p : Program) (lists : List BlockList) : Type 0 where
+  pub selected : List BlockList
+  pub of : AreSelected u m c p selected
+  pub stand : AreStandIns m selected lists
+  pub forms : (k : ℕ) (l : BlockList) → slice_get lists k ≡ Some l → HasForms m l
+
+-- First fits of such lists, which have room.
+pub record ArePlacedFor (u : Units) (m : Machine) (c : Choice) (p : Program) (placements : List Placed) : Type 0 where
+  pub lists : List BlockList
+  pub are : AreListsOf u m c p lists
+  pub first : AreFirstFits m lists placements
+  pub roomy : AreRoomy m lists placements
 
 -- Register code of a program, by blocks, liveness and homes that are the program's, for so many home registers.
 pub record IsLowered (p : Program) (homes frame_words : ℕ) (r : Rir) : Type 0 where
@@ -41,22 +67,6 @@ pub record IsLowered (p : Program) (homes frame_words : ℕ) (r : Rir) : Type 0 
   pub lives : IsLive p live
   pub allotted : AreAllotted p homes kept
   pub code : IsCodeOf p blocks live kept frame_words r
-
--- Register code of a program, whose home registers are given in this way.
-pub record IsLoweredBy (sharing : Sharing) (p : Program) (homes frame_words : ℕ) (r : Rir) : Type 0 where
-  pub lowered : IsLowered p homes frame_words r
-  pub given : AreGivenBy sharing p homes lowered.kept
-
--- The lists that are selected for a program, whose home registers are given in this way.
-pub record AreSelectedBy (sharing : Sharing) (u : Units) (m : Machine) (c : Choice) (p : Program) (lists : List BlockList) : Type 0 where
-  pub of : AreSelected u m c p lists
-  pub given : AreGivenBy sharing p (length c.homes) of.kept
-
--- Placements that are chosen for such lists.
-pub record AreChosenBy (sharing : Sharing) (u : Units) (m : Machine) (c : Choice) (p : Program) (placements : List Placed) : Type 0 where
-  pub lists : List BlockList
-  pub selected : AreSelectedBy sharing u m c p lists
-  pub chosen : AreChosen m lists placements
 
 -- The one list of a direct pair, where blocks, liveness and homes of the program are known.
 pub record AreDirect (m : Machine) (p : Program) (lists : List BlockList) : Type 0 where

@@ -1,9 +1,11 @@
 -- How the variables of a program share the home registers.
-use Rattle.std.specs.Prelude.{ℕ}
+use Rattle.std.specs.Prelude.{ℕ, length}
+use Rattle.tta_connect.specs.declared.choice.Choice.{Choice}
 use Rattle.tta_program.specs.Program.{Program}
 use Rattle.tta_alloc.specs.declared.homes.Homes.{Homes}
 use Rattle.tta_alloc.specs.Homes.{IsScan}
 use Rattle.tta_alloc.specs.Turns.{AreInTurn}
+use Rattle.tta_alloc.specs.Allotted.{AreAllotted}
 use Rattle.tta_build.specs.declared.register.Sharing.{Sharing}
 use Rattle.tta_build.specs.declared.register.Sharing.TheVariants.{InTurn, Least}
 
@@ -11,3 +13,8 @@ use Rattle.tta_build.specs.declared.register.Sharing.TheVariants.{InTurn, Least}
 abbrev pub AreGivenBy : Sharing → Program → (homes : ℕ) → Homes → Type 0
 AreGivenBy InTurn p homes h = AreInTurn p homes h
 AreGivenBy Least p homes h = IsScan p homes h
+
+-- Homes of a program are given in a way, for the home registers that are chosen on a machine, and code may rely on them.
+pub record AreHomesBy (sharing : Sharing) (p : Program) (c : Choice) (h : Homes) : Type 0 where
+  pub given : AreGivenBy sharing p (length c.homes) h
+  pub allotted : AreAllotted p (length c.homes) h

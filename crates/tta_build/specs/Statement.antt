@@ -18,6 +18,7 @@ use Rattle.tta_compose.specs.Direct.{is_direct}
 use Rattle.tta_compose.specs.Room.{room_on}
 use Rattle.tta_compose.specs.Packed.{IsPacked, IsLength}
 use Rattle.tta_build.specs.Compiled.{CompilesTo}
+use Rattle.tta_build.specs.Value.{IsMadeOf}
 use Rattle.tta_build.specs.declared.error.BuildError.{BuildError}
 use Rattle.tta_build.specs.declared.error.BuildError.TheVariants.{NotCovered, NoUnit, FrameFull, CodeFull, NoMemory}
 
@@ -48,8 +49,8 @@ pub data IsAccepted (u : Units) (m : Machine) (p : Program) : Type 0 where
 -- ---- the answers
 
 -- code with data that does what the program does, from every memory, for every input and for every bound; the machine can
--- carry it out, its data lie in the data space, it is packed, it has no more instructions than the pair's room, and it has
--- those that are compiled of the pair
+-- carry it out, its data lie in the data space, it is packed, it has no more instructions than the pair's room, it has those
+-- that are compiled of the pair, and it is the code of what the compiler makes of the pair
 pub record IsBuilt (u : Units) (m : Machine) (p : Program) (whole : Whole) : Type 0 where
   pub accepted : IsAccepted u m p
   pub agrees : Agrees u m p whole
@@ -57,6 +58,7 @@ pub record IsBuilt (u : Units) (m : Machine) (p : Program) (whole : Whole) : Typ
   pub packed : IsPacked u m p whole.code
   pub room : length whole.code.words ≤ room_on m p
   pub compiled : CompilesTo u m p (length whole.code.words)
+  pub made : IsMadeOf u m p whole.code
 
 -- the machine breaks a rule of coverage, and keeps those before it; and the pair is not direct
 pub record BreaksRule (m : Machine) (p : Program) (rule : ℕ) : Type 0 where

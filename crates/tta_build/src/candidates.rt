@@ -1,20 +1,23 @@
-//! The lists that may be placed for a block.
+//! The lists that may be placed for a block, each with how it came of the selected one.
 
 ghost use Rattle.std.specs.Prelude.{◌≡◌, true, IfOk, OnOk, IfSome};
+ghost use Rattle.tta_arch.specs.Machine.{Machine};
+ghost use Rattle.tta_moves.specs.declared.items.BlockList.{BlockList};
 ghost use Rattle.tta_moves.specs.Slots.{is_list};
-ghost use Rattle.tta_build.specs.Ways.{IsReordered, IsGrouped, IsIn};
-ghost use Rattle.tta_build.specs.Ways.{AddsCandidates, IsMadeOf, AreOfBlock};
+ghost use Rattle.tta_optim.specs.Kept.{IsStandIn};
+ghost use Rattle.tta_compose.specs.Compiler.{optimised};
+ghost use Rattle.tta_build.specs.Trail.{AreRounds, IsTrail, AreTrailsOf, last_of};
+ghost use Rattle.tta_build.specs.Placing.{AreOfBlock, AreChoices, IsBound};
 
-use crate::adding::{push_one, push_some, served_by};
+use crate::keeping::beside;
+use crate::pushing::{push_bound, push_one, push_some};
+use crate::rounds::Rounder;
+use crate::trail::{Rounds, Start, Trail, copied};
 use std::alloc::{AllocError, Global};
+use tta_bind::bind;
 use tta_connect::Covered;
 use tta_moves::BlockList;
-use tta_optim::Passes;
-use tta_order::{Orders, Rule};
 use tta_reload::Reloads;
-
-/// Up to so many items no order was seen to be shorter than the list's own.
-const FEWEST_ITEMS: usize = 3;
 
 /// Up to so many items an order by items is tried beside one by groups: it seldom gives the shorter
 /// list, and takes its time.
@@ -24,202 +27,202 @@ const FEW_ITEMS: usize = 64;
 /// worth its time only where they are.
 const MANY_ITEMS: usize = 512;
 
-/// In which order a list stands.
-#[derive(Clone, Copy, Debug, PartialEq, Eq)]
-pub enum Order {
-    /// Its own.
-    Plain,
-    /// By items.
-    Items,
-    /// By groups, cycle by cycle, and then by items, unless they stand so already.
-    Groups,
-}
-
-/// The way by which a list comes of a block's: whether its loads are served from what is at hand, and
-/// in which order it stands. The passes come after each of these.
-#[derive(Clone, Copy, Debug, PartialEq, Eq)]
-pub struct Way {
-    pub served: bool,
-    pub order: Order,
-}
-
-/// A list that may be placed for a block, and the way by which it came.
+/// The candidates of a block: its list after the passes, and others.
 #[derive(Drop)]
-pub struct Candidate {
-    pub way: Way,
-    pub list: BlockList,
+pub struct Trails {
+    pub first: Trail,
+    pub others: Vec<Trail>,
 }
 
-/// The passes that make the candidates of one block after another. Their tables take their memory
-/// once.
+/// The rounds of a list that most often are the shortest, and those by items where it is short.
+#[derive(Drop)]
+pub struct Choices {
+    pub best: Rounds,
+    pub by_items: Option<Rounds>,
+}
+
+/// A list with its operations on other units, and its rounds.
+#[derive(Drop)]
+pub struct Bound {
+    pub list: BlockList,
+    pub choices: Choices,
+}
+
+/// What makes the candidates of one block after another. Its tables take their memory once.
 #[derive(Drop)]
 pub struct Candidates {
-    passes: Passes,
-    orders: Orders,
+    rounder: Rounder,
     reloads: Reloads,
 }
 
 impl Candidates {
-    /// The passes for a machine with this hub. It fails only where there is no memory.
+    /// What makes candidates on a machine with this hub. It fails only where there is no memory.
     pub fn new(alloc: Global, hub: u8) -> Result<Self, AllocError> {
-        let passes = Passes::new(alloc)?;
-        let orders = Orders::new(alloc, hub)?;
+        let rounder = Rounder::new(alloc, hub)?;
         let reloads = Reloads::new(alloc)?;
-        Ok(Candidates {
-            passes,
-            orders,
-            reloads,
+        Ok(Candidates { rounder, reloads })
+    }
+
+    /// The trail of a block by the passes alone. It fails only where there is no memory.
+    fn plain(&mut self, alloc: Global, on: &Covered<'_>, b: &BlockList) -> Result<Trail, AllocError>
+        requires list { is_list on.now.machine.now b.now.items ≡ true }
+        ensures trail { IfOk result (λ t. IsTrail on.now.machine.now b.now t) }
+        ensures last { IfOk result (λ t. last_of t ≡ optimised on.now.machine.now b.now) }
+    {
+        let first = self.rounder.plain(alloc, on, b)?;
+        Ok(Trail {
+            start: Start {
+                served: None,
+                bound: None,
+            },
+            rounds: Rounds {
+                first,
+                second: None,
+            },
         })
     }
 
-    /// A list with its items in order, after the passes; none where its items stand so already. It
-    /// fails only where there is no memory.
-    fn by_items(
-        &mut self,
-        alloc: Global,
-        list: &BlockList,
-        on: &Covered<'_>,
-    ) -> Result<Option<BlockList>, AllocError>
-        requires list { is_list on.now.machine.now list.now.items ≡ true }
-        ensures { IfOk result (λ o. IfSome o (λ r. IsReordered on.now.machine.now list.now r)) }
-    {
-        match self
-            .orders
-            .order(alloc, list, on.machine, on.net, Rule::Items)?
-        {
-            Some(ordered) => Ok(Some(self.passes.optimise(alloc, &ordered, on.machine, on.net)?)),
-            None => Ok(None),
-        }
-    }
-
-    /// A list with its groups in order, cycle by cycle, and then its items, after the passes; none
-    /// where its groups stand so already. It fails only where there is no memory.
-    fn by_groups(
-        &mut self,
-        alloc: Global,
-        list: &BlockList,
-        on: &Covered<'_>,
-    ) -> Result<Option<BlockList>, AllocError>
-        requires list { is_list on.now.machine.now list.now.items ≡ true }
-        ensures { IfOk result (λ o. IfSome o (λ r. IsGrouped on.now.machine.now list.now r)) }
-    {
-        match self
-            .orders
-            .order(alloc, list, on.machine, on.net, Rule::Cycles)?
-        {
-            Some(ordered) => {
-                let grouped = self.passes.optimise(alloc, &ordered, on.machine, on.net)?;
-                match self.by_items(alloc, &grouped, on)? {
-                    Some(other) => Ok(Some(other)),
-                    None => Ok(Some(grouped)),
-                }
-            }
-            None => Ok(None),
-        }
-    }
-
-    /// A list of up to so many items in an order, after the passes, if it has another of this kind;
-    /// none of a longer one. It fails only where there is no memory.
-    fn by_few(
-        &mut self,
-        alloc: Global,
-        list: &BlockList,
-        most: usize,
-        order: Order,
-        on: &Covered<'_>,
-    ) -> Result<Option<BlockList>, AllocError>
-        requires list { is_list on.now.machine.now list.now.items ≡ true }
-        ensures { IfOk result (λ o. IfSome o (λ r. IsIn order on.now.machine.now list.now r)) }
-    {
-        let count = list.items.len();
-        if count <= FEWEST_ITEMS || count > most {
-            return Ok(None);
-        }
-        match order {
-            Order::Plain => Ok(None),
-            Order::Items => self.by_items(alloc, list, on),
-            Order::Groups => self.by_groups(alloc, list, on),
-        }
-    }
-
-    /// Adds what a block's list becomes by the passes: as it is, by groups, and by items where it is
-    /// short or its groups stand in their order. It fails only where there is no memory.
+    /// Adds what a block's own list becomes by items, where it is short or its groups stand in their
+    /// order, and by groups. It fails only where there is no memory.
     fn add_own(
         &mut self,
         alloc: Global,
-        lists: &mut Vec<Candidate>,
-        list: &BlockList,
         on: &Covered<'_>,
+        lists: &mut Vec<Trail>,
+        b: &BlockList,
     ) -> Result<(), AllocError>
-        requires list { is_list on.now.machine.now list.now.items ≡ true }
-        ensures { let Adds = AddsCandidates on.now.machine.now list.now in
-            OnOk result (Adds lists.old.items lists.new.items) }
+        requires list { is_list on.now.machine.now b.now.items ≡ true }
+        ensures { OnOk result (AreTrailsOf on.now.machine.now b.now lists.old.items
+            → AreTrailsOf on.now.machine.now b.now lists.new.items) }
     {
-        let plain = self.passes.optimise(alloc, list, on.machine, on.net)?;
-        let by_groups = self.by_few(alloc, list, usize::MAX, Order::Groups, on)?;
+        let by_groups = self.rounder.of_groups(alloc, on, b, usize::MAX, false)?;
         let most = if by_groups.is_some() {
             FEW_ITEMS
         } else {
             MANY_ITEMS
         };
-        let by_items = self.by_few(alloc, &plain, most, Order::Items, on)?;
-        push_one(lists, false, Order::Plain, plain)?;
-        push_some(lists, false, Order::Items, by_items)?;
-        push_some(lists, false, Order::Groups, by_groups)?;
+        let by_items = self.rounder.of_items(alloc, on, b, most);
+        let (by_groups, by_items) = beside(by_groups, by_items)?;
+        let pushed = push_some(lists, by_items);
+        let (by_groups, _) = beside(by_groups, pushed)?;
+        push_some(lists, by_groups)?;
         Ok(())
     }
 
-    /// Adds what a block's list becomes by the passes as it is. It fails only where there is no memory.
-    fn add_plain(
+    /// Adds what a list in which loads are served becomes. It fails only where there is no memory.
+    fn add_served(
         &mut self,
         alloc: Global,
-        lists: &mut Vec<Candidate>,
-        list: &BlockList,
         on: &Covered<'_>,
+        lists: &mut Vec<Trail>,
+        served: &BlockList,
     ) -> Result<(), AllocError>
-        requires list { is_list on.now.machine.now list.now.items ≡ true }
-        ensures { let Adds = AddsCandidates on.now.machine.now list.now in
-            OnOk result (Adds lists.old.items lists.new.items) }
+        requires list { is_list on.now.machine.now served.now.items ≡ true }
+        ensures { OnOk result ((b : BlockList) → IsStandIn on.now.machine.now b served.now
+            → AreTrailsOf on.now.machine.now b lists.old.items
+            → AreTrailsOf on.now.machine.now b lists.new.items) }
     {
-        let plain = self.passes.optimise(alloc, list, on.machine, on.net)?;
-        push_one(lists, false, Order::Plain, plain)?;
+        let rounds = self.rounder.best(alloc, on, served, MANY_ITEMS, false)?;
+        let copy = copied(alloc, served);
+        let (rounds, copy) = beside(rounds, copy)?;
+        let start = Start {
+            served: Some(copy),
+            bound: None,
+        };
+        push_one(lists, start, rounds)?;
         Ok(())
     }
 
-    /// What a list in which loads are served becomes by the order that is most often the shortest: by
-    /// groups where it is not long, else by items, and else as it is; after the passes. It fails only
-    /// where there is no memory.
+    /// The rounds of a list with its operations on other units. It fails only where there is no memory.
+    fn choices(
+        &mut self,
+        alloc: Global,
+        on: &Covered<'_>,
+        list: &BlockList,
+    ) -> Result<Choices, AllocError>
+        requires list { is_list on.now.machine.now list.now.items ≡ true }
+        ensures { IfOk result (λ r. AreChoices on.now.machine.now list.now r) }
+    {
+        let best = self.rounder.best(alloc, on, list, usize::MAX, true)?;
+        let by_items = self.rounder.of_items(alloc, on, list, FEW_ITEMS);
+        let (best, by_items) = beside(best, by_items)?;
+        Ok(Choices { best, by_items })
+    }
+
+    /// A list with its operations on other units, if any then stands elsewhere, with its rounds. It
+    /// fails only where there is no memory.
+    fn bound(
+        &mut self,
+        alloc: Global,
+        on: &Covered<'_>,
+        list: &BlockList,
+    ) -> Result<Option<Bound>, AllocError>
+        requires list { is_list on.now.machine.now list.now.items ≡ true }
+        ensures { IfOk result (λ o. IfSome o (λ r. IsBound on.now.machine.now list.now r)) }
+    {
+        match bind(alloc, list, on.machine, on.net, on.choice)? {
+            Some(other) => {
+                let choices = self.choices(alloc, on, &other);
+                let (list, choices) = beside(other, choices)?;
+                Ok(Some(Bound { list, choices }))
+            }
+            None => Ok(None),
+        }
+    }
+
+    /// Adds what a list in which loads are served becomes, and that list with its operations on other
+    /// units. It fails only where there is no memory.
     fn of_served(
         &mut self,
         alloc: Global,
-        list: &BlockList,
         on: &Covered<'_>,
-    ) -> Result<Candidate, AllocError>
-        requires list { is_list on.now.machine.now list.now.items ≡ true }
-        ensures { IfOk result (λ c. IsMadeOf on.now.machine.now true list.now c) }
+        lists: &mut Vec<Trail>,
+        served: BlockList,
+    ) -> Result<(), AllocError>
+        requires list { is_list on.now.machine.now served.items ≡ true }
+        ensures { OnOk result ((b : BlockList) → IsStandIn on.now.machine.now b served
+            → AreTrailsOf on.now.machine.now b lists.old.items
+            → AreTrailsOf on.now.machine.now b lists.new.items) }
     {
-        if let Some(grouped) = self.by_few(alloc, list, MANY_ITEMS, Order::Groups, on)? {
-            return Ok(served_by(Order::Groups, grouped));
-        }
-        let plain = self.passes.optimise(alloc, list, on.machine, on.net)?;
-        match self.by_items(alloc, &plain, on)? {
-            Some(ordered) => Ok(served_by(Order::Items, ordered)),
-            None => Ok(served_by(Order::Plain, plain)),
-        }
+        let added = self.add_served(alloc, on, lists, &served);
+        let (list, _) = beside(served, added)?;
+        let bound = self.bound(alloc, on, &list);
+        let (other, bound) = beside(list, bound)?;
+        push_bound(alloc, lists, Some(other), bound)?;
+        Ok(())
     }
 
-    /// The candidates of a block, for what is chosen on a machine. The first is its list after the
-    /// passes. Where loads can be served from what is at hand, there is one more, of the list in which
-    /// they are, for that is seldom longer; else the others come of its own. It fails only where
-    /// there is no memory.
-    pub fn of_block(
+    /// Adds what a block's own list becomes, and that list with its operations on other units. It fails
+    /// only where there is no memory.
+    fn of_own(
+        &mut self,
+        alloc: Global,
+        on: &Covered<'_>,
+        lists: &mut Vec<Trail>,
+        b: &BlockList,
+    ) -> Result<(), AllocError>
+        requires list { is_list on.now.machine.now b.now.items ≡ true }
+        ensures { OnOk result (AreTrailsOf on.now.machine.now b.now lists.old.items
+            → AreTrailsOf on.now.machine.now b.now lists.new.items) }
+    {
+        self.add_own(alloc, on, lists, b)?;
+        let bound = self.bound(alloc, on, b)?;
+        push_bound(alloc, lists, None, bound)?;
+        Ok(())
+    }
+
+    /// The candidates of a block beside its list after the passes. Where loads can be served from what
+    /// is at hand, they come of the list in which they are, for that is seldom longer; else of its own.
+    /// Where units offer the same operations, there are more, in which they share the work. It fails
+    /// only where there is no memory.
+    fn others(
         &mut self,
         alloc: Global,
         on: &Covered<'_>,
         b: &BlockList,
-    ) -> Result<Vec<Candidate>, AllocError>
+    ) -> Result<Vec<Trail>, AllocError>
         requires list { is_list on.now.machine.now b.now.items ≡ true }
-        ensures { IfOk result (λ lists. AreOfBlock on.now.machine.now b.now lists.items) }
+        ensures { IfOk result (λ ts. AreTrailsOf on.now.machine.now b.now ts.items) }
     {
         let mut lists = Vec::new(alloc);
         match self
@@ -227,15 +230,30 @@ impl Candidates {
             .reload(alloc, on.machine, on.net, on.choice, b)?
         {
             Some(served) => {
-                self.add_plain(alloc, &mut lists, b, on)?;
-                let other = self.of_served(alloc, &served, on)?;
-                lists.push(other)?;
+                self.of_served(alloc, on, &mut lists, served)?;
                 Ok(lists)
             }
             None => {
-                self.add_own(alloc, &mut lists, b, on)?;
+                self.of_own(alloc, on, &mut lists, b)?;
                 Ok(lists)
             }
         }
+    }
+
+    /// The candidates of a block, for what is chosen on a machine. The first is its list after the
+    /// passes. It fails only where there is no memory.
+    pub fn of_block(
+        &mut self,
+        alloc: Global,
+        on: &Covered<'_>,
+        b: &BlockList,
+    ) -> Result<Trails, AllocError>
+        requires list { is_list on.now.machine.now b.now.items ≡ true }
+        ensures { IfOk result (λ ts. AreOfBlock on.now.machine.now b.now ts) }
+    {
+        let first = self.plain(alloc, on, b)?;
+        let others = self.others(alloc, on, b);
+        let (first, others) = beside(first, others)?;
+        Ok(Trails { first, others })
     }
 }

@@ -1,66 +1,74 @@
 //! The candidates of each block are placed, and the shortest placement stays.
 
-ghost use Rattle.std.specs.Prelude.{◌≡◌, ◌<◌, if◌then◌else◌, nat_lt, true, length, IfOk};
+ghost use Rattle.std.specs.Prelude.{◌≡◌, true, IfOk};
 ghost use Rattle.std.specs.List.{list_all};
 ghost use Rattle.tta_moves.specs.Slots.{is_list};
-ghost use Rattle.tta_build.specs.Candidates.{AreChosen};
-ghost use Rattle.tta_build.specs.Ways.{IsFitOf, IsKept, IsChosenBy, AreWays};
+ghost use Rattle.tta_build.specs.Trail.{last_of};
+ghost use Rattle.tta_build.specs.Placing.{IsFitOf, AreOfBlock, IsBest};
+ghost use Rattle.tta_build.specs.Placing.{ArePlacements, ArePlanned};
 
-use crate::candidates::{Candidate, Candidates, Way};
+use crate::candidates::{Candidates, Trails};
+use crate::keeping::{beside, chosen};
+use crate::trail::Trail;
 use std::alloc::{AllocError, Global};
 use tta_arch::Machine;
 use tta_connect::Covered;
 use tta_moves::{BlockList, Placed};
 use tta_sched::Placer;
 
-/// The placement of a block, and the way by which its list came.
+/// The placement of a block, and how its list came of the selected one.
 #[derive(Drop)]
 pub struct Chosen {
-    pub way: Way,
+    pub trail: Trail,
     pub placed: Placed,
 }
 
-/// That with the shorter of two placements, the first on a tie.
-fn shorter(first: Chosen, other: Chosen) -> Chosen
-    ensures { result ≡ (if nat_lt other.placed.length first.placed.length then other else first) }
-{
-    if other.placed.length < first.placed.length {
-        other
-    } else {
-        first
-    }
+/// The lists of a program's blocks and their placements, each block at its number.
+#[derive(Drop)]
+pub struct Planned {
+    /// The lists as they are selected.
+    pub selected: Vec<BlockList>,
+    /// How the list that is placed came of each of them. A direct pair has none: its list is placed as
+    /// it is selected.
+    pub trails: Vec<Trail>,
+    /// The placements.
+    pub placed: Vec<Placed>,
 }
 
-/// A first fit of a candidate, with its way. It fails only where there is no memory.
+/// A first fit of the list to which a trail leads. It fails only where there is no memory.
 fn fit_of(
     alloc: Global,
     placer: &mut Placer,
-    c: &Candidate,
     on: &Covered<'_>,
+    trail: Trail,
 ) -> Result<Chosen, AllocError>
-    requires list { is_list on.now.machine.now c.now.list.items ≡ true }
-    ensures { IfOk result (λ r. IsFitOf on.now.machine.now c.now r) }
+    requires list { is_list on.now.machine.now (last_of trail).items ≡ true }
+    ensures { IfOk result (λ r. IsFitOf on.now.machine.now trail r) }
 {
-    let placed = placer.place(alloc, &c.list, on.machine, on.net)?;
-    Ok(Chosen { way: c.way, placed })
+    let placed = placer.place(alloc, trail.last(), on.machine, on.net);
+    let (trail, placed) = beside(trail, placed)?;
+    Ok(Chosen { trail, placed })
 }
 
-/// The shortest first fit of some candidates, the first of them on a tie. Only the shortest so far is
-/// kept beside the one that is made.
+/// The shortest first fit of a block's candidates, the first of them on a tie. Only the shortest so
+/// far is kept beside the one that is made.
 fn shortest(
     alloc: Global,
     placer: &mut Placer,
-    lists: &[Candidate],
     on: &Covered<'_>,
+    b: &BlockList,
+    lists: Trails,
 ) -> Result<Chosen, AllocError>
-    requires lists { list_all (λ c. is_list on.now.machine.now c.list.items) lists.now ≡ true }
-    requires some { 0 < length lists.now }
-    ensures { IfOk result (λ r. IsKept on.now.machine.now lists.now r) }
+    requires list { is_list on.now.machine.now b.now.items ≡ true }
+    requires lists { AreOfBlock on.now.machine.now b.now lists }
+    ensures { IfOk result (λ r. IsBest on.now.machine.now b.now r) }
 {
-    let mut best = fit_of(alloc, placer, &lists[0], on)?;
-    for k in 1..lists.len() {
-        let other = fit_of(alloc, placer, &lists[k], on)?;
-        best = shorter(best, other);
+    let Trails { first, others } = lists;
+    let mut best = fit_of(alloc, placer, on, first)?;
+    for trail in others {
+        let other = fit_of(alloc, placer, on, trail);
+        let (one, other) = beside(best, other)?;
+        best = chosen(other.placed.length < one.placed.length, one, other);
     }
     Ok(best)
 }
@@ -88,11 +96,18 @@ impl Chooser {
         b: &BlockList,
     ) -> Result<Chosen, AllocError>
         requires list { is_list on.now.machine.now b.now.items ≡ true }
-        ensures { IfOk result (λ r. IsChosenBy on.now.machine.now b.now r.way r.placed) }
+        ensures { IfOk result (λ r. IsBest on.now.machine.now b.now r) }
     {
         let lists = self.candidates.of_block(alloc, on, b)?;
-        shortest(alloc, &mut self.placer, lists.as_slice(), on)
+        shortest(alloc, &mut self.placer, on, b, lists)
     }
+}
+
+/// The trails and placements of blocks.
+#[derive(Drop)]
+pub struct Placements {
+    pub trails: Vec<Trail>,
+    pub placed: Vec<Placed>,
 }
 
 /// The same for each block of a program, by what is lent.
@@ -101,60 +116,50 @@ fn place_each(
     chooser: &mut Chooser,
     blocks: &[BlockList],
     on: &Covered<'_>,
-) -> Result<Vec<Placed>, AllocError>
+) -> Result<Placements, AllocError>
     requires lists { list_all (λ b. is_list on.now.machine.now b.items) blocks.now ≡ true }
-    ensures { IfOk result (λ ps. AreChosen on.now.machine.now blocks.now ps.items) }
+    ensures { IfOk result (λ r. ArePlacements on.now.machine.now blocks.now r) }
 {
-    let mut ps = Vec::new(alloc);
+    let mut trails = Vec::new(alloc);
+    let mut all = Vec::new(alloc);
     for b in blocks {
-        let Chosen { placed, .. } = chooser.place(alloc, on, b)?;
-        ps.push(placed)?;
+        let Chosen { trail, placed } = chooser.place(alloc, on, b)?;
+        trails.push(trail)?;
+        all.push(placed)?;
     }
-    Ok(ps)
+    Ok(Placements {
+        trails,
+        placed: all,
+    })
 }
 
-/// For each block of a program the shortest first fit of its candidates, for what is chosen on a
-/// machine. The only error is out of memory.
-pub fn place_chosen(
+/// For each of these blocks the shortest first fit of its candidates, by a table of its own.
+fn placements_of(
     alloc: Global,
-    blocks: &[BlockList],
     on: &Covered<'_>,
-) -> Result<Vec<Placed>, AllocError>
+    blocks: &[BlockList],
+) -> Result<Placements, AllocError>
     requires lists { list_all (λ b. is_list on.now.machine.now b.items) blocks.now ≡ true }
-    ensures { IfOk result (λ ps. AreChosen on.now.machine.now blocks.now ps.items) }
+    ensures { IfOk result (λ r. ArePlacements on.now.machine.now blocks.now r) }
 {
     let mut chooser = Chooser::new(alloc, on.machine, on.choice.hub)?;
     place_each(alloc, &mut chooser, blocks, on)
 }
 
-/// For each block of a program the way by which its list comes, by what is lent.
-fn way_of_each(
+/// For each of these blocks the shortest first fit of its candidates, for what is chosen on a
+/// machine. The only error is out of memory.
+pub fn plan_lists(
     alloc: Global,
-    chooser: &mut Chooser,
-    blocks: &[BlockList],
     on: &Covered<'_>,
-) -> Result<Vec<Way>, AllocError>
-    requires lists { list_all (λ b. is_list on.now.machine.now b.items) blocks.now ≡ true }
-    ensures { IfOk result (λ ws. AreWays on.now.machine.now blocks.now ws.items) }
+    selected: Vec<BlockList>,
+) -> Result<Planned, AllocError>
+    requires lists { list_all (λ b. is_list on.now.machine.now b.items) selected.items ≡ true }
+    ensures { IfOk result (λ r. ArePlanned on.now.machine.now selected.items r) }
 {
-    let mut ways = Vec::new(alloc);
-    for b in blocks {
-        let chosen = chooser.place(alloc, on, b)?;
-        ways.push(chosen.way)?;
-    }
-    Ok(ways)
-}
-
-/// For each block of a program the way by which the list comes whose placement `place_chosen` keeps,
-/// for what is chosen on a machine. The only error is out of memory.
-pub fn chosen_ways(
-    alloc: Global,
-    blocks: &[BlockList],
-    on: &Covered<'_>,
-) -> Result<Vec<Way>, AllocError>
-    requires lists { list_all (λ b. is_list on.now.machine.now b.items) blocks.now ≡ true }
-    ensures { IfOk result (λ ws. AreWays on.now.machine.now blocks.now ws.items) }
-{
-    let mut chooser = Chooser::new(alloc, on.machine, on.choice.hub)?;
-    way_of_each(alloc, &mut chooser, blocks, on)
+    let Placements { trails, placed } = placements_of(alloc, on, selected.as_slice())?;
+    Ok(Planned {
+        selected,
+        trails,
+        placed,
+    })
 }

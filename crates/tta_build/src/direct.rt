@@ -5,19 +5,21 @@ ghost use Rattle.tta_ops.specs.Units.{Units};
 ghost use Rattle.tta_arch.specs.Rules.{IsMachine};
 ghost use Rattle.tta_program.specs.Rules.{IsProgram};
 ghost use Rattle.tta_compose.specs.Direct.{is_direct};
-ghost use Rattle.tta_build.specs.Parts.{AreDirect, IsCodeFor};
+ghost use Rattle.tta_build.specs.Lowered.{IsLoweredAs};
+ghost use Rattle.tta_build.specs.Value.{AreDirectLists, IsDirectlyCompiled};
+ghost use Rattle.tta_build.specs.Parts.{IsCodeFor};
 ghost use Rattle.tta_build.specs.Statement.{HasCause};
 
+use crate::choosing::Planned;
 use crate::error::BuildError;
 use crate::linking::link_placed;
 use crate::placing::place_all;
-use crate::register::{Sharing, register_code};
+use crate::register::{Lowered, lowered_in_turn};
+use crate::value::Compiled;
 use std::alloc::{AllocError, Global};
 use tta_arch::Machine;
-use tta_code::Code;
 use tta_connect::Joined;
 use tta_lower::LowerError;
-use tta_moves::BlockList;
 use tta_program::Program;
 use tta_select::select_direct;
 
@@ -25,30 +27,60 @@ use tta_select::select_direct;
 /// none, since its code names no slot.
 const MOST_VARIABLES: u32 = 4096;
 
-/// The one list of a direct pair.
-fn lists_of(alloc: Global, m: &Machine, p: &Program) -> Result<Vec<BlockList>, AllocError>
+/// The program of a direct pair on the way to its list. It fails only where there is no memory.
+fn direct_lowered(alloc: Global, m: &Machine, p: &Program) -> Result<Lowered, AllocError>
     requires program { IsProgram p.now }
     requires direct { is_direct m.now p.now ≡ true }
-    ensures { IfOk result (λ lists. AreDirect m.now p.now lists.items) }
+    ensures { IfOk result (λ r. IsLoweredAs p.now 0 4096 r) }
 {
-    match register_code(alloc, p, 0, MOST_VARIABLES, Sharing::InTurn) {
-        Ok(code) => select_direct(alloc, &code, m),
+    match lowered_in_turn(alloc, p, 0, MOST_VARIABLES) {
+        Ok(lowered) => Ok(lowered),
         Err(LowerError::FrameFull { .. }) => unreachable!(),
         Err(LowerError::NoMemory) => Err(AllocError),
     }
 }
 
-/// The code of a direct pair.
-pub fn direct_code(alloc: Global, on: &Joined<'_>, p: &Program) -> Result<Code, BuildError>
+/// The one list of a direct pair, and its placement. It fails only where there is no memory.
+fn direct_planned(
+    alloc: Global,
+    on: &Joined<'_>,
+    p: &Program,
+    lowered: &Lowered,
+) -> Result<Planned, AllocError>
     requires machine { IsMachine on.now.machine.now }
     requires program { IsProgram p.now }
     requires direct { is_direct on.now.machine.now p.now ≡ true }
+    requires lowered { IsLoweredAs p.now 0 4096 lowered.now }
+    ensures { IfOk result (λ r. AreDirectLists on.now.machine.now p.now r) }
+{
+    let selected = select_direct(alloc, &lowered.code, on.machine)?;
+    let placed = place_all(alloc, selected.as_slice(), on)?;
+    Ok(Planned {
+        selected,
+        trails: Vec::new(alloc),
+        placed,
+    })
+}
+
+/// What the compiler makes of a direct pair.
+pub fn compile_direct(alloc: Global, on: &Joined<'_>, p: &Program) -> Result<Compiled, BuildError>
+    requires machine { IsMachine on.now.machine.now }
+    requires program { IsProgram p.now }
+    requires direct { is_direct on.now.machine.now p.now ≡ true }
+    ensures value { let M = on.now.machine.now in
+        IfOk result (λ r. IsDirectlyCompiled M p.now r) }
     ensures code { let M = on.now.machine.now in
-        IfOk result (λ code. (u : Units) → IsCodeFor u M p.now code) }
+        IfOk result (λ r. (u : Units) → IsCodeFor u M p.now r.code) }
     ensures cause { let M = on.now.machine.now in
         IfErr result (λ e. (u : Units) → HasCause u M p.now e) }
 {
-    let lists = lists_of(alloc, on.machine, p)?;
-    let ps = place_all(alloc, lists.as_slice(), on)?;
-    link_placed(alloc, ps.as_slice(), on.machine)
+    let lowered = direct_lowered(alloc, on.machine, p)?;
+    let planned = direct_planned(alloc, on, p, &lowered)?;
+    let code = link_placed(alloc, planned.placed.as_slice(), on.machine)?;
+    Ok(Compiled {
+        choice: None,
+        lowered,
+        planned,
+        code,
+    })
 }

@@ -1,7 +1,7 @@
 //! The placed lists of a program, with home registers given in either way; the shorter stays.
 
 ghost use Rattle.std.specs.Prelude.{◌≡◌, ◌≤◌, ◌↔◌, if◌then◌else◌, nat_lt, true, length};
-ghost use Rattle.std.specs.Prelude.{IsTrue, IfOk, IfErr};
+ghost use Rattle.std.specs.Prelude.{IsTrue, IfOk, IfErr, IfSome};
 ghost use Rattle.std.specs.List.{sum_by};
 ghost use Rattle.tta_ops.specs.Set.{stated};
 ghost use Rattle.tta_arch.specs.Rules.{IsMachine};
@@ -11,15 +11,19 @@ ghost use Rattle.tta_program.specs.Rules.{IsProgram};
 ghost use Rattle.tta_program.specs.Program.{step_count};
 ghost use Rattle.tta_lower.specs.Statement.{IsCause};
 ghost use Rattle.tta_compose.specs.Needs.{are_offered};
-ghost use Rattle.tta_build.specs.Parts.{IsLoweredBy, AreSelectedBy, AreChosenBy};
-ghost use Rattle.tta_build.specs.Compiled.{ArePlacedFor, AreNoLonger};
+ghost use Rattle.tta_alloc.specs.Allotted.{AreAllotted};
+ghost use Rattle.tta_build.specs.Sharing.{AreHomesBy};
+ghost use Rattle.tta_build.specs.Lowered.{IsAnalysed};
+ghost use Rattle.tta_build.specs.Value.{IsListedWith, IsHomedBest};
 
-use crate::choosing::place_chosen;
-use crate::register::{Sharing, register_code, share_alike};
+use crate::choosing::{Planned, plan_lists};
+use crate::keeping::{beside, chosen};
+use crate::register::{Analysed, Sharing, analyse, are_alike, homes_by};
 use std::alloc::{AllocError, Global};
-use tta_connect::{Choice, Covered};
-use tta_lower::LowerError;
-use tta_moves::{BlockList, Placed};
+use tta_alloc::Homes;
+use tta_connect::Covered;
+use tta_lower::{LowerError, lower};
+use tta_moves::Placed;
 use tta_ops::UnitSet;
 use tta_program::{Proc, Program};
 use tta_rcode::Rir;
@@ -29,69 +33,113 @@ use tta_select::select;
 /// the shorter code differs little in a long program, and each takes its time.
 pub const FEW_STEPS: usize = 1024;
 
-/// The register code of a program for what is chosen on a machine.
-fn lowered_for(
+/// The homes of the variables of a program for what is chosen on a machine. It fails only where
+/// there is no memory.
+fn homes_for(
     alloc: Global,
     on: &Covered<'_>,
     p: &Program,
+    known: &Analysed,
     sharing: Sharing,
-) -> Result<Rir, LowerError>
+) -> Result<Homes, AllocError>
     requires machine { IsMachine on.now.machine.now }
-    ensures code { let M = on.now.machine.now in IfOk result
-        (λ r. IsLoweredBy sharing p.now (length on.now.choice.now.homes) M.frame_words r) }
+    requires known { IsAnalysed p.now known.now }
+    ensures { IfOk result (λ h. AreHomesBy sharing p.now on.now.choice.now h) }
+{
+    let homes = on.choice.homes.len() as u32;
+    homes_by(alloc, p, &known.flow, &known.live, homes, sharing)
+}
+
+/// The homes with the least free registers, for a program that is small and in which they differ
+/// from those in turn. It fails only where there is no memory.
+fn other_homes(
+    alloc: Global,
+    on: &Covered<'_>,
+    p: &Program,
+    known: &Analysed,
+    turns: &Homes,
+) -> Result<Option<Homes>, AllocError>
+    requires machine { IsMachine on.now.machine.now }
+    requires known { IsAnalysed p.now known.now }
+    ensures { IfOk result
+        (λ o. IfSome o (λ h. AreHomesBy Sharing.Least p.now on.now.choice.now h)) }
+{
+    if !is_small(p) {
+        return Ok(None);
+    }
+    let least = homes_for(alloc, on, p, known, Sharing::Least)?;
+    if are_alike(p, turns, &least) {
+        return Ok(None);
+    }
+    Ok(Some(least))
+}
+
+/// The register code of a program, and the lists of its blocks with their placements.
+#[derive(Drop)]
+pub struct Listed {
+    pub code: Rir,
+    pub planned: Planned,
+}
+
+/// The homes of a program's variables, and what they make of it.
+#[derive(Drop)]
+pub struct Homed {
+    pub homes: Homes,
+    pub listed: Listed,
+}
+
+/// The lists of a program whose needs usable units offer, with these homes, and their placements.
+fn listed_with(
+    alloc: Global,
+    on: &Covered<'_>,
+    p: &Program,
+    units: &UnitSet,
+    known: &Analysed,
+    kept: &Homes,
+) -> Result<Listed, LowerError>
+    requires machine { IsMachine on.now.machine.now }
+    requires program { IsProgram p.now }
+    requires over { StandsOver (stated unit_meaning units.now) on.now.machine.now }
+    requires offered { let U = stated unit_meaning units.now in
+        are_offered U on.now.machine.now on.now.choice.now p.now ≡ true }
+    requires known { IsAnalysed p.now known.now }
+    requires kept { AreAllotted p.now (length on.now.choice.now.homes) kept.now }
+    ensures listed { let U = stated unit_meaning units.now in let C = on.now.choice.now in IfOk result
+        (λ r. IsListedWith kept.now U on.now.machine.now C p.now known.now r) }
     ensures cause { IfErr result (λ e. IsCause p.now on.now.machine.now.frame_words e) }
 {
     let m = on.machine;
-    let c = on.choice;
-    let homes = c.homes.len() as u32;
-    let code = register_code(alloc, p, homes, m.frame_words, sharing)?;
-    Ok(code)
+    let code = lower(alloc, p, &known.flow, &known.live, kept, m.frame_words)?;
+    let selected = select(alloc, &code, on.machine, on.net, on.choice, units)?;
+    let planned = plan_lists(alloc, on, selected);
+    let (code, planned) = beside(code, planned)?;
+    Ok(Listed { code, planned })
 }
 
-/// The lists that are selected for a program whose needs usable units offer.
-fn selected_lists(
+/// The same with homes that are kept beside.
+fn homed_with(
     alloc: Global,
     on: &Covered<'_>,
     p: &Program,
     units: &UnitSet,
-    sharing: Sharing,
-) -> Result<Vec<BlockList>, LowerError>
+    known: &Analysed,
+    homes: Homes,
+) -> Result<Homed, LowerError>
     requires machine { IsMachine on.now.machine.now }
     requires program { IsProgram p.now }
     requires over { StandsOver (stated unit_meaning units.now) on.now.machine.now }
     requires offered { let U = stated unit_meaning units.now in
         are_offered U on.now.machine.now on.now.choice.now p.now ≡ true }
-    ensures lists { let U = stated unit_meaning units.now in IfOk result
-        (λ ls. AreSelectedBy sharing U on.now.machine.now on.now.choice.now p.now ls.items) }
+    requires known { IsAnalysed p.now known.now }
+    requires kept { AreAllotted p.now (length on.now.choice.now.homes) homes }
+    ensures homes { IfOk result (λ r. r.homes ≡ homes) }
+    ensures listed { let U = stated unit_meaning units.now in let C = on.now.choice.now in IfOk result
+        (λ r. IsListedWith homes U on.now.machine.now C p.now known.now r.listed) }
     ensures cause { IfErr result (λ e. IsCause p.now on.now.machine.now.frame_words e) }
 {
-    let code = lowered_for(alloc, on, p, sharing)?;
-    let lists = select(alloc, &code, on.machine, on.net, on.choice, units)?;
-    Ok(lists)
-}
-
-/// For each of these lists the placement that is chosen among its candidates.
-fn placements_by(
-    alloc: Global,
-    on: &Covered<'_>,
-    p: &Program,
-    units: &UnitSet,
-    sharing: Sharing,
-) -> Result<Vec<Placed>, LowerError>
-    requires machine { IsMachine on.now.machine.now }
-    requires program { IsProgram p.now }
-    requires over { StandsOver (stated unit_meaning units.now) on.now.machine.now }
-    requires offered { let U = stated unit_meaning units.now in
-        are_offered U on.now.machine.now on.now.choice.now p.now ≡ true }
-    ensures placed { let U = stated unit_meaning units.now in
-        IfOk result (λ ps. ArePlacedFor U on.now.machine.now on.now.choice.now p.now ps.items) }
-    ensures by { let U = stated unit_meaning units.now in IfOk result
-        (λ ps. AreChosenBy sharing U on.now.machine.now on.now.choice.now p.now ps.items) }
-    ensures cause { IfErr result (λ e. IsCause p.now on.now.machine.now.frame_words e) }
-{
-    let lists = selected_lists(alloc, on, p, units, sharing)?;
-    let ps = place_chosen(alloc, lists.as_slice(), on)?;
-    Ok(ps)
+    let listed = listed_with(alloc, on, p, units, known, &homes);
+    let (homes, listed) = beside(homes, listed)?;
+    Ok(Homed { homes, listed })
 }
 
 /// How many cycles placed blocks take, one after another.
@@ -129,57 +177,48 @@ pub fn is_small(p: &Program) -> bool
     have_at_most(p.procs.as_slice(), FEW_STEPS)
 }
 
-/// Whether a program is placed with home registers given in one way alone: it is long, or either way
-/// gives its variables the same homes. It fails only where there is no memory.
-fn has_one_way(alloc: Global, c: &Choice, p: &Program) -> Result<bool, AllocError> {
-    if !is_small(p) {
-        return Ok(true);
-    }
-    match u32::try_from(c.homes.len()) {
-        Ok(homes) => share_alike(alloc, p, homes),
-        Err(_) => Ok(false),
-    }
-}
-
-/// The placed lists that take fewer cycles, the first on a tie.
-fn shorter(first: Vec<Placed>, other: Vec<Placed>) -> Vec<Placed>
-    requires first { length first.items ≤ 16777216 }
-    requires other { length other.items ≤ 16777216 }
-    ensures { result ≡ (if nat_lt (total_length other.items) (total_length first.items)
-        then other else first) }
+/// The lists whose placements take fewer cycles, the first on a tie.
+fn shorter(first: Homed, other: Homed) -> Homed
+    requires first { length first.listed.planned.placed.items ≤ 16777216 }
+    requires other { length other.listed.planned.placed.items ≤ 16777216 }
+    ensures { result ≡ (if nat_lt (total_length other.listed.planned.placed.items)
+        (total_length first.listed.planned.placed.items) then other else first) }
 {
-    if total_length(other.as_slice()) < total_length(first.as_slice()) {
-        other
-    } else {
-        first
-    }
+    let cycles = total_length(first.listed.planned.placed.as_slice());
+    let others = total_length(other.listed.planned.placed.as_slice());
+    chosen(others < cycles, first, other)
 }
 
-/// The placed lists of a program whose needs usable units offer. A small program is tried with home
-/// registers in turn and with the least free ones, where these differ, and the shorter stays; any
-/// other has them in turn. So they are never longer than plain ones.
-pub fn placements(
+/// The lists of a program whose needs usable units offer, and their placements. A small program is
+/// tried with home registers in turn and with the least free ones, unless these are the same; of the
+/// two that with fewer cycles stays.
+pub fn homed_best(
     alloc: Global,
     on: &Covered<'_>,
     p: &Program,
     units: &UnitSet,
-) -> Result<Vec<Placed>, LowerError>
+    known: &Analysed,
+) -> Result<Homed, LowerError>
     requires machine { IsMachine on.now.machine.now }
     requires program { IsProgram p.now }
     requires over { StandsOver (stated unit_meaning units.now) on.now.machine.now }
     requires offered { let U = stated unit_meaning units.now in
         are_offered U on.now.machine.now on.now.choice.now p.now ≡ true }
-    ensures placed { let U = stated unit_meaning units.now in
-        IfOk result (λ ps. ArePlacedFor U on.now.machine.now on.now.choice.now p.now ps.items) }
-    ensures plain { let U = stated unit_meaning units.now in
-        IfOk result (λ ps. AreNoLonger U on.now.machine.now on.now.choice.now p.now ps.items) }
+    requires known { IsAnalysed p.now known.now }
+    ensures best { let U = stated unit_meaning units.now in IfOk result
+        (λ r. IsHomedBest U on.now.machine.now on.now.choice.now p.now known.now r) }
     ensures cause { IfErr result (λ e. IsCause p.now on.now.machine.now.frame_words e) }
 {
-    let is_one = has_one_way(alloc, on.choice, p)?;
-    let first = placements_by(alloc, on, p, units, Sharing::InTurn)?;
-    if is_one {
-        return Ok(first);
+    let turns = homes_for(alloc, on, p, known, Sharing::InTurn)?;
+    let first = homed_with(alloc, on, p, units, known, turns)?;
+    let least = other_homes(alloc, on, p, known, &first.homes);
+    let (first, least) = beside(first, least)?;
+    match least {
+        Some(least) => {
+            let other = homed_with(alloc, on, p, units, known, least);
+            let (first, other) = beside(first, other)?;
+            Ok(shorter(first, other))
+        }
+        None => Ok(first),
     }
-    let other = placements_by(alloc, on, p, units, Sharing::Least)?;
-    Ok(shorter(first, other))
 }

@@ -5,7 +5,6 @@
 //! passes prove together stands in `tta_compose`.
 #![tactic(auto)]
 
-mod adding;
 mod candidates;
 mod choosing;
 mod converted;
@@ -15,20 +14,25 @@ mod direct;
 mod direct_pair;
 mod error;
 mod homing;
+mod keeping;
 mod laws;
 mod linking;
 mod needs;
 mod placing;
 mod program;
+mod pushing;
 mod register;
+mod rounds;
+mod trail;
+mod value;
 
-pub use candidates::{Order, Way};
-pub use choosing::{chosen_ways, place_chosen};
+pub use choosing::Planned;
 pub use converted::build_converted;
 pub use data_order::data_in_order;
 pub use direct_pair::is_direct;
 pub use error::BuildError;
 pub use homing::{FEW_STEPS, is_small, total_length};
+pub use keeping::beside;
 pub use laws::{
     build_completes, build_completes_plainly, build_converted_completes,
     build_converted_completes_plainly, causes_exclude, code_excludes, compiled_is_short,
@@ -38,5 +42,7 @@ pub use laws::{
 pub use linking::link_placed;
 pub use needs::unoffered;
 pub use placing::place_all;
-pub use program::{Built, build};
-pub use register::{Sharing, homes_by};
+pub use program::{Built, build, compile};
+pub use register::{Analysed, Lowered, Sharing, homes_by};
+pub use trail::{Order, Ordered, Round, Rounds, Start, Trail};
+pub use value::Compiled;

@@ -7,14 +7,16 @@ ghost use Rattle.tta_arch.specs.Over as arch;
 ghost use Rattle.tta_program.specs.Rules.{IsProgram};
 ghost use Rattle.tta_program.specs.Over as program;
 ghost use Rattle.tta_program.specs.Program.{first_outside};
+ghost use Rattle.tta_build.specs.Value.{IsCompiled, IsMadeOf};
 ghost use Rattle.tta_build.specs.Parts.{IsCodeFor};
 ghost use Rattle.tta_build.specs.Statement.{IsBuilt, HasCause};
 
-use crate::covered::covered_code;
+use crate::covered::compile_covered;
 use crate::data_order::data_in_order;
-use crate::direct::direct_code;
+use crate::direct::compile_direct;
 use crate::direct_pair::is_direct;
 use crate::error::BuildError;
+use crate::value::Compiled;
 use std::alloc::Global;
 use tta_arch::Machine;
 use tta_code::{Code, Whole};
@@ -37,19 +39,64 @@ pub fn keep_rules(m: &Machine, p: &Program)
     let _main = &p.main;
 }
 
-/// The code of a program for a machine with its net.
-fn code_of(alloc: Global, on: &Joined<'_>, p: &Program, units: &UnitSet) -> Result<Code, BuildError>
+/// What the compiler makes of a program for a machine with its net.
+fn compile_on(
+    alloc: Global,
+    on: &Joined<'_>,
+    p: &Program,
+    units: &UnitSet,
+) -> Result<Compiled, BuildError>
     requires over { arch.StandsOver (stated unit_meaning units.now) on.now.machine.now }
+    ensures value { let U = stated unit_meaning units.now in
+        IfOk result (λ r. IsCompiled U on.now.machine.now p.now r) }
     ensures code { let U = stated unit_meaning units.now in
-        IfOk result (λ code. IsCodeFor U on.now.machine.now p.now code) }
+        IfOk result (λ r. IsCodeFor U on.now.machine.now p.now r.code) }
     ensures cause { let U = stated unit_meaning units.now in
         IfErr result (λ e. HasCause U on.now.machine.now p.now e) }
 {
     keep_rules(on.machine, p);
     if is_direct(on, p) {
-        return direct_code(alloc, on, p);
+        return compile_direct(alloc, on, p);
     }
-    covered_code(alloc, on, p, units)
+    compile_covered(alloc, on, p, units)
+}
+
+/// What the compiler makes of a program, from its basic blocks to its code. `build` writes this code,
+/// and has its causes.
+pub fn compile(
+    alloc: Global,
+    m: &Machine,
+    p: &Program,
+    units: &UnitSet,
+) -> Result<Compiled, BuildError>
+    requires { arch.StandsOver (stated unit_meaning units.now) m.now }
+    ensures value { let U = stated unit_meaning units.now in
+        IfOk result (λ r. IsCompiled U m.now p.now r) }
+    ensures code { let U = stated unit_meaning units.now in
+        IfOk result (λ r. IsCodeFor U m.now p.now r.code) }
+    ensures cause { let U = stated unit_meaning units.now in
+        IfErr result (λ e. HasCause U m.now p.now e) }
+{
+    let net = Net::of(alloc, m)?;
+    let on = Joined {
+        machine: m,
+        net: &net,
+    };
+    compile_on(alloc, &on, p, units)
+}
+
+/// The code of what the compiler makes of a program.
+fn code_of(alloc: Global, m: &Machine, p: &Program, units: &UnitSet) -> Result<Code, BuildError>
+    requires { arch.StandsOver (stated unit_meaning units.now) m.now }
+    ensures made { let U = stated unit_meaning units.now in
+        IfOk result (λ code. IsMadeOf U m.now p.now code) }
+    ensures code { let U = stated unit_meaning units.now in
+        IfOk result (λ code. IsCodeFor U m.now p.now code) }
+    ensures cause { let U = stated unit_meaning units.now in
+        IfErr result (λ e. HasCause U m.now p.now e) }
+{
+    let Compiled { code, .. } = compile(alloc, m, p, units)?;
+    Ok(code)
 }
 
 /// Code for a machine that does what a program does: from every memory, for every input and for
@@ -70,12 +117,7 @@ pub fn build(alloc: Global, m: &Machine, p: &Program, units: &UnitSet) -> Result
     ensures built { IfOk result (λ b. IsBuilt (stated unit_meaning units.now) m.now p.now b.whole) }
     ensures cause { IfErr result (λ e. HasCause (stated unit_meaning units.now) m.now p.now e) }
 {
-    let net = Net::of(alloc, m)?;
-    let on = Joined {
-        machine: m,
-        net: &net,
-    };
-    let code = code_of(alloc, &on, p, units)?;
+    let code = code_of(alloc, m, p, units)?;
     let init = data_in_order(alloc, p)?;
     Ok(Built {
         whole: Whole { code, init },

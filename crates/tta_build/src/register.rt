@@ -5,7 +5,7 @@ ghost use Rattle.tta_flow.specs.Blocks.{IsFlow};
 ghost use Rattle.tta_flow.specs.Live.{IsLive};
 ghost use Rattle.tta_alloc.specs.Allotted.{AreAllotted};
 ghost use Rattle.tta_lower.specs.Statement.{IsCause};
-ghost use Rattle.tta_build.specs.Parts.{IsLoweredBy};
+ghost use Rattle.tta_build.specs.Lowered.{IsAnalysed, IsLoweredAs};
 ghost use Rattle.tta_build.specs.Sharing.{AreGivenBy};
 
 use std::alloc::{AllocError, Global};
@@ -22,6 +22,23 @@ pub enum Sharing {
     InTurn,
     /// The least, as the linear scan gives it.
     Least,
+}
+
+/// The basic blocks of a program, and which of its variables are live where.
+#[derive(Drop)]
+pub struct Analysed {
+    pub flow: Flow,
+    pub live: Live,
+}
+
+/// The basic blocks of a program, and which of its variables are live where. It fails only where
+/// there is no memory.
+pub fn analyse(alloc: Global, p: &Program) -> Result<Analysed, AllocError>
+    ensures { IfOk result (λ known. IsAnalysed p.now known) }
+{
+    let flow = Flow::of(alloc, p)?;
+    let live = Live::of(alloc, p, &flow)?;
+    Ok(Analysed { flow, live })
 }
 
 /// The homes of the variables of a program, for so many home registers. It fails only where there
@@ -45,22 +62,36 @@ pub fn homes_by(
     }
 }
 
-/// The register code of a program, for so many home registers and frame words.
-pub fn register_code(
+/// A program on the way to its lists of moves.
+#[derive(Drop)]
+pub struct Lowered {
+    /// Its basic blocks, and which variables are live where.
+    pub known: Analysed,
+    /// The homes of its variables.
+    pub homes: Homes,
+    /// Its register code.
+    pub code: Rir,
+}
+
+/// A program on the way to its lists, for so many home registers, which are given in turn, and frame
+/// words.
+pub fn lowered_in_turn(
     alloc: Global,
     p: &Program,
     homes: u32,
     frame_words: u32,
-    sharing: Sharing,
-) -> Result<Rir, LowerError>
-    ensures code { IfOk result (λ r. IsLoweredBy sharing p.now homes frame_words r) }
+) -> Result<Lowered, LowerError>
+    ensures code { IfOk result (λ r. IsLoweredAs p.now homes frame_words r) }
     ensures cause { IfErr result (λ e. IsCause p.now frame_words e) }
 {
-    let flow = Flow::of(alloc, p)?;
-    let live = Live::of(alloc, p, &flow)?;
-    let kept = homes_by(alloc, p, &flow, &live, homes, sharing)?;
-    let code = lower(alloc, p, &flow, &live, &kept, frame_words)?;
-    Ok(code)
+    let known = analyse(alloc, p)?;
+    let kept = homes_by(alloc, p, &known.flow, &known.live, homes, Sharing::InTurn)?;
+    let code = lower(alloc, p, &known.flow, &known.live, &kept, frame_words)?;
+    Ok(Lowered {
+        known,
+        homes: kept,
+        code,
+    })
 }
 
 /// Whether two homes are one.
@@ -81,20 +112,15 @@ fn have_same(owner: u32, vars: u32, a: &Homes, b: &Homes) -> bool {
     true
 }
 
-/// Whether either way of sharing gives each variable of a program the same home, for so many home
-/// registers. It fails only where there is no memory.
-pub fn share_alike(alloc: Global, p: &Program, homes: u32) -> Result<bool, AllocError> {
-    let flow = Flow::of(alloc, p)?;
-    let live = Live::of(alloc, p, &flow)?;
-    let turns = homes_by(alloc, p, &flow, &live, homes, Sharing::InTurn)?;
-    let least = homes_by(alloc, p, &flow, &live, homes, Sharing::Least)?;
+/// Whether each variable of a program has the same home by two ways.
+pub fn are_alike(p: &Program, a: &Homes, b: &Homes) -> bool {
     for (owner, q) in p.procs.as_slice().iter().enumerate() {
         let Ok(owner) = u32::try_from(owner) else {
-            return Ok(false);
+            return false;
         };
-        if !have_same(owner, q.vars, &turns, &least) {
-            return Ok(false);
+        if !have_same(owner, q.vars, a, b) {
+            return false;
         }
     }
-    Ok(true)
+    true
 }

@@ -12,8 +12,9 @@ use Rattle.tta_moves.specs.declared.items.Placed.{Placed}
 use Rattle.tta_link.specs.Blocks.{total_length}
 use Rattle.tta_link.specs.Linked.{IsLinked}
 use Rattle.tta_link.proofs.Whole.{linked_length}
+use Rattle.tta_build.proofs.Compiling.{compiled_linked}
 use Rattle.tta_stages.specs.declared.stages.Stages.{Stages}
-use Rattle.tta_stages.specs.Stages.{AreStages, Direct, Covered}
+use Rattle.tta_stages.specs.Stages.{AreStages}
 
 -- legal code that is linked from placements has as many words as they have cycles
 linked_few : (m : Machine) (code : Code) (ps : List Placed) → IsMachine m → IsLinked m code ps → IsLegalCode m code → total_length ps < 2 ^ 32
@@ -24,7 +25,7 @@ linked_few m code ps rules linked legal =
     omega (arith, same, most, room)
 
 pub few_cycles : (u : Units) (m : Machine) (p : Program) (s : Stages) → IsMachine m → AreStages u m p s → total_length s.planned.placed.items < 2 ^ 32
-few_cycles u m p s rules (Direct is) = linked_few m s.code s.planned.placed.items rules is.linked is.code.legal
-few_cycles u m p s rules (Covered is) =
-    subst (λ (x : Stages). total_length x.planned.placed.items < 2 ^ 32) (sym is.is)
-    (linked_few m is.passages.code is.passages.listed.planned.placed.items rules is.made.linked is.made.code.legal)
+few_cycles u m p s rules is =
+    let linked : IsLinked m s.code s.planned.placed.items =
+    subst (λ (x : Stages). IsLinked m x.code x.planned.placed.items) (sym is.told.is) (compiled_linked u m p is.value is.is) in
+    linked_few m s.code s.planned.placed.items rules linked is.code.legal

@@ -3,8 +3,4 @@ pub mod Rows
 pub mod Procs
 pub mod Hulls
 pub mod EachProc
-pub mod Trails
-pub mod ShortTrails
-pub mod CoveredStages
-pub mod DirectStages
 pub mod FewCycles

@@ -1,7 +1,4 @@
 pub mod Intervals
-pub mod Lowered
-pub mod Trail
-pub mod Planned
 pub mod Stages
 pub mod Words
 pub mod StepText

@@ -20,12 +20,14 @@ use Rattle.tta_moves.specs.declared.items.BlockList.{BlockList}
 use Rattle.tta_moves.specs.declared.items.Placed.{Placed}
 use Rattle.tta_lower.specs.declared.part.Part.{Part}
 use Rattle.tta_asm.specs.Canonical.{imm_name, place_text, guard_text, move_text, instruction_text}
-use Rattle.tta_build.specs.declared.candidates.Order.{Order}
-use Rattle.tta_build.specs.declared.candidates.Order.TheVariants.{Plain, Items, Groups}
-use Rattle.tta_stages.specs.declared.passed.Passed.{Passed}
-use Rattle.tta_stages.specs.declared.trail.Ordered.{Ordered}
-use Rattle.tta_stages.specs.declared.trail.Round.{Round}
-use Rattle.tta_stages.specs.declared.trail.Trail.{Trail}
+use Rattle.tta_build.specs.declared.trail.Order.{Order}
+use Rattle.tta_build.specs.declared.trail.Order.TheVariants.{Items, Groups}
+use Rattle.tta_optim.specs.declared.together.Passed.{Passed}
+use Rattle.tta_build.specs.declared.trail.Ordered.{Ordered}
+use Rattle.tta_build.specs.declared.trail.Round.{Round}
+use Rattle.tta_build.specs.declared.trail.Rounds.{Rounds}
+use Rattle.tta_build.specs.declared.trail.Start.{Start}
+use Rattle.tta_build.specs.declared.trail.Trail.{Trail}
 use Rattle.tta_stages.specs.Words.{count_text, pairs_text}
 use Rattle.tta_stages.specs.RegisterText.{named_text, range_text}
 
@@ -66,7 +68,6 @@ items_text u m items = flat_map (item_line u m) items
 
 -- what a list in another order is
 abbrev pub order_name : Order → List ℕ
-order_name Plain = codes " ordered"
 order_name Items = codes " ordered by items"
 order_name Groups = codes " ordered by groups"
 
@@ -88,17 +89,25 @@ module _ (u : Units) (m : Machine) (p : Program) (parts : List Part) (k : ℕ) w
   unfoldable pub passed_text : Passed → List ℕ
   passed_text r = list_text (codes " after bypass") r.bypassed ++ (list_text (codes " after share") r.shared ++ list_text (codes " after dead") r.lively)
 
+  -- a list that takes another's place, if there is one
+  abbrev pub other_text : (what : List ℕ) → Option BlockList → List ℕ
+  other_text what o = option_map_or (list_text what) o []
+
   -- a round
   unfoldable pub round_text : Round → List ℕ
-  round_text r = ordered_text r.ordered ++ passed_text r.passed
+  round_text r = ordered_text r.ordered ++ (other_text (codes " bound to units") r.bound ++ passed_text r.passed)
 
-  -- a list in which loads are served, if there is one
-  abbrev pub served_text : Option BlockList → List ℕ
-  served_text o = option_map_or (list_text (codes " served")) o []
+  -- one round or two
+  unfoldable pub rounds_text : Rounds → List ℕ
+  rounds_text r = round_text r.first ++ option_map_or round_text r.second []
+
+  -- the lists before the rounds
+  unfoldable pub start_text : Start → List ℕ
+  start_text s = other_text (codes " served") s.served ++ other_text (codes " bound to units") s.bound
 
   -- the lists along a trail
   unfoldable pub trail_text : Trail → List ℕ
-  trail_text t = served_text t.served ++ (round_text t.first ++ option_map_or round_text t.second [])
+  trail_text t = start_text t.start ++ rounds_text t.rounds
 
   -- the lists along the trail of the block, if it has one
   abbrev pub trail_at : List Trail → List ℕ

@@ -1,20 +1,16 @@
-//! From a program to its register code.
+//! From a program to its register code, as it is told.
 
-ghost use Rattle.std.specs.Prelude.{◌≡◌, IfOk, IfErr};
+ghost use Rattle.std.specs.Prelude.{◌≡◌, IfOk};
 ghost use Rattle.tta_program.specs.Rules.{IsProgram};
 ghost use Rattle.tta_flow.specs.Blocks.{IsFlow};
 ghost use Rattle.tta_lower.specs.Known.{first_by};
 ghost use Rattle.tta_lower.specs.Lower.{parts};
-ghost use Rattle.tta_lower.specs.Statement.{IsCause};
-ghost use Rattle.tta_build.specs.Sharing.{AreGivenBy};
-ghost use Rattle.tta_stages.specs.Lowered.{IsLoweredAs};
 
 use crate::intervals::Intervals;
 use std::alloc::{AllocError, Global};
 use tta_alloc::Homes;
-use tta_build::{Sharing, homes_by};
 use tta_flow::{Flow, Live};
-use tta_lower::{LowerError, Part, all_parts, lower};
+use tta_lower::{Part, all_parts};
 use tta_program::Program;
 use tta_rcode::Rir;
 
@@ -36,7 +32,12 @@ pub struct Lowered {
 }
 
 /// The parts of a program in the order of their code. It fails only where there is no memory.
-fn parts_of(alloc: Global, p: &Program, flow: &Flow, live: &Live) -> Result<Vec<Part>, AllocError>
+pub fn parts_of(
+    alloc: Global,
+    p: &Program,
+    flow: &Flow,
+    live: &Live,
+) -> Result<Vec<Part>, AllocError>
     requires program { IsProgram p.now }
     requires flow { IsFlow p.now flow.now.blocks }
     ensures { IfOk result (λ all. all.items
@@ -44,34 +45,4 @@ fn parts_of(alloc: Global, p: &Program, flow: &Flow, live: &Live) -> Result<Vec<
 {
     let all = all_parts(alloc, p, live, flow.blocks.as_slice())?;
     Ok(all)
-}
-
-/// A program on the way to its register code, for so many home registers, which are given in this
-/// way, and frame words. `FrameFull` comes exactly where the frames need more words.
-pub fn lower_program(
-    alloc: Global,
-    p: &Program,
-    homes: u32,
-    frame_words: u32,
-    sharing: Sharing,
-) -> Result<Lowered, LowerError>
-    requires program { IsProgram p.now }
-    ensures code { IfOk result (λ r. IsLoweredAs p.now homes frame_words r) }
-    ensures given { IfOk result (λ r. AreGivenBy sharing p.now homes r.homes) }
-    ensures cause { IfErr result (λ e. IsCause p.now frame_words e) }
-{
-    let flow = Flow::of(alloc, p)?;
-    let live = Live::of(alloc, p, &flow)?;
-    let intervals = Intervals::of(alloc, p, &flow, &live)?;
-    let kept = homes_by(alloc, p, &flow, &live, homes, sharing)?;
-    let code = lower(alloc, p, &flow, &live, &kept, frame_words)?;
-    let parts = parts_of(alloc, p, &flow, &live)?;
-    Ok(Lowered {
-        flow,
-        live,
-        intervals,
-        homes: kept,
-        parts,
-        code,
-    })
 }

@@ -4,18 +4,18 @@ ghost use Rattle.std.specs.Prelude.{◌≡◌, ◌++◌, [], OnOk};
 ghost use Rattle.std.specs.Option.{option_map_or};
 ghost use Rattle.tta_ops.specs.Set.{stated};
 ghost use Rattle.tta_stages.specs.ListText.{list_text, order_name, ordered_text, passed_text};
-ghost use Rattle.tta_stages.specs.ListText.{round_text, served_text, trail_text, live_text};
+ghost use Rattle.tta_stages.specs.ListText.{other_text, round_text, rounds_text, start_text};
+ghost use Rattle.tta_stages.specs.ListText.{trail_text, live_text};
 ghost use Rattle.tta_stages.specs.ListText.{trail_at, block_lists_text, lists_text};
 
-use crate::passed::Passed;
 use crate::text::items::push_items;
 use crate::text::named::{Of, push_named};
 use crate::text::words::{push_count, push_pairs};
-use crate::trail::{Ordered, Round, Trail};
 use std::alloc::AllocError;
-use tta_build::Order;
+use tta_build::{Order, Ordered, Round, Rounds, Start, Trail};
 use tta_moves::BlockList;
 use tta_ops::UnitSet;
+use tta_optim::Passed;
 
 /// Puts a list of a block, after what the block stands for and what the list is.
 #[tactic(auto, unfolding(crate::specs::ListText::list_text))]
@@ -44,7 +44,6 @@ fn order_name(by: Order) -> &'static [u8]
     ensures { result.now ≡ order_name by }
 {
     match by {
-        Order::Plain => b" ordered",
         Order::Items => b" ordered by items",
         Order::Groups => b" ordered by groups",
     }
@@ -86,6 +85,25 @@ fn push_passed(
     push_list(out, units, of, k, b" after dead", &passed.lively)
 }
 
+/// Puts a list that takes another's place, if there is one.
+fn push_other(
+    out: &mut Vec<u8>,
+    units: &UnitSet,
+    of: &Of<'_>,
+    k: usize,
+    what: &[u8],
+    other: &Option<BlockList>,
+) -> Result<(), AllocError>
+    ensures { OnOk result (out.new.items ≡ out.old.items
+        ++ other_text (stated unit_meaning units.now) of.now.m.now of.now.p.now of.now.parts.now
+        k what.now other.now) }
+{
+    match other {
+        Some(list) => push_list(out, units, of, k, what, list),
+        None => Ok(()),
+    }
+}
+
 /// Puts a round.
 #[tactic(auto, unfolding(crate::specs::ListText::round_text))]
 fn push_round(
@@ -100,25 +118,8 @@ fn push_round(
         k round.now) }
 {
     push_ordered(out, units, of, k, &round.ordered)?;
+    push_other(out, units, of, k, b" bound to units", &round.bound)?;
     push_passed(out, units, of, k, &round.passed)
-}
-
-/// Puts a list in which loads are served, if there is one.
-fn push_served(
-    out: &mut Vec<u8>,
-    units: &UnitSet,
-    of: &Of<'_>,
-    k: usize,
-    served: &Option<BlockList>,
-) -> Result<(), AllocError>
-    ensures { OnOk result (out.new.items ≡ out.old.items
-        ++ served_text (stated unit_meaning units.now) of.now.m.now of.now.p.now of.now.parts.now
-        k served.now) }
-{
-    match served {
-        Some(list) => push_list(out, units, of, k, b" served", list),
-        None => Ok(()),
-    }
 }
 
 /// Puts a second round, if there is one.
@@ -139,6 +140,40 @@ fn push_second(
     }
 }
 
+/// Puts one round or two.
+#[tactic(auto, unfolding(crate::specs::ListText::rounds_text))]
+fn push_rounds(
+    out: &mut Vec<u8>,
+    units: &UnitSet,
+    of: &Of<'_>,
+    k: usize,
+    rounds: &Rounds,
+) -> Result<(), AllocError>
+    ensures { OnOk result (out.new.items ≡ out.old.items
+        ++ rounds_text (stated unit_meaning units.now) of.now.m.now of.now.p.now of.now.parts.now
+        k rounds.now) }
+{
+    push_round(out, units, of, k, &rounds.first)?;
+    push_second(out, units, of, k, &rounds.second)
+}
+
+/// Puts the lists before the rounds.
+#[tactic(auto, unfolding(crate::specs::ListText::start_text))]
+fn push_start(
+    out: &mut Vec<u8>,
+    units: &UnitSet,
+    of: &Of<'_>,
+    k: usize,
+    start: &Start,
+) -> Result<(), AllocError>
+    ensures { OnOk result (out.new.items ≡ out.old.items
+        ++ start_text (stated unit_meaning units.now) of.now.m.now of.now.p.now of.now.parts.now
+        k start.now) }
+{
+    push_other(out, units, of, k, b" served", &start.served)?;
+    push_other(out, units, of, k, b" bound to units", &start.bound)
+}
+
 /// Puts the lists along a trail.
 #[tactic(auto, unfolding(crate::specs::ListText::trail_text))]
 fn push_trail(
@@ -152,9 +187,8 @@ fn push_trail(
         ++ trail_text (stated unit_meaning units.now) of.now.m.now of.now.p.now of.now.parts.now
         k trail.now) }
 {
-    push_served(out, units, of, k, &trail.served)?;
-    push_round(out, units, of, k, &trail.first)?;
-    push_second(out, units, of, k, &trail.second)
+    push_start(out, units, of, k, &trail.start)?;
+    push_rounds(out, units, of, k, &trail.rounds)
 }
 
 /// Puts the registers that are read after a list.

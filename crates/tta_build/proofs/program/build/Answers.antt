@@ -4,12 +4,14 @@ use Rattle.tta_build.proofs.program.build.Goals as goal
 pub returns-clause-built : goal.returns-clause-built
 returns-clause-built g c =
     let code = c.in_ok-code.ensures.code in
+    let made = c.in_ok-code.ensures.made in
     let init = c.in_ok-init.ensures in record {
       accepted = code.accepted;
       agrees = code.agrees c.in_ok-init.init init.laid;
       packed = code.packed;
       room = code.room;
       compiled = code.compiled;
+      made = made;
       legal = record {
         code = code.legal;
         rises = init.rises;

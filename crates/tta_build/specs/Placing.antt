@@ -1,0 +1,75 @@
+-- Which candidates of a block are made, which of their placements stays, and the lists and placements of all blocks.
+use Rattle.std.specs.Prelude.{◌≡◌, ℕ, List, Some, IfSome, slice_get}
+use Rattle.tta_arch.specs.Machine.{Machine}
+use Rattle.tta_moves.specs.declared.items.BlockList.{BlockList}
+use Rattle.tta_moves.specs.Bounds.{Respects}
+use Rattle.tta_moves.specs.FirstFit.{IsFirstFit}
+use Rattle.tta_sched.specs.Room.{HasRoom}
+use Rattle.tta_optim.specs.Kept.{IsStandIn}
+use Rattle.tta_compose.specs.Compiler.{optimised}
+use Rattle.tta_compose.specs.Linking.{AreFirstFits}
+use Rattle.tta_build.specs.declared.trail.Trail.{Trail}
+use Rattle.tta_build.specs.declared.candidates.Bound.{Bound}
+use Rattle.tta_build.specs.declared.candidates.Choices.{Choices}
+use Rattle.tta_build.specs.declared.candidates.Trails.{Trails}
+use Rattle.tta_build.specs.declared.choosing.Chosen.{Chosen}
+use Rattle.tta_build.specs.declared.choosing.Placements.{Placements}
+use Rattle.tta_build.specs.declared.choosing.Planned.{Planned}
+use Rattle.tta_build.specs.Candidates.{IsShortest, IsChosen, AreChosen}
+use Rattle.tta_build.specs.Trail.{AreRounds, IsTrail, AreTrailsOf, AreTrails, last_of, lasts_of}
+
+-- ---- candidates
+
+-- trails of a block, the first by the passes alone
+pub record AreOfBlock (m : Machine) (b : BlockList) (ts : Trails) : Type 0 where
+  pub first : IsTrail m b ts.first
+  pub plain : last_of ts.first ≡ optimised m b
+  pub others : AreTrailsOf m b ts.others.items
+
+-- some rounds of a list
+pub record AreChoices (m : Machine) (list : BlockList) (r : Choices) : Type 0 where
+  pub best : AreRounds m list r.best
+  pub by_items : IfSome r.by_items (λ x. AreRounds m list x)
+
+-- a list with its operations on other units may be placed for a list, and these are rounds of it
+pub record IsBound (m : Machine) (list : BlockList) (r : Bound) : Type 0 where
+  pub stands : IsStandIn m list r.list
+  pub choices : AreChoices m r.list r.choices
+
+-- ---- the placement of a block
+
+-- a trail is kept with a first fit, which has room, of the list to which it leads
+pub record IsFitOf (m : Machine) (t : Trail) (r : Chosen) : Type 0 where
+  pub is : r.trail ≡ t
+  pub first : IsFirstFit m (last_of t).items r.placed
+  pub respects : Respects m (last_of t).items r.placed
+  pub room : HasRoom m (last_of t).items r.placed
+
+-- Of some trails one is kept with its placement, which is the shortest of theirs.
+pub record IsKept (m : Machine) (ts : List Trail) (r : Chosen) : Type 0 where
+  pub shortest : IsShortest m (lasts_of ts) r.placed
+  pub at : ℕ
+  pub there : slice_get ts at ≡ Some r.trail
+  pub fit : IsFirstFit m (last_of r.trail).items r.placed
+
+-- The placement of a block is the shortest of its candidates, and a first fit of the list to which its trail leads.
+pub record IsBest (m : Machine) (b : BlockList) (r : Chosen) : Type 0 where
+  pub chosen : IsChosen m b r.placed
+  pub trail : IsTrail m b r.trail
+  pub fit : IsFirstFit m (last_of r.trail).items r.placed
+
+-- ---- all blocks
+
+-- A trail and a placement of each of these lists: the placement is the shortest of its candidates, and a first fit of the list
+-- to which the trail leads.
+pub record ArePlacements (m : Machine) (lists : List BlockList) (r : Placements) : Type 0 where
+  pub trails : AreTrails m lists r.trails.items
+  pub first : AreFirstFits m (lasts_of r.trails.items) r.placed.items
+  pub chosen : AreChosen m lists r.placed.items
+
+-- The same beside the lists, as they are selected.
+pub record ArePlanned (m : Machine) (lists : List BlockList) (r : Planned) : Type 0 where
+  pub selected : r.selected.items ≡ lists
+  pub trails : AreTrails m lists r.trails.items
+  pub first : AreFirstFits m (lasts_of r.trails.items) r.placed.items
+  pub chosen : AreChosen m lists r.placed.items
