@@ -3,8 +3,8 @@ instruction, bits of the code, steps, cycles, cycles a step, and how the run end
 machine, or why there is no image. Pairs are worked at side by side, on all processors.
 
 Its words are machines, `--` and programs, and among them options: `--csv` asks for values with commas, `--bound N` for at most N steps and
-cycles, and `--vary 'LINE {A,B}'` for a machine with each of these values (sweep.py). A program's data words stand in a file of the same name
-that ends in .input, its input in one that ends in .stream; without them it has none."""
+cycles, and `--vary 'LINE {A,B}'` for a machine with each of these values (sweep.py). A program in C is compiled for each machine first. A
+program's data words stand in a file of the same name that ends in .input, its input in one that ends in .stream; without them it has none."""
 import csv
 import os
 import subprocess
@@ -14,6 +14,7 @@ from collections import namedtuple
 from concurrent.futures import ThreadPoolExecutor, as_completed
 
 import ending
+import from_c
 import runs
 import sweep
 import words as command_words
@@ -62,27 +63,37 @@ def names_of(paths):
 class Explorer:
     """Works at pairs with one program, in a folder of its own."""
 
-    def __init__(self, program, asked, folder):
-        self.program, self.asked, self.folder = program, asked, folder
+    def __init__(self, tta, program, asked, folder):
+        self.tta, self.program, self.asked, self.folder = tta, program, asked, folder
         self.runs = runs.Runs()
 
     def run(self, *words):
         return self.runs.run([self.program, *words])
 
-    def exec(self, machine, program):
-        """What `exec` prints of a pair."""
-        return self.run("exec", machine, program, beside(program, ".input") or os.devnull, self.asked.bound, *self.stream(program))
+    def exec(self, machine, text, program):
+        """What `exec` prints of a pair, where this file has the program's text."""
+        return self.run("exec", machine, text, beside(program, ".input") or os.devnull, self.asked.bound, *self.stream(program))
 
     def stream(self, program):
         return [path for path in [beside(program, ".stream")] if path]
 
     def row(self, machine, program, number):
         """What a pair comes to."""
+        if not program.endswith(".c"):
+            return self.row_of(machine, program, program, number)
+        text = os.path.join(self.folder, f"{number}.program")
+        made = self.runs.run(from_c.command(self.tta, ["--machine", machine, program, text]))
+        if made.status:
+            return Row([""] * 6, None, None, why(made.error).removeprefix(f"{program}:"), False)
+        return self.row_of(machine, text, program, number)
+
+    def row_of(self, machine, text, program, number):
+        """The same of a text, where the program's words stand beside this file."""
         image = os.path.join(self.folder, f"{number}.image")
-        stepped = self.exec(machine, program)
+        stepped = self.exec(machine, text, program)
         steps = stepped.number_after("steps")
         wanted = None if steps is None else stepped.output
-        built = self.run("build", machine, program, image)
+        built = self.run("build", machine, text, image)
         if built.status:
             return Row([""] * 6, None, wanted, why(built.error), False)
         bits, count = header(image)
@@ -184,7 +195,7 @@ def explore(tta, words):
     rows, stopped = {}, False
     with tempfile.TemporaryDirectory() as folder:
         machines = sweep.written(changed, folder)
-        explorer = Explorer(os.fsdecode(program.stdout).rstrip("\n"), asked, folder)
+        explorer = Explorer(tta, os.fsdecode(program.stdout).rstrip("\n"), asked, folder)
         try:
             work_at(explorer, [(machine, program) for program in asked.programs for machine in machines], rows)
         except KeyboardInterrupt:

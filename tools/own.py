@@ -15,6 +15,8 @@ OWN = [
         "it, and its input those of X.stream, where these files are there. Among the words, --bound N runs at most N steps and cycles in the "
         "place of 1000000000, --vary 'space data {16,64}' makes of each machine one with each of these values in that line, and --csv asks for values with "
         "commas. It ends with 1 where a row has no run that halts or waits, or an output that differs"),
+    Own("from_c.compile_c", ["c FILE.c .. OUT"],
+        "writes the text of a program in C to OUT; docs/C.md says what it takes, and its options"),
     Own("lint.lint", ["lint P", "lint M P"],
         "tells what is legal in the program of P and most likely wrong, a line each; with the machine of M also which addresses lie outside its data "
         "space. Of a program that is refused it tells all that is. It ends with 0 where it has nothing to say, and else with 1"),

@@ -64,6 +64,16 @@ def shown_line(path, number):
     return [f"{os.path.basename(path)}:{number}: {text[:LONGEST]}{'..' if len(text) > LONGEST else ''}"]
 
 
+def line_of_c(path, number):
+    """The line of C that a program's line is of, where the file that `./tta c -g` writes stands beside the program."""
+    try:
+        with open(os.path.splitext(path)[0] + ".lines", encoding="utf-8", errors="replace") as f:
+            place = re.search(rf"^{number} (.*):(\d+)$", f.read(1 << 24), re.M)
+    except OSError:
+        return []
+    return (shown_line(place[1], int(place[2])) or [f"{place[1]}:{place[2]}"]) if place else []
+
+
 def codes(table, number):
     return [f"code {number}: {line}" for line in formats.meanings(table, number)]
 
@@ -135,7 +145,9 @@ def of_text(said):
     cause = found(finder, said) if is_short else None
     line = cause.line if cause else said.number("line")
     below = [cause.text] if cause else codes(table, said.number("code")) if table else of_status(said)
-    return (shown_line(path, line) if path and line else []) + [LONG_NAME.sub(r"`\1..`", text) for text in below]
+    shown = shown_line(path, line) if path and line else []
+    shown += line_of_c(path, line) if shown and name == "P" else []
+    return shown + [LONG_NAME.sub(r"`\1..`", text) for text in below]
 
 
 # ---- other refusals

@@ -1,0 +1,103 @@
+"""One module of LLVM's representation of all files and of library.c, after LLVM's passes.
+
+clang compiles each file without passes, for riscv32 with words of 32 bits; `llvm-link` joins them; `opt` makes `main` the only function that
+is seen from outside, so that what is not used goes, and runs the passes of a level. Vectors are left out. The functions of the library
+that steps will call (64-bit division, floating point) are known only then: if any are needed, the passes run again with them kept."""
+import os
+import re
+import shutil
+import subprocess
+import sys
+import tempfile
+
+import floats
+from frames import RUN_TIME
+from lacking import LIBRARY
+
+HERE = os.path.dirname(os.path.abspath(__file__))
+TOOLS = ("clang", "llvm-link", "opt")
+CLANG = ["--target=riscv32-unknown-elf", "-march=rv32im", "-mabi=ilp32", "-ffreestanding", "-fno-vectorize", "-fno-slp-vectorize",
+         "-ffp-contract=off", "-fno-math-errno", "-gline-tables-only", "-Xclang", "-disable-llvm-passes", "-S", "-emit-llvm", "-D__TTA__"]
+# What LLVM leaves as one step and what is a function of library.c.
+DIVISION = re.compile(r" ([us](?:div|rem)) (?:exact )?i(?:3[3-9]|[4-6]\d) ")
+UNROLL = ",function(loop-simplify,lcssa,loop-unroll<O3;partial;runtime;upperbound>,instcombine,gvn,simplifycfg,instcombine,early-cse)"
+
+
+class BadSource(Exception):
+    """clang or LLVM refuses the source; what it says is the text."""
+
+
+def missing():
+    """Which of the programs are not on the path."""
+    return [t for t in TOOLS if not shutil.which(t)]
+
+
+def run(words):
+    done = subprocess.run(words, capture_output=True, text=True, stdin=subprocess.DEVNULL)
+    if done.returncode:
+        raise BadSource(done.stderr)
+    sys.stderr.write(done.stderr)
+
+
+class Compiler:
+    """The files of a program as one module, of which texts at several limits can be asked."""
+
+    def __init__(self, files, level, flags, folder, lacks=(), heap=None):
+        self.level, self.folder = level, folder
+        made = []
+        self.clang_level = clang_level = "-O1" if level == "-O0" else level
+        for k, f in enumerate([*files, os.path.join(HERE, "library.c")]):
+            made.append(os.path.join(folder, f"{k}.ll"))
+            own = flags if k < len(files) else [f"-DTTA_HEAP={heap}"] if heap is not None else []
+            run(["clang", clang_level, *CLANG, "-I", os.path.join(HERE, "include"), "-I", os.path.join(HERE, "headers"), *own, f, "-o", made[-1]])
+        # `lacks` has the operations that the machine lacks, for some of which there are functions.
+        self.made, self.linked, self.kept = made, os.path.join(folder, "linked.ll"), [RUN_TIME[1:] + LIBRARY[op] for op in sorted(lacks) if op in LIBRARY]
+        self.link()
+
+    def link(self):
+        run(["llvm-link", "-S", *self.made, "-o", self.linked])
+
+    def add_library(self, name):
+        """Compiles another file of the library, and links it with the others."""
+        out = os.path.join(self.folder, name + ".ll")
+        if out not in self.made:
+            run(["clang", self.clang_level, *CLANG, os.path.join(HERE, name), "-o", out])
+            self.made.append(out)
+            self.link()
+
+    def text(self, inline, unroll):
+        """The text after the passes: how large a function may be that takes the place of a call, and a body that is repeated."""
+        while True:
+            text = self.passes(inline, unroll)
+            need = sorted(set(needed(text)) - set(self.kept))
+            if not need:
+                return text
+            if any(re.search("_f(32|64)$", name) for name in need):
+                self.add_library("float.c")
+            self.kept += need
+
+    def passes(self, inline, unroll):
+        out = os.path.join(self.folder, "made.ll")
+        passes = f"internalize,globaldce,default<{self.level[1:]}>,globalopt,globaldce" + (UNROLL if unroll else "")
+        limits = [f"-inline-threshold={inline}"] if self.level in ("-O2", "-O3") else []
+        if unroll:
+            limits += [f"-unroll-threshold={max(unroll, 150)}", f"-unroll-partial-threshold={unroll}", "-unroll-runtime", "-unroll-allow-partial"]
+        public = ",".join(["main", *self.kept])
+        run(["opt", "-S", f"-passes={passes}", "-vectorize-loops=false", "-vectorize-slp=false",
+             f"-internalize-public-api-list={public}", *limits, self.linked, "-o", out])
+        with open(out, encoding="latin1") as f:
+            return f.read()
+
+
+def needed(text):
+    """The functions of the library that the steps of a text call."""
+    for kind in DIVISION.findall(text):
+        yield RUN_TIME[1:] + kind
+    for name in floats.needed(text):
+        yield RUN_TIME[1:] + name
+
+
+def represent(files, level, flags, inline, unroll):
+    """The text of a program, for a use that needs one alone."""
+    with tempfile.TemporaryDirectory() as folder:
+        return Compiler(files, level, flags, folder).text(inline, unroll)
