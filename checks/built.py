@@ -9,9 +9,9 @@ TOP = os.path.normpath(os.path.join(os.path.dirname(os.path.abspath(__file__)), 
 SCRIPT = os.path.join(TOP, "tta")
 
 
-def paths_of(*commands):
-    """Where the programs of some commands stand, which are built first."""
-    found = subprocess.run([SCRIPT, "--which", *commands], stdin=subprocess.DEVNULL, stdout=subprocess.PIPE)
+def paths_of(*commands, options=()):
+    """Where the programs of some commands stand, which are built first; with options that stand before a command."""
+    found = subprocess.run([SCRIPT, *options, "--which", *commands], stdin=subprocess.DEVNULL, stdout=subprocess.PIPE)
     if found.returncode:
         sys.exit("the program is not there, and cannot be built")
     return os.fsdecode(found.stdout).splitlines()
