@@ -31,7 +31,7 @@ use Rattle.tta_hardware.proofs.Pins.{goes_by, goes_is}
 use Rattle.tta_hardware.proofs.Imaging.{shows_run}
 use Rattle.tta_hardware.proofs.Imaged.{image_kept}
 use Rattle.tta_realised.specs.Realised.{circuit_on, HasHaltedBy, HaltsAs, AsksInVain, WaitsAs, DoesAs}
-use Rattle.tta_realised.specs.Laws.{CircuitDoes, ImageDoes}
+use Rattle.tta_realised.specs.Laws.{CircuitDoes, ImageDoes, BuiltDoes}
 
 -- ---- outcomes
 
@@ -209,3 +209,7 @@ image_does u m p whole digest bytes memory input powers inputs rules legal agree
     → DoesAs u (circuit_on m whole ws memory) input powers inputs p memory (step_count p) (length whole.code.words) t)
     (sym (image_kept m digest whole bytes rules many image))
     (circuit_does u m p (step_count p) whole memory input powers inputs rules legal agrees given)
+
+pub built_does : BuiltDoes
+built_does u m p whole digest bytes memory input powers inputs rules built many image given last clocks t less =
+    image_does u m p whole digest bytes memory input powers inputs rules built.legal built.agrees many image given last clocks t less

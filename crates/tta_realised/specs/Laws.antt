@@ -7,6 +7,7 @@ use Rattle.tta_program.specs.Program.{Program, step_count}
 use Rattle.tta_code.specs.Whole.{Whole}
 use Rattle.tta_code.specs.Legal.{IsLegalWhole}
 use Rattle.tta_agree.specs.Agrees.{IsGiven, AgreesAt, Agrees}
+use Rattle.tta_build.specs.Statement.{IsBuilt}
 use Rattle.tta_image.specs.Image.{Image}
 use Rattle.tta_hardware.specs.Signals.{Signal as Named}
 use Rattle.tta_hardware.specs.Hardware.{code_words}
@@ -29,6 +30,15 @@ abbrev pub ImageDoes : Type 0
 ImageDoes =
     (u : Units) (m : Machine) (p : Program) (whole : Whole) (digest bytes memory input : List ℕ) (powers : Named → ℕ)
     (inputs : ℕ → Named → ℕ) → IsMachine m → IsLegalWhole m whole → Agrees u m p whole → length digest ≡ 32 → Image m digest whole bytes
+    → IsGiven m memory input → (last : ℕ)
+    → AreClocks u (circuit_on m whole (image_words m bytes) memory) input powers inputs last → (t : ℕ) → last < t
+    → DoesAs u (circuit_on m whole (image_words m bytes) memory) input powers inputs p memory (step_count p) (length whole.code.words) t
+
+-- So the circuit of an image does that `build` wrote for a program: it does what the program does.
+abbrev pub BuiltDoes : Type 0
+BuiltDoes =
+    (u : Units) (m : Machine) (p : Program) (whole : Whole) (digest bytes memory input : List ℕ) (powers : Named → ℕ)
+    (inputs : ℕ → Named → ℕ) → IsMachine m → IsBuilt u m p whole → length digest ≡ 32 → Image m digest whole bytes
     → IsGiven m memory input → (last : ℕ)
     → AreClocks u (circuit_on m whole (image_words m bytes) memory) input powers inputs last → (t : ℕ) → last < t
     → DoesAs u (circuit_on m whole (image_words m bytes) memory) input powers inputs p memory (step_count p) (length whole.code.words) t

@@ -3,4 +3,4 @@
 
 mod laws;
 
-pub use laws::{circuit_does, image_does};
+pub use laws::{built_does, circuit_does, image_does};
