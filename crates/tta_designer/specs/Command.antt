@@ -33,10 +33,13 @@ ShowsMachine u view M before after old new s =
 abbrev pub IsShown : Units → View → MachineFile → Whole → (text : List ℕ) → Type 0
 IsShown u view file whole text = text ≡ code_view u view file whole
 
--- The command for a circuit ends so: its text is output, or nothing is and there is a cause. Which text it is is not said.
+-- The text of a circuit; which text it is is not said.
+abbrev pub IsSomeText : MachineFile → Whole → (text : List ℕ) → Type 0
+IsSomeText file whole text = Unit {0}
+
+-- The command for a circuit ends so: its text is output, or nothing is and there is a cause.
 abbrev pub ShowsCircuit : Units → (M IMG : List ℕ) → (before after : World) → (old new : Output) → Status → Type 0
-ShowsCircuit u M IMG before after old new s =
-    Puts u IsImageFor RefusesImage (λ file whole text. Unit {0}) (λ file whole. no_memory) M IMG before after old new s
+ShowsCircuit u M IMG before after old new s = Puts u IsImageFor RefusesImage IsSomeText (λ file whole. no_memory) M IMG before after old new s
 
 -- How a request for a text ends. Either its text is output, or nothing is and there is a cause. Each ending but out of memory comes only where its
 -- cause holds.
