@@ -12,12 +12,12 @@ use Rattle.tta_image.specs.Narrow.{AreNarrow}
 use Rattle.tta_image.proofs.NarrowFields.{narrow_layout}
 
 -- a layout has the fields of as many buses as its machine
-count : (m : Machine) (l : Layout) → l ≡ layout_of m → length l.buses ≡ length m.buses
-count m l is = ap (λ (x : Layout). length x.buses) is ∙ length-map-range_with_len (fields_of m) 0 (length m.buses)
+pub layout_count : (m : Machine) (l : Layout) → l ≡ layout_of m → length l.buses ≡ length m.buses
+layout_count m l is = ap (λ (x : Layout). length x.buses) is ∙ length-map-range_with_len (fields_of m) 0 (length m.buses)
 
 -- the fields of a layout are those of as many buses as it has
 pub layout_fields : (m : Machine) (l : Layout) → l ≡ layout_of m → l.buses ≡ map (fields_of m) (range_with_len 0 (length l.buses))
-layout_fields m l is = ap (λ (x : Layout). x.buses) is ∙ ap (λ n. map (fields_of m) (range_with_len 0 n)) (sym (count m l is))
+layout_fields m l is = ap (λ (x : Layout). x.buses) is ∙ ap (λ n. map (fields_of m) (range_with_len 0 n)) (sym (layout_count m l is))
 
 -- narrow fields have few bits together
 few_bits : (fs : List BusFields) → AreNarrow fs → sum_by (λ f. f.width) fs ≤ 55 * length fs
@@ -32,5 +32,5 @@ few_bits (f ∷ fs) h =
 pub layout_fits : (m : Machine) (l : Layout) → IsMachine m → l ≡ layout_of m → sum_by (λ f. f.width) l.buses < 2 ^ 31
 layout_fits m l rules is =
     let few = few_bits l.buses (narrow_layout m l rules is) in
-    let many = count m l is in let limits = rules.limits in let most = limits.buses in
+    let many = layout_count m l is in let limits = rules.limits in let most = limits.buses in
     omega arith

@@ -1,5 +1,5 @@
 -- The text of lists: of choices, of wires and of registers.
-use Rattle.std.specs.Prelude.{ℕ, ◌+◌, Bool, List, [], ◌∷◌, ◌++◌, codes, map}
+use Rattle.std.specs.Prelude.{ℕ, ◌+◌, Bool, List, [], ◌∷◌, ◌++◌, map}
 use Rattle.std.specs.List.{flat_map}
 use Rattle.tta_arch.specs.declared.parts.UnitOp.{UnitOp}
 use Rattle.tta_arch.specs.declared.ends.Dest.TheVariants as dest
@@ -8,13 +8,14 @@ use Rattle.tta_hardware.specs.Signals.{Signal as Named, Expression}
 use Rattle.tta_hardware.specs.Wires.{arrivals}
 use Rattle.tta_hardware.specs.Hardware.{wire}
 use Rattle.tta_hardware.specs.Registers.{register}
+use Rattle.tta_verilog.specs.Expressions.{choice}
 use Rattle.tta_verilog.specs.Circuits.{wire_text, register_text}
 use Rattle.tta_rtl.specs.Names.{names_of, text_of}
 
 -- choices, each a word after its test
 abbrev pub choices : Machine → List (Expression × Expression) → List ℕ
 choices m [] = []
-choices m (x ∷ xs) = codes "(" ++ text_of m x.0 ++ codes ")?(" ++ text_of m x.1 ++ codes "):" ++ choices m xs
+choices m (x ∷ xs) = choice (text_of m x.0) (text_of m x.1) (choices m xs)
 
 -- what starts these operations of a unit, the first having this number
 abbrev pub triggers : Machine → (unit op : ℕ) → List UnitOp → List ℕ

@@ -10,10 +10,11 @@ ghost use Rattle.tta_circuit.specs.Circuit as c;
 ghost use Rattle.tta_hardware.specs.Signals as s;
 ghost use Rattle.tta_hardware.specs.Chains.{pick_from};
 ghost use Rattle.tta_hardware.specs.Wires as w;
-ghost use Rattle.tta_hardware.specs.Hardware.{bus_wires};
-ghost use Rattle.tta_rtl.specs.Names.{bus_name, text_of};
+ghost use Rattle.tta_hardware.specs.Hardware.{bus_wires, wire};
+ghost use Rattle.tta_rtl.specs.Names.{bus_name, names_of, text_of};
 ghost use Rattle.tta_rtl.specs.Texts.{wires_text};
-ghost use Rattle.tta_verilog.specs.Expressions.{constant};
+ghost use Rattle.tta_verilog.specs.Circuits.{wire_text};
+ghost use Rattle.tta_verilog.specs.Expressions.{between, constant};
 
 use crate::names::{push_immediate, push_of_bus, push_of_unit, push_register};
 use crate::on::On;
@@ -22,6 +23,7 @@ use tta_arch::{BusFields, Guard, GuardRef, Machine, Source};
 use tta_verilog::{push_constant, push_range, push_text};
 
 /// Puts the test that a field of a bus has a code.
+#[tactic(auto, unfolding(tta_verilog::specs::Expressions::between))]
 pub fn push_is_code(
     out: &mut Vec<u8>,
     m: &Machine,
@@ -30,8 +32,8 @@ pub fn push_is_code(
     width: u32,
     code: u64,
 ) -> Result<(), AllocError>
-    ensures { OnOk result (out.new.items ≡ out.old.items ++ (codes "(" ++ what.now
-        ++ bus_name m.now bus ++ codes ")==(" ++ constant width code ++ codes ")")) }
+    ensures { OnOk result (out.new.items ≡ out.old.items
+        ++ between (codes "==") (what.now ++ bus_name m.now bus) (constant width code)) }
 {
     push_text(out, b"(")?;
     push_of_bus(out, m, what, bus)?;
@@ -51,6 +53,7 @@ pub fn has_one_bit(m: &Machine, file: u8) -> bool
 }
 
 /// Puts a register of a file as a word.
+#[tactic(auto, unfolding(tta_verilog::specs::Expressions::joined))]
 fn push_register_word(out: &mut Vec<u8>, on: &On<'_>, file: u8, index: u8) -> Result<(), AllocError>
     ensures { let T = text_of on.now.m.now in
         OnOk result (out.new.items ≡ out.old.items ++ T (w.source_word on.now.m.now (source.Reg file index))) }
@@ -82,6 +85,7 @@ fn push_source(out: &mut Vec<u8>, on: &On<'_>, src: Source) -> Result<(), AllocE
 
 /// Puts the word of the source whose code stands in a bus's field, the first of these having the
 /// code k.
+#[tactic(auto, unfolding(tta_verilog::specs::Expressions::choice))]
 fn pick_source(
     out: &mut Vec<u8>,
     on: &On<'_>,
@@ -91,6 +95,9 @@ fn pick_source(
     sources: &[Source],
 ) -> Result<(), AllocError>
     requires { k + length sources.now < 2 ^ 64 }
+    ensures { let T = text_of on.now.m.now in
+        OnOk result (out.new.items ≡ out.old.items ++ T (pick_from width (c.Signal (s.Fetched (s.SourceOf bus))) k
+        (map (w.source_word on.now.m.now) sources.now) w.nothing)) }
 {
     match sources {
         [] => push_constant(out, 32, 0),
@@ -106,12 +113,17 @@ fn pick_source(
 }
 
 /// Puts the word of a bus.
+#[tactic(auto, unfolding(tta_verilog::specs::Expressions::choice))]
 pub fn push_bus_word(
     out: &mut Vec<u8>,
     on: &On<'_>,
     bus: usize,
     f: &BusFields,
-) -> Result<(), AllocError> {
+) -> Result<(), AllocError>
+    requires { f.now ≡ fields_of on.now.m.now bus }
+    ensures { let T = text_of on.now.m.now in
+        OnOk result (out.new.items ≡ out.old.items ++ T (w.bus_word on.now.m.now bus)) }
+{
     push_text(out, b"(")?;
     push_of_bus(out, on.m, b"tag_", bus)?;
     push_text(out, b")?(")?;
@@ -121,6 +133,7 @@ pub fn push_bus_word(
 }
 
 /// Puts whether a guard lets its move act.
+#[tactic(auto, unfolding(tta_verilog::specs::Expressions::negated))]
 fn push_passing(out: &mut Vec<u8>, on: &On<'_>, g: GuardRef) -> Result<(), AllocError>
     ensures { let T = text_of on.now.m.now in
         OnOk result (out.new.items ≡ out.old.items ++ T (w.passing g)) }
@@ -136,6 +149,7 @@ fn push_passing(out: &mut Vec<u8>, on: &On<'_>, g: GuardRef) -> Result<(), Alloc
 
 /// Puts whether the guard whose code stands in a bus's field lets a move act, the first of these
 /// having the code k.
+#[tactic(auto, unfolding(tta_verilog::specs::Expressions::choice))]
 fn pick_guard(
     out: &mut Vec<u8>,
     on: &On<'_>,
@@ -145,6 +159,9 @@ fn pick_guard(
     guards: &[Guard],
 ) -> Result<(), AllocError>
     requires { k + length guards.now < 2 ^ 64 }
+    ensures { let T = text_of on.now.m.now in
+        OnOk result (out.new.items ≡ out.old.items ++ T (pick_from width (c.Signal (s.Fetched (s.GuardOf bus))) k
+        (map (λ g. w.passing g.on) guards.now) w.never)) }
 {
     match guards {
         [] => push_constant(out, 1, 0),
@@ -160,12 +177,17 @@ fn pick_guard(
 }
 
 /// Puts whether the move of a bus acts, if there is one.
+#[tactic(auto, unfolding(tta_verilog::specs::Expressions::choice))]
 pub fn push_bus_acts(
     out: &mut Vec<u8>,
     on: &On<'_>,
     bus: usize,
     f: &BusFields,
-) -> Result<(), AllocError> {
+) -> Result<(), AllocError>
+    requires { f.now ≡ fields_of on.now.m.now bus }
+    ensures { let T = text_of on.now.m.now in
+        OnOk result (out.new.items ≡ out.old.items ++ T (w.bus_acts on.now.m.now bus)) }
+{
     if f.guard_width == 0 {
         return push_constant(out, 1, 1);
     }
@@ -177,19 +199,39 @@ pub fn push_bus_acts(
     pick_guard(out, on, bus, f.guard_width, 1, f.guards.as_slice())
 }
 
-/// Puts the wires of a bus.
-fn push_bus_wires(
+/// Puts the wire that says whether the move of a bus acts.
+#[tactic(auto, unfolding(tta_verilog::specs::Circuits::wire_line))]
+fn push_acts_wire(
     out: &mut Vec<u8>,
     on: &On<'_>,
     bus: usize,
     f: &BusFields,
-) -> Result<(), AllocError> {
+) -> Result<(), AllocError>
+    requires { f.now ≡ fields_of on.now.m.now bus }
+    ensures { OnOk result (out.new.items ≡ out.old.items
+        ++ wire_text (names_of on.now.m.now) (wire on.now.m.now (s.Acts bus))) }
+{
     push_text(out, b"wire ")?;
     push_range(out, 1)?;
     push_of_bus(out, on.m, b"acts_", bus)?;
     push_text(out, b" = ")?;
     push_bus_acts(out, on, bus, f)?;
-    push_text(out, b";\nwire ")?;
+    push_text(out, b";\n")
+}
+
+/// Puts the wire of the word of a bus.
+#[tactic(auto, unfolding(tta_verilog::specs::Circuits::wire_line))]
+fn push_word_wire(
+    out: &mut Vec<u8>,
+    on: &On<'_>,
+    bus: usize,
+    f: &BusFields,
+) -> Result<(), AllocError>
+    requires { f.now ≡ fields_of on.now.m.now bus }
+    ensures { OnOk result (out.new.items ≡ out.old.items
+        ++ wire_text (names_of on.now.m.now) (wire on.now.m.now (s.Word bus))) }
+{
+    push_text(out, b"wire ")?;
     push_range(out, 32)?;
     push_of_bus(out, on.m, b"bus_", bus)?;
     push_text(out, b" = ")?;
@@ -205,17 +247,26 @@ fn push_buses_from(
     buses: &[BusFields],
 ) -> Result<(), AllocError>
     requires room { bus + length buses.now < 2 ^ 64 }
+    requires fields { buses.now ≡ map (fields_of on.now.m.now)
+        (range_with_len bus (length buses.now)) }
+    ensures { OnOk result (out.new.items ≡ out.old.items ++ wires_text on.now.m.now
+        (flat_map bus_wires (range_with_len bus (length buses.now)))) }
 {
     match buses {
         [] => Ok(()),
         [f, rest @ ..] => {
-            push_bus_wires(out, on, bus, f)?;
+            push_acts_wire(out, on, bus, f)?;
+            push_word_wire(out, on, bus, f)?;
             push_buses_from(out, on, bus + 1, rest)
         }
     }
 }
 
 /// Puts the wires of all buses.
-pub fn push_buses(out: &mut Vec<u8>, on: &On<'_>) -> Result<(), AllocError> {
+#[tactic(auto, using(crate::proofs::Layouts::layout_fields))]
+pub fn push_buses(out: &mut Vec<u8>, on: &On<'_>) -> Result<(), AllocError>
+    ensures { OnOk result (out.new.items ≡ out.old.items ++ wires_text on.now.m.now
+        (flat_map bus_wires (numbers (length on.now.layout.now.buses)))) }
+{
     push_buses_from(out, on, 0, on.layout.buses.as_slice())
 }

@@ -5,12 +5,9 @@ ghost use Rattle.std.specs.List.{range_with_len, position_or_len};
 ghost use Rattle.tta_arch.specs.Fields.{same_dest};
 ghost use Rattle.tta_arch.specs.Joins.{is_dest_on};
 ghost use Rattle.tta_arch.specs.Layout.{fields_of};
-ghost use Rattle.tta_circuit.specs.Circuit as c;
 ghost use Rattle.tta_hardware.specs.Chains.{any_of};
-ghost use Rattle.tta_hardware.specs.Signals as s;
 ghost use Rattle.tta_hardware.specs.Wires as w;
 ghost use Rattle.tta_rtl.specs.Names.{text_of};
-ghost use Rattle.tta_rtl.specs.Texts.{choices};
 
 use crate::buses::push_is_code;
 use crate::names::push_of_bus;
@@ -49,13 +46,18 @@ fn dest_code(dests: &[Dest], k: u64, dst: Dest) -> u64
 }
 
 /// Puts whether the move of a bus brings its word to a destination.
+#[tactic(auto, unfolding(tta_verilog::specs::Expressions::between))]
 pub fn push_hits(
     out: &mut Vec<u8>,
     on: &On<'_>,
     bus: usize,
     f: &BusFields,
     dst: Dest,
-) -> Result<(), AllocError> {
+) -> Result<(), AllocError>
+    requires { f.now ≡ fields_of on.now.m.now bus }
+    ensures { let T = text_of on.now.m.now in
+        OnOk result (out.new.items ≡ out.old.items ++ T (w.hits on.now.m.now dst bus)) }
+{
     push_text(out, b"(")?;
     push_of_bus(out, on.m, b"acts_", bus)?;
     push_text(out, b")&&(")?;
@@ -65,6 +67,7 @@ pub fn push_hits(
 }
 
 /// Puts whether one of some buses brings its word to a destination.
+#[tactic(auto, unfolding(tta_verilog::specs::Expressions::between))]
 fn push_reached_from(
     out: &mut Vec<u8>,
     on: &On<'_>,
@@ -73,6 +76,11 @@ fn push_reached_from(
     dst: Dest,
 ) -> Result<(), AllocError>
     requires room { bus + length buses.now < 2 ^ 64 }
+    requires fields { buses.now ≡ map (fields_of on.now.m.now)
+        (range_with_len bus (length buses.now)) }
+    ensures { let T = text_of on.now.m.now in
+        OnOk result (out.new.items ≡ out.old.items ++ T (any_of (map (w.hits on.now.m.now dst)
+        (filter (λ b. is_dest_on on.now.m.now b dst) (range_with_len bus (length buses.now)))))) }
 {
     match buses {
         [] => push_constant(out, 1, 0),
@@ -90,7 +98,11 @@ fn push_reached_from(
 }
 
 /// Puts whether a move reaches a destination.
-pub fn push_reached(out: &mut Vec<u8>, on: &On<'_>, dst: Dest) -> Result<(), AllocError> {
+#[tactic(auto, using(crate::proofs::Layouts::layout_fields, crate::proofs::Layouts::layout_count))]
+pub fn push_reached(out: &mut Vec<u8>, on: &On<'_>, dst: Dest) -> Result<(), AllocError>
+    ensures { let T = text_of on.now.m.now in
+        OnOk result (out.new.items ≡ out.old.items ++ T (w.reached on.now.m.now dst)) }
+{
     push_reached_from(out, on, 0, on.layout.buses.as_slice(), dst)
 }
 
@@ -103,23 +115,27 @@ fn push_arrivals_from(
     dst: Dest,
 ) -> Result<(), AllocError>
     requires room { bus + length buses.now < 2 ^ 64 }
+    requires fields { buses.now ≡ map (fields_of on.now.m.now)
+        (range_with_len bus (length buses.now)) }
 {
     match buses {
         [] => Ok(()),
         [f, rest @ ..] => {
-            if is_dest_on(on.m, bus, dst) {
-                push_text(out, b"(")?;
-                push_hits(out, on, bus, f, dst)?;
-                push_text(out, b")?(")?;
-                push_of_bus(out, on.m, b"bus_", bus)?;
-                push_text(out, b"):")?;
+            if !is_dest_on(on.m, bus, dst) {
+                return push_arrivals_from(out, on, bus + 1, rest, dst);
             }
+            push_text(out, b"(")?;
+            push_hits(out, on, bus, f, dst)?;
+            push_text(out, b")?(")?;
+            push_of_bus(out, on.m, b"bus_", bus)?;
+            push_text(out, b"):")?;
             push_arrivals_from(out, on, bus + 1, rest, dst)
         }
     }
 }
 
 /// Puts what the buses can bring to a destination, each after the test whether it does.
+#[tactic(auto, using(crate::proofs::Layouts::layout_fields, crate::proofs::Layouts::layout_count))]
 pub fn push_arrivals(out: &mut Vec<u8>, on: &On<'_>, dst: Dest) -> Result<(), AllocError> {
     push_arrivals_from(out, on, 0, on.layout.buses.as_slice(), dst)
 }

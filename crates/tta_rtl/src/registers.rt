@@ -1,6 +1,8 @@
 //! The registers: those of files, of immediate units and of control.
 
-ghost use Rattle.std.specs.Prelude.{◌+◌, ◌<◌, ◌≤◌, ◌^◌, length};
+ghost use Rattle.std.specs.Prelude.{◌≡◌, ◌+◌, ◌<◌, ◌≤◌, ◌^◌, map, length};
+ghost use Rattle.std.specs.List.{range_with_len};
+ghost use Rattle.tta_arch.specs.Layout.{fields_of};
 
 use crate::names::{push_immediate, push_of_bus, push_register};
 use crate::on::On;
@@ -37,7 +39,9 @@ fn push_brought_from(
     dst: Dest,
     one_bit: bool,
 ) -> Result<(), AllocError>
-    requires { bus + length buses.now < 2 ^ 64 }
+    requires room { bus + length buses.now < 2 ^ 64 }
+    requires fields { buses.now ≡ map (fields_of on.now.m.now)
+        (range_with_len bus (length buses.now)) }
 {
     match buses {
         [] => Ok(()),
@@ -58,6 +62,7 @@ fn push_brought_from(
 }
 
 /// Puts a register of a file.
+#[tactic(auto, using(crate::proofs::Layouts::layout_fields))]
 fn push_file_register(
     out: &mut Vec<u8>,
     on: &On<'_>,

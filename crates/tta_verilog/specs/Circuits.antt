@@ -5,8 +5,12 @@ use Rattle.tta_circuit.specs.Circuit.{Wire, Register, WritePort, Memory}
 use Rattle.tta_verilog.specs.Expressions.{Names, constant, expression}
 
 -- how many bits a name has, before the name
-abbrev pub range : (width : ℕ) → List ℕ
-range width = codes "[" ++ decimal (width - 1) ++ codes ":0] "
+unfoldable pub range : (width : ℕ) → List ℕ
+range width = codes "[" ++ (decimal (width - 1) ++ codes ":0] ")
+
+-- a wire with its name, its width and its word
+unfoldable pub wire_line : (name : List ℕ) → (width : ℕ) → (word : List ℕ) → List ℕ
+wire_line name width word = codes "wire " ++ (range width ++ (name ++ (codes " = " ++ (word ++ codes ";\n"))))
 
 -- a word in so many bits
 abbrev pub bits_text : (width word : ℕ) → List ℕ
@@ -20,7 +24,7 @@ clocked enable done = codes "always @(posedge clk) if (" ++ enable ++ codes ") "
 module _ {N M : Type 0} (names : Names N M) where
   -- a wire
   abbrev pub wire_text : Wire N M → List ℕ
-  wire_text w = codes "wire " ++ range w.width ++ names.signal w.name ++ codes " = " ++ expression names w.word ++ codes ";\n"
+  wire_text w = wire_line (names.signal w.name) w.width (expression names w.word)
 
   -- a register as it is declared
   abbrev pub declared : Register N M → List ℕ

@@ -10,33 +10,37 @@ pub record Names (N M : Type 0) : Type 0 where
   pub op : ℕ → List ℕ
 
 -- a constant of so many bits
-abbrev pub constant : (width word : ℕ) → List ℕ
-constant width word = decimal width ++ codes "'d" ++ decimal word
+unfoldable pub constant : (width word : ℕ) → List ℕ
+constant width word = decimal width ++ (codes "'d" ++ decimal word)
 
 -- a part of what has a name, from a bit on
-abbrev pub part : (name : List ℕ) → (low width : ℕ) → List ℕ
-part name low width = name ++ codes "[" ++ decimal low ++ codes "+:" ++ decimal width ++ codes "]"
+unfoldable pub part : (name : List ℕ) → (low width : ℕ) → List ℕ
+part name low width = name ++ (codes "[" ++ (decimal low ++ (codes "+:" ++ (decimal width ++ codes "]"))))
 
 -- an operation that stands between its two words
-abbrev pub between : (sign a b : List ℕ) → List ℕ
-between sign a b = codes "(" ++ a ++ codes ")" ++ sign ++ codes "(" ++ b ++ codes ")"
+unfoldable pub between : (sign a b : List ℕ) → List ℕ
+between sign a b = codes "(" ++ (a ++ (codes ")" ++ (sign ++ (codes "(" ++ (b ++ codes ")")))))
+
+-- a test that does not hold
+unfoldable pub negated : (a : List ℕ) → List ℕ
+negated a = codes "!(" ++ (a ++ codes ")")
 
 -- a choice of two words; the second goes on to the end
-abbrev pub choice : (test on off : List ℕ) → List ℕ
-choice test on off = codes "(" ++ test ++ codes ")?(" ++ on ++ codes "):" ++ off
+unfoldable pub choice : (test on off : List ℕ) → List ℕ
+choice test on off = codes "(" ++ (test ++ (codes ")?(" ++ (on ++ (codes "):" ++ off))))
 
 -- two words joined to one
-abbrev pub joined : (high low : List ℕ) → List ℕ
-joined high low = codes "{" ++ high ++ codes "," ++ low ++ codes "}"
+unfoldable pub joined : (high low : List ℕ) → List ℕ
+joined high low = codes "{" ++ (high ++ (codes "," ++ (low ++ codes "}")))
 
 -- the word of a memory at an address; a memory that keeps its first words is a function of the address
-abbrev pub reading : (is_constant : Bool) → (name address : List ℕ) → List ℕ
-reading true name address = name ++ codes "(" ++ address ++ codes ")"
-reading false name address = name ++ codes "[" ++ address ++ codes "]"
+unfoldable pub reading : (is_constant : Bool) → (name address : List ℕ) → List ℕ
+reading true name address = name ++ (codes "(" ++ (address ++ codes ")"))
+reading false name address = name ++ (codes "[" ++ (address ++ codes "]"))
 
 -- a word made of two others by a function
-abbrev pub call : (name a b : List ℕ) → List ℕ
-call name a b = name ++ codes "(" ++ a ++ codes "," ++ b ++ codes ")"
+unfoldable pub call : (name a b : List ℕ) → List ℕ
+call name a b = name ++ (codes "(" ++ (a ++ (codes "," ++ (b ++ codes ")"))))
 
 module _ {N M : Type 0} (names : Names N M) where
   -- An expression. Each of its parts stands in parentheses of its own but for the last of a choice, so that only a choice ends with an
@@ -47,7 +51,7 @@ module _ {N M : Type 0} (names : Names N M) where
   expression (Slice low width e) = part (expression e) low width
   expression (Join width high low) = joined (expression high) (expression low)
   expression (Select test on off) = choice (expression test) (expression on) (expression off)
-  expression (Not e) = codes "!(" ++ expression e ++ codes ")"
+  expression (Not e) = negated (expression e)
   expression (Both a b) = between (codes "&&") (expression a) (expression b)
   expression (Either a b) = between (codes "||") (expression a) (expression b)
   expression (Equal a b) = between (codes "==") (expression a) (expression b)

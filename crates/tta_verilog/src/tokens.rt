@@ -23,6 +23,7 @@ pub fn push_number(out: &mut Vec<u8>, n: u64) -> Result<(), AllocError>
 }
 
 /// Puts a constant of so many bits.
+#[tactic(auto, unfolding(crate::specs::Expressions::constant))]
 pub fn push_constant(out: &mut Vec<u8>, width: u32, word: u64) -> Result<(), AllocError>
     ensures { OnOk result (out.new.items ≡ out.old.items ++ constant width word) }
 {
@@ -32,6 +33,7 @@ pub fn push_constant(out: &mut Vec<u8>, width: u32, word: u64) -> Result<(), All
 }
 
 /// Puts the range of a name of so many bits, and a blank.
+#[tactic(auto, unfolding(crate::specs::Circuits::range))]
 pub fn push_range(out: &mut Vec<u8>, width: u32) -> Result<(), AllocError>
     ensures { OnOk result (out.new.items ≡ out.old.items ++ range width) }
 {
