@@ -109,3 +109,12 @@ int main(void) { struct cell *head = 0; for (int k = 0; k < 20; k++) { struct ce
 static volatile uint32_t v; static volatile int8_t s[4];
 union packet { struct { uint8_t kind, length; uint16_t sum; uint32_t body; } f; uint8_t raw[8]; };
 int main(void) { v = tta_in(); OUT(v + v); v++; OUT(v); for (int k = 0; k < 4; k++) s[k] = v >> k; OUT(s[0] + s[1] * s[2] - s[3]); union packet p; for (int k = 0; k < 8; k++) p.raw[k] = tta_in(); OUT(p.f.kind); OUT(p.f.length); OUT(p.f.sum); OUT(p.f.body); p.f.sum += 300; p.f.kind = 1; uint32_t t = 0; for (int k = 0; k < 8; k++) t = t * 257 + p.raw[k]; OUT(t); }
+//// functions of the library that a program has itself
+typedef __SIZE_TYPE__ size; static int calls;
+#ifdef __TTA__
+#define MINE(name) name
+#else
+#define MINE(name) my_##name
+#endif
+void *MINE(memcpy)(void *to, const void *from, size n) { char *a = to; const char *b = from; calls++; while (n--) *a++ = *b++; return to; } size MINE(strlen)(const char *s) { calls += 10; size n = 0; while (*s++) n++; return n; } void *MINE(malloc)(size n) { static uint32_t room[8]; calls += 100; return n < 32 ? room : 0; }
+int main(void) { char t[9], *p = MINE(malloc)(12); MINE(memcpy)(t, "whatever", 9); MINE(memcpy)(p, t + (tta_in() & 3), 5); p[5] = 0; OUT(MINE(strlen)(p)); for (int k = 0; k < 5; k++) OUT(p[k]); OUT(calls); OUT(MINE(malloc)(99) == 0); }

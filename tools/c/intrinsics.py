@@ -24,7 +24,7 @@ def lower(l, i, name):
         if kind == "is":
             return [0]
         if kind == "objectsize":
-            return [M] if l.pieces(i.ty) == 1 else [M, M]
+            return [0 if args[1] == ("int", 1) else M] * l.pieces(i.ty)
         l.refuse(f"the function {name} of LLVM")
     if kind == "expect":
         return l.value(args[0], ty)

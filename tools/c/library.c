@@ -94,20 +94,22 @@ u32 tta_lib_shru32(u32 a, u32 n)
 }
 
 typedef __SIZE_TYPE__ size_t;
+/* A program may have its own. */
+#define WEAK __attribute__((weak))
 
-void *memcpy(void *to, const void *from, size_t n)
+WEAK void *memcpy(void *to, const void *from, size_t n)
 {
     return __builtin_memcpy(to, from, n);
 }
-void *memmove(void *to, const void *from, size_t n)
+WEAK void *memmove(void *to, const void *from, size_t n)
 {
     return __builtin_memmove(to, from, n);
 }
-void *memset(void *to, int byte, size_t n)
+WEAK void *memset(void *to, int byte, size_t n)
 {
     return __builtin_memset(to, byte, n);
 }
-int memcmp(const void *a, const void *b, size_t n)
+WEAK int memcmp(const void *a, const void *b, size_t n)
 {
     const unsigned char *p = a, *q = b;
     for (; n; n--, p++, q++)
@@ -115,7 +117,7 @@ int memcmp(const void *a, const void *b, size_t n)
             return *p - *q;
     return 0;
 }
-void *memchr(const void *a, int byte, size_t n)
+WEAK void *memchr(const void *a, int byte, size_t n)
 {
     const unsigned char *p = a;
     for (; n; n--, p++)
@@ -123,34 +125,34 @@ void *memchr(const void *a, int byte, size_t n)
             return (void *)p;
     return 0;
 }
-size_t strlen(const char *a)
+WEAK size_t strlen(const char *a)
 {
     size_t n = 0;
     while (a[n])
         n++;
     return n;
 }
-int strcmp(const char *a, const char *b)
+WEAK int strcmp(const char *a, const char *b)
 {
     while (*a && *a == *b)
         a++, b++;
     return (unsigned char)*a - (unsigned char)*b;
 }
-int strncmp(const char *a, const char *b, size_t n)
+WEAK int strncmp(const char *a, const char *b, size_t n)
 {
     for (; n; n--, a++, b++)
         if (*a != *b || !*a)
             return (unsigned char)*a - (unsigned char)*b;
     return 0;
 }
-char *strcpy(char *to, const char *from)
+WEAK char *strcpy(char *to, const char *from)
 {
     char *p = to;
     while ((*p++ = *from++))
         ;
     return to;
 }
-char *strchr(const char *a, int c)
+WEAK char *strchr(const char *a, int c)
 {
     for (;; a++) {
         if (*a == (char)c)
@@ -165,7 +167,7 @@ char *strchr(const char *a, int c)
 #endif
 static u64 heap[TTA_HEAP / 8];
 static size_t used;
-void *malloc(size_t n)
+WEAK void *malloc(size_t n)
 {
     void *p = heap + used;
     if (n > sizeof heap - used * 8)
@@ -173,11 +175,11 @@ void *malloc(size_t n)
     used += (n + 7) / 8;
     return p;
 }
-void *calloc(size_t n, size_t m)
+WEAK void *calloc(size_t n, size_t m)
 {
     return malloc(n * m);   /* nothing is given twice, so all of it is 0 */
 }
-void free(void *p)
+WEAK void free(void *p)
 {
     (void)p;
 }
