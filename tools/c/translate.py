@@ -2,7 +2,8 @@
 
 What is worked out, in order: data (memory.py, layout.py), the steps of each function that a run can come to (lower.py), fewer of them
 (tidy.py), variables (names.py), one procedure for each group of functions that call one another in a circle (recursion.py), the order of
-the blocks (order.py), variables of loops' own (split.py) and for constants (steady.py), variables for several values where the frame is small (share.py), and the text (printer.py)."""
+the blocks (order.py), variables of loops' own (split.py) and for constants (steady.py), variables for several values where the frame is
+small (share.py), and the text (printer.py)."""
 import re
 
 import names
