@@ -6,7 +6,9 @@ ghost use Rattle.tta_designer.specs.Request.{asked, is_named, is_rtl, is_stages,
 ghost use Rattle.tta_designer.specs.Request.{is_prompt, prompt_request, request_of, run_request};
 ghost use Rattle.tta_designer.specs.Request.{run_view_of, view_of};
 
-use crate::names::{CodeRequest, MachineRequest, PromptRequest, RtlRequest, RunRequest, StagesRequest};
+use crate::names::{
+    CodeRequest, MachineRequest, PromptRequest, RtlRequest, RunRequest, StagesRequest,
+};
 use crate::view::{RunView, View};
 use tta_given::bound_of;
 
