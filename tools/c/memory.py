@@ -1,14 +1,15 @@
 """The data of a program: classes of what pointers may point to, and how each class stands in the words of the data space.
 
-It is worked out in order: definitions and uses (`scan`), classes (classes.py), places that are numbers (places.py), what is known of places
-(rests.py), and the choice (cells.py). Each part names what the later ones rest on."""
+It is worked out in order: definitions and uses (`scan`), classes (classes.py and joins.py), places that are numbers (places.py), what is
+known of places (rests.py), and the choice (cells.py). Each part names what the later ones rest on."""
 from cells import Cells
 from classes import PointsTo
+from joins import Joins
 from places import Numbers
 from rests import Rests
 
 
-class Memory(PointsTo, Numbers, Rests, Cells):
+class Memory(PointsTo, Joins, Numbers, Rests, Cells):
     def __init__(self, module, cell=None):
         # `only` is a number of bytes for all classes, for tests.
         self.m, self.only = module, cell
