@@ -18,6 +18,11 @@ LINKAGE = {"private", "internal", "available_externally", "linkonce", "weak", "c
            "weak_odr", "external", "dso_local", "dso_preemptable", "default", "hidden", "protected", "dllimport", "dllexport",
            "thread_local", "unnamed_addr", "local_unnamed_addr", "externally_initialized"}
 
+# The first letters of names, and values that are a word.
+NAMES = {"%": "local", "@": "global"}
+WORDS = {"true": ("int", 1), "false": ("int", 0), "null": ("null",), "none": ("null",), "undef": ("undef",), "poison": ("undef",),
+         "zeroinitializer": ("zero",)}
+
 
 class Reader:
     """The tokens of a line or of a few lines, and how a type, a value and an instruction are read from them."""
@@ -53,41 +58,7 @@ class Reader:
     # Types.
 
     def type(self):
-        t = self.next()
-        if t == "void":
-            ty = ("void",)
-        elif t == "ptr":
-            ty = ("ptr",)
-            if self.peek() == "addrspace":
-                self.group()
-        elif re.fullmatch(r"i\d+", t):
-            ty = ("int", int(t[1:]))
-        elif t in FLOATS:
-            ty = ("float", t)
-        elif t in ("label", "metadata", "token", "opaque", "x86_mmx"):
-            ty = (t,)
-        elif t == "[":
-            n = int(self.next())
-            self.need("x")
-            ty = ("arr", n, self.type())
-            self.need("]")
-        elif t == "<":
-            if self.has("{"):
-                ty = ("struct", self.types("}"), True)
-                self.need(">")
-            else:
-                if self.peek() == "vscale":
-                    self.i += 2
-                n = int(self.next())
-                self.need("x")
-                ty = ("vec", n, self.type())
-                self.need(">")
-        elif t == "{":
-            ty = ("struct", self.types("}"), False)
-        elif t.startswith("%"):
-            ty = ("named", t)
-        else:
-            raise Refused(f"no type: `{t}` in {self.text.strip()[:120]}")
+        ty = self.first_type()
         while True:
             if self.has("*"):
                 ty = ("ptr",)
@@ -96,17 +67,64 @@ class Reader:
                 self.skip_group()
             elif self.peek() == "(":
                 self.i += 1
-                params, variadic = [], False
-                while not self.has(")"):
-                    if self.has("..."):
-                        variadic = True
-                    else:
-                        params.append(self.type())
-                        self.param_attrs()
-                    self.has(",")
-                ty = ("func", ty, tuple(params), variadic)
+                ty = self.function_type(ty)
             else:
                 return ty
+
+    def first_type(self):
+        """A type without the stars, or the parameters of a function, that may follow it."""
+        t = self.next()
+        if t == "ptr":
+            if self.peek() == "addrspace":
+                self.group()
+            return ("ptr",)
+        if re.fullmatch(r"i\d+", t):
+            return ("int", int(t[1:]))
+        if t in FLOATS:
+            return ("float", t)
+        if t in ("void", "label", "metadata", "token", "opaque", "x86_mmx"):
+            return (t,)
+        if t == "[":
+            return self.array_type()
+        if t == "<":
+            return self.packed_or_vector_type()
+        if t == "{":
+            return ("struct", self.types("}"), False)
+        if t.startswith("%"):
+            return ("named", t)
+        raise Refused(f"no type: `{t}` in {self.text.strip()[:120]}")
+
+    def array_type(self):
+        n = int(self.next())
+        self.need("x")
+        ty = ("arr", n, self.type())
+        self.need("]")
+        return ty
+
+    def packed_or_vector_type(self):
+        if self.has("{"):
+            ty = ("struct", self.types("}"), True)
+            self.need(">")
+            return ty
+        if self.peek() == "vscale":
+            self.i += 2
+        n = int(self.next())
+        self.need("x")
+        ty = ("vec", n, self.type())
+        self.need(">")
+        return ty
+
+    def function_type(self, result):
+        """The rest of a function's type, after the bracket that opens its parameters."""
+        params, variadic = [], False
+        while not self.has(")"):
+            if self.has("..."):
+                variadic = True
+            else:
+                params.append(self.type())
+                self.param_attrs()
+            self.has(",")
+        return ("func", result, tuple(params), variadic)
 
     def types(self, end):
         found = []
@@ -153,78 +171,86 @@ class Reader:
 
     def value(self, ty):
         t = self.next()
-        if t.startswith("%"):
-            return ("local", t)
-        if t.startswith("@"):
-            return ("global", t)
+        if t[:1] in NAMES:
+            return (NAMES[t[0]], t)
         if re.fullmatch(r"-?\d+", t):
             return ("int", int(t))
-        if t in ("true", "false"):
-            return ("int", int(t == "true"))
-        if t in ("null", "none"):
-            return ("null",)
-        if t in ("undef", "poison"):
-            return ("undef",)
-        if t == "zeroinitializer":
-            return ("zero",)
+        if t in WORDS:
+            return WORDS[t]
         if t.startswith('c"'):
-            found = re.sub(rb"\\(\\|[0-9A-Fa-f]{2})", lambda m: m[1] if m[1] == b"\\" else bytes([int(m[1], 16)]), t[2:-1].encode("latin1"))
-            if ty[0] != "arr" or len(found) != ty[1]:
-                raise Refused(f"text of another length than its type: {self.text.strip()[:120]}")
-            return ("bytes", found)
+            return self.bytes_of(t, ty)
         if t in ("[", "{", "<"):
-            packed = t == "<" and self.has("{")
-            end = {"[": "]", "{": "}", "<": ">"}[t] if not packed else "}"
-            items = []
-            while not self.has(end):
-                one = self.type()
-                items.append((one, self.value(one)))
-                self.has(",")
-            if packed:
-                self.need(">")
-            return ("agg", tuple(items))
+            return self.aggregate(t)
         if t == "getelementptr":
-            self.flags()
-            if self.peek() == "inrange":
-                self.i += 1
-                self.skip_group()
-            self.need("(")
-            base = self.type()
-            self.need(",")
-            pairs = []
-            while True:
-                self.flags()
-                one = self.type()
-                pairs.append((one, self.value(one)))
-                if not self.has(","):
-                    break
-            self.need(")")
-            return ("expr", "gep", base, pairs[0][1], tuple(pairs[1:]))
+            return self.constant_step()
         if t in CASTS:
-            self.need("(")
-            frm = self.type()
-            v = self.value(frm)
-            self.need("to")
-            to = self.type()
-            self.need(")")
-            return ("expr", "cast", t, frm, v, to)
+            return self.constant_cast(t)
         if t in BINARY or t in ("icmp", "select"):
-            self.flags()
-            rel = self.next() if t == "icmp" else None
-            self.need("(")
-            pairs = []
-            while True:
-                one = self.type()
-                pairs.append((one, self.value(one)))
-                if not self.has(","):
-                    break
-            self.need(")")
-            return ("expr", "op", t, rel, tuple(pairs))
+            return self.constant_operation(t)
         if t == "blockaddress":
             raise Refused("the address of a label")
         if re.fullmatch(r"0x[0-9A-FKMLH]*|-?\d+\.\d+(e[-+]?\d+)?", t):
             return ("float", t)
         raise Refused(f"no value: `{t}` in {self.text.strip()[:120]}")
+
+    def bytes_of(self, t, ty):
+        """The bytes of a text in quotes, which has the length of its type."""
+        found = re.sub(rb"\\(\\|[0-9A-Fa-f]{2})", lambda m: m[1] if m[1] == b"\\" else bytes([int(m[1], 16)]), t[2:-1].encode("latin1"))
+        if ty[0] != "arr" or len(found) != ty[1]:
+            raise Refused(f"text of another length than its type: {self.text.strip()[:120]}")
+        return ("bytes", found)
+
+    def aggregate(self, t):
+        """The rest of an array, a structure or a vector, after the bracket t."""
+        packed = t == "<" and self.has("{")
+        end = {"[": "]", "{": "}", "<": ">"}[t] if not packed else "}"
+        items = []
+        while not self.has(end):
+            one = self.type()
+            items.append((one, self.value(one)))
+            self.has(",")
+        if packed:
+            self.need(">")
+        return ("agg", tuple(items))
+
+    def constant_step(self):
+        """The rest of a constant getelementptr."""
+        self.flags()
+        if self.peek() == "inrange":
+            self.i += 1
+            self.skip_group()
+        self.need("(")
+        base = self.type()
+        self.need(",")
+        pairs = self.pairs(self.flags)
+        return ("expr", "gep", base, pairs[0][1], tuple(pairs[1:]))
+
+    def constant_cast(self, t):
+        self.need("(")
+        frm = self.type()
+        v = self.value(frm)
+        self.need("to")
+        to = self.type()
+        self.need(")")
+        return ("expr", "cast", t, frm, v, to)
+
+    def constant_operation(self, t):
+        self.flags()
+        rel = self.next() if t == "icmp" else None
+        self.need("(")
+        return ("expr", "op", t, rel, tuple(self.pairs()))
+
+    def pairs(self, before=lambda: None):
+        """Types and values with commas between them, up to a bracket that closes; `before` reads what stands before each."""
+        found = []
+        while True:
+            before()
+            one = self.type()
+            found.append((one, self.value(one)))
+            if not self.has(","):
+                break
+        self.need(")")
+        return found
 
     def typed(self):
         ty = self.type()
