@@ -9,6 +9,7 @@ folded operation has the words of the operation itself for all words, by the mea
 modulo 32, a division by 0 gives the greatest word. `made` tells how a value was made, and is not asked of operations of a machine's own."""
 from bounds import FULL, M, OPPOSITE, Bounds, signed
 from lacking import Lacking
+from simple import Simple
 
 COMMUTES = {"add", "mul", "mulhu", "and", "or", "xor", "eq", "ne"}
 FOLDED = COMMUTES | {"sub", "shl", "shr", "shru", "lt", "gt", "ltu", "gtu", "divu", "remu"}
@@ -45,7 +46,7 @@ class Block:
         return list(dict.fromkeys(self.steps[-1].to))
 
 
-class Builder(Bounds, Lacking):
+class Builder(Bounds, Lacking, Simple):
     """Writes the steps of one procedure."""
 
     def __init__(self, name, extra=()):
@@ -118,69 +119,6 @@ class Builder(Bounds, Lacking):
         self.made[d] = key
         self.seen[key] = d
         return self.put(Step("op", d, op, [a]))
-
-    def simple(self, op, a, b):
-        """What an operation is without a step, or by another step."""
-        made = self.made.get(a) if isinstance(a, str) else None
-        if isinstance(b, int):
-            if op == "sub":
-                return self.op("add", a, -b & M)
-            if op in ("add", "or", "xor", "shl", "shr", "shru") and b == 0:
-                return a
-            if op == "mul":
-                if b == 0:
-                    return 0
-                if b & (b - 1) == 0 and self.has("shl"):
-                    return self.op("shl", a, b.bit_length() - 1)
-            if op == "and":
-                if b == 0:
-                    return 0
-                lo, hi = self.bounds(a)
-                if lo >= 0 and b & (b + 1) == 0 and hi <= b:
-                    return a
-                if made and made[0] == "and" and isinstance(made[2], int):
-                    return self.op("and", made[1], made[2] & b)
-            if op == "or" and b == M:
-                return M
-            if op == "xor" and made and made[0] == "xor" and isinstance(made[2], int):
-                return self.op("xor", made[1], made[2] ^ b)
-            if op == "xor" and b == 1 and made and made[0] in ("eq", "ne"):
-                return self.op("ne" if made[0] == "eq" else "eq", made[1], made[2])
-            if op == "add" and made and made[0] == "add" and isinstance(made[2], int):
-                return self.op("add", made[1], made[2] + b & M)
-            if op == "shl" and made and made[0] == "shl" and isinstance(made[2], int):
-                return self.op("shl", made[1], made[2] + b) if made[2] + b < 32 else 0
-            if op == "shru" and made and made[0] == "shru" and isinstance(made[2], int):
-                return self.op("shru", made[1], made[2] + b) if made[2] + b < 32 else 0
-            if op == "shr" and made and made[0] == "shr" and isinstance(made[2], int):
-                return self.op("shr", made[1], min(made[2] + b, 31))
-            if op == "shru" and b == 31 and made and made[0] == "shr":
-                return self.op("shru", made[1], 31)
-            if op == "shr" and self.bounds(a)[0] >= 0 and self.bounds(a)[1] < 1 << 31:
-                return self.op("shru", a, b) if b < 32 else 0
-            if op == "divu" and b == 1:
-                return a
-            if op == "divu" and b and b & (b - 1) == 0:
-                return self.op("shru", a, b.bit_length() - 1)
-            if op == "remu" and b and b & (b - 1) == 0:
-                return self.op("and", a, b - 1)
-            if op == "ne" and b == 0 and self.bounds(a) in ((0, 1), (0, 0)):
-                return a
-        if isinstance(a, int):
-            if op in ("shl", "shr", "shru", "divu", "remu") and a == 0:
-                return 0
-            if op == "sub" and a == 0 and self.has("neg"):
-                return self.one("neg", b)
-        if a == b:
-            if op in ("sub", "xor"):
-                return 0
-            if op in ("and", "or"):
-                return a
-            if op in ("eq",):
-                return 1
-            if op in ("ne", "lt", "gt", "ltu", "gtu"):
-                return 0
-        return None
 
     def load(self, a, most=FULL):
         d = self.fresh(most)
