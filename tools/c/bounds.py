@@ -8,6 +8,10 @@ M = 0xFFFFFFFF
 FULL = (0, M)
 OPPOSITE = {"eq": "ne", "ne": "eq", "lt": "ge", "ge": "lt", "ltu": "geu", "geu": "ltu"}
 
+# The bounds of results, whatever the words are.
+KNOWN = {**dict.fromkeys(("eq", "ne", "lt", "gt", "ltu", "gtu"), (0, 1)), **dict.fromkeys(("clz", "popcount"), (0, 32)),
+         "sext8": (-128, 127), "sext16": (-32768, 32767)}
+
 
 def signed(w):
     return w - (1 << 32) if w >> 31 else w
@@ -37,54 +41,58 @@ class Bounds:
 
     def reach(self, op, a, b):
         """The bounds of a result."""
-        if op == "add":
-            x, y = self.bounds(a), self.bounds(b)
-            r = x[0] + y[0], x[1] + y[1]
-        elif op == "sub":
-            x, y = self.bounds(a), self.bounds(b)
-            r = x[0] - y[1], x[1] - y[0]
-        elif op == "mul":
-            x, y = self.bounds(a), self.bounds(b)
-            all4 = [p * q for p in x for q in y]
-            r = min(all4), max(all4)
-        elif op == "and":
-            x, y = self.plain(a), self.plain(b)
-            r = 0, min(x[1], y[1])
-        elif op in ("or", "xor"):
-            x, y = self.plain(a), self.plain(b)
-            r = 0, (1 << max(x[1].bit_length(), y[1].bit_length())) - 1
-            if r == FULL:
-                x, y = self.with_sign(a), self.with_sign(b)
-                n = max((~v if v < 0 else v).bit_length() for v in x + y)
-                r = -(1 << n), (1 << n) - 1
-        elif op == "shl" and isinstance(b, int):
-            x = self.bounds(a)
-            r = x[0] << (b & 31), x[1] << (b & 31)
-        elif op == "shru":
-            x = self.plain(a)
-            r = (x[0] >> (b & 31), x[1] >> (b & 31)) if isinstance(b, int) else (0, x[1])
-        elif op == "shr":
-            x = self.with_sign(a)
-            r = (x[0] >> (b & 31), x[1] >> (b & 31)) if isinstance(b, int) else (min(x[0], 0), max(x[1], 0))
-        elif op in ("eq", "ne", "lt", "gt", "ltu", "gtu"):
-            r = 0, 1
-        elif op == "remu":
-            y = self.plain(b)
-            r = 0, min(self.plain(a)[1], y[1] - 1) if y[0] > 0 else self.plain(a)[1]
-        elif op == "divu" and isinstance(b, int) and b:
-            x = self.plain(a)
-            r = x[0] // b, x[1] // b
-        elif op == "mulhu":
-            r = 0, self.plain(a)[1] * self.plain(b)[1] >> 32
-        elif op == "sext8":
-            r = -128, 127
-        elif op == "sext16":
-            r = -32768, 32767
-        elif op in ("clz", "popcount"):
-            r = 0, 32
-        else:
-            return FULL
-        return r if r[1] - r[0] <= M and abs(r[0]) <= 1 << 33 and abs(r[1]) <= 1 << 33 else FULL
+        way = getattr(self, "reach_" + op, None)
+        r = way(a, b) if way else KNOWN.get(op)
+        return r if r and r[1] - r[0] <= M and abs(r[0]) <= 1 << 33 and abs(r[1]) <= 1 << 33 else FULL
+
+    def reach_add(self, a, b):
+        x, y = self.bounds(a), self.bounds(b)
+        return x[0] + y[0], x[1] + y[1]
+
+    def reach_sub(self, a, b):
+        x, y = self.bounds(a), self.bounds(b)
+        return x[0] - y[1], x[1] - y[0]
+
+    def reach_mul(self, a, b):
+        x, y = self.bounds(a), self.bounds(b)
+        all4 = [p * q for p in x for q in y]
+        return min(all4), max(all4)
+
+    def reach_mulhu(self, a, b):
+        return 0, self.plain(a)[1] * self.plain(b)[1] >> 32
+
+    def reach_and(self, a, b):
+        return 0, min(self.plain(a)[1], self.plain(b)[1])
+
+    def reach_or(self, a, b):
+        x, y = self.plain(a), self.plain(b)
+        r = 0, (1 << max(x[1].bit_length(), y[1].bit_length())) - 1
+        if r != FULL:
+            return r
+        n = max((~v if v < 0 else v).bit_length() for v in self.with_sign(a) + self.with_sign(b))
+        return -(1 << n), (1 << n) - 1
+
+    reach_xor = reach_or
+
+    def reach_shl(self, a, b):
+        x = self.bounds(a)
+        return (x[0] << (b & 31), x[1] << (b & 31)) if isinstance(b, int) else None
+
+    def reach_shru(self, a, b):
+        x = self.plain(a)
+        return (x[0] >> (b & 31), x[1] >> (b & 31)) if isinstance(b, int) else (0, x[1])
+
+    def reach_shr(self, a, b):
+        x = self.with_sign(a)
+        return (x[0] >> (b & 31), x[1] >> (b & 31)) if isinstance(b, int) else (min(x[0], 0), max(x[1], 0))
+
+    def reach_divu(self, a, b):
+        x = self.plain(a)
+        return (x[0] // b, x[1] // b) if isinstance(b, int) and b else None
+
+    def reach_remu(self, a, b):
+        x, y = self.plain(a), self.plain(b)
+        return 0, min(x[1], y[1] - 1) if y[0] > 0 else x[1]
 
     def fits(self, a, k):
         """Whether a word that is shifted to the left by k bits loses none, its sign among them."""
