@@ -80,11 +80,8 @@ def carry_out(tool, o, program):
         return subprocess.run([*tool, "run", o.machine, image, data, bound, *stream]).returncode
 
 
-def main():
-    signal.signal(signal.SIGPIPE, signal.SIG_DFL)
-    sys.setrecursionlimit(20000)
-    count, *words = sys.argv[1:]
-    tool, words = words[:1 + int(count)], words[1 + int(count):]
+def options_of(words):
+    """The options, where the words are right and the programs that this needs are there."""
     try:
         o = options.Options(words)
     except options.Faulty as e:
@@ -92,27 +89,49 @@ def main():
     missing = clang.missing()
     if missing:
         stop(USAGE, f"{', '.join(missing)} not found: C needs clang and LLVM, of version 14 or later (`tools/setup`, or `apt-get install clang llvm`)")
+    return o
+
+
+def not_taken(where, text):
+    print(f"{where}: not taken: {text}", file=sys.stderr)
+    raise SystemExit(UNSUPPORTED)
+
+
+def error_of_tool(e):
+    """Where and how this tool failed, in words."""
+    at = e.__traceback__
+    while at.tb_next:
+        at = at.tb_next
+    where = f"{os.path.basename(at.tb_frame.f_code.co_filename)}:{at.tb_lineno}"
+    return f"an error of this tool in {where}, {type(e).__name__}: {e}"
+
+
+def compiled(o):
+    """The program, its text, and the lines of C that it is of."""
     try:
         machine = Machine(o.machine)
         machine.frame = machine.frame if o.frame is None else o.frame
         with tempfile.TemporaryDirectory() as folder:
-            made, program, places = program_of(o, machine, folder)
+            return program_of(o, machine, folder)
     except clang.BadSource as e:
         sys.stderr.write(str(e))
         raise SystemExit(BAD_C)
     except Refused as e:
-        print(f"{e.where or o.files[0]}: not taken: {e.text}", file=sys.stderr)
-        raise SystemExit(UNSUPPORTED)
+        not_taken(e.where or o.files[0], e.text)
     except OSError as e:
         stop(USAGE, f"{e.filename or o.files[0]}: {e.strerror}")
     except Exception as e:
         # What nobody has thought of is told in a line too, and nothing is written.
-        at = e.__traceback__
-        while at.tb_next:
-            at = at.tb_next
-        where = f"{os.path.basename(at.tb_frame.f_code.co_filename)}:{at.tb_lineno}"
-        print(f"{o.files[0]}: not taken: an error of this tool in {where}, {type(e).__name__}: {e}", file=sys.stderr)
-        raise SystemExit(UNSUPPORTED)
+        not_taken(o.files[0], error_of_tool(e))
+
+
+def main():
+    signal.signal(signal.SIGPIPE, signal.SIG_DFL)
+    sys.setrecursionlimit(20000)
+    count, *words = sys.argv[1:]
+    tool, words = words[:1 + int(count)], words[1 + int(count):]
+    o = options_of(words)
+    made, program, places = compiled(o)
     if o.out:
         write(o.out, program)
     if o.lines:
