@@ -104,33 +104,41 @@ class Values:
             return busy[v]
         d = self.memory.defs.get((self.f.name, v[1]))
         if d is None:
-            for pn, t, attrs in self.f.params:
-                if pn == v[1] and "zeroext" in attrs:
-                    return 0, (1 << n) - 1
-            return None
+            has_zeros = any(pn == v[1] and "zeroext" in attrs for pn, _, attrs in self.f.params)
+            return (0, (1 << n) - 1) if has_zeros else None
         if len(busy) > 40:
             return None
-        full = (0, (1 << n) - 1)
-        if d.op == "icmp":
-            return 0, 1
-        if d.op == "load" and n < 32:
-            c = self.memory.of(self.f.name, d.p)
-            return full if c and (not c.signed or c.cell * 8 != n) else None
-        if d.op == "cast" and d.kind == "zext":
-            k = self.bits(d.frm)
-            return (0, (1 << k) - 1) if k < 32 else None
-        if d.op == "bin" and d.kind == "and":
+        if d.op in ("phi", "select"):
+            return self.narrow_choice(v, d, ty, busy) if n < 32 or len(busy) < 12 else None
+        way = getattr(self, "narrow_" + d.op, None)
+        return way(d, n) if way else None
+
+    def narrow_choice(self, v, d, ty, busy):
+        """The bounds of a phi or a select are those of all that it chooses from."""
+        n = self.bits(ty)
+        busy[v] = None if n == 32 else (0, (1 << n) - 1)
+        found = [self.narrow(x, ty, busy) for x in ([x for _, x in d.pairs] if d.op == "phi" else [d.a, d.b])]
+        if all(found):
+            return min(x[0] for x in found), max(x[1] for x in found)
+        busy[v] = None
+        return None
+
+    def narrow_icmp(self, d, n):
+        return 0, 1
+
+    def narrow_load(self, d, n):
+        c = self.memory.of(self.f.name, d.p) if n < 32 else None
+        return (0, (1 << n) - 1) if c and (not c.signed or c.cell * 8 != n) else None
+
+    def narrow_cast(self, d, n):
+        k = self.bits(d.frm) if d.kind == "zext" else 32
+        return (0, (1 << k) - 1) if k < 32 else None
+
+    def narrow_bin(self, d, n):
+        if d.kind == "and":
             for x in (d.a, d.b):
                 if x[0] == "int" and 0 <= x[1]:
                     return 0, x[1]
-        if d.op == "bin" and d.kind == "lshr" and d.b[0] == "int" and 0 < d.b[1] < n:
+        if d.kind == "lshr" and d.b[0] == "int" and 0 < d.b[1] < n:
             return 0, (1 << n - d.b[1]) - 1
-        if d.op == "bin" and d.kind in ("udiv", "urem", "lshr") and n < 32:
-            return full
-        if d.op in ("phi", "select") and (n < 32 or len(busy) < 12):
-            busy[v] = None if n == 32 else full
-            found = [self.narrow(x, ty, busy) for x in ([x for _, x in d.pairs] if d.op == "phi" else [d.a, d.b])]
-            if all(found):
-                return min(x[0] for x in found), max(x[1] for x in found)
-            busy[v] = None
-        return None
+        return (0, (1 << n) - 1) if d.kind in ("udiv", "urem", "lshr") and n < 32 else None
