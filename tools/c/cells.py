@@ -25,46 +25,60 @@ class Cells:
         return list({id(c.top()): c.top() for c in self.var.values()}.values())
 
     def choose(self):
+        self.find_roots()
+        for c in self.classes():
+            self.choose_cell(c)
+            self.signs(c)
+
+    def find_roots(self):
+        """The rests of the pointers of each class that become words of a run (1)."""
         for f in self.m.functions.values():
             for pn, ty, _ in f.params:
                 if self.m.real(ty)[0] == "ptr":
                     self.of_key((f.name, pn)).roots.append(self.known.get((f.name, pn)))
             for b in f.blocks:
                 for i in b.body:
-                    if not i.name or self.m.real(i.ty)[0] != "ptr":
-                        continue
-                    c = self.of(f.name, ("local", i.name))
-                    r = self.known.get((f.name, i.name))
-                    if i.op == "gep":
-                        const, more = offset(self.m, i.base, i.index)
-                        if self.needed(f.name, i.name):
-                            c.roots.append(r)
-                        elif more and r is not None:
-                            _, at = self.split(f.name, ("local", i.name))
-                            c.roots.append((r[0], (r[1] - at) % r[0]))
-                    elif not (i.op == "cast" and i.kind in ("bitcast", "addrspacecast")):
-                        c.roots.append(r)
+                    if i.name and self.m.real(i.ty)[0] == "ptr":
+                        self.root_of_result(f.name, i)
                 for i in b.body:
                     if i.op not in ("load", "gep"):
-                        for v in operands(i):
-                            if v[0] == "expr" and (i.op != "store" or v is i.v) and self.of(f.name, v):
-                                self.of(f.name, v).roots.append(self.rest(f.name, v))
+                        self.roots_of_constants(f.name, i)
         for n, v in self.sites:
             c = self.of(n, v)
             if c and v[0] in ("expr", "global"):
                 c.roots.append(self.rest(n, v))
-        for c in self.classes():
-            best = None
-            placed = self.placed(c)
-            c.loose = placed is not None
-            # What has no data is reached by no run, and counts what is always right.
-            for cell in [placed] if placed else [1] if not c.objects else [self.only] if self.only else (4, 2, 1):
-                unit = cell if not c.bytes and all(r is None or r[0] % cell == 0 and r[1] % cell == 0 for r in c.roots) else 1
-                cost = self.cost(c, cell, unit)
-                if best is None or cost < best[0]:
-                    best = cost, cell, unit
-            _, c.cell, c.unit = best
-            self.signs(c)
+
+    def root_of_result(self, n, i):
+        c = self.of(n, ("local", i.name))
+        r = self.known.get((n, i.name))
+        if i.op == "gep":
+            const, more = offset(self.m, i.base, i.index)
+            if self.needed(n, i.name):
+                c.roots.append(r)
+            elif more and r is not None:
+                _, at = self.split(n, ("local", i.name))
+                c.roots.append((r[0], (r[1] - at) % r[0]))
+        elif not (i.op == "cast" and i.kind in ("bitcast", "addrspacecast")):
+            c.roots.append(r)
+
+    def roots_of_constants(self, n, i):
+        """Constant places that an instruction hands on or keeps."""
+        for v in operands(i):
+            if v[0] == "expr" and (i.op != "store" or v is i.v) and self.of(n, v):
+                self.of(n, v).roots.append(self.rest(n, v))
+
+    def choose_cell(self, c):
+        """The bytes of a word of the class, and those that its pointers count: what costs least."""
+        best = None
+        placed = self.placed(c)
+        c.loose = placed is not None
+        # What has no data is reached by no run, and counts what is always right.
+        for cell in [placed] if placed else [1] if not c.objects else [self.only] if self.only else (4, 2, 1):
+            unit = cell if not c.bytes and all(r is None or r[0] % cell == 0 and r[1] % cell == 0 for r in c.roots) else 1
+            cost = self.cost(c, cell, unit)
+            if best is None or cost < best[0]:
+                best = cost, cell, unit
+        _, c.cell, c.unit = best
 
     def placed(self, c):
         """The bytes of an element of the class's data that the program places, or nothing."""
