@@ -14,7 +14,7 @@ def run(o):
     sink(o, by, live)
     live = liveness(o, by)
     near = interference(o, live)
-    find = coalesce(o, by, depth, near, live)
+    find = coalesce(o, depth, near, live)
     lines(o, by, find)
 
 
@@ -153,52 +153,62 @@ def interference(o, live):
     return near
 
 
-def coalesce(o, by, depth, near, live):
-    """Classes of values that share a variable."""
-    up = {}
+class Shared:
+    """Classes of values that share a variable; `near` has what lives at once with each."""
 
-    def find(w):
+    def __init__(self, near):
+        self.near, self.up = near, {}
+
+    def find(self, w):
+        up = self.up
         while up.get(w, w) != w:
             up[w] = up.get(up[w], up[w])
             w = up[w]
         return w
 
-    def join(a, b):
-        a, b = find(a), find(b)
-        if a == b:
-            return True
-        if b in near.get(a, ()) or a in near.get(b, ()):
-            return False
+    def join(self, a, b):
+        """Joins the classes of two values, unless some of them live at once."""
+        near, a, b = self.near, self.find(a), self.find(b)
+        if a == b or b in near.get(a, ()) or a in near.get(b, ()):
+            return
         if len(near.get(a, ())) < len(near.get(b, ())):
             a, b = b, a
-        up[b] = a
+        self.up[b] = a
         mine = near.setdefault(a, set())
         for x in near.pop(b, set()):
-            x = find(x)
+            x = self.find(x)
             mine.add(x)
             near[x].discard(b)
             near[x].add(a)
-        return True
 
-    wishes = []
+
+def coalesce(o, depth, near, live):
+    """Values that copy one another share a variable where they can, within loops first: gives the value that stands for each class."""
+    shared = Shared(near)
+    for _, _, _, d, w in sorted(wishes(o, depth, live), key=lambda x: x[:3]):
+        shared.join(d, w)
+    return shared.find
+
+
+def wishes(o, depth, live):
+    """Pairs of values that would be copies of one another, the rank of each pair first."""
+    found = []
     for k, b in enumerate(o.blocks):
         for d, come in b.phis:
             for p, w in come.items():
                 if isinstance(w, str):
-                    wishes.append((-depth.get(p, depth.get(b.name, 0)), 0, k, d, w))
+                    found.append((-depth.get(p, depth.get(b.name, 0)), 0, k, d, w))
         after = set(live[b.name])
         for s in reversed(b.steps):
             if s.kind == "sel":
                 x, y, a, c = s.args
                 for w in (c, a):
                     if isinstance(w, str) and w not in after:
-                        wishes.append((-depth.get(b.name, 0), 1, k, s.dst, w))
+                        found.append((-depth.get(b.name, 0), 1, k, s.dst, w))
             if s.dst:
                 after.discard(s.dst)
             after |= {w for w in s.args if isinstance(w, str)}
-    for _, _, _, d, w in sorted(wishes, key=lambda x: x[:3]):
-        join(d, w)
-    return find
+    return found
 
 
 def lines(o, by, find):
