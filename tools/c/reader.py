@@ -76,7 +76,7 @@ class Reader:
         t = self.next()
         if t == "ptr":
             if self.peek() == "addrspace":
-                self.group()
+                self.skip_group()
             return ("ptr",)
         if re.fullmatch(r"i\d+", t):
             return ("int", int(t[1:]))
