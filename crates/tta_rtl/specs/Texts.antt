@@ -10,7 +10,7 @@ use Rattle.tta_hardware.specs.Hardware.{wire}
 use Rattle.tta_hardware.specs.Registers.{register}
 use Rattle.tta_verilog.specs.Expressions.{choice}
 use Rattle.tta_verilog.specs.Circuits.{wire_text, register_text}
-use Rattle.tta_rtl.specs.Names.{names_of, text_of}
+use Rattle.tta_names.specs.Names.{names_of, text_of}
 
 -- choices, each a word after its test
 abbrev pub choices : Machine → List (Expression × Expression) → List ℕ

@@ -11,15 +11,15 @@ ghost use Rattle.tta_hardware.specs.Signals as s;
 ghost use Rattle.tta_hardware.specs.Chains.{pick_from};
 ghost use Rattle.tta_hardware.specs.Wires as w;
 ghost use Rattle.tta_hardware.specs.Hardware.{bus_wires, wire};
-ghost use Rattle.tta_rtl.specs.Names.{bus_name, names_of, text_of};
+ghost use Rattle.tta_names.specs.Names.{bus_name, names_of, text_of};
 ghost use Rattle.tta_rtl.specs.Texts.{wires_text};
 ghost use Rattle.tta_verilog.specs.Circuits.{wire_text};
 ghost use Rattle.tta_verilog.specs.Expressions.{between, constant};
 
-use crate::names::{push_immediate, push_of_bus, push_of_unit, push_register};
 use crate::on::On;
 use std::alloc::AllocError;
 use tta_arch::{BusFields, Guard, GuardRef, Machine, Source};
+use tta_names::{push_immediate, push_of_bus, push_of_unit, push_register};
 use tta_verilog::{push_constant, push_range, push_text};
 
 /// Puts the test that a field of a bus has a code.

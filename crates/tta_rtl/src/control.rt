@@ -4,13 +4,13 @@ ghost use Rattle.std.specs.Prelude.{◌≡◌, ◌+◌, ◌≤◌, true, length}
 ghost use Rattle.std.specs.List.{list_all};
 ghost use Rattle.tta_arch.specs.Rules.{is_unit};
 
-use crate::names::push_of_unit;
 use crate::on::On;
 use crate::reach::{push_arrivals, push_reached};
 use crate::results::push_fresh;
 use crate::starts::{OpAt, all_ops, push_some_start, push_word_of_start};
 use std::alloc::{AllocError, Global};
 use tta_arch::{Dest, Op, Unit};
+use tta_names::push_of_unit;
 use tta_verilog::{push_constant, push_number, push_range, push_text};
 
 /// Puts the words that result ports show, of units from one on.

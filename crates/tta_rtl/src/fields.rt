@@ -4,11 +4,11 @@ ghost use Rattle.std.specs.Prelude.{◌≡◌, ◌+◌, ◌<◌, ◌≤◌, ◌^
 ghost use Rattle.std.specs.List.{range_with_len, sum_by};
 ghost use Rattle.tta_arch.specs.Layout.{fields_of};
 
-use crate::names::push_of_bus;
 use crate::on::On;
 use crate::templates::{push_long_from, push_part, push_takes_from, push_template, width_of};
 use std::alloc::AllocError;
 use tta_arch::{BusFields, Machine};
+use tta_names::push_of_bus;
 use tta_verilog::{push_constant, push_range, push_text};
 
 /// Puts a short field, with these bits above it if there are any above it.

@@ -5,7 +5,6 @@ mod buses;
 mod control;
 mod fields;
 mod functions;
-mod names;
 mod on;
 mod pipes;
 mod reach;

@@ -4,12 +4,12 @@ ghost use Rattle.std.specs.Prelude.{◌≡◌, ◌+◌, ◌<◌, ◌≤◌, true
 ghost use Rattle.std.specs.List.{list_all};
 ghost use Rattle.tta_arch.specs.Rules.{is_unit};
 
-use crate::names::{push_of_op, push_of_unit};
 use crate::on::On;
 use crate::registers::start_register;
 use crate::results::{is_load, longest_in, push_begins, push_coming, push_is_coming, push_made};
 use std::alloc::AllocError;
 use tta_arch::{Machine, Op, Unit, UnitOp};
+use tta_names::{push_of_op, push_of_unit};
 use tta_verilog::{push_constant, push_text};
 
 /// Puts the operand port of a unit.

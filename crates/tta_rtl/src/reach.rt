@@ -7,13 +7,13 @@ ghost use Rattle.tta_arch.specs.Joins.{is_dest_on};
 ghost use Rattle.tta_arch.specs.Layout.{fields_of};
 ghost use Rattle.tta_hardware.specs.Chains.{any_of};
 ghost use Rattle.tta_hardware.specs.Wires as w;
-ghost use Rattle.tta_rtl.specs.Names.{text_of};
+ghost use Rattle.tta_names.specs.Names.{text_of};
 
 use crate::buses::push_is_code;
-use crate::names::push_of_bus;
 use crate::on::On;
 use std::alloc::AllocError;
 use tta_arch::{BusFields, Dest, is_dest_on};
+use tta_names::push_of_bus;
 use tta_verilog::{push_constant, push_text};
 
 /// Whether two destinations are one.

@@ -4,11 +4,11 @@ ghost use Rattle.std.specs.Prelude.{◌≡◌, ◌+◌, ◌<◌, ◌≤◌, ◌^
 ghost use Rattle.std.specs.List.{range_with_len};
 ghost use Rattle.tta_arch.specs.Layout.{fields_of};
 
-use crate::names::{push_immediate, push_of_bus, push_register};
 use crate::on::On;
 use crate::reach::{push_hits, push_reached};
 use std::alloc::AllocError;
 use tta_arch::{BusFields, Dest, File, ImmUnit, Template, is_dest_on};
+use tta_names::{push_immediate, push_of_bus, push_register};
 use tta_verilog::{push_constant, push_number, push_range, push_text};
 
 /// Puts how the line of a register begins: where it is declared, how many bits it has, and else when it

@@ -2,10 +2,10 @@
 
 ghost use Rattle.std.specs.Prelude.{◌≡◌, ◌+◌, ◌≤◌, length};
 
-use crate::names::{push_of_op, push_of_unit};
 use crate::on::On;
 use std::alloc::AllocError;
 use tta_arch::{Op, UnitOp};
+use tta_names::{push_of_op, push_of_unit};
 use tta_verilog::{push_number, push_text};
 
 /// Whether an operation loads a word of a space.

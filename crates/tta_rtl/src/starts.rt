@@ -4,11 +4,11 @@ ghost use Rattle.std.specs.Prelude.{◌≡◌, ◌+◌, ◌≤◌, true, length}
 ghost use Rattle.std.specs.List.{list_all};
 ghost use Rattle.tta_arch.specs.Rules.{is_unit};
 
-use crate::names::{push_of_op, push_of_unit};
 use crate::on::On;
 use crate::reach::{push_arrivals, push_reached};
 use std::alloc::{AllocError, Global};
 use tta_arch::{Dest, Machine, Op, Socket, Unit, UnitOp, same_op};
+use tta_names::{push_of_op, push_of_unit};
 use tta_verilog::push_text;
 
 /// An operation by its unit and its number.

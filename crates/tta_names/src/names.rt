@@ -2,7 +2,7 @@
 
 ghost use Rattle.std.specs.Prelude.{◌≡◌, ◌++◌, OnOk};
 ghost use Rattle.tta_asm.specs.Canonical.{unit_name};
-ghost use Rattle.tta_rtl.specs.Names.{bus_name, counted, place_name};
+ghost use Rattle.tta_names.specs.Names.{bus_name, counted, place_name};
 ghost use Rattle.tta_arch.specs.Effects.{KeptReg, KeptImm};
 
 use std::alloc::AllocError;

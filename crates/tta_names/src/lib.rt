@@ -1,0 +1,6 @@
+//! What the signals of a machine are called, in the text of its circuit and wherever its signals are told.
+#![tactic(auto)]
+
+mod names;
+
+pub use names::{push_immediate, push_of_bus, push_of_op, push_of_unit, push_register};
