@@ -1,8 +1,9 @@
 -- Cores and the programs that they agree with.
-use Rattle.std.proofs.Common.{◌≡◌, ℕ, zero, suc, ◌+◌, ◌*◌, List, [], ◌∷◌, ◌++◌, length, map, Option, Some, None, refl, sym, ap, subst, ◌∙◌}
+use Rattle.std.proofs.Common.{◌≡◌, ◌≢◌, ℕ, zero, suc, ◌+◌, ◌*◌, List, [], ◌∷◌, ◌++◌, length, map, drop, Option, Some, None, refl, sym, ap, subst, ◌∙◌}
 use Rattle.std.specs.Prelude.{slice_get, zip}
 use Rattle.std.specs.Option.{option_map_or}
 use Rattle.std.specs.List.{AllByRecursion}
+use Rattle.std.proofs.lemmas.Option.{none-some, same_Some}
 use Rattle.tta_list.proofs.Prefixes.{prefix_same, prefix_chain}
 use Rattle.tta_list.specs.Iterate.{iterate}
 use Rattle.tta_list.proofs.Lists.{all_one}
@@ -10,14 +11,17 @@ use Rattle.tta_ops.specs.Units.{Units}
 use Rattle.tta_program.specs.Program.{Program}
 use Rattle.tta_program.specs.Rules.{IsProgram}
 use Rattle.tta_program.specs.Sequential as program
-use Rattle.tta_code.specs.Cycle.{State, next, start}
+use Rattle.tta_code.specs.Cycle.{State, Fault, next, start}
 use Rattle.tta_agree.specs.Agrees.{AreWords, IsGiven, code_at, program_at}
 use Rattle.tta_cores.specs.declared.cores.Core.{Core}
 use Rattle.tta_cores.specs.Network.{Network, Joined, output_of, feeder_of, fed_to, interleaved, joined}
 use Rattle.tta_cores.specs.Cluster.{cycles, cycle_of, first_states}
 use Rattle.tta_cores.specs.Programs as programs
-use Rattle.tta_cores.specs.Laws.{IsCore, Pair, IsPair, core_in, core_memory, program_memory, CoresAgree}
+use Rattle.tta_cores.specs.Laws.{IsCore, Pair, IsPair, core_in, core_memory, program_memory, CoresAgree, PairsNeverFault}
+use Rattle.tta_cores.specs.Queues.{UsesQueues}
 use Rattle.tta_cores.proofs.OneCore.{run, put_by}
+use Rattle.tta_cores.proofs.Clusters.{HavePast}
+use Rattle.tta_cores.proofs.Reaching.{past_of}
 use Rattle.tta_cores.proofs.Meeting.{Does, reaches}
 use Rattle.tta_cores.proofs.CoreQueues.{cores_use}
 use Rattle.tta_cores.proofs.ProgramQueues.{programs_use}
@@ -181,6 +185,31 @@ module _ (u : Units) (pairs : List Pair) (feeds : List (Option ℕ)) (all : AllB
       by None = tt
       by (Some feeder) = core_words steps feeder
 
+  -- ---- faults
+
+  -- a core's state is that of its own run on what its feeder has output, and no such run is at a fault
+  never_faults : (steps : List ℕ) (core : ℕ) (c : Joined State) (number time : ℕ)
+      → slice_get (interleaved net (joined starts) steps) core ≡ Some c → c.state.outcome ≢ Fault number time
+  never_faults steps core c number time there faults = by (slice_get starts core) refl where
+    uses : UsesQueues net
+    uses = cores_use u cores cores_all feeds
+
+    have : HavePast net starts (interleaved net (joined starts) steps)
+    have = past_of net uses starts (cores_fresh u cores feeds (map core_memory pairs)) steps
+
+    by : (o : Option State) → slice_get starts core ≡ o → ⊥
+    by None none = let e : Some c ≡ None = sym there ∙ have.none core none in absurd (none-some c (sym e))
+    by (Some s) at =
+        let has = have.each core s at in
+        let of = of_core core s at in
+        let input = fed_to net (interleaved net (joined starts) steps) core in
+        let is = all_one (IsPair u) pairs core of.0 all of.1 in
+        let same : has.1.now ≡ c = same_Some has.1.now c (sym has.1.there ∙ there) in
+        let run_is : code_at u of.0.machine of.0.whole of.0.memory input has.0 ≡ net.with_rest has.1.now.state (drop has.1.now.taken input) =
+        sym (core_run core of.0 of.1 input has.0) ∙ ap (λ (x : State). run net core x input has.0) of.2 ∙ has.1.past.is in
+        is.agrees.no_fault of.0.memory input has.0 number time (given core of.0 of.1 input (does_too.inputs steps core))
+        (ap (λ (x : State). x.outcome) run_is ∙ ap (λ (x : Joined State). x.state.outcome) same ∙ faults)
+
 pub cores_agree : CoresAgree
 cores_agree u pairs feeds all =
     both_compare (cycles u (cores u pairs feeds all) feeds) (cores_use u (cores u pairs feeds all) (cores_all u pairs feeds all) feeds) (starts u pairs feeds all)
@@ -188,3 +217,6 @@ cores_agree u pairs feeds all =
     (programs.steps_of u (ps u pairs feeds all) feeds) (programs_use u (ps u pairs feeds all) feeds) (others u pairs feeds all)
     (programs_fresh u (ps u pairs feeds all) feeds (map program_memory pairs))
     AreWords (does u pairs feeds all) (does_too u pairs feeds all)
+
+pub pairs_never_fault : PairsNeverFault
+pairs_never_fault u pairs feeds all steps core c number time there = never_faults u pairs feeds all steps core c number time there

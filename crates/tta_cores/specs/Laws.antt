@@ -1,5 +1,5 @@
 -- The laws: the order in which cores make their steps makes no difference to what they output.
-use Rattle.std.specs.Prelude.{◌≡◌, ℕ, List, Option, map, length}
+use Rattle.std.specs.Prelude.{◌≡◌, ◌≢◌, ℕ, List, Option, Some, map, length, slice_get}
 use Rattle.std.specs.List.{AllByRecursion}
 use Rattle.tta_list.specs.Prefix.{IsPrefixOf}
 use Rattle.tta_ops.specs.Units.{Units}
@@ -10,10 +10,11 @@ use Rattle.tta_program.specs.Program.{Program, data_of}
 use Rattle.tta_program.specs.Rules.{IsProgram}
 use Rattle.tta_code.specs.Legal.{IsLegalCode}
 use Rattle.tta_code.specs.Whole.{Whole, data_in}
+use Rattle.tta_code.specs.Cycle.{State, Fault}
 use Rattle.tta_agree.specs.Agrees.{AgreesAt, AreWords}
 use Rattle.tta_cores.specs.declared.cores.Core.{Core}
-use Rattle.tta_cores.specs.Network.{AreComparable}
-use Rattle.tta_cores.specs.Cluster.{cluster_output, IsClusterRest}
+use Rattle.tta_cores.specs.Network.{Joined, AreComparable}
+use Rattle.tta_cores.specs.Cluster.{cluster, cluster_output, IsClusterRest}
 use Rattle.tta_cores.specs.Programs.{group_output, IsGroupRest}
 
 -- ---- two orders
@@ -87,3 +88,10 @@ PairsCompare u pairs feeds =
 
 abbrev pub CoresAgree : Type 0
 CoresAgree = (u : Units) (pairs : List Pair) (feeds : List (Option ℕ)) → AllByRecursion (IsPair u) pairs → PairsCompare u pairs feeds
+
+-- No core of such pairs meets a fault, in any order of cycles.
+abbrev pub PairsNeverFault : Type 0
+PairsNeverFault =
+    (u : Units) (pairs : List Pair) (feeds : List (Option ℕ)) → AllByRecursion (IsPair u) pairs → (steps : List ℕ) (core : ℕ)
+    (c : Joined State) (number at : ℕ)
+    → slice_get (cluster u (map core_in pairs) feeds (map core_memory pairs) steps) core ≡ Some c → c.state.outcome ≢ Fault number at
