@@ -26,16 +26,19 @@ seen_first k env words shows = by (is_set (env OutValid)) refl where
 
 -- a queue that gives a word has one, and shows one
 gives_one : (env : Pin → ℕ) → gives env ≡ true → length (seen env) ≡ 1
-gives_one env is = ap (λ (b : Bool). length (if b then env OutData ∷ [] else [])) (and_parts (is_set (env OutValid)) (is_set (env OutReady)) is).0
+gives_one env is =
+    ap (λ (b : Bool). length (if b then env OutData ∷ [] else [])) (and_parts (is_set (env OutValid)) (is_set (env OutReady)) is).0
 
 -- where more was taken, and more put
-more_of : (g : Bool) (taken : ℕ) (fed new : List ℕ) → taken + bit g ≤ length fed → drop (taken + bit g) (fed ++ new) ≡ (if g then drop 1 (drop taken fed) else drop taken fed) ++ new
+more_of : (g : Bool) (taken : ℕ) (fed new : List ℕ) → taken + bit g ≤ length fed
+    → drop (taken + bit g) (fed ++ new) ≡ (if g then drop 1 (drop taken fed) else drop taken fed) ++ new
 more_of true taken fed new within = drop-append-le (taken + 1) fed new within ∙ ap (λ ws. ws ++ new) (sym (drop-drop 1 taken fed))
 more_of false taken fed new within =
     let none : taken + 0 ≡ taken = omega arith in
     ap (λ n. drop n (fed ++ new)) none ∙ drop-append-le taken fed new (omega (arith, within))
 
-module _ {S : Type 0} (net : Network S) (uses : UsesQueues net) (u : Units) (k : ℕ → ℕ) (width : ℕ) (h : ℕ → Held Pin Store) (inputs : ℕ → Pin → ℕ) (going : List ℕ)
+module _ {S : Type 0} (net : Network S) (uses : UsesQueues net) (u : Units) (k : ℕ → ℕ) (width : ℕ) (h : ℕ → Held Pin Store)
+    (inputs : ℕ → Pin → ℕ) (going : List ℕ)
     (before after : List (Joined S)) (queued : AreQueued k h net before) (on : (core : ℕ) → is_set (inputs core IsReset) ≡ false)
     (clock : CoresClock net (λ core. settled same_pin u (queue_of (k core) width) (h core) (inputs core)) going before after) where
   abbrev env : ℕ → Pin → ℕ
@@ -45,7 +48,8 @@ module _ {S : Type 0} (net : Network S) (uses : UsesQueues net) (u : Units) (k :
   later core = clocked same_pin same_store u (queue_of (k core) width) (env core) (h core)
 
   shows : (core : ℕ) (c : Joined S) → slice_get before core ≡ Some c → Shows (k core) (env core) (waiting_for net before core c)
-  shows core c there = (queue_clocks u (k core) width (h core) (waiting_for net before core c) (inputs core) (queued core c there).inside (on core)).0
+  shows core c there =
+      (queue_clocks u (k core) width (h core) (waiting_for net before core c) (inputs core) (queued core c there).inside (on core)).0
 
   -- a clock is the steps of its cores
   one_leads : after ≡ interleaved net before going
@@ -59,7 +63,8 @@ module _ {S : Type 0} (net : Network S) (uses : UsesQueues net) (u : Units) (k :
   -- a core's feeder has output what the core's queue takes
   fed_more : (core : ℕ) → fed_to net after core ≡ fed_to net before core ++ new_words (env core)
   fed_more core = by (feeder_of net core) refl where
-    by : (o : Option ℕ) → feeder_of net core ≡ o → option_map_or (output_of net after) o [] ≡ option_map_or (output_of net before) o [] ++ new_words (env core)
+    by : (o : Option ℕ) → feeder_of net core ≡ o
+        → option_map_or (output_of net after) o [] ≡ option_map_or (output_of net before) o [] ++ new_words (env core)
     by None none = sym (ap (λ (b : Bool). if b then env core InData ∷ [] else []) (clock.unfed core none))
     by (Some feeder) is = clock.puts core feeder is
 
@@ -82,13 +87,16 @@ module _ {S : Type 0} (net : Network S) (uses : UsesQueues net) (u : Units) (k :
         let goes = clock.goes core c among there in (
           stepped net core (seen (env core)) c,
           record {
-            count = ap (λ (d : Joined S). d.taken) (stepped_goes net uses core c (seen (env core)) goes) ∙ ap (λ n. c.taken + n) (used (gives (env core)) refl (clock.asks core c among there));
+            count = ap (λ (d : Joined S). d.taken) (stepped_goes net uses core c (seen (env core)) goes)
+                ∙ ap (λ n. c.taken + n) (used (gives (env core)) refl (clock.asks core c among there));
             there = clock.at_once.some core c there ∙ ap (λ (b : Bool). Some (if b then stepped net core (seen (env core)) c else c)) among;
           },
         )
       where
-        used : {rest : List ℕ} → (g : Bool) → gives (env core) ≡ g → rest ≡ (if g then [] else seen (env core)) → length (seen (env core)) - length rest ≡ bit g
-        used {rest} true is left = let none : length rest ≡ 0 = ap length left in let one = gives_one (env core) is in omega (arith, none, one)
+        used : {rest : List ℕ} → (g : Bool) → gives (env core) ≡ g → rest ≡ (if g then [] else seen (env core))
+            → length (seen (env core)) - length rest ≡ bit g
+        used {rest} true is left = let none : length rest ≡ 0 = ap length left in let one =
+            gives_one (env core) is in omega (arith, none, one)
         used {rest} false is left = let all : length rest ≡ length (seen (env core)) = ap length left in omega (arith, all)
 
   -- and so its queue has what it has not taken
@@ -105,8 +113,10 @@ module _ {S : Type 0} (net : Network S) (uses : UsesQueues net) (u : Units) (k :
         let within : c.taken + bit (gives (env core)) ≤ length fed = room (gives (env core)) refl in
         let count : d.taken ≡ c.taken + bit (gives (env core)) = sym (ap (λ (x : Joined S). x.taken) same) ∙ next.1.count in
         let longer : length (fed_to net after core) ≡ length fed + length new = ap length (fed_more core) ∙ length-append fed new in
-        let words : waiting_for net after core d ≡ after_clock (gives (env core)) (takes (env core)) (inputs core InData) (waiting_for net before core c) =
-        ap (λ n. drop n (fed_to net after core)) count ∙ ap (drop (c.taken + bit (gives (env core)))) (fed_more core) ∙ more_of (gives (env core)) c.taken fed new within in
+        let words : waiting_for net after core d ≡ after_clock (gives (env core)) (takes (env core)) (inputs core InData)
+        (waiting_for net before core c) =
+        ap (λ n. drop n (fed_to net after core)) count ∙ ap (drop (c.taken + bit (gives (env core)))) (fed_more core)
+        ∙ more_of (gives (env core)) c.taken fed new within in
         record {
           within = omega (arith, count, longer, within);
           inside = subst (HasInside (k core) (later core)) (sym words)
@@ -121,8 +131,10 @@ module _ {S : Type 0} (net : Network S) (uses : UsesQueues net) (u : Units) (k :
         room true is =
             let one : 1 ≤ length (waiting_for net before core c) =
             some_left (waiting_for net before core c) (env core OutData)
-            (first_word (k core) (env core) (waiting_for net before core c) (shows core c there) (and_parts (is_set (env core OutValid)) (is_set (env core OutReady)) is).0) in
-            let l : length (waiting_for net before core c) ≡ length (fed_to net before core) - c.taken = length-drop c.taken (fed_to net before core) in
+            (first_word (k core) (env core) (waiting_for net before core c) (shows core c there)
+            (and_parts (is_set (env core OutValid)) (is_set (env core OutReady)) is).0) in
+            let l : length (waiting_for net before core c) ≡ length (fed_to net before core) - c.taken =
+            length-drop c.taken (fed_to net before core) in
             omega (arith, one, l)
 
 pub joint_clock : (S : Type 0) → JointClock S

@@ -64,7 +64,8 @@ module _ (u : Units) (k width : ℕ) (h : Held Pin Store) (words : List ℕ) (in
       ∙ distance inside.first (length words) (2 ^ (1 + k)) (omega (arith, inside.fits, twice k, pow_pos k))
 
   -- where it is not filled so far
-  unfilled : (count : ℕ) → is_set (bit (is_set (bit (not (is_set (inputs IsReset)))) && is_set (bit (not (is_set (bit (env Fill == count)))))))
+  unfilled : (count : ℕ)
+      → is_set (bit (is_set (bit (not (is_set (inputs IsReset)))) && is_set (bit (not (is_set (bit (env Fill == count)))))))
       ≡ not (length words == count)
   unfilled count =
       unless (is_set (inputs IsReset)) (env Fill == count) ∙ ap (λ r. not r && not (env Fill == count)) on
@@ -170,8 +171,10 @@ queue_begins u k width h inputs size reset = begins u k width h inputs size rese
 pub queue_looks : QueueLooks
 queue_looks u k width h inputs others reset = (shown (2 ^ k), (shown 0, refl)) where
   shown : (count : ℕ)
-      → bit (is_set (bit (not (is_set (inputs IsReset)))) && is_set (bit (not (is_set (bit ((2 ^ (1 + k) + h.words Tail - h.words Head) % 2 ^ (1 + k) == count))))))
-      ≡ bit (is_set (bit (not (is_set (others IsReset)))) && is_set (bit (not (is_set (bit ((2 ^ (1 + k) + h.words Tail - h.words Head) % 2 ^ (1 + k) == count))))))
+      → bit (is_set (bit (not (is_set (inputs IsReset)))) && is_set
+      (bit (not (is_set (bit ((2 ^ (1 + k) + h.words Tail - h.words Head) % 2 ^ (1 + k) == count))))))
+      ≡ bit (is_set (bit (not (is_set (others IsReset)))) && is_set
+      (bit (not (is_set (bit ((2 ^ (1 + k) + h.words Tail - h.words Head) % 2 ^ (1 + k) == count))))))
   shown count =
       ap (λ r. bit (is_set (bit (not (is_set r)))
       && is_set (bit (not (is_set (bit ((2 ^ (1 + k) + h.words Tail - h.words Head) % 2 ^ (1 + k) == count))))))) reset

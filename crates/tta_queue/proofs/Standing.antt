@@ -45,14 +45,17 @@ one_comes k head tail word memory words room stand = record {
   place_is = ap (λ n. n / 2 ^ 0 % 2 ^ k) stand.ends ∙ low_bits (stand.first + length words) k
 
   within : place < length memory
-  within = let less : (stand.first + length words) % 2 ^ k < 2 ^ k = mod_below (stand.first + length words) (2 ^ k) (pow_pos k) in omega (arith, less, place_is, stand.size)
+  within = let less : (stand.first + length words) % 2 ^ k < 2 ^ k =
+      mod_below (stand.first + length words) (2 ^ k) (pow_pos k) in omega (arith, less, place_is, stand.size)
 
   by : (i : ℕ) → i < length (words ++ word ∷ []) → (b : Bool) → nat_lt i (length words) ≡ b
       → slice_index (slice_set memory place word) ((stand.first + i) % 2 ^ k) ≡ slice_index (words ++ word ∷ []) i
   by i less true is =
       let old : i < length words = ltb-true i (length words) is in
-      let apart : (stand.first + i) % 2 ^ k ≢ place = λ same. places_differ stand.first i (length words) (2 ^ k) old room (same ∙ place_is) in
-      get_or-set_other memory place ((stand.first + i) % 2 ^ k) word 0 apart ∙ stand.places i old ∙ sym (get_or_append_left words (word ∷ []) 0 i old)
+      let apart : (stand.first + i) % 2 ^ k ≢ place =
+      λ same. places_differ stand.first i (length words) (2 ^ k) old room (same ∙ place_is) in
+      get_or-set_other memory place ((stand.first + i) % 2 ^ k) word 0 apart ∙ stand.places i old
+      ∙ sym (get_or_append_left words (word ∷ []) 0 i old)
   by i less false is =
       let new : i ≡ length words + 0 = (let no = ltb-false i (length words) is in let l = longer in omega (arith, no, l, less)) in
       let here : (stand.first + i) % 2 ^ k ≡ place = ap (λ n. (stand.first + n) % 2 ^ k) (new ∙ add_none (length words)) ∙ sym place_is in
