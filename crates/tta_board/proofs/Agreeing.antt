@@ -1,0 +1,71 @@
+-- What circuits put out beside the programs that their code agrees with.
+use Rattle.std.proofs.Common.{◌≡◌, ℕ, ◌<◌, Bool, true, false, List, [], ◌∷◌, length, map, Option, Some, refl, sym, ap, ◌∙◌, subst}
+use Rattle.std.specs.Prelude.{slice_get}
+use Rattle.std.specs.List.{AllByRecursion}
+use Rattle.tta_list.specs.Prefix.{IsPrefixOf}
+use Rattle.tta_list.proofs.Lists.{all_one}
+use Rattle.tta_list.proofs.Sets.{over-length}
+use Rattle.tta_ops.specs.Units.{Units}
+use Rattle.tta_program.specs.Program.{Program}
+use Rattle.tta_code.specs.Whole.{data_in}
+use Rattle.tta_code.specs.Cycle.{State, Outcome, Running, Halted, Waiting, Fault}
+use Rattle.tta_hardware.specs.Theorem.{is_fault}
+use Rattle.tta_cores.specs.declared.cores.Core.{Core}
+use Rattle.tta_cores.specs.Network.{Joined, AreComparable}
+use Rattle.tta_cores.specs.Cluster.{cluster, cluster_output}
+use Rattle.tta_cores.specs.Programs.{group_output}
+use Rattle.tta_cores.specs.Laws.{IsCore, Pair, IsPair, core_in, core_memory, program_memory}
+use Rattle.tta_cores.proofs.Pairs.{made_at, made_from, cores_agree, pairs_never_fault}
+use Rattle.tta_board.specs.Board.{Inputs, Powers, put_by, AreBoardClocks}
+use Rattle.tta_board.specs.Laws.{AreSpaces, NeverFault, AgreesSo, BoardAgrees}
+use Rattle.tta_board.proofs.Running.{board_runs}
+
+-- the cores of pairs are cores
+are_cores : (u : Units) (pairs : List Pair) → AllByRecursion (IsPair u) pairs → AllByRecursion IsCore (map core_in pairs)
+are_cores u [] all = tt
+are_cores u (p ∷ pairs) all = (record { machine = all.0.machine; legal = all.0.legal }, are_cores u pairs all.1)
+
+module _ (u : Units) (pairs : List Pair) (feeds : List (Option ℕ)) (memories : ℕ → List ℕ) (all : AllByRecursion (IsPair u) pairs)
+    (same : (core : ℕ) (p : Pair) → slice_get pairs core ≡ Some p → memories core ≡ core_memory p) where
+  abbrev cores : List Core
+  cores = map core_in pairs
+
+  abbrev spaces : List (List ℕ)
+  spaces = map core_memory pairs
+
+  are_spaces : AreSpaces cores memories spaces
+  are_spaces core c there =
+      let of = made_from core_in pairs core c there in
+      let is = all_one (IsPair u) pairs core of.0 all of.1 in
+      let memory : memories core ≡ core_memory of.0 = same core of.0 of.1 in (
+        made_at core_memory pairs core of.0 of.1 ∙ ap (λ (ws : List ℕ). Some ws) (sym memory),
+        ap length memory ∙ over-length (data_in of.0.whole) of.0.memory ∙ is.size ∙ ap (λ (x : Core). x.machine.data_words) of.2,
+      )
+
+  never : NeverFault u cores feeds spaces
+  never steps core j there = by j.state.outcome refl where
+    by : (o : Outcome) → j.state.outcome ≡ o → is_fault o ≡ false
+    by Running is = refl
+    by Halted is = refl
+    by Waiting is = refl
+    by (Fault number at) is = absurd (pairs_never_fault u pairs feeds all steps core j number at there is)
+
+pub board_agrees : BoardAgrees
+board_agrees u pairs feeds memories k powers i last all same clocks t less core p there =
+    let run = board_runs u (cores u pairs feeds memories all same) feeds memories (spaces u pairs feeds memories all same) k powers i last
+    (are_cores u pairs all) (are_spaces u pairs feeds memories all same) (never u pairs feeds memories all same)
+    clocks t less in
+    let put : put_by u (map core_in pairs) feeds memories k powers i core (core_in p) t
+        ≡ cluster_output u (map core_in pairs) feeds (map core_memory pairs) run.0 core =
+    run.1.put core (core_in p) (made_at core_in pairs core p there) in
+    let agree = cores_agree u pairs feeds all in
+    let programs = map (λ (q : Pair). q.program) pairs in
+    let begin = map program_memory pairs in
+    record {
+      comparable = λ others.
+          subst (λ (l : List ℕ). AreComparable l (group_output u programs feeds begin others core)) (sym put)
+          (agree.comparable run.0 others core);
+      within = λ others rest.
+          subst (λ (l : List ℕ). IsPrefixOf l (group_output u programs feeds begin others core)) (sym put)
+          (agree.within run.0 others core rest);
+    }

@@ -1,0 +1,9 @@
+pub mod Going
+pub mod Entering
+pub mod Room
+pub mod Standing
+pub mod Clocking
+pub mod Beginning
+pub mod Running
+pub mod Wiring
+pub mod Agreeing

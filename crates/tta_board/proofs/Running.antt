@@ -1,0 +1,105 @@
+-- Any number of clocks of circuits that stand for cores of a network.
+use Rattle.std.proofs.Common.{◌≡◌, ℕ, zero, suc, ◌+◌, ◌≤◌, ◌<◌, Bool, true, false, nat_lt, List, [], ◌∷◌, ◌++◌, Option, Some, refl, sym, ap, ◌∙◌, subst, arith}
+use Rattle.std.specs.Prelude.{slice_get, if◌then◌else◌}
+use Rattle.std.specs.List.{AllByRecursion}
+use Rattle.std.proofs.lemmas.Bool.{ltb-true, ltb-false}
+use Rattle.std.proofs.lemmas.List.Sums.{fold-append}
+use Rattle.tta_ops.specs.Units.{Units}
+use Rattle.tta_code.specs.Cycle.{State}
+use Rattle.tta_circuit.specs.Meaning.{is_set}
+use Rattle.tta_hardware.specs.Signals.{Puts, PutWord}
+use Rattle.tta_hardware.specs.Theorem.{is_fault}
+use Rattle.tta_cores.specs.declared.cores.Core.{Core}
+use Rattle.tta_cores.specs.Network.{Network, Joined, joined, after_step, turn, interleaved, output_of}
+use Rattle.tta_cores.specs.Cluster.{cycles, first_states, cluster}
+use Rattle.tta_cores.specs.Laws.{IsCore}
+use Rattle.tta_cores.specs.Queues.{UsesQueues}
+use Rattle.tta_cores.proofs.Clusters.{next_core, turn_here}
+use Rattle.tta_cores.proofs.CoreQueues.{cores_use}
+use Rattle.tta_joint.specs.Joint.{waiting_for}
+use Rattle.tta_joint.proofs.AtOnce.{stepped_goes}
+use Rattle.tta_board.specs.Board.{Inputs, Powers, lines, board_at, AreBoardClocks}
+use Rattle.tta_board.specs.Laws.{StandForCores, AreFine, HasClocked, AreSpaces, NeverFault, HasRun, BoardRuns}
+use Rattle.tta_board.proofs.Standing.{wait_fine}
+use Rattle.tta_board.proofs.Clocking.{board_clock}
+use Rattle.tta_board.proofs.Beginning.{silent, put_none, first_stand}
+
+module _ (u : Units) (cores : List Core) (feeds : List (Option ℕ)) (memories : ℕ → List ℕ) (spaces : List (List ℕ)) (k : ℕ → ℕ)
+    (powers : Powers) (i : ℕ → Inputs) (last : ℕ) (all : AllByRecursion IsCore cores) (sized : AreSpaces cores memories spaces)
+    (never : NeverFault u cores feeds spaces) (clocks : AreBoardClocks u cores feeds memories k powers i last) where
+  abbrev net : Network State
+  net = cycles u cores feeds
+
+  uses : UsesQueues net
+  uses = cores_use u cores all feeds
+
+  abbrev after : List ℕ → List (Joined State)
+  after steps = cluster u cores feeds spaces steps
+
+  -- more cycles after some
+  more_steps : (steps more : List ℕ) → after (steps ++ more) ≡ interleaved net (after steps) more
+  more_steps steps more = fold-append (turn net) (joined (first_states cores spaces)) steps more
+
+  -- no next cycle is a fault, for the core would be at one after it
+  fine_next : (steps : List ℕ) → AreFine u cores feeds memories k (after steps)
+  fine_next steps core j there = by (net.waits next) refl where
+    next : State
+    next = after_step net core (waiting_for net (after steps) core j) j
+
+    there_next : slice_get (after (steps ++ core ∷ [])) core ≡ Some (next_core net (after steps) core j)
+    there_next =
+        ap (λ (cs : List (Joined State)). slice_get cs core) (more_steps steps (core ∷ [])) ∙ turn_here net (after steps) core j there
+
+    by : (w : Bool) → net.waits next ≡ w → is_fault next.outcome ≡ false
+    by true waits = wait_fine next.outcome waits
+    by false goes =
+        sym (ap (λ (x : Joined State). is_fault x.state.outcome)
+        (stepped_goes net uses core j (waiting_for net (after steps) core j) goes))
+        ∙ never (steps ++ core ∷ []) core (next_core net (after steps) core j) there_next
+
+  abbrev Run : ℕ → Type 0
+  Run t = (steps : List ℕ) × HasRun u cores feeds memories spaces k powers i t steps
+
+  first : Run (suc last)
+  first = (
+    [],
+    record {
+      stand = first_stand u cores feeds memories spaces k sized powers i last all clocks;
+      put = λ core c there.
+          put_none u cores feeds memories spaces k sized powers i last all clocks core c there (suc last) (omega arith)
+          ∙ sym (silent u cores feeds memories spaces k sized core);
+    },
+  )
+
+  one_more : (t : ℕ) → last < t → Run t → Run (suc t)
+  one_more t less before =
+      let steps = before.0 in
+      let board = board_at u cores feeds memories k powers i t in
+      let clock : HasClocked u cores feeds memories k board (i t) (after steps) =
+      board_clock u cores feeds memories k board (i t) (after steps) all (clocks.wired t) (clocks.on t less) before.1.stand
+      (fine_next steps) in
+      let same : after (steps ++ clock.going) ≡ interleaved net (after steps) clock.going = more_steps steps clock.going in (
+        steps ++ clock.going,
+        record {
+          stand = subst (StandForCores u cores feeds memories k (board_at u cores feeds memories k powers i (suc t)))
+              (sym same) clock.stand;
+          put = λ core c there.
+              ap (λ (ws : List ℕ). ws ++ (if is_set (lines u cores feeds memories k board (i t) core c Puts)
+              then lines u cores feeds memories k board (i t) core c PutWord ∷ [] else [])) (before.1.put core c there)
+              ∙ sym (clock.puts core c there) ∙ ap (λ (cs : List (Joined State)). output_of net cs core) (sym same);
+        },
+      )
+
+  every : (t : ℕ) → last < t → Run t
+  every zero less = absurd (omega (arith, less))
+  every (suc t) less = by (nat_lt last t) refl (every t) where
+    by : (b : Bool) → nat_lt last t ≡ b → (last < t → Run t) → Run (suc t)
+    by true is run = let lt = ltb-true last t is in one_more t lt (run lt)
+    by false is run =
+        let le : t ≤ last = ltb-false last t is in
+        let same : last ≡ t = omega (arith, le, less) in
+        subst (λ n. Run (suc n)) same first
+
+pub board_runs : BoardRuns
+board_runs u cores feeds memories spaces k powers i last all sized never clocks t less =
+    every u cores feeds memories spaces k powers i last all sized never clocks t less

@@ -1,0 +1,138 @@
+-- Circuits that are joined by queues do what a network of the machines does in some order of their cycles.
+use Rattle.std.specs.Prelude.{◌≡◌, ℕ, suc, ◌<◌, Bool, true, false, List, [], ◌∷◌, ◌++◌, map, Option, Some, None, length, slice_get, if◌then◌else◌}
+use Rattle.std.specs.List.{AllByRecursion}
+use Rattle.tta_list.specs.Prefix.{IsPrefixOf}
+use Rattle.tta_ops.specs.Units.{Units}
+use Rattle.tta_code.specs.Cycle.{State}
+use Rattle.tta_circuit.specs.Meaning.{is_set}
+use Rattle.tta_hardware.specs.Signals.{Goes, Puts, PutWord}
+use Rattle.tta_hardware.specs.Stands.{StandsFor}
+use Rattle.tta_hardware.specs.Theorem.{is_fault, is_waiting}
+use Rattle.tta_cores.specs.declared.cores.Core.{Core}
+use Rattle.tta_cores.specs.Network.{Joined, joined, output_of, after_step, interleaved, AreComparable}
+use Rattle.tta_cores.specs.Cluster.{cycles, first_states, cluster, cluster_output}
+use Rattle.tta_cores.specs.Programs.{group_output, IsGroupRest}
+use Rattle.tta_cores.specs.Laws.{IsCore, Pair, IsPair, core_in, core_memory, program_memory}
+use Rattle.tta_joint.specs.Joint.{is_among, waiting_for}
+use Rattle.tta_joint.specs.Laws.{AreQueued}
+use Rattle.tta_board.specs.Board.{Board, Inputs, Powers, lines, AreWired, board_after, board_at, put_by, AreBoardClocks}
+
+module _ (u : Units) (cores : List Core) (feeds : List (Option ℕ)) (memories : ℕ → List ℕ) (k : ℕ → ℕ) where
+  -- ---- what circuits stand for
+
+  -- A core's circuit stands for its state, which neither waits nor is at a fault.
+  pub record StandsAmong (b : Board) (joined : List (Joined State)) (core : ℕ) (c : Core) : Type 0 where
+    pub now : Joined State
+    pub there : slice_get joined core ≡ Some now
+    pub stands : StandsFor c.machine c.code (b.cores core) now.state
+    pub goes_on : is_waiting now.state.outcome ≡ false
+    pub fine : is_fault now.state.outcome ≡ false
+
+  -- The circuits stand for cores of a network: each core's circuit for its state, and its queue holds exactly what the core's feeder has
+  -- put out and the core has not taken.
+  pub record StandForCores (b : Board) (joined : List (Joined State)) : Type 0 where
+    pub each : (core : ℕ) (c : Core) → slice_get cores core ≡ Some c → StandsAmong b joined core c
+    pub none : (core : ℕ) → slice_get cores core ≡ None → slice_get joined core ≡ None
+    pub queued : AreQueued k b.queues (cycles u cores feeds) joined
+
+  -- ---- one clock
+
+  -- no core meets a fault in its next cycle
+  abbrev pub AreFine : List (Joined State) → Type 0
+  AreFine joined =
+      let net = cycles u cores feeds in
+      (core : ℕ) (j : Joined State) → slice_get joined core ≡ Some j
+      → is_fault (after_step net core (waiting_for net joined core j) j).outcome ≡ false
+
+  -- What a clock comes to: some cores make a cycle, one after another, those that the clock lets carry an instruction out; and each has
+  -- put out what its circuit puts out.
+  pub record HasClocked (b : Board) (i : Inputs) (joined : List (Joined State)) : Type 0 where
+    pub going : List ℕ
+    pub exactly : (core : ℕ) (c : Core) → slice_get cores core ≡ Some c
+        → is_among core going ≡ is_set (lines u cores feeds memories k b i core c Goes)
+    pub stand : StandForCores (board_after u cores feeds memories k b i) (interleaved (cycles u cores feeds) joined going)
+    pub puts : (core : ℕ) (c : Core) → slice_get cores core ≡ Some c
+        → output_of (cycles u cores feeds) (interleaved (cycles u cores feeds) joined going) core
+        ≡ output_of (cycles u cores feeds) joined core
+        ++ (if is_set (lines u cores feeds memories k b i core c Puts) then lines u cores feeds memories k b i core c PutWord ∷ [] else [])
+
+-- One clock of wired circuits that stand for cores of a network, and that do not begin anew.
+abbrev pub BoardClock : Type 0
+BoardClock =
+    (u : Units) (cores : List Core) (feeds : List (Option ℕ)) (memories : ℕ → List ℕ) (k : ℕ → ℕ) (b : Board) (i : Inputs)
+    (joined : List (Joined State)) → AllByRecursion IsCore cores → AreWired u cores feeds memories k b i → i.reset ≡ false
+    → StandForCores u cores feeds memories k b joined → AreFine u cores feeds memories k joined
+    → HasClocked u cores feeds memories k b i joined
+
+-- ---- any number of clocks
+
+-- Each data space begins with the words of its core, and they are as many as the machine has.
+abbrev pub AreSpaces : List Core → (memories : ℕ → List ℕ) → (spaces : List (List ℕ)) → Type 0
+AreSpaces cores memories spaces =
+    (core : ℕ) (c : Core) → slice_get cores core ≡ Some c
+    → (slice_get spaces core ≡ Some (memories core)) × (length (memories core) ≡ c.machine.data_words)
+
+-- After the clocks that begin anew the circuits stand for the network before its first cycle.
+abbrev pub BoardBegins : Type 0
+BoardBegins =
+    (u : Units) (cores : List Core) (feeds : List (Option ℕ)) (memories : ℕ → List ℕ) (spaces : List (List ℕ)) (k : ℕ → ℕ)
+    (powers : Powers) (i : ℕ → Inputs) (last : ℕ) → AllByRecursion IsCore cores → AreSpaces cores memories spaces
+    → AreBoardClocks u cores feeds memories k powers i last
+    → StandForCores u cores feeds memories k (board_at u cores feeds memories k powers i (suc last)) (joined (first_states cores spaces))
+
+-- No core meets a fault in any order of cycles.
+abbrev pub NeverFault : Units → List Core → (feeds : List (Option ℕ)) → (spaces : List (List ℕ)) → Type 0
+NeverFault u cores feeds spaces =
+    (steps : List ℕ) (core : ℕ) (j : Joined State) → slice_get (cluster u cores feeds spaces steps) core ≡ Some j
+    → is_fault j.state.outcome ≡ false
+
+-- After so many clocks the circuits stand for the network after these cycles, and each core has put out its output there.
+pub record HasRun (u : Units) (cores : List Core) (feeds : List (Option ℕ)) (memories : ℕ → List ℕ) (spaces : List (List ℕ)) (k : ℕ → ℕ)
+    (powers : Powers) (i : ℕ → Inputs) (t : ℕ) (steps : List ℕ) : Type 0 where
+  pub stand : StandForCores u cores feeds memories k (board_at u cores feeds memories k powers i t) (cluster u cores feeds spaces steps)
+  pub put : (core : ℕ) (c : Core) → slice_get cores core ≡ Some c
+      → put_by u cores feeds memories k powers i core c t ≡ cluster_output u cores feeds spaces steps core
+
+-- After some clocks that begin anew, at least one, and every number of further clocks, there is an order of cycles of the network for
+-- which the circuits stand: of cores with queues of any sizes, whatever words registers have when the power comes, and whenever the
+-- outside takes words, as long as no core meets a fault.
+abbrev pub BoardRuns : Type 0
+BoardRuns =
+    (u : Units) (cores : List Core) (feeds : List (Option ℕ)) (memories : ℕ → List ℕ) (spaces : List (List ℕ)) (k : ℕ → ℕ)
+    (powers : Powers) (i : ℕ → Inputs) (last : ℕ) → AllByRecursion IsCore cores → AreSpaces cores memories spaces
+    → NeverFault u cores feeds spaces → AreBoardClocks u cores feeds memories k powers i last → (t : ℕ) → last < t
+    → (steps : List ℕ) × HasRun u cores feeds memories spaces k powers i t steps
+
+-- ---- wires
+
+-- Circuits can be wired at every clock, for all times at which the outside takes words: what queues show is there first, then what cores
+-- do, and then what queues take and give, and no wire runs in a loop.
+abbrev pub BoardSettles : Type 0
+BoardSettles =
+    (u : Units) (cores : List Core) (feeds : List (Option ℕ)) (memories : ℕ → List ℕ) (k : ℕ → ℕ) (powers : Powers) (last : ℕ)
+    (outside : ℕ → ℕ → Bool)
+    → (i : ℕ → Inputs)
+    × (AreBoardClocks u cores feeds memories k powers i last × ((t core : ℕ) → (i t).outside core ≡ outside t core))
+
+-- ---- programs
+
+-- Beside the programs that cores agree with, what a core has put out and what its program puts out in any order of steps begin one
+-- another: the one the other, or the other way round; and where the programs are at rest, all that was put out is theirs.
+pub record AgreesSo (put : List ℕ) (output : (others : List ℕ) → List ℕ) (IsRest : (others : List ℕ) → Type 0) : Type 0 where
+  pub comparable : (others : List ℕ) → AreComparable put (output others)
+  pub within : (others : List ℕ) → IsRest others → IsPrefixOf put (output others)
+
+-- So it is at every clock with the words that each core puts out, which are those that pass through each queue that it feeds: of circuits
+-- with code that agrees with programs, joined by queues of any sizes.
+abbrev pub BoardAgrees : Type 0
+BoardAgrees =
+    (u : Units) (pairs : List Pair) (feeds : List (Option ℕ)) (memories : ℕ → List ℕ) (k : ℕ → ℕ) (powers : Powers) (i : ℕ → Inputs)
+    (last : ℕ) → AllByRecursion (IsPair u) pairs
+    → ((core : ℕ) (p : Pair) → slice_get pairs core ≡ Some p → memories core ≡ core_memory p)
+    → AreBoardClocks u (map core_in pairs) feeds memories k powers i last → (t : ℕ) → last < t
+    → (core : ℕ) (p : Pair) → slice_get pairs core ≡ Some p
+    → let programs = map (λ q. q.program) pairs in
+    let begin = map program_memory pairs in
+    AgreesSo (put_by u (map core_in pairs) feeds memories k powers i core (core_in p) t)
+    (λ others. group_output u programs feeds begin others core)
+    (IsGroupRest u programs feeds begin)
