@@ -65,8 +65,11 @@ module _ {S : Type 0} (net : Network S) (uses : UsesQueues net) where
       let state : net.with_rest (after_step net core (input ++ words) c) [] ≡ net.with_rest next [] = ap (λ s. net.with_rest s []) it
       ∙ uses.again next (net.rest next ++ words) [] in
       stepped_goes core c (input ++ words) (goes_more core c input words goes)
-      ∙ ap (λ s. record { state = s; taken = c.taken +
-      (length (input ++ words) - length (net.rest (after_step net core (input ++ words) c))) }) state
+      ∙ ap (λ s. record {
+        state = s;
+        taken = c.taken +
+            (length (input ++ words) - length (net.rest (after_step net core (input ++ words) c)));
+      }) state
       ∙ ap (λ n. record { state = net.with_rest next []; taken = c.taken + n }) count
       ∙ sym (stepped_goes core c input goes)
 
@@ -166,9 +169,9 @@ module _ {S : Type 0} (net : Network S) (uses : UsesQueues net) where
       → StepAtOnce net shown going before after → after ≡ interleaved net before going
   interleave shown going before after apart are step =
       same_places after (interleaved net before going) (λ k. by k (slice_get before k) refl) where
-    by : (k : ℕ) (o : Option (Joined S)) → slice_get before k ≡ o → slice_get after k ≡ slice_get (interleaved net before going) k
-    by k None none = step.none k none ∙ sym (none_in_turn going before k none)
-    by k (Some c) there = step.some k c there ∙ sym (in_turn shown going before apart are k c there)
+        by : (k : ℕ) (o : Option (Joined S)) → slice_get before k ≡ o → slice_get after k ≡ slice_get (interleaved net before going) k
+        by k None none = step.none k none ∙ sym (none_in_turn going before k none)
+        by k (Some c) there = step.some k c there ∙ sym (in_turn shown going before apart are k c there)
 
 pub clocks_interleave : (S : Type 0) → ClocksInterleave S
 clocks_interleave S net uses shown going before after apart are step = interleave net uses shown going before after apart are step
