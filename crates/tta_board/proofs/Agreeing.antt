@@ -56,7 +56,7 @@ board_agrees u pairs feeds memories k powers i last all same clocks t less core 
     (are_cores u pairs all) (are_spaces u pairs feeds memories all same) (never u pairs feeds memories all same)
     clocks t less in
     let put : put_by u (map core_in pairs) feeds memories k powers i core (core_in p) t
-        ≡ cluster_output u (map core_in pairs) feeds (map core_memory pairs) run.0 core =
+    ≡ cluster_output u (map core_in pairs) feeds (map core_memory pairs) run.0 core =
     run.1.put core (core_in p) (made_at core_in pairs core p there) in
     let agree = cores_agree u pairs feeds all in
     let programs = map (λ (q : Pair). q.program) pairs in
