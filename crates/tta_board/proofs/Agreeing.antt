@@ -1,5 +1,5 @@
 -- What circuits put out beside the programs that their code agrees with.
-use Rattle.std.proofs.Common.{◌≡◌, ℕ, ◌<◌, Bool, true, false, List, [], ◌∷◌, length, map, Option, Some, refl, sym, ap, ◌∙◌, subst}
+use Rattle.std.proofs.Common.{◌≡◌, ℕ, List, [], ◌∷◌, length, map, Option, Some, refl, sym, ap, ◌∙◌, subst}
 use Rattle.std.specs.Prelude.{slice_get}
 use Rattle.std.specs.List.{AllByRecursion}
 use Rattle.tta_list.specs.Prefix.{IsPrefixOf}
@@ -8,16 +8,14 @@ use Rattle.tta_list.proofs.Sets.{over-length}
 use Rattle.tta_ops.specs.Units.{Units}
 use Rattle.tta_program.specs.Program.{Program}
 use Rattle.tta_code.specs.Whole.{data_in}
-use Rattle.tta_code.specs.Cycle.{State, Outcome, Running, Halted, Waiting, Fault}
-use Rattle.tta_hardware.specs.Theorem.{is_fault}
 use Rattle.tta_cores.specs.declared.cores.Core.{Core}
-use Rattle.tta_cores.specs.Network.{Joined, AreComparable}
-use Rattle.tta_cores.specs.Cluster.{cluster, cluster_output}
+use Rattle.tta_cores.specs.Network.{AreComparable}
+use Rattle.tta_cores.specs.Cluster.{cluster_output}
 use Rattle.tta_cores.specs.Programs.{group_output}
 use Rattle.tta_cores.specs.Laws.{IsCore, Pair, IsPair, core_in, core_memory, program_memory}
-use Rattle.tta_cores.proofs.Pairs.{made_at, made_from, cores_agree, pairs_never_fault}
+use Rattle.tta_cores.proofs.Pairs.{made_at, made_from, cores_agree}
 use Rattle.tta_board.specs.Board.{Inputs, Powers, put_by, AreBoardClocks}
-use Rattle.tta_board.specs.Laws.{AreSpaces, NeverFault, AgreesSo, BoardAgrees}
+use Rattle.tta_board.specs.Laws.{AreSpaces, AgreesSo, BoardAgrees}
 use Rattle.tta_board.proofs.Running.{board_runs}
 
 -- the cores of pairs are cores
@@ -42,19 +40,10 @@ module _ (u : Units) (pairs : List Pair) (feeds : List (Option ℕ)) (memories :
         ap length memory ∙ over-length (data_in of.0.whole) of.0.memory ∙ is.size ∙ ap (λ (x : Core). x.machine.data_words) of.2,
       )
 
-  never : NeverFault u cores feeds spaces
-  never steps core j there = by j.state.outcome refl where
-    by : (o : Outcome) → j.state.outcome ≡ o → is_fault o ≡ false
-    by Running is = refl
-    by Halted is = refl
-    by Waiting is = refl
-    by (Fault number at) is = absurd (pairs_never_fault u pairs feeds all steps core j number at there is)
-
 pub board_agrees : BoardAgrees
-board_agrees u pairs feeds memories k powers i last all same clocks t less core p there =
+board_agrees u pairs feeds memories k powers i last all same never clocks t less core p there =
     let run = board_runs u (cores u pairs feeds memories all same) feeds memories (spaces u pairs feeds memories all same) k powers i last
-    (are_cores u pairs all) (are_spaces u pairs feeds memories all same) (never u pairs feeds memories all same)
-    clocks t less in
+    (are_cores u pairs all) (are_spaces u pairs feeds memories all same) never clocks t less in
     let put : put_by u (map core_in pairs) feeds memories k powers i core (core_in p) t
     ≡ cluster_output u (map core_in pairs) feeds (map core_memory pairs) run.0 core =
     run.1.put core (core_in p) (made_at core_in pairs core p there) in

@@ -212,7 +212,9 @@ module _ (u : Units) (cores : List Core) (feeds : List (Option ℕ)) (memories :
   room core feeder f feeds_it there puts =
       let ready = ready_for u f.machine f.code (memories feeder) (b.cores feeder) (i.cores feeder) puts in
       let parts = and_parts (i.outside feeder) _ (sym (wired.each feeder f there).ready ∙ ready) in
-      room_at (λ other. is_set (env other InReady)) feeder 0 core feeds parts.1 (fed_at feeds core feeder feeds_it)
+      let here : 0 + core ≡ core = omega arith in
+      sym (ap (λ other. is_set (env other InReady)) here)
+      ∙ room_at (λ other. is_set (env other InReady)) feeder 0 core feeds parts.1 (fed_at feeds core feeder feeds_it)
 
   taken_where : (core feeder : ℕ) (f : Core) → feeder_of net core ≡ Some feeder → slice_get cores feeder ≡ Some f
       → takes (env core) ≡ is_set (line feeder f Puts)

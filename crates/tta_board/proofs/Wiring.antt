@@ -33,41 +33,41 @@ module _ (u : Units) (cores : List Core) (feeds : List (Option ℕ)) (memories :
   module _ (b : Board) (reset : Bool) (outside : ℕ → Bool) where
     -- ---- what queues show, first
 
-    reset_alone : Pin → ℕ
+    abbrev reset_alone : Pin → ℕ
     reset_alone queue.IsReset = bit reset
     reset_alone p = 0
 
-    look : (core : ℕ) → Pin → ℕ
+    abbrev look : (core : ℕ) → Pin → ℕ
     look core = settled same_pin u (queue_of (k core) 32) (b.queues core) reset_alone
 
     -- ---- then cores
 
-    core_inputs : (core : ℕ) → Named → ℕ
+    abbrev core_inputs : (core : ℕ) → Named → ℕ
     core_inputs core IsOffered = look core OutValid
     core_inputs core Offer = look core OutData
     core_inputs core IsReady = bit (outside core && have_room (λ other. is_set (look other InReady)) core 0 feeds)
     core_inputs core IsReset = bit reset
     core_inputs core n = 0
 
-    line : (core : ℕ) → Core → Named → ℕ
+    abbrev line : (core : ℕ) → Core → Named → ℕ
     line core c = settled same_signal u (circuit_of c.machine c.code (memories core)) (b.cores core) (core_inputs core)
 
     -- ---- then what queues take and give
 
-    from_core : (signal : Named) → Option ℕ → ℕ
+    abbrev from_core : (signal : Named) → Option ℕ → ℕ
     from_core signal o = option_map_or (λ feeder. option_map_or (λ f. line feeder f signal) (slice_get cores feeder) 0) o 0
 
-    to_core : (core : ℕ) → Option Core → ℕ
+    abbrev to_core : (core : ℕ) → Option Core → ℕ
     to_core core o = option_map_or (λ c. bit (is_set (line core c Goes) && is_set (line core c Asks))) o 0
 
-    queue_inputs : (core : ℕ) → Pin → ℕ
+    abbrev queue_inputs : (core : ℕ) → Pin → ℕ
     queue_inputs core InValid = from_core Puts (feeder_of net core)
     queue_inputs core InData = from_core PutWord (feeder_of net core)
     queue_inputs core OutReady = to_core core (slice_get cores core)
     queue_inputs core queue.IsReset = bit reset
     queue_inputs core p = 0
 
-    pub inputs_of : Inputs
+    abbrev pub inputs_of : Inputs
     inputs_of = record { cores = core_inputs; queues = queue_inputs; reset = reset; outside = outside }
 
     -- ---- they are wired
@@ -116,7 +116,7 @@ module _ (u : Units) (cores : List Core) (feeds : List (Option ℕ)) (memories :
   -- ---- clock by clock
 
   module _ (powers : Powers) (last : ℕ) (outside : ℕ → ℕ → Bool) where
-    run : ℕ → Board
+    abbrev run : ℕ → Board
     run zero = board_at u cores feeds memories k powers (λ t. record {
       cores = λ core n. 0;
       queues = λ core p. 0;
@@ -125,7 +125,7 @@ module _ (u : Units) (cores : List Core) (feeds : List (Option ℕ)) (memories :
     }) zero
     run (suc t) = board_after u cores feeds memories k (run t) (inputs_of (run t) (nat_le t last) (outside t))
 
-    inputs : ℕ → Inputs
+    abbrev inputs : ℕ → Inputs
     inputs t = inputs_of (run t) (nat_le t last) (outside t)
 
     at_run : (t : ℕ) → board_at u cores feeds memories k powers inputs t ≡ run t

@@ -123,12 +123,14 @@ pub record AgreesSo (put : List ℕ) (output : (others : List ℕ) → List ℕ)
   pub within : (others : List ℕ) → IsRest others → IsPrefixOf put (output others)
 
 -- So it is at every clock with the words that each core puts out, which are those that pass through each queue that it feeds: of circuits
--- with code that agrees with programs, joined by queues of any sizes.
+-- with code that agrees with programs, joined by queues of any sizes. Code that agrees with a program meets no fault by itself, on any
+-- words that the program is given; that no core is at a fault is asked of the words that cores feed one another.
 abbrev pub BoardAgrees : Type 0
 BoardAgrees =
     (u : Units) (pairs : List Pair) (feeds : List (Option ℕ)) (memories : ℕ → List ℕ) (k : ℕ → ℕ) (powers : Powers) (i : ℕ → Inputs)
     (last : ℕ) → AllByRecursion (IsPair u) pairs
     → ((core : ℕ) (p : Pair) → slice_get pairs core ≡ Some p → memories core ≡ core_memory p)
+    → NeverFault u (map core_in pairs) feeds (map core_memory pairs)
     → AreBoardClocks u (map core_in pairs) feeds memories k powers i last → (t : ℕ) → last < t
     → (core : ℕ) (p : Pair) → slice_get pairs core ≡ Some p
     → let programs = map (λ q. q.program) pairs in
