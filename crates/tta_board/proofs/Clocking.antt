@@ -1,23 +1,17 @@
 -- One clock of circuits that stand for cores of a network.
-use Rattle.std.proofs.Common.{◌≡◌, ℕ, zero, ◌+◌, Bool, true, false, ◌&&◌, List, [], ◌∷◌, ◌++◌, Option, Some, None, refl, sym, ap, ◌∙◌, subst, append-nil, arith}
+use Rattle.std.proofs.Common.{◌≡◌, ℕ, Bool, true, false, ◌&&◌, List, [], ◌∷◌, ◌++◌, Option, Some, None, refl, sym, ap, ◌∙◌, subst, append-nil}
 use Rattle.std.specs.Prelude.{slice_get, if◌then◌else◌}
 use Rattle.std.specs.Option.{option_map_or}
 use Rattle.std.specs.List.{AllByRecursion}
-use Rattle.std.proofs.lemmas.Bool.{false≢true, and_right, and_parts}
-use Rattle.tta_list.proofs.Lists.{all_one}
-use Rattle.tta_list.specs.Input.{left}
 use Rattle.tta_ops.specs.Units.{Units}
-use Rattle.tta_code.specs.Cycle.{State, Outcome, Running, Halted, Waiting, Fault, next}
+use Rattle.tta_code.specs.Cycle.{State, next}
 use Rattle.tta_circuit.specs.Meaning.{is_set}
-use Rattle.tta_hardware.specs.Signals.{Signal as Named, IsReset, Asks, Goes, Puts, PutWord}
-use Rattle.tta_hardware.specs.Stands.{Hardware, StandsFor, is_halted}
-use Rattle.tta_hardware.specs.Theorem.{is_fault, is_waiting, IsFed, HasStepped}
-use Rattle.tta_hardware.proofs.Stepping.{one_clock}
-use Rattle.tta_hardware.proofs.Circuits.{is_settled, has_clocked, has_stored, words_stay, data_stays, frame_stays, rom_stays, reset_is}
-use Rattle.tta_queue.specs.Queue.{Pin, InValid, InData, OutReady, InReady, OutValid, OutData}
-use Rattle.tta_queue.specs.Queue as queue
-use Rattle.tta_queue.specs.Laws.{takes, gives, Shows}
-use Rattle.tta_queue.proofs.Clocking.{queue_clocks}
+use Rattle.tta_hardware.specs.Signals.{Signal as Named, Asks, Puts, PutWord}
+use Rattle.tta_hardware.specs.Stands.{Hardware, StandsFor}
+use Rattle.tta_hardware.specs.Theorem.{is_fault, is_waiting, HasStepped}
+use Rattle.tta_hardware.proofs.Circuits.{words_stay, data_stays, frame_stays, rom_stays}
+use Rattle.tta_queue.specs.Queue.{Pin, InData, OutReady, OutValid, OutData}
+use Rattle.tta_queue.specs.Laws.{gives}
 use Rattle.tta_cores.specs.declared.cores.Core.{Core}
 use Rattle.tta_cores.specs.Network.{Network, Joined, output_of, feeder_of, after_step, stepped, interleaved}
 use Rattle.tta_cores.specs.Cluster.{cycles}
@@ -26,22 +20,15 @@ use Rattle.tta_cores.specs.Queues.{UsesQueues}
 use Rattle.tta_cores.proofs.CoreQueues.{cores_use}
 use Rattle.tta_joint.specs.Joint.{is_among, StepAtOnce, seen, new_words, CoresClock, waiting_for}
 use Rattle.tta_joint.specs.Laws.{IsShown}
-use Rattle.tta_joint.proofs.AtOnce.{step_more, in_turn, none_in_turn, stepped_goes}
+use Rattle.tta_joint.proofs.AtOnce.{in_turn, none_in_turn, stepped_goes}
 use Rattle.tta_joint.proofs.Joining.{seen_first, joint_clock}
 use Rattle.tta_board.specs.Board.{Board, Inputs, lines, pins_of, AreWired, core_after, board_after}
 use Rattle.tta_board.specs.Laws.{StandsAmong, StandForCores, AreFine, HasClocked, BoardClock}
-use Rattle.tta_board.proofs.Going.{places_from, places_apart, among_places}
-use Rattle.tta_board.proofs.Entering.{Enters, enters, quiet, halts, ready_for}
-use Rattle.tta_board.proofs.Room.{fed_at, room_at}
-use Rattle.tta_board.proofs.Standing.{stands_too, same_waits, fault_goes}
-
--- what is left of what is seen
-left_of : (valid ready asks : Bool) (word : ℕ) → ready ≡ asks
-    → left asks (if valid then word ∷ [] else []) ≡ (if valid && ready then [] else (if valid then word ∷ [] else []))
-left_of true ready true word is = sym (ap (λ b. if b then [] else word ∷ []) is)
-left_of true ready false word is = sym (ap (λ b. if b then [] else word ∷ []) is)
-left_of false ready true word is = refl
-left_of false ready false word is = refl
+use Rattle.tta_board.proofs.Going.{places_apart}
+use Rattle.tta_board.proofs.Entering.{quiet}
+use Rattle.tta_board.proofs.Passing as passing
+use Rattle.tta_board.proofs.Making as making
+use Rattle.tta_board.proofs.Standing.{stands_too, same_waits}
 
 module _ (u : Units) (cores : List Core) (feeds : List (Option ℕ)) (memories : ℕ → List ℕ) (k : ℕ → ℕ) (b : Board) (i : Inputs)
     (joined : List (Joined State)) (all : AllByRecursion IsCore cores) (wired : AreWired u cores feeds memories k b i)
@@ -59,10 +46,10 @@ module _ (u : Units) (cores : List Core) (feeds : List (Option ℕ)) (memories :
   line core c = lines u cores feeds memories k b i core c
 
   abbrev goes_at : ℕ → Core → Bool
-  goes_at core c = is_set (line core c Goes)
+  goes_at core c = passing.goes_at u cores feeds memories k b i core c
 
   abbrev going : List ℕ
-  going = places_from goes_at 0 cores
+  going = passing.going u cores feeds memories k b i
 
   abbrev shown : ℕ → List ℕ
   shown core = seen (env core)
@@ -76,75 +63,18 @@ module _ (u : Units) (cores : List Core) (feeds : List (Option ℕ)) (memories :
   abbrev Among : ℕ → Core → Type 0
   Among core c = StandsAmong u cores feeds memories k b joined core c
 
+  -- ---- the cores that carry an instruction out make their cycles
+
   among_goes : (core : ℕ) (c : Core) → slice_get cores core ≡ Some c → is_among core going ≡ goes_at core c
-  among_goes core c there = among_places goes_at core cores ∙ ap (λ o. option_map_or (goes_at core) o false) there
+  among_goes core c there = passing.among_goes u cores feeds memories k b i core c there
 
   step_is : (core : ℕ) (c : Core) (j : Joined State) → slice_get cores core ≡ Some c
       → after_step net core (shown core) j ≡ next u c.machine c.code (at core j)
-  step_is core c j there = ap (λ o. option_map_or (λ x. next u x.machine x.code (at core j)) o (at core j)) there
-
-  -- ---- what comes into a core
-
-  entering : (core : ℕ) (c : Core) → Enters u c.machine c.code (memories core) (b.cores core) (i.cores core)
-  entering core c = enters u c.machine c.code (memories core) (b.cores core) (i.cores core)
-
-  not_reset : (core : ℕ) (c : Core) → slice_get cores core ≡ Some c → is_set (line core c IsReset) ≡ false
-  not_reset core c there =
-      ap is_set (reset_is u c.machine c.code (memories core) (b.cores core) (i.cores core)) ∙ (wired.each core c there).reset ∙ on
-
-  fed : (core : ℕ) (c : Core) → slice_get cores core ≡ Some c → IsFed (line core c) (shown core)
-  fed core c there is =
-      let w = wired.each core c there in
-      let e = entering core c in
-      let valid : is_set (env core OutValid) ≡ true = sym w.offered ∙ ap is_set (sym e.offered) ∙ is in
-      ap (λ (v : Bool). slice_get (if v then env core OutData ∷ [] else []) 0) valid
-      ∙ ap (λ (w : ℕ). Some w) (sym (e.offer ∙ w.offer))
-
-  shows : (core : ℕ) (j : Joined State) → slice_get joined core ≡ Some j → Shows (k core) (env core) (waiting_for net joined core j)
-  shows core j there =
-      (queue_clocks u (k core) 32 (b.queues core) (waiting_for net joined core j) (i.queues core) (stand.queued core j there).inside
-      (wired.reset core ∙ on)).0
-
-  -- a cycle on what is seen is a fault only where one on all that is there is
-  fine_at : (core : ℕ) (c : Core) (s : Among core c) → slice_get cores core ≡ Some c
-      → is_fault (next u c.machine c.code (at core s.now)).outcome ≡ false
-  fine_at core c s there = by (is_fault (next u c.machine c.code (at core s.now)).outcome) refl where
-    first : State
-    first = after_step net core (shown core) s.now
-
-    by : (f : Bool) → is_fault (next u c.machine c.code (at core s.now)).outcome ≡ f → f ≡ false
-    by false is = refl
-    by true is =
-        let faults : is_fault first.outcome ≡ true = ap (λ (t : State). is_fault t.outcome) (step_is core c s.now there) ∙ is in
-        let begins = seen_first (k core) (env core) (waiting_for net joined core s.now) (shows core s.now s.there) in
-        let more = step_more net uses core s.now (shown core) begins.0 (fault_goes first.outcome faults) in
-        absurd (false≢true (sym (fine core s.now s.there)
-        ∙ ap (λ (ws : List ℕ). is_fault (after_step net core ws s.now).outcome) begins.1
-        ∙ ap (λ (t : State). is_fault t.outcome) more ∙ faults))
-
-  -- ---- a core that carries an instruction out makes its cycle
+  step_is core c j there = making.step_is u cores feeds memories k b i joined all wired on stand fine core c j there
 
   makes : (core : ℕ) (c : Core) → slice_get cores core ≡ Some c → (s : Among core c) → goes_at core c ≡ true
       → HasStepped u c.machine c.code (held core c) (line core c) (at core s.now) (next u c.machine c.code (at core s.now))
-  makes core c there s goes = by s.now.state.outcome refl where
-    is : IsCore c
-    is = all_one IsCore cores core c all there
-
-    by : (o : Outcome) → s.now.state.outcome ≡ o
-        → HasStepped u c.machine c.code (held core c) (line core c) (at core s.now) (next u c.machine c.code (at core s.now))
-    by Running runs =
-        (one_clock u c.machine c.code (b.cores core) (held core c) (line core c) (at core s.now) is.machine is.legal
-        (stands_too c.machine c.code (b.cores core) (b.cores core) s.now.state (shown core) (λ n. refl) refl refl refl s.stands) runs
-        (fine_at core c s there)
-        (is_settled u c.machine c.code (memories core) (b.cores core) (i.cores core)) (fed core c there) (not_reset core c there)).0
-        goes (has_clocked u c.machine c.code (memories core) (b.cores core) (i.cores core) goes)
-        (has_stored u c.machine c.code (memories core) (b.cores core) (i.cores core))
-    by Halted halted =
-        absurd (false≢true (sym (halts u c.machine c.code (memories core) (b.cores core) (i.cores core)
-        (ap is_set (is_settled u c.machine c.code (memories core) (b.cores core) (i.cores core)).halted ∙ s.stands.halted
-        ∙ ap is_halted halted)) ∙ goes))
-    by Waiting waits = absurd (false≢true (sym s.goes_on ∙ ap is_waiting waits))
-    by (Fault number cycle) faults = absurd (false≢true (sym s.fine ∙ ap is_fault faults))
+  makes core c there s goes = making.makes u cores feeds memories k b i joined all wired on stand fine core c there s goes
 
   -- what is at a core's place is what its circuit stands for
   record Which (core : ℕ) (j : Joined State) : Type 0 where
@@ -172,7 +102,8 @@ module _ (u : Units) (cores : List Core) (feeds : List (Option ℕ)) (memories :
   are_shown : (core : ℕ) (j : Joined State) → is_among core going ≡ true → slice_get joined core ≡ Some j
       → IsShown net joined core (shown core) j
   are_shown core j among there =
-      let first = seen_first (k core) (env core) (waiting_for net joined core j) (shows core j there) in
+      let shows = making.shows u cores feeds memories k b i joined all wired on stand fine core j there in
+      let first = seen_first (k core) (env core) (waiting_for net joined core j) shows in
       record { within = (stand.queued core j there).within; later = first.0; begins = first.1; goes = waits_not core j among there }
 
   abbrev after : List (Joined State)
@@ -193,36 +124,8 @@ module _ (u : Units) (cores : List Core) (feeds : List (Option ℕ)) (memories :
       let goes : goes_at core w.core_is ≡ true = sym (among_goes core w.core_is w.there) ∙ among in
       ap (λ (x : Joined State). net.rest (after_step net core (shown core) x)) (sym w.same)
       ∙ ap net.rest (step_is core w.core_is w.among.now w.there) ∙ (makes core w.core_is w.there w.among goes).rest
-      ∙ left_of (is_set (env core OutValid)) (is_set (env core OutReady)) (is_set (line core w.core_is Asks)) (env core OutData)
+      ∙ passing.left_of (is_set (env core OutValid)) (is_set (env core OutReady)) (is_set (line core w.core_is Asks)) (env core OutData)
       ((wired.each core w.core_is w.there).asked ∙ ap (λ g. g && is_set (line core w.core_is Asks)) goes)
-
-  stays : (core : ℕ) → is_among core going ≡ false → gives (env core) ≡ false
-  stays core out = and_right (is_set (env core OutValid)) (is_set (env core OutReady)) (by (slice_get cores core) refl) where
-    by : (o : Option Core) → slice_get cores core ≡ o → is_set (i.queues core OutReady) ≡ false
-    by None none = wired.unasked core none
-    by (Some c) there =
-        (wired.each core c there).asked ∙ ap (λ g. g && is_set (line core c Asks)) (sym (among_goes core c there) ∙ out)
-
-  not_taken : (core : ℕ) → is_set (i.queues core InValid) ≡ false → takes (env core) ≡ false
-  not_taken core is = ap (λ v. v && is_set (env core InReady)) is
-
-  -- a word that a core puts out finds room
-  room : (core feeder : ℕ) (f : Core) → feeder_of net core ≡ Some feeder → slice_get cores feeder ≡ Some f
-      → is_set (line feeder f Puts) ≡ true → is_set (env core InReady) ≡ true
-  room core feeder f feeds_it there puts =
-      let ready = ready_for u f.machine f.code (memories feeder) (b.cores feeder) (i.cores feeder) puts in
-      let parts = and_parts (i.outside feeder) _ (sym (wired.each feeder f there).ready ∙ ready) in
-      let here : 0 + core ≡ core = omega arith in
-      sym (ap (λ other. is_set (env other InReady)) here)
-      ∙ room_at (λ other. is_set (env other InReady)) feeder 0 core feeds parts.1 (fed_at feeds core feeder feeds_it)
-
-  taken_where : (core feeder : ℕ) (f : Core) → feeder_of net core ≡ Some feeder → slice_get cores feeder ≡ Some f
-      → takes (env core) ≡ is_set (line feeder f Puts)
-  taken_where core feeder f feeds_it there =
-      ap (λ v. v && is_set (env core InReady)) (wired.fed core feeder f feeds_it there).0 ∙ by (is_set (line feeder f Puts)) refl where
-        by : (p : Bool) → is_set (line feeder f Puts) ≡ p → (p && is_set (env core InReady)) ≡ p
-        by true is = room core feeder f feeds_it there is
-        by false is = refl
 
   -- the state of a core after its step
   abbrev new_state : (core : ℕ) (c : Core) → Joined State → State
@@ -274,13 +177,14 @@ module _ (u : Units) (cores : List Core) (feeds : List (Option ℕ)) (memories :
         let out : slice_get joined feeder ≡ None = stand.none feeder none in
         ap put_of (at_once.none feeder out)
         ∙ sym (ap (λ (o : Option (Joined State)). put_of o ++ new_words (env core)) out
-        ∙ ap (λ (t : Bool). if t then env core InData ∷ [] else []) (not_taken core (wired.no_core core feeder feeds_it none)))
+        ∙ ap (λ (t : Bool). if t then env core InData ∷ [] else [])
+        (passing.not_taken u cores feeds memories k b i wired core (wired.no_core core feeder feeds_it none)))
     by (Some f) there =
         put_out feeder f there
         ∙ ap (λ (w : ℕ). output_of net joined feeder ++ (if is_set (line feeder f Puts) then w ∷ [] else []))
         (sym (wired.fed core feeder f feeds_it there).1)
         ∙ ap (λ (t : Bool). output_of net joined feeder ++ (if t then env core InData ∷ [] else []))
-        (sym (taken_where core feeder f feeds_it there))
+        (sym (passing.taken_where u cores feeds memories k b i wired core feeder f feeds_it there))
 
   clock : CoresClock net env going joined after
   clock = record {
@@ -288,9 +192,9 @@ module _ (u : Units) (cores : List Core) (feeds : List (Option ℕ)) (memories :
     at_once = at_once;
     goes = waits_not;
     asks = asks;
-    stays = stays;
+    stays = passing.stays u cores feeds memories k b i wired;
     puts = puts;
-    unfed = λ core none. not_taken core (wired.unfed core none);
+    unfed = λ core none. passing.not_taken u cores feeds memories k b i wired core (wired.unfed core none);
   }
 
   -- ---- after it
@@ -322,14 +226,17 @@ module _ (u : Units) (cores : List Core) (feeds : List (Option ℕ)) (memories :
               (λ n. refl) refl refl refl
               has.stands));
           goes_on = ap (λ (t : State). is_waiting t.outcome) is ∙ has.goes_on;
-          fine = ap (λ (t : State). is_fault t.outcome) is ∙ fine_at core c s there;
+          fine =
+              ap (λ (t : State). is_fault t.outcome) is
+              ∙ making.fine_at u cores feeds memories k b i joined all wired on stand fine core c s there;
         }
     by false stops = record {
       now = s.now;
       there = now_is core c s there false stops;
       stands = held_after core c s.now.state there
           (stands_too c.machine c.code (b.cores core) (held core c) s.now.state s.now.state.rest
-          (words_stay u c.machine c.code (memories core) (b.cores core) (i.cores core) stops (not_reset core c there))
+          (words_stay u c.machine c.code (memories core) (b.cores core) (i.cores core) stops
+          (passing.not_reset u cores feeds memories k b i wired on core c there))
           (data_stays u c.machine c.code (memories core) (b.cores core) (i.cores core) stops)
           (frame_stays u c.machine c.code (memories core) (b.cores core) (i.cores core) stops)
           (rom_stays u c.machine c.code (memories core) (b.cores core) (i.cores core) stops) s.stands);

@@ -2,6 +2,8 @@ pub mod Going
 pub mod Entering
 pub mod Room
 pub mod Standing
+pub mod Passing
+pub mod Making
 pub mod Clocking
 pub mod Beginning
 pub mod Running
