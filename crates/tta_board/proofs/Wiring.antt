@@ -1,5 +1,5 @@
 -- Circuits can be wired at every clock.
-use Rattle.std.proofs.Common.{◌≡◌, ℕ, zero, suc, ◌<◌, ◌≤◌, ◌==◌, Bool, true, false, not, ◌&&◌, ◌||◌, nat_le, List, [], ◌∷◌, Option, Some, None, refl, sym, ap, ◌∙◌, subst, arith}
+use Rattle.std.proofs.Common.{◌≡◌, ℕ, zero, suc, ◌<◌, ◌==◌, Bool, true, false, not, ◌&&◌, ◌||◌, nat_le, List, [], ◌∷◌, Option, Some, refl, sym, ap, ◌∙◌, subst, arith}
 use Rattle.std.specs.Prelude.{slice_get}
 use Rattle.std.specs.Option.{option_map_or}
 use Rattle.std.proofs.lemmas.Bool.{le-leb, leb-true}
@@ -15,7 +15,7 @@ use Rattle.tta_queue.proofs.Clocking.{queue_looks}
 use Rattle.tta_cores.specs.declared.cores.Core.{Core}
 use Rattle.tta_cores.specs.Network.{Network, feeder_of}
 use Rattle.tta_cores.specs.Cluster.{cycles}
-use Rattle.tta_board.specs.Board.{Board, Inputs, Powers, have_room, lines, pins_of, IsWiredCore, AreWired, board_after, board_at, AreBoardClocks}
+use Rattle.tta_board.specs.Board.{Board, Inputs, Powers, have_room, pins_of, IsWiredCore, AreWired, board_after, board_at, AreBoardClocks}
 use Rattle.tta_board.specs.Laws.{BoardSettles}
 
 -- queues with the same room

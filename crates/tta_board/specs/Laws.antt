@@ -1,5 +1,5 @@
 -- Circuits that are joined by queues do what a network of the machines does in some order of their cycles.
-use Rattle.std.specs.Prelude.{◌≡◌, ℕ, suc, ◌<◌, Bool, true, false, List, [], ◌∷◌, ◌++◌, map, Option, Some, None, length, slice_get, if◌then◌else◌}
+use Rattle.std.specs.Prelude.{◌≡◌, ℕ, suc, ◌<◌, Bool, false, List, [], ◌∷◌, ◌++◌, map, Option, Some, None, length, slice_get, if◌then◌else◌}
 use Rattle.std.specs.List.{AllByRecursion}
 use Rattle.tta_list.specs.Prefix.{IsPrefixOf}
 use Rattle.tta_ops.specs.Units.{Units}
