@@ -13,9 +13,10 @@ pub fn board_begins()
     ensures { BoardBegins }
 {}
 
-/// After clocks that begin anew and any number of further ones there is an order of cycles of the
-/// network for which the circuits stand: each core's circuit for the core's state, and each queue's
-/// circuit holds exactly what its feeder has put out and its core has not taken.
+/// After clocks that begin anew and any number of further ones, as long as no core meets a fault,
+/// there is an order of cycles of the network for which the circuits stand: each core's circuit for
+/// the core's state, and each queue's circuit holds exactly what its feeder has put out and its core
+/// has not taken.
 pub fn board_runs()
     ensures { BoardRuns }
 {}
@@ -25,8 +26,8 @@ pub fn board_settles()
     ensures { BoardSettles }
 {}
 
-/// What circuits with code that agrees with programs put out begins what the programs put out, or the
-/// other way round, in whatever order the programs take their steps.
+/// As long as no core meets a fault, what circuits with code that agrees with programs put out begins
+/// what the programs put out, or the other way round, in whatever order the programs take their steps.
 pub fn board_agrees()
     ensures { BoardAgrees }
 {}
