@@ -1,6 +1,4 @@
-//! Machines as circuits that are joined by queues as circuits: what they do under one clock. The cores
-//! are a network of processes in the sense of Kahn: G. Kahn, "The semantics of a simple language for
-//! parallel programming", 1974.
+//! Machines as circuits that are joined by queues as circuits: what they do under one clock.
 #![tactic(auto)]
 
 mod laws;
