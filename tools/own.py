@@ -13,8 +13,8 @@ OWN = [
     Own("explore.explore", ["explore MACHINES -- PROGRAMS"],
         "compiles and runs each program on each machine, and prints a table. The words of the data space of X.program are those of X.input beside "
         "it, and its input those of X.stream, where these files are there. Among the words, --bound N runs at most N steps and cycles in the "
-        "place of 1000000000, --vary 'space data {16,64}' makes of each machine one with each of these values in that line, and --csv asks for values with "
-        "commas. It ends with 1 where a row has no run that halts or waits, or an output that differs"),
+        "place of 1000000000, --vary 'space data {16,64}' makes of each machine one with each of these values in that line, --synth ice40 or --synth lut6 "
+        "adds what each core costs by yosys, and --csv asks for values with commas. It ends with 1 where a row has no run that halts or waits, or an output that differs"),
     Own("from_c.compile_c", ["c FILE.c .. OUT"],
         "writes the text of a program in C to OUT; docs/C.md says what it takes, and its options"),
     Own("lint.lint", ["lint P", "lint M P"],
