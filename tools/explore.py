@@ -198,7 +198,7 @@ def asked_by(words):
 
 def work_at(explorer, pairs, rows):
     """Fills the table of rows, by the number of each pair. Where it is stopped, that holds what is done."""
-    with ThreadPoolExecutor(os.cpu_count()) as workers:
+    with ThreadPoolExecutor(runs.processors()) as workers:
         begun = {workers.submit(explorer.row, *pair, at): at for at, pair in enumerate(pairs)}
         try:
             for done in as_completed(begun):

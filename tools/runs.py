@@ -13,6 +13,11 @@ LETTER = re.compile(rb"[a-z]")
 STOPPED = -1
 
 
+def processors():
+    """How many commands may run side by side."""
+    return len(os.sched_getaffinity(0)) if hasattr(os, "sched_getaffinity") else os.cpu_count() or 1
+
+
 class Run:
     """How a command ended: its status, what it said on standard error, the digest of the words that it output, and the lines below them."""
 

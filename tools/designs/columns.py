@@ -1,5 +1,8 @@
 """The columns that --synth adds to a table: what the core of each pair costs, the time of its run, and area × time. The area is LUTs and
 flip-flops together. The time is in microseconds where each core has a clock, and else in LUTs that a signal goes through: cycles × path."""
+from concurrent.futures import ThreadPoolExecutor
+
+import runs as commands
 from designs import progress, synth
 
 HEADS = ["LUTs", "flip-flops", "block RAMs", "path"]
@@ -9,7 +12,7 @@ class Columns:
     """The costs of pairs, by the number of each."""
 
     def __init__(self, flow, runs, count):
-        self.synthesis = synth.Synthesis(flow, runs) if synth.is_there() else None
+        self.synthesis, self.runs = synth.Synthesis(flow, runs) if synth.is_there() else None, runs
         self.costs, self.failed, self.count, self.flow = {}, {}, count, flow
         self.progress = progress.Progress(f"synthesis for {flow}")
 
@@ -22,6 +25,20 @@ class Columns:
                 self.progress.say(f"{len(self.costs) + len(self.failed)} of {self.count} cores are measured")
         except synth.Failed as error:
             self.failed[at] = str(error)
+
+    def measure_all(self, images, view):
+        """Takes the cores of images, each with its machine, side by side; the program `view` has `rtl`. A key that stops it leaves what is measured."""
+        def one(at):
+            core = self.runs.text([view, "rtl", *images[at]])
+            if core.status == 0:
+                self.measure(at, core.output)
+        with ThreadPoolExecutor(commands.processors()) as workers:
+            try:
+                list(workers.map(one, range(len(images))))
+            except BaseException:
+                self.runs.stop()
+                workers.shutdown(wait=True, cancel_futures=True)
+                raise
 
     def has_clocks(self):
         """Whether each core that was measured has a clock."""
