@@ -20,6 +20,9 @@ OWN = [
         "than another. Each is built and run, and outputs what exec does. It writes their texts, with the reason of each change, and a plot into "
         "the folder front, or what --into FOLDER names, and prints a table. It tries 1000 machines, or as many as --steps N says; --seed S "
         "chooses the chances; --latencies lets latencies and delay slots change too; --synth, --bound and --csv are as above"),
+    Own("designs.suggest.suggest", ["suggest M P"],
+        "what holds the program of P, which may be in C, back on the machine of M: changes of the machine's text that save cycles, most first. "
+        "Each was built and run. --bound N runs at most N steps and cycles"),
     Own("from_c.compile_c", ["c FILE.c .. OUT"],
         "writes the text of a program in C to OUT; docs/C.md says what it takes, and its options"),
     Own("lint.lint", ["lint P", "lint M P"],

@@ -5,7 +5,7 @@ from texts import machine as reader
 WORD = 32
 # What a 2:1 choice of a bit costs in LUTs, where a bus reads and where a place takes a word from buses; a code of a source or destination; a bit
 # of a code, which is 64 bits a LUT in a memory; and what each core has: the control unit, and the ports of memories.
-READ, WRITE, CODE, BIT, REST = 0.35, 0.30, 1.5, 1 / 64, 150
+READ, WRITE, CODE, BIT, REST = 0.42, 0.42, 4, 1 / 64, 100
 # LUTs of the operations of the standard units. Any other counts as a sum.
 OPERATIONS = {
     "add": 60, "sub": 60, "neg": 40, "and": 16, "or": 16, "xor": 16, "not": 16, "shl": 320, "shr": 330, "shru": 320, "eq": 15, "ne": 15, "lt": 40,
@@ -40,7 +40,7 @@ def flops(machine):
     for unit in machine.units.values():
         longest = max((latency for _, latency in unit.ops.values() if latency), default=1)
         found += WORD * bool(unit.o) + (WORD + (WORD + 1) * (longest - 1)) * bool(unit.r)
-    return found + 2 * WORD + machine.control.address + instruction(machine)
+    return found + 3 * WORD + machine.control.address + instruction(machine)
 
 
 def operations(machine):

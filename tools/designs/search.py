@@ -41,7 +41,7 @@ class Search:
         """Tries the first machine, and what is left of it without the operations that no program uses."""
         tried = self.trier.one(machine, 0)
         if tried is None:
-            raise trial.Refused("the machine does not carry the programs out as exec does")
+            raise trial.Refused(self.trier.refusal(self.asked.machine))
         self.front = front.Front(self.point(machine, tried, [], []))
         self.seen.add("\n".join(model.lines_of(machine)))
         before = []

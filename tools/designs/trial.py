@@ -21,6 +21,8 @@ FLAGS = {"load": "ldw", "store": "stw", "out": "out", "in": "in"}
 RELATIONS = {"eq": "eq", "ne": "eq", "lt": "lt", "ge": "lt", "ltu": "ltu", "geu": "ltu"}
 FRAME = {"ldf", "stf"}
 ENDS = ("halted", "waiting")
+# So many machines are given to many processors at a time.
+WIDTH = 16
 
 
 class Refused(Exception):
@@ -43,7 +45,7 @@ class Trier:
     def __init__(self, tta, programs, folder, bound):
         self.tta, (self.program, self.view) = tta, (programs[0], programs[-1])
         self.folder, self.bound, self.runs = folder, bound, runs.Runs()
-        self.programs = []
+        self.programs, self.width = [], WIDTH
 
     def take(self, machine, paths):
         """Takes the programs, with what they output on the first machine."""
@@ -59,6 +61,20 @@ class Trier:
             if ran.number_after("steps") is None or ran.status and explore.why(ran.error) not in ENDS:
                 raise Refused(f"{path}: {explore.why(ran.error)}")
             self.programs.append(Program(name, text, data, stream, ran.output))
+
+    def refusal(self, path):
+        """Why a machine is not tried."""
+        told = self.runs.text([self.view, "info", path])
+        if told.status:
+            return f"{path}: {explore.why(told.error)}"
+        broken = [line for line in told.output.decode("latin-1").split("\n") if line.startswith("rule ")]
+        if broken:
+            return f"{path} is not covered: {broken[0]}"
+        for program in self.programs:
+            built = self.runs.run([self.program, "build", path, program.text, os.path.join(self.folder, "refused.image")])
+            if built.status:
+                return f"{path} and {program.name}: {explore.why(built.error)}"
+        return f"{path} does not output what exec does, within the bound"
 
     def operations(self):
         """The operations that the programs use."""
