@@ -220,7 +220,7 @@ def say_what_lacks(extra, pairs):
     if extra:
         extra.progress.end()
     if extra and not extra.synthesis:
-        ending.say("explore: there is no yosys on the path, so the columns of --synth stay empty; tools/setup says what is installed")
+        ending.say("explore: there is no yosys on the path, so the columns of --synth stay empty")
     for at, why_not in sorted(extra.failed.items()) if extra else []:
         ending.say(f"explore: no synthesis of {' and '.join(pairs[at])}: {why_not}")
 

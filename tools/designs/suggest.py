@@ -7,6 +7,7 @@ import tempfile
 import ending
 import explore
 import words as command_words
+from causes import near
 from designs import area, hot, model, pairs, progress, proposals, trial
 from texts import machine as machine_reader
 from texts import program as program_reader
@@ -53,18 +54,26 @@ def profiled(trier, path):
     return hot.Hot(*texts)
 
 
-def gains(trier, machine, first, seen):
-    """The proposals that gain, with what they came to, the best first."""
-    found = proposals.of(machine, seen, first.words[0])
+def tried_of(trier, found):
+    """What machines of proposals came to, as far as a key lets them."""
     told, came = progress.Progress("suggest"), []
-    told.say(f"{len(found)} changes are tried")
+    told.say(f"{near.count(len(found), 'change')} of the machine are tried")
     try:
-        for at in range(0, len(found), trier.width):
-            came += trier.many([proposal.machine for proposal in found[at:at + trier.width]], at)
-    finally:
-        told.end()
-    better = [(tried.cycles[0], at) for at, tried in enumerate(came) if tried and tried.cycles[0] < first.cycles[0]]
-    return [(found[at], came[at]) for _, at in sorted(better)], len(found)
+        for at in range(0, len(found), trial.WIDTH):
+            came += trier.many([proposal.machine for proposal in found[at:at + trial.WIDTH]], at)
+    except KeyboardInterrupt:
+        pass
+    told.end()
+    return came
+
+
+def gains(found, came, first):
+    """The proposals that gain, with what they came to, the best first. Of those that answer the same, the best stands alone."""
+    better = sorted((tried.cycles[0], at) for at, tried in enumerate(came) if tried and tried.cycles[0] < first.cycles[0])
+    best = {}
+    for _, at in better:
+        best.setdefault(found[at].seen, (found[at], came[at]))
+    return list(best.values()), len(better)
 
 
 def print_gain(machine, first, proposal, tried):
@@ -87,20 +96,23 @@ def print_pairs(program, seen):
 
 
 def told(trier, path):
-    """Prints all that is found."""
+    """Prints all that is found, and gives the status."""
     machine = machine_reader.read(lines_of(path))
     first = trier.one(machine, 0)
     if first is None:
         raise trial.Refused(trier.refusal(path))
     seen = profiled(trier, path)
-    better, count = gains(trier, machine, first, seen)
+    found = proposals.of(machine, seen, first.words[0])
+    came = tried_of(trier, found)
+    better, count = gains(found, came, first)
     for proposal, tried in better[:MOST]:
         print_gain(machine, first, proposal, tried)
-    if len(better) < count:
-        print(f"{count - len(better)} other changes of {count} were tried and gain nothing")
-    if len(better) > MOST:
-        print(f"{len(better) - MOST} more gain less")
+    print(f"{near.count(len(came), 'change')} tried, {count} of them with fewer cycles" + (f"; {len(better) - MOST} more gain less" if len(better) > MOST else ""))
     print_pairs(trier.programs[0], seen)
+    if len(came) < len(found):
+        ending.say(f"stopped; {len(came)} of {len(found)} changes were tried")
+        return ending.STOPPED
+    return 0
 
 
 def suggest(tta, words):
@@ -116,8 +128,7 @@ def suggest(tta, words):
         trier = trial.Trier(tta, programs, folder, bound)
         try:
             trier.take(machine, [program])
-            told(trier, machine)
+            return told(trier, machine)
         except trial.Refused as error:
             ending.say(f"suggest: {error}")
             return REFUSED
-    return 0

@@ -45,7 +45,7 @@ class Trier:
     def __init__(self, tta, programs, folder, bound):
         self.tta, (self.program, self.view) = tta, (programs[0], programs[-1])
         self.folder, self.bound, self.runs = folder, bound, runs.Runs()
-        self.programs, self.width = [], WIDTH
+        self.programs = []
 
     def take(self, machine, paths):
         """Takes the programs, with what they output on the first machine."""
