@@ -137,18 +137,21 @@ def compared(pairs, rows, extra):
     return table, is_well
 
 
-def print_table(rows, as_csv, extra=None):
-    """The rows in columns: names to the left, numbers to the right."""
-    heads = [*HEADS[:-1], *(extra.heads() if extra else []), HEADS[-1]]
+def print_rows(rows, as_csv, left):
+    """Rows in columns, or with commas: those of these numbers stand to the left, and all others to the right."""
     if as_csv:
-        csv.writer(sys.stdout, lineterminator="\n").writerows([heads, *rows])
+        csv.writer(sys.stdout, lineterminator="\n").writerows(rows)
         return
-    texts = [[str(cell) for cell in cells] for cells in [heads, *rows]]
+    texts = [[str(cell) for cell in cells] for cells in rows]
     widths = [max(map(len, column)) for column in zip(*texts)]
     for cells in texts:
-        left = [cell.ljust(width) for cell, width in zip(cells[:2], widths)]
-        right = [cell.rjust(width) for cell, width in zip(cells[2:-1], widths[2:])]
-        print("  ".join([*left, *right, cells[-1]]).rstrip())
+        print("  ".join(cell.ljust(width) if at in left else cell.rjust(width) for at, (cell, width) in enumerate(zip(cells, widths))).rstrip())
+
+
+def print_table(rows, as_csv, extra=None):
+    """The table with its head: names and endings to the left, numbers to the right."""
+    heads = [*HEADS[:-1], *(extra.heads() if extra else []), HEADS[-1]]
+    print_rows([heads, *rows], as_csv, (0, 1, len(heads) - 1))
 
 
 class Faulty(Exception):

@@ -8,8 +8,9 @@ WORD = 32
 READ, WRITE, CODE, BIT, REST = 0.42, 0.42, 4, 1 / 64, 100
 # LUTs of the operations of the standard units. Any other counts as a sum.
 OPERATIONS = {
-    "add": 60, "sub": 60, "neg": 40, "and": 16, "or": 16, "xor": 16, "not": 16, "shl": 320, "shr": 330, "shru": 320, "eq": 15, "ne": 15, "lt": 40,
-    "gt": 40, "ltu": 40, "gtu": 40, "mul": 800, "mulhu": 1200, "divu": 3000, "remu": 3000, "ldw": 20, "stw": 20, "ldf": 20, "stf": 20, "out": 10, "in": 10,
+    "add": 60, "sub": 60, "neg": 40, "mul": 800, "mulhu": 1200, "divu": 3000, "remu": 3000, "and": 16, "or": 16, "xor": 16, "not": 16,
+    "shl": 320, "shr": 330, "shru": 320, "eq": 15, "ne": 15, "lt": 40, "gt": 40, "ltu": 40, "gtu": 40,
+    "ldw": 20, "stw": 20, "ldf": 20, "stf": 20, "out": 10, "in": 10,
 }
 OTHER = 60
 

@@ -16,7 +16,8 @@ def stay(machine, by):
     port = by.choice(model.ports(machine))
     buses = model.buses_of(machine, port)
     bus = by.choice(buses)
-    return (model.moved(machine, port, [bus]) if len(buses) > 1 else None), f"{model.told(port)} is on bus {bus} alone: {near.count(len(buses) - 1, 'joint')} less"
+    what = f"{model.told(port)} is on bus {bus} alone: {near.count(len(buses) - 1, 'joint')} less"
+    return (model.moved(machine, port, [bus]) if len(buses) > 1 else None), what
 
 
 def come(machine, by):
@@ -42,7 +43,8 @@ def more_buses(machine, by):
 
 def other_order(machine, by):
     bus = by.choice(list(machine.buses))
-    return (parts.with_first(machine, bus) if bus != next(iter(machine.buses)) else None), f"bus {bus} comes first: moves take the first that is free"
+    made = parts.with_first(machine, bus) if bus != next(iter(machine.buses)) else None
+    return made, f"bus {bus} comes first: moves take the first that is free"
 
 
 def registers(machine, by):
@@ -77,7 +79,8 @@ def template(machine, by):
         return parts.with_template(machine, name, []), f"template {name} is gone: one long immediate less"
     if way == "fewer":
         bus = by.choice(taken)
-        return (parts.with_template(machine, name, [other for other in taken if other != bus]) if len(taken) > 1 else None), f"template {name} leaves bus {bus} free"
+        left = [other for other in taken if other != bus]
+        return (parts.with_template(machine, name, left) if left else None), f"template {name} leaves bus {bus} free"
     free = [bus for bus in machine.buses if bus not in taken]
     bus = by.choice(free) if free else None
     return (parts.with_template(machine, name, [*taken, bus]) if bus else None), f"template {name} takes bus {bus} too"

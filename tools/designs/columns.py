@@ -6,6 +6,8 @@ import runs as commands
 from designs import progress, synth
 
 HEADS = ["LUTs", "flip-flops", "block RAMs", "path"]
+# From here on numbers have no places after the point.
+WHOLE = 1000
 
 
 class Columns:
@@ -27,7 +29,8 @@ class Columns:
             self.failed[at] = str(error)
 
     def measure_all(self, images, view):
-        """Takes the cores of images, each with its machine, side by side; the program `view` has `rtl`. A key that stops it leaves what is measured."""
+        """Takes the cores of images, each with its machine, side by side; the program `view` has `rtl`. A key that stops it leaves what is
+        measured."""
         def one(at):
             core = self.runs.text([view, "rtl", *images[at]])
             if core.status == 0:
@@ -56,4 +59,4 @@ class Columns:
         if not isinstance(cycles, int):
             return [*cells, "", ""]
         time = cycles / cost.clock if self.has_clocks() else cycles * cost.path
-        return [*cells, f"{time:.5g}", f"{(cost.luts + cost.flops) * time:.5g}"]
+        return [*cells, *(f"{number:.4g}" if number < WHOLE else f"{number:.0f}" for number in (time, (cost.luts + cost.flops) * time))]

@@ -1,9 +1,7 @@
 """What a search has found: a text for each machine of the front, with the reason of each change, the programs that were compiled from C, a table,
 and a plot."""
-import csv
 import os
 import shutil
-import sys
 
 import explore
 from designs import columns, model, plot
@@ -75,16 +73,6 @@ def table(points, names, paths, extra):
     return [heads, *rows]
 
 
-def print_table(rows, as_csv):
-    if as_csv:
-        csv.writer(sys.stdout, lineterminator="\n").writerows(rows)
-        return
-    texts = [[str(cell) for cell in cells] for cells in rows]
-    widths = [max(map(len, column)) for column in zip(*texts)]
-    for cells in texts:
-        print("  ".join([cells[0].ljust(widths[0]), *(cell.rjust(width) for cell, width in zip(cells[1:], widths[1:]))]).rstrip())
-
-
 def write_plot(first, points, names, asked):
     """Draws the front into a file."""
     places = [(point.area, point.slow, f"{at:02}") for at, point in enumerate(points, 1)]
@@ -103,5 +91,5 @@ def write(search, asked, trier):
     keep_programs(trier, asked)
     write_plot(first, points, names, asked)
     extra, stopped = measured(trier, [asked.machine, *paths], asked)
-    print_table(table([first, *points], names, [asked.machine, *paths], extra), asked.as_csv)
+    explore.print_rows(table([first, *points], names, [asked.machine, *paths], extra), asked.as_csv, (0,))
     return stopped

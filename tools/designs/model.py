@@ -94,7 +94,7 @@ def lines_of(machine):
     lines += [f"imm {name} size {imm.size} out {imm.out}" for name, imm in machine.imms.items()]
     for name, unit in machine.units.items():
         lines.append(" ".join(["unit", name, *(f"{field} {getattr(unit, field)}" for field in "otr" if getattr(unit, field))]))
-        lines += [" ".join(["op", name, op, *([] if latency is None else [str(latency)])]) for op, (_, latency) in unit.ops.items()]
+        lines += [f"op {name} {op}" + ("" if latency is None else f" {latency}") for op, (_, latency) in unit.ops.items()]
     lines += [f"guard {guard.bus} {guard.file}.{guard.index} {guard.way}" for guard in machine.guards]
     lines += [" ".join(["template", name, f"{t.imm}.{t.index}", *t.buses]) for name, t in machine.templates.items()]
     control = machine.control

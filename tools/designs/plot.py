@@ -73,5 +73,6 @@ def drawn(first, points, title, across, up):
     for (x, y), (_, _, name) in zip(places, points):
         lines.append(f'<circle cx="{x}" cy="{y}" r="4" fill="#2a6fb0"/><text x="{x + 6}" y="{y - 6}">{escaped(name)}</text>')
     x, y, name = axes.x(first[0]), axes.y(first[1]), first[2]
-    lines.append(f'<circle cx="{x}" cy="{y}" r="5" fill="none" stroke="#c0392b" stroke-width="2"/><text x="{x - 8}" y="{y - 8}" text-anchor="end">{escaped(name)}</text>')
+    lines.append(f'<circle cx="{x}" cy="{y}" r="5" fill="none" stroke="#c0392b" stroke-width="2"/>')
+    lines.append(f'<text x="{x - 8}" y="{y - 8}" text-anchor="end">{escaped(name)}</text>')
     return "\n".join([*lines, "</svg>", ""])

@@ -20,8 +20,8 @@ def widths(machine, seen):
         needed = sorted({hot.width_of(word, part.sign) for word, _ in longs[:24]} - set(range(part.short + 1)))
         for bits in needed[:MOST_WIDTHS]:
             held = sum(times for word, times in longs if hot.width_of(word, part.sign) <= bits)
-            yield Proposal(f"{near.count(carried, 'long immediate')} are carried, of which a short field of {bits} bits on {bus} holds {held}",
-                           parts.with_short(machine, bus, bits))
+            told = f"{near.count(carried, 'long immediate')} are carried, of which a short field of {bits} bits on {bus} holds {held}"
+            yield Proposal(told, parts.with_short(machine, bus, bits))
 
 
 def address(machine, seen, words):
@@ -29,15 +29,15 @@ def address(machine, seen, words):
     least = max(1, (words - 1).bit_length())
     for bits in range(least, min(machine.control.address, least + 2)):
         jumps = sum(times for (unit, operation), times in seen.started().items() if unit == "gcu" and operation in hot.JUMPS)
-        yield Proposal(f"{near.count(jumps, 'jump')} and calls go to addresses of {machine.control.address} bits, and the code has {near.count(words, 'word')}",
-                       parts.with_address(machine, bits))
+        told = f"{near.count(jumps, 'jump')} and calls go to addresses of {machine.control.address} bits, and the code has {near.count(words, 'word')}"
+        yield Proposal(told, parts.with_address(machine, bits))
 
 
 def buses(machine, seen):
     """One bus more, and buses in another order."""
+    moves = " and ".join(f"{name} has {count}" for name, count in seen.buses.items())
     for bus in machine.buses:
-        yield Proposal(f"{' and '.join(f'{name} has {count}' for name, count in seen.buses.items())} moves: a move may wait for a bus",
-                       parts.with_bus(machine, bus))
+        yield Proposal(f"{moves} moves: a move may wait for a bus", parts.with_bus(machine, bus))
     for bus in list(machine.buses)[1:]:
         yield Proposal(f"moves take the first bus that is free, and {bus} is not the first", parts.with_first(machine, bus))
     guarded = {guard.bus for guard in machine.guards}
@@ -63,17 +63,19 @@ def units(machine, seen):
         for operations in dict.fromkeys([tuple(done), *((operation,) for operation in done[:MOST_UNITS])]):
             made, name = parts.with_second(machine, unit, operations)
             if made:
-                yield Proposal(f"{unit} starts {near.count(count, 'operation')}, one a cycle: a unit {name} does {', '.join(list(made.units[name].ops))} beside it", made)
+                does = ", ".join(made.units[name].ops)
+                yield Proposal(f"{unit} starts {near.count(count, 'operation')}, one a cycle: a unit {name} does {does} beside it", made)
 
 
 def registers(machine, seen):
     """More registers, where loads and stores of the frame are carried out."""
     spilled = sum(times for (_, operation), times in seen.started().items() if operation in ("ldf", "stf"))
+    told = f"{near.count(spilled, 'load')} and stores go to the frame, where variables without a register stand"
     for file, part in machine.files.items():
         if spilled and part.width == WIDEST:
             for size in dict.fromkeys(min(parts.MOST_REGISTERS, size) for size in (part.size + 4, part.size * 2, part.size * 4)):
                 if size > part.size:
-                    yield Proposal(f"{near.count(spilled, 'load')} and stores go to the frame, where variables without a register stand", parts.with_registers(machine, file, size))
+                    yield Proposal(told, parts.with_registers(machine, file, size))
 
 
 def accesses(machine, _seen):
@@ -95,20 +97,22 @@ def latencies(machine, seen):
         yield Proposal(f"{operation} of {unit} is started {near.count(times, 'time')}, and shows its word {now} cycles later",
                        parts.with_latency(machine, unit, operation, now - 1))
     jumps = sum(times for (unit, _), times in seen.started().items() if unit == "gcu")
-    if machine.control.delay:
-        yield Proposal(f"{near.count(jumps, 'jump')} and calls have {near.count(machine.control.delay, 'delay slot')} each", parts.with_delay(machine, machine.control.delay - 1))
+    slots = machine.control.delay
+    if slots:
+        yield Proposal(f"{near.count(jumps, 'jump')} and calls have {near.count(slots, 'delay slot')} each", parts.with_delay(machine, slots - 1))
 
 
 def templates(machine, _seen):
     """Other buses for a long immediate."""
     for name, part in machine.templates.items():
+        told = f"a long immediate takes {' and '.join(part.buses)}, where no move goes then"
         for bus in part.buses if len(part.buses) > 1 else []:
-            yield Proposal(f"a long immediate takes {' and '.join(part.buses)}, where no move goes then", parts.with_template(machine, name, [other for other in part.buses if other != bus]))
+            yield Proposal(told, parts.with_template(machine, name, [other for other in part.buses if other != bus]))
         for bus in part.buses:
             for other in machine.buses:
                 if other not in part.buses:
                     taken = [other if taken == bus else taken for taken in part.buses]
-                    yield Proposal(f"a long immediate takes {' and '.join(part.buses)}, where no move goes then", parts.with_template(machine, name, taken))
+                    yield Proposal(told, parts.with_template(machine, name, taken))
 
 
 def of(machine, seen, words):

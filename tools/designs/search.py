@@ -34,8 +34,8 @@ class Search:
         size = area.estimate(machine, max(tried.words) * tried.bits)
         first = self.front.first.trial if self.front else tried
         slow = math.prod(now / was for now, was in zip(tried.cycles, first.cycles)) ** (1 / len(tried.cycles))
-        return front.Point(machine, tried, size, slow, [*before, *((text, size, slow) for text in what[-1:])] if len(what) < 2 else
-                           [*before, *((text, None, None) for text in what[:-1]), (what[-1], size, slow)])
+        earlier = [(text, None, None) for text in what[:-1]]
+        return front.Point(machine, tried, size, slow, [*before, *earlier, *((text, size, slow) for text in what[-1:])])
 
     def begin(self, machine):
         """Tries the first machine, and what is left of it without the operations that no program uses."""
@@ -111,6 +111,7 @@ def searched(search, machine):
 
 
 def search(tta, words):
+    """The command, with its status."""
     try:
         asked = search_words.asked_by(words)
     except explore.Faulty as error:

@@ -107,7 +107,8 @@ def told(trier, path):
     better, count = gains(found, came, first)
     for proposal, tried in better[:MOST]:
         print_gain(machine, first, proposal, tried)
-    print(f"{near.count(len(came), 'change')} tried, {count} of them with fewer cycles" + (f"; {len(better) - MOST} more gain less" if len(better) > MOST else ""))
+    more = f"; {len(better) - MOST} more gain less" if len(better) > MOST else ""
+    print(f"{near.count(len(came), 'change')} tried, {count} of them with fewer cycles{more}")
     print_pairs(trier.programs[0], seen)
     if len(came) < len(found):
         ending.say(f"stopped; {len(came)} of {len(found)} changes were tried")
@@ -116,6 +117,7 @@ def told(trier, path):
 
 
 def suggest(tta, words):
+    """The command, with its status."""
     try:
         machine, program, bound = asked_by(words)
     except explore.Faulty as error:

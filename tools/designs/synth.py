@@ -70,6 +70,7 @@ class Synthesis:
         return Cost(*found)
 
     def measured(self, core):
+        """The cost of a core, by the flow in a folder of its own."""
         with tempfile.TemporaryDirectory() as folder:
             for name in os.listdir(SCRIPTS):
                 shutil.copy(os.path.join(SCRIPTS, name), folder)
