@@ -3,9 +3,11 @@ instruction, bits of the code, steps, cycles, cycles a step, and how the run end
 machine, or why there is no image. Pairs are worked at side by side, on all processors.
 
 Its words are machines, `--` and programs, and among them options: `--csv` asks for values with commas, `--bound N` for at most N steps and
-cycles, and `--vary 'LINE {A,B}'` for a machine with each of these values (sweep.py). A program in C is compiled for each machine first. A
+cycles, `--vary 'LINE {A,B}'` for a machine with each of these values (sweep.py), and `--synth FLOW` for what each core costs in hardware
+(designs/columns.py). With `--search` it is another command (designs/search.py). A program in C is compiled for each machine first. A
 program's data words stand in a file of the same name that ends in .input, its input in one that ends in .stream; without them it has none."""
 import csv
+import importlib
 import os
 import subprocess
 import sys
@@ -18,6 +20,7 @@ import from_c
 import runs
 import sweep
 import words as command_words
+from designs import columns, synth
 
 HEADS = ["machine", "program", "words", "bits", "code bits", "steps", "cycles", "cycles/step", "ends"]
 BOUND = "1000000000"
@@ -25,7 +28,7 @@ DIFFERS = ", with another output"
 USAGE, FAILED = 1, 1
 WIDTH_AT, COUNT_AT, FIELD = 8, 12, 4
 
-Asked = namedtuple("Asked", "machines programs as_csv bound changes")
+Asked = namedtuple("Asked", "machines programs as_csv bound changes flow")
 # What a pair came to: the cells of its row up to the output, the outputs of the image and of the program, if they ran, how the image's run
 # ended, and whether that is as it should be.
 Row = namedtuple("Row", "cells output wanted ends is_well")
@@ -63,9 +66,11 @@ def names_of(paths):
 class Explorer:
     """Works at pairs with one program, in a folder of its own."""
 
-    def __init__(self, tta, program, asked, folder):
-        self.tta, self.program, self.asked, self.folder = tta, program, asked, folder
+    def __init__(self, tta, programs, asked, folder, count):
+        self.tta, self.asked, self.folder = tta, asked, folder
+        self.program, self.view = programs[0], programs[-1]
         self.runs = runs.Runs()
+        self.columns = columns.Columns(asked.flow, self.runs, count) if asked.flow else None
 
     def run(self, *words):
         return self.runs.run([self.program, *words])
@@ -87,6 +92,13 @@ class Explorer:
             return Row([""] * 6, None, None, why(made.error).removeprefix(f"{program}:"), False)
         return self.row_of(machine, text, program, number)
 
+    def measure(self, machine, image, number):
+        """Takes what the core of an image costs."""
+        if self.columns and self.columns.synthesis:
+            core = self.runs.text([self.view, "rtl", machine, image])
+            if core.status == 0:
+                self.columns.measure(number, core.output)
+
     def row_of(self, machine, text, program, number):
         """The same of a text, where the program's words stand beside this file."""
         image = os.path.join(self.folder, f"{number}.image")
@@ -100,6 +112,7 @@ class Explorer:
         sizes = [count, bits, count * bits]
         ran = self.run("run", machine, image, beside(program, ".input") or os.devnull, self.asked.bound, *self.stream(program))
         cycles = ran.number_after("cycles")
+        self.measure(machine, image, number)
         if cycles is None:
             return Row([*sizes, "", "", ""], None, wanted, why(ran.error), False)
         ends = "halted" if ran.status == 0 else why(ran.error)
@@ -109,55 +122,72 @@ class Explorer:
         return Row(cells, ran.output, wanted, ends, ends.split(",")[0] in ("halted", "waiting"))
 
 
-def compared(pairs, rows):
+def compared(pairs, rows, extra):
     """The rows with their names, and whether each is as it should be. An output is compared with that of `exec` on the first machine on which
-    `exec` takes the program."""
+    `exec` takes the program. What comes before the ending is added by the columns, if there are any."""
     table, is_well, wanted = [], True, {}
     for at, (machine, program) in enumerate(pairs):
         if at in rows:
             row = rows[at]
             first = wanted[program] = wanted.get(program) or row.wanted
             differs = None not in (row.output, first) and row.output != first
-            table.append([machine, program, *row.cells, row.ends + (DIFFERS if differs else "")])
+            more = extra.cells(at, row.cells[-2]) if extra else []
+            table.append([machine, program, *row.cells, *more, row.ends + (DIFFERS if differs else "")])
             is_well = is_well and row.is_well and not differs
     return table, is_well
 
 
-def print_table(rows, as_csv):
-    """The rows in columns: names to the left, numbers to the right."""
+def print_rows(rows, as_csv, left):
+    """Rows in columns, or with commas: those of these numbers stand to the left, and all others to the right."""
     if as_csv:
-        csv.writer(sys.stdout, lineterminator="\n").writerows([HEADS, *rows])
+        csv.writer(sys.stdout, lineterminator="\n").writerows(rows)
         return
-    texts = [[str(cell) for cell in cells] for cells in [HEADS, *rows]]
+    texts = [[str(cell) for cell in cells] for cells in rows]
     widths = [max(map(len, column)) for column in zip(*texts)]
     for cells in texts:
-        left = [cell.ljust(width) for cell, width in zip(cells[:2], widths)]
-        right = [cell.rjust(width) for cell, width in zip(cells[2:-1], widths[2:])]
-        print("  ".join([*left, *right, cells[-1]]).rstrip())
+        print("  ".join(cell.ljust(width) if at in left else cell.rjust(width) for at, (cell, width) in enumerate(zip(cells, widths))).rstrip())
+
+
+def print_table(rows, as_csv, extra=None):
+    """The table with its head: names and endings to the left, numbers to the right."""
+    heads = [*HEADS[:-1], *(extra.heads() if extra else []), HEADS[-1]]
+    print_rows([heads, *rows], as_csv, (0, 1, len(heads) - 1))
 
 
 class Faulty(Exception):
     """What is wrong with the words of the command."""
 
 
-def asked_by(words):
-    """What the words ask for."""
-    as_csv, bound, changes, names = False, BOUND, [], []
+def value_of(word, value):
+    """The value after an option, which is refused where it is none."""
+    if value is None:
+        raise Faulty(f"{word} takes a word after it")
+    if word == "--bound" and not command_words.is_number(value, command_words.BOUND):
+        raise Faulty("--bound takes a number of steps and cycles, below 2^48")
+    if word == "--synth" and value not in synth.FLOWS:
+        raise Faulty(f"--synth takes {' or '.join(synth.FLOWS)}, and not {value!r}")
+    return value
+
+
+def parts_of(words):
+    """The names among words, and the values of each option, in their order."""
+    names, values = [], {"--csv": [], "--bound": [], "--vary": [], "--synth": []}
     words = iter(words)
     for word in words:
         if word == "--csv":
-            as_csv = True
-        elif word in ("--bound", "--vary"):
-            value = next(words, None)
-            if value is None:
-                raise Faulty(f"{word} takes a word after it")
-            if word == "--bound" and not command_words.is_number(value, command_words.BOUND):
-                raise Faulty("--bound takes a number of steps and cycles, below 2^48")
-            bound, changes = (value, changes) if word == "--bound" else (bound, [*changes, value])
+            values[word].append(True)
+        elif word in values:
+            values[word].append(value_of(word, next(words, None)))
         elif word.startswith("--") and word != "--":
             raise Faulty(f"explore has no option {word}")
         else:
             names.append(word)
+    return names, values
+
+
+def asked_by(words):
+    """What the words ask for."""
+    names, values = parts_of(words)
     at = names.index("--") if "--" in names else 0
     machines, programs = (list(dict.fromkeys(part)) for part in (names[:at], names[at + 1:]))
     if not machines or not programs:
@@ -165,12 +195,13 @@ def asked_by(words):
     for path in machines + programs:
         if not os.path.isfile(path):
             raise Faulty(f"explore: there is no file {path}")
-    return Asked(machines, programs, as_csv, bound, changes)
+    last = {option: given[-1] if given else None for option, given in values.items()}
+    return Asked(machines, programs, bool(last["--csv"]), last["--bound"] or BOUND, values["--vary"], last["--synth"])
 
 
 def work_at(explorer, pairs, rows):
     """Fills the table of rows, by the number of each pair. Where it is stopped, that holds what is done."""
-    with ThreadPoolExecutor(os.cpu_count()) as workers:
+    with ThreadPoolExecutor(runs.processors()) as workers:
         begun = {workers.submit(explorer.row, *pair, at): at for at, pair in enumerate(pairs)}
         try:
             for done in as_completed(begun):
@@ -181,28 +212,46 @@ def work_at(explorer, pairs, rows):
             raise
 
 
+def built(tta, commands):
+    """Where the programs of some commands stand, so that each is built once, and not by each of those that run side by side; or a status."""
+    found = subprocess.run([*tta, "--which", *commands], stdin=subprocess.DEVNULL, stdout=subprocess.PIPE)
+    return found.returncode or os.fsdecode(found.stdout).splitlines()
+
+
+def say_what_lacks(extra, pairs):
+    """Says why columns are empty."""
+    if extra:
+        extra.progress.end()
+    if extra and not extra.synthesis:
+        ending.say("explore: there is no yosys on the path, so the columns of --synth stay empty")
+    for at, why_not in sorted(extra.failed.items()) if extra else []:
+        ending.say(f"explore: no synthesis of {' and '.join(pairs[at])}: {why_not}")
+
+
 def explore(tta, words):
+    if "--search" in words:
+        return importlib.import_module("designs.search").search(tta, words)
     try:
         asked = asked_by(words)
         changed = sweep.machines(asked.machines, names_of(asked.machines), asked.changes)
     except (Faulty, sweep.Faulty) as error:
         ending.say(str(error))
         return USAGE
-    # So that the program is built once, and not by each of those that run side by side.
-    program = subprocess.run([*tta, "--which", "build"], stdin=subprocess.DEVNULL, stdout=subprocess.PIPE)
-    if program.returncode:
-        return program.returncode
+    programs = built(tta, ["build", "rtl"] if asked.flow else ["build"])
+    if isinstance(programs, int):
+        return programs
+    pairs = [(name, program) for program in names_of(asked.programs) for name, _ in changed]
     rows, stopped = {}, False
     with tempfile.TemporaryDirectory() as folder:
         machines = sweep.written(changed, folder)
-        explorer = Explorer(tta, os.fsdecode(program.stdout).rstrip("\n"), asked, folder)
+        explorer = Explorer(tta, programs, asked, folder, len(pairs))
         try:
             work_at(explorer, [(machine, program) for program in asked.programs for machine in machines], rows)
         except KeyboardInterrupt:
             stopped = True
-    pairs = [(name, program) for program in names_of(asked.programs) for name, _ in changed]
-    table, is_well = compared(pairs, rows)
-    print_table(table, asked.as_csv)
+    say_what_lacks(explorer.columns, pairs)
+    table, is_well = compared(pairs, rows, explorer.columns)
+    print_table(table, asked.as_csv, explorer.columns)
     if stopped:
         ending.say(f"stopped; {len(rows)} of {len(pairs)} rows are done")
         return ending.STOPPED

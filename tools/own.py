@@ -13,8 +13,16 @@ OWN = [
     Own("explore.explore", ["explore MACHINES -- PROGRAMS"],
         "compiles and runs each program on each machine, and prints a table. The words of the data space of X.program are those of X.input beside "
         "it, and its input those of X.stream, where these files are there. Among the words, --bound N runs at most N steps and cycles in the "
-        "place of 1000000000, --vary 'space data {16,64}' makes of each machine one with each of these values in that line, and --csv asks for values with "
-        "commas. It ends with 1 where a row has no run that halts or waits, or an output that differs"),
+        "place of 1000000000, --vary 'space data {16,64}' makes of each machine one with each of these values in that line, --synth ice40 or --synth lut6 "
+        "adds what each core costs by yosys, and --csv asks for values with commas. It ends with 1 where a row has no run that halts or waits, or an output that differs"),
+    Own("explore.explore", ["explore --search M -- PROGRAMS"],
+        "searches machines like that of M which are smaller or faster for the programs, and keeps those of which none is both smaller and faster "
+        "than another. Each is built and run, and outputs what exec does. It writes their texts, with the reason of each change, and a plot into "
+        "the folder front, or what --into FOLDER names, and prints a table. It tries 1000 machines, or as many as --steps N says; --seed S "
+        "chooses the chances; --latencies lets latencies and delay slots change too; --synth, --bound and --csv are as above"),
+    Own("designs.suggest.suggest", ["suggest M P"],
+        "what holds the program of P, which may be in C, back on the machine of M: changes of the machine's text that save cycles, most first. "
+        "Each was built and run. --bound N runs at most N steps and cycles"),
     Own("from_c.compile_c", ["c FILE.c .. OUT"],
         "writes the text of a program in C to OUT; docs/C.md says what it takes, and its options"),
     Own("lint.lint", ["lint P", "lint M P"],

@@ -1,6 +1,9 @@
 """Runs commands of the program side by side, each in constant memory however much it outputs, and stops them all at once."""
+import contextlib
 import hashlib
+import os
 import re
+import signal
 import subprocess
 import threading
 
@@ -8,6 +11,11 @@ CHUNK = 1 << 20
 # The last line of a run, and those of its memory, begin with a letter; the words of the output do not.
 LETTER = re.compile(rb"[a-z]")
 STOPPED = -1
+
+
+def processors():
+    """How many commands may run side by side."""
+    return len(os.sched_getaffinity(0)) if hasattr(os, "sched_getaffinity") else os.cpu_count() or 1
 
 
 class Run:
@@ -28,34 +36,40 @@ class Runs:
     def __init__(self):
         self.lock, self.running, self.is_stopped = threading.Lock(), set(), False
 
-    def begin(self, words):
+    def begin(self, words, folder):
         """Starts a command, or gives None where all were stopped. It has a session of its own, so that a key at the terminal stops this one
         alone, which then stops it."""
         with self.lock:
             if self.is_stopped:
                 return None
-            begun = subprocess.Popen(words, stdin=subprocess.DEVNULL, stdout=subprocess.PIPE, stderr=subprocess.PIPE, start_new_session=True)
+            begun = subprocess.Popen(words, cwd=folder, stdin=subprocess.DEVNULL, stdout=subprocess.PIPE, stderr=subprocess.PIPE, start_new_session=True)
             self.running.add(begun)
             return begun
 
-    def run(self, words):
-        """Runs a command to its end."""
-        begun = self.begin(words)
+    def run(self, words, folder=None, read=None):
+        """Runs a command to its end, in a folder. What it prints is read by a function, which gives the output and the rest."""
+        begun = self.begin(words, folder)
         if begun is None:
             return Run(STOPPED, "stopped", None, "")
         with begun:
-            output, rest = split(begun.stdout)
+            output, rest = (read or split)(begun.stdout)
             error = begun.stderr.read().decode("utf-8", "replace")
         with self.lock:
             self.running.discard(begun)
         return Run(begun.returncode, error, output, rest)
 
+    def text(self, words):
+        """Runs a command to its end, and gives all that it prints as its output, which is bytes."""
+        return self.run(words, read=lambda pipe: (pipe.read(), ""))
+
     def stop(self):
-        """Ends all commands, and lets none begin."""
+        """Ends all commands with what they have begun, and lets none begin."""
         with self.lock:
             self.is_stopped = True
             for begun in self.running:
-                begun.kill()
+                if begun.poll() is None:
+                    with contextlib.suppress(ProcessLookupError):
+                        os.killpg(begun.pid, signal.SIGKILL)
 
 
 def split(pipe):
