@@ -1,0 +1,3 @@
+mod Lists
+mod Binary
+mod Machines
