@@ -15,9 +15,9 @@ pub record IsOn (step : State → State) (Stands : State → Type 0) (s : State)
   pub made : is_made step s ≡ true
 
 -- no cycle was carried out, and this is how the run stands
-pub record IsOver (step : State → State) (s : State) (outcome : Outcome) : Type 0 where
+pub record IsOver (step : State → State) (s : State) (why : Outcome) : Type 0 where
   pub made : is_made step s ≡ false
-  pub outcome : (step s).outcome ≡ outcome
+  pub outcome : (step s).outcome ≡ why
 
 -- how a run stands by the answer of a cycle
 abbrev pub outcome_of : CycleStep → (cycle : ℕ) → Outcome

@@ -55,11 +55,7 @@ fn push_mark(out: &mut Vec<u8>, wide: bool, mark: &[u8]) -> Result<(), AllocErro
 
 /// Puts what is told of a signal.
 #[tactic(auto, unfolding(crate::specs::Dump::level_text))]
-fn push_level(
-    out: &mut Vec<u8>,
-    number: usize,
-    level: Level,
-) -> Result<(), AllocError>
+fn push_level(out: &mut Vec<u8>, number: usize, level: Level) -> Result<(), AllocError>
     ensures { OnOk result (out.new.items ≡ out.old.items ++ level_text number level) }
 {
     push_mark(out, level.wide, b"b")?;
@@ -103,11 +99,7 @@ fn level_at(levels: &[Level], number: usize) -> Option<Level>
 }
 
 /// Puts what changed of the levels before.
-fn push_changes(
-    out: &mut Vec<u8>,
-    before: &[Level],
-    now: &[Level],
-) -> Result<(), AllocError>
+fn push_changes(out: &mut Vec<u8>, before: &[Level], now: &[Level]) -> Result<(), AllocError>
     ensures { OnOk result (out.new.items ≡ out.old.items ++ changes_text before.now now.now) }
 {
     for (number, level) in now.iter().enumerate() {

@@ -1,7 +1,7 @@
 //! The states of a run, cycle by cycle.
 
 ghost use Rattle.std.specs.Prelude.{◌≡◌, ◌+◌, ◌<◌, ◌≤◌, ◌^◌, [], ◌++◌, map, slice_get};
-ghost use Rattle.std.specs.Prelude.{IfOk, IfSome, IsTrue, OnOk};
+ghost use Rattle.std.specs.Prelude.{IfOk, IfSome, IsTrue, None, OnOk, if◌then◌else◌, is_some};
 ghost use Rattle.std.specs.List.{AllByRecursion};
 ghost use Rattle.std.specs.Option.{option_copied, option_map_or};
 ghost use Rattle.tta_ops.specs.Set.{stated};
@@ -93,17 +93,18 @@ fn levels_of(
         → IfOk result (λ v. v.items ≡ levels_in basis.now.m.now basis.now.code.now.words s) }
 {
     let mut levels = Vec::new(alloc);
+    let m = basis.m;
     let slots = slots_of(coming(sim, basis.code));
     dump.carried.clear();
     push_carried(&mut dump.carried, &dump.row, sim, slots)?;
     let at = Moment {
         sim,
         row: &dump.row,
-        units: basis.m.units.len(),
+        units: m.units.len(),
         slots,
         carried: dump.carried.as_slice(),
     };
-    push_levels(&mut levels, basis.m, &at, dump.signals.as_slice())?;
+    push_levels(&mut levels, m, &at, dump.signals.as_slice())?;
     Ok(levels)
 }
 
@@ -145,35 +146,44 @@ fn back_of(m: &Machine, pc: u32) -> u32
     pc + 1 + u32::from(m.control.delay)
 }
 
-/// Writes what the instruction of an address writes, if there is one.
-fn write_coming(
+/// The instruction that a cycle carried out, none where it did not.
+fn made_of(coming: Option<&Instruction>, step: CycleStep) -> Option<&Instruction>
+    ensures { option_copied result
+        ≡ (if is_some (went_on step) then option_copied coming.entry else None) }
+{
+    match step {
+        CycleStep::Ran { .. } => coming,
+        CycleStep::Halted => None,
+        CycleStep::Waiting => None,
+        CycleStep::Fault(_) => None,
+    }
+}
+
+/// Writes what the instruction of an address writes, if one was carried out.
+fn write_made(
     row: &mut Row,
     m: &Machine,
     pc: u32,
-    coming: Option<&Instruction>,
+    made: Option<&Instruction>,
     words: &[Option<u32>],
 )
-    requires within { IfSome (option_copied coming) (λ i. pc < 65536) }
-    requires slots { IfSome (option_copied coming)
+    requires within { IfSome (option_copied made) (λ i. pc < 65536) }
+    requires slots { IfSome (option_copied made)
         (λ i. AllByRecursion (λ slot. IsTrue (is_slot_written_to slot)) i.moves) }
     requires templates { AllByRecursion (λ t. IsTrue (is_place (KeptImm t.imm t.reg)))
         m.now.templates }
-    ensures { (s : State) (ws : Written) → words.now ≡ map (carried s) (slots_of (option_copied coming))
+    ensures { (s : State) (ws : Written)
+        → words.now ≡ map (carried s) (slots_of (option_copied made.entry))
         → HasWritten row.old ws → HasWritten row.new (option_map_or
-        (writes_in m.now (pc + 1 + m.now.control.delay) s) (option_copied coming) [] ++ ws) }
+        (writes_in m.now (pc + 1 + m.now.control.delay) s) (option_copied made.entry) [] ++ ws) }
 {
-    if let Some(i) = coming {
+    if let Some(i) = made {
         write_instruction(row, m, back_of(m, pc), i, words);
     }
 }
 
 /// Carries out a cycle, and writes what it writes.
-fn cycle_once(
-    dump: &mut Dump,
-    sim: &mut Sim,
-    basis: &Basis<'_>,
-    next: Option<u32>,
-) -> CycleStep
+fn cycle_once(dump: &mut Dump, sim: &mut Sim, basis: &Basis<'_>, next: Option<u32>) -> CycleStep
     requires loaded { IsRunOf basis.now.m.now basis.now.code.now sim.old }
     requires few { sim.old.cycle < 2 ^ 62 }
     ensures loaded { IsRunOf basis.now.m.now basis.now.code.now sim.new }
@@ -190,9 +200,8 @@ fn cycle_once(
     let pc = sim.pc();
     let coming = coming(&*sim, basis.code);
     let step = sim.cycle(basis.m, basis.code, basis.units, next);
-    if let CycleStep::Ran { .. } = step {
-        write_coming(&mut dump.row, basis.m, pc, coming, dump.carried.as_slice());
-    }
+    let made = made_of(coming, step);
+    write_made(&mut dump.row, basis.m, pc, made, dump.carried.as_slice());
     step
 }
 
@@ -228,5 +237,12 @@ pub fn push_states(
         left -= 1;
     }
     push_moment(alloc, dump, basis, &*sim)?;
-    push_last(&mut dump.out, CycleStep::Ran { put: None, took: false }, sim.cycles())
+    push_last(
+        &mut dump.out,
+        CycleStep::Ran {
+            put: None,
+            took: false,
+        },
+        sim.cycles(),
+    )
 }

@@ -21,12 +21,12 @@ use tta_sim::Sim;
 /// A state of a run: what it keeps, the slots of the instruction that comes, and the words that their
 /// moves carry.
 #[derive(Clone, Copy)]
-pub struct Moment<'a> {
-    pub sim: &'a Sim,
-    pub row: &'a Row,
+pub struct Moment<'s, 'r, 'c> {
+    pub sim: &'s Sim,
+    pub row: &'r Row,
     pub units: usize,
-    pub slots: &'a [Option<Move>],
-    pub carried: &'a [Option<u32>],
+    pub slots: &'c [Option<Move>],
+    pub carried: &'r [Option<u32>],
 }
 
 /// The slot of a bus.
@@ -50,7 +50,7 @@ pub fn word_of(words: &[Option<u32>], bus: usize) -> Option<u32>
 }
 
 /// The word of a signal.
-fn word_in(at: &Moment<'_>, signal: Signal) -> Option<u32>
+fn word_in(at: &Moment<'_, '_, '_>, signal: Signal) -> Option<u32>
     requires units { at.now.units ≡ length at.now.sim.now.shown }
     requires possible { AllByRecursion (λ slot. IsTrue (is_possible_slot at.now.units slot))
         at.now.slots.now }
@@ -75,7 +75,7 @@ fn word_in(at: &Moment<'_>, signal: Signal) -> Option<u32>
 }
 
 /// What is told of a signal.
-fn level_in(m: &Machine, at: &Moment<'_>, signal: Signal) -> Level
+fn level_in(m: &Machine, at: &Moment<'_, '_, '_>, signal: Signal) -> Level
     requires units { at.now.units ≡ length at.now.sim.now.shown }
     requires possible { AllByRecursion (λ slot. IsTrue (is_possible_slot at.now.units slot))
         at.now.slots.now }
@@ -94,7 +94,7 @@ fn level_in(m: &Machine, at: &Moment<'_>, signal: Signal) -> Level
 pub fn push_levels(
     levels: &mut Vec<Level>,
     m: &Machine,
-    at: &Moment<'_>,
+    at: &Moment<'_, '_, '_>,
     signals: &[Signal],
 ) -> Result<(), AllocError>
     requires units { at.now.units ≡ length at.now.sim.now.shown }

@@ -1,6 +1,6 @@
 //! What the buses carry in a state.
 
-ghost use Rattle.std.specs.Prelude.{◌≡◌, Some, map, length, slice_get, IsTrue, OnOk};
+ghost use Rattle.std.specs.Prelude.{◌≡◌, ◌++◌, map, length, slice_get, IsTrue, OnOk};
 ghost use Rattle.std.specs.List.{AllByRecursion, list_any};
 ghost use Rattle.std.specs.Option.{option_copied};
 ghost use Rattle.tta_arch.specs.Effects.{is_active};
@@ -28,7 +28,7 @@ pub fn coming<'c>(sim: &Sim, code: &'c Code) -> Option<&'c Instruction>
 
 /// The slots of the instruction that comes.
 pub fn slots_of(coming: Option<&Instruction>) -> &[Option<Move>]
-    ensures { result.now ≡ slots_of (option_copied coming) }
+    ensures { result.now ≡ slots_of (option_copied coming.entry) }
 {
     match coming {
         None => &[],

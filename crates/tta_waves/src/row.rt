@@ -101,7 +101,10 @@ impl Row {
         ensures { (written : Written) → HasWritten self.old written
             → HasWritten self.new ((KeptImm unit index, word) ∷ written) }
     {
-        self.set(IMMEDIATES + usize::from(unit) * 16 + usize::from(index), word);
+        self.set(
+            IMMEDIATES + usize::from(unit) * 16 + usize::from(index),
+            word,
+        );
     }
 
     /// Writes a word into the operand port of a unit.

@@ -43,13 +43,7 @@ fn write_move(row: &mut Row, m: &Machine, back: u32, dst: Dest, word: u32)
 }
 
 /// Writes what the move of a slot writes where it carries a word.
-fn write_slot(
-    row: &mut Row,
-    m: &Machine,
-    back: u32,
-    slot: Option<Move>,
-    word: Option<u32>,
-)
+fn write_slot(row: &mut Row, m: &Machine, back: u32, slot: Option<Move>, word: Option<u32>)
     requires { IsTrue (is_slot_written_to slot) }
     ensures { (ws : Written) → HasWritten row.old ws
         → HasWritten row.new (slot_writes m.now back slot word ++ ws) }
@@ -64,13 +58,7 @@ fn write_slot(
 }
 
 /// Writes what the moves of slots write, the last first, where they carry these words.
-fn write_moves(
-    row: &mut Row,
-    m: &Machine,
-    back: u32,
-    slots: &[Option<Move>],
-    words: &[Option<u32>],
-)
+fn write_moves(row: &mut Row, m: &Machine, back: u32, slots: &[Option<Move>], words: &[Option<u32>])
     requires { AllByRecursion (λ slot. IsTrue (is_slot_written_to slot)) slots.now }
     ensures { (s : State) (ws : Written) → words.now ≡ map (carried s) slots.now
         → HasWritten row.old ws
