@@ -168,7 +168,8 @@ def of_code(said):
 
 def of_image(said, image_path=None, machine_path=None, code=None):
     code = code or said.number("code")
-    text = found(image.cause, image_path or said.path("IMG"), machine_path or said.path("M"), code)
+    place = () if image_path else (said.number("word"), said.number("bus"))
+    text = found(image.cause, image_path or said.path("IMG"), machine_path or said.path("M"), code, *place)
     return [text] if text else codes("image", code)
 
 

@@ -8,3 +8,4 @@ pub mod NetStages
 pub mod NetTaken
 pub mod TextsPut
 pub mod ViewsTaken
+pub mod SamplesTaken

@@ -14,6 +14,7 @@ use Rattle.tta_code.specs.declared.code.Code.{Code}
 use Rattle.tta_code.specs.Cycle as cycle
 use Rattle.tta_check.specs.Verdict.{IsUnsafe}
 use Rattle.tta_build.specs.Completes.{IsRoomy}
+use Rattle.tta_build.specs.Statement.{IsAccepted, LacksRoom}
 use Rattle.tta_sim.specs.Held.{is_fault}
 use Rattle.tta_given.specs.declared.status.Status.{Status}
 use Rattle.tta_given.specs.declared.status.Status.TheVariants as status
@@ -30,6 +31,7 @@ use Rattle.tta_tool.specs.Debug.{Debugs}
 use Rattle.tta_endings.specs.Debug.{HasSession}
 use Rattle.tta_tool.specs.Sample.{step_bound, program_after, Samples}
 use Rattle.tta_endings.specs.Completes.{showing}
+use Rattle.tta_endings.specs.WriteCompletes.{IsFull}
 
 -- no call on the files has failed, and no put to the output
 pub record IsUndisturbed (before after : World) (old new : Output) : Type 0 where
@@ -74,18 +76,35 @@ CheckCompletes =
     → ChecksCode u M IMG (showing store faults latest) after old new s
     → (s ≡ status.Ok) ⊎ (s ≡ status.NoMemory) ⊎ IsFoundUnsafe pair.machine.value.machine pair.second.value.code s
 
--- A file holds a machine, and the text of a sample is that of a program for it. The pair is accepted and has room, and the program
--- has halted at the bound.
-pub record HasSample (u : Units) (seed lines : ℕ) (store : Store) (M : List ℕ) : Type 0 where
+-- A file holds a machine, and the text of a sample is that of a program for it, which has halted at the bound.
+pub record HasHaltingSample (u : Units) (seed lines : ℕ) (store : Store) (M : List ℕ) : Type 0 where
   pub machine : HasMachine u (Some store) M
   pub program : Program
   pub is : IsProgramIn u machine.value.machine.data_words (sample_text seed lines) program
-  pub roomy : IsRoomy u machine.value.machine program
   pub halted : (program_after u program machine.value.machine.data_words (step_bound lines)).outcome ≡ sequential.Halted
 
--- `sample` of these, where no call fails, puts its summary or is out of memory, and ends in no other way
+-- the same, and the pair is accepted and has room
+pub record HasSample (u : Units) (seed lines : ℕ) (store : Store) (M : List ℕ) : Type 0 where
+  pub sample : HasHaltingSample u seed lines store M
+  pub roomy : IsRoomy u sample.machine.value.machine sample.program
+
+-- the same, and the pair is accepted, whatever its room
+pub record HasAcceptedSample (u : Units) (seed lines : ℕ) (store : Store) (M : List ℕ) : Type 0 where
+  pub sample : HasHaltingSample u seed lines store M
+  pub accepted : IsAccepted u sample.machine.value.machine sample.program
+
+-- `sample` of a pair with room, where no call fails, puts its summary or is out of memory, and ends in no other way
 abbrev pub SampleCompletes : Type 0
 SampleCompletes =
     (u : Units) (store : Store) (faults : ℕ) (latest : Option Fault) (seed lines : ℕ) (M : List ℕ) (after : World) (old new : Output) (s : Status)
     → HasSample u seed lines store M → IsUndisturbed (showing store faults latest) after old new
     → Samples u seed lines M (showing store faults latest) after old new s → (s ≡ status.Ok) ⊎ (s ≡ status.NoMemory)
+
+-- `sample` of an accepted pair, whatever its room, where no call fails, puts its summary, is out of memory, or has code that is too
+-- long; and it ends in no other way
+abbrev pub SampleCompletesWithoutRoom : Type 0
+SampleCompletesWithoutRoom =
+    (u : Units) (store : Store) (faults : ℕ) (latest : Option Fault) (seed lines : ℕ) (M : List ℕ) (after : World) (old new : Output) (s : Status)
+    → (has : HasAcceptedSample u seed lines store M) → IsUndisturbed (showing store faults latest) after old new
+    → Samples u seed lines M (showing store faults latest) after old new s
+    → (s ≡ status.Ok) ⊎ (s ≡ status.NoMemory) ⊎ IsFull (LacksRoom u has.sample.machine.value.machine has.sample.program) s

@@ -18,6 +18,7 @@ ghost use Rattle.tta_endings.specs.WriteCompletes.{BuildCompletesWithoutRoom};
 ghost use Rattle.tta_endings.specs.WriteCompletes.{BuildConvertedCompletesWithoutRoom};
 ghost use Rattle.tta_endings.specs.PutCompletes.{ExecCompletes, RunCompletes};
 ghost use Rattle.tta_endings.specs.PutCompletes.{DebugCompletes, CheckCompletes, SampleCompletes};
+ghost use Rattle.tta_endings.specs.PutCompletes.{SampleCompletesWithoutRoom};
 ghost use Rattle.tta_endings.specs.NetCompletes.{NetCompletes};
 ghost use Rattle.tta_endings.specs.ViewCompletes.{MachineViewCompletes, CodeViewCompletes};
 ghost use Rattle.tta_endings.specs.ViewCompletes.{RunViewCompletes, PromptCompletes};
@@ -92,6 +93,11 @@ pub fn debug_completes()
 /// program has halted at the bound and no call fails.
 pub fn sample_completes()
     ensures { SampleCompletes }
+{}
+
+/// The same of a pair that is accepted, whatever its room: beside these, only its code may be too long.
+pub fn sample_completes_without_room()
+    ensures { SampleCompletesWithoutRoom }
 {}
 
 /// `sample` never ends because its program goes on or waits, where the units' `sub` and `eq` are the

@@ -12,5 +12,5 @@ pub use laws::{
     dis_by_status, dis_completes, exec_by_status, exec_completes, ifconv_by_status,
     ifconv_completes, machine_view_completes, net_by_status, net_completes, prompt_completes,
     run_by_status, run_completes, run_view_completes, sample_by_status, sample_completes,
-    sample_halts, stages_completes, stages_completes_without_room,
+    sample_completes_without_room, sample_halts, stages_completes, stages_completes_without_room,
 };

@@ -1,0 +1,5 @@
+use Rattle.tta_serial.proofs.Serial.{serial_agrees}
+use Rattle.tta_serial.proofs.laws.serial_agrees.Goals as goal
+
+pub returns : goal.returns
+returns c = serial_agrees
