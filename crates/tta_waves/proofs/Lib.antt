@@ -5,3 +5,5 @@ mod Wrote
 mod Told
 mod Going
 mod Rows
+mod Slots
+mod Headers

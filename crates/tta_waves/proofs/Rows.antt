@@ -9,13 +9,13 @@ use Rattle.tta_waves.specs.Dump.{state_text, last_text, states_text}
 
 module _ (step : State → State) (levels : State → List Level) where
   -- a state whose cycle was carried out was put
-  pub state_more : (s : State) (left less : ℕ) (before : List Level) (old new all : List ℕ) → left ≡ suc less → is_made step s ≡ true
-      → new ≡ old ++ state_text before (levels s) s.cycle
-      → old ++ states_text step levels left before s ≡ all → new ++ states_text step levels less (levels s) (step s) ≡ all
-  state_more s left less before old new all is made put was =
+  pub state_more : (s : State) (left less : ℕ) (before after : List Level) (old new all : List ℕ) → left ≡ suc less → is_made step s ≡ true
+      → new ≡ old ++ state_text before (levels s) s.cycle → after ≡ levels s
+      → old ++ states_text step levels left before s ≡ all → new ++ states_text step levels less after (step s) ≡ all
+  state_more s left less before after old new all is made put last was =
       let rest = states_text step levels less (levels s) (step s) in
       let told = state_text before (levels s) s.cycle in
-      ap (λ l. l ++ rest) put ∙ append_assoc old told rest
+      ap (λ l. new ++ states_text step levels less l (step s)) last ∙ ap (λ l. l ++ rest) put ∙ append_assoc old told rest
       ∙ sym (ap (λ (b : Bool). old ++ (told ++ (if b then rest else last_text (step s).outcome s.cycle))) made)
       ∙ sym (ap (λ n. old ++ states_text step levels n before s) is) ∙ was
 

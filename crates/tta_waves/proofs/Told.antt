@@ -36,14 +36,14 @@ module _ (m : Machine) (rules : IsMachine m) where
   P g = IsTrue (is_told (length m.units) g)
 
   buses : AllByRecursion P (flat_map bus_signals (enumerate_from 0 m.buses))
-  buses = all_parts P bus_signals is_bus 16 (λ k b below is. (refl, refl, tt)) 0 m.buses rules.limits.buses rules.buses
+  buses = all_parts P bus_signals is_bus 16 (λ k b below is. (refl, (refl, tt))) 0 m.buses (let few = rules.limits.buses in omega (arith, few)) rules.buses
 
   of_unit : (k : ℕ) (q : OpUnit) → k < length m.units → is_unit m.sockets q ≡ true → AllByRecursion P (unit_signals (k, q))
   of_unit k q below is =
       let few = rules.limits.units in
       all_append P (map (λ op. Starts k op) (range_with_len 0 (length q.ops))) _
       (all_range P (λ op. Starts k op) 0 (length q.ops) (length q.ops) (λ op within. refl) (omega arith))
-      (lt-ltb k 32 (omega (arith, below, few)), lt-ltb k (length m.units) below, tt)
+      (lt-ltb k 32 (omega (arith, below, few)), (lt-ltb k (length m.units) below, tt))
 
   units : AllByRecursion P (flat_map unit_signals (enumerate_from 0 m.units))
   units = all_parts P unit_signals (is_unit m.sockets) (length m.units) of_unit 0 m.units (omega arith) rules.units
@@ -53,22 +53,24 @@ module _ (m : Machine) (rules : IsMachine m) where
       all_range P (λ index. Register k index) 0 f.size 64 (λ index within. rw (lt-ltb k 8 below, lt-ltb index 64 within) refl) (let small = small_file m.sockets f is in omega (arith, small))
 
   files : AllByRecursion P (flat_map file_signals (enumerate_from 0 m.files))
-  files = all_parts P file_signals (is_file m.sockets) 8 of_file 0 m.files rules.limits.files rules.files
+  files = all_parts P file_signals (is_file m.sockets) 8 of_file 0 m.files (let few = rules.limits.files in omega (arith, few)) rules.files
 
   of_imm : (k : ℕ) (i : ImmUnit) → k < 4 → is_imm m.sockets i ≡ true → AllByRecursion P (imm_signals (k, i))
   of_imm k i below is =
       all_range P (λ index. Immediate k index) 0 i.size 16 (λ index within. rw (lt-ltb k 4 below, lt-ltb index 16 within) refl) (let small = small_imm m.sockets i is in omega (arith, small))
 
   imms : AllByRecursion P (flat_map imm_signals (enumerate_from 0 m.imms))
-  imms = all_parts P imm_signals (is_imm m.sockets) 4 of_imm 0 m.imms rules.limits.imms rules.imms
+  imms = all_parts P imm_signals (is_imm m.sockets) 4 of_imm 0 m.imms (let few = rules.limits.imms in omega (arith, few)) rules.imms
 
   -- each signal of the machine
   pub all_told : AllByRecursion P (signals_of m)
   all_told = (
     refl,
-    refl,
-    all_append P (flat_map bus_signals (enumerate_from 0 m.buses)) _ buses
-        (all_append P (flat_map unit_signals (enumerate_from 0 m.units)) _ units
-        (all_append P (flat_map file_signals (enumerate_from 0 m.files)) _ files
-        (all_append P (flat_map imm_signals (enumerate_from 0 m.imms)) _ imms (refl, tt)))),
+    (
+      refl,
+      all_append P (flat_map bus_signals (enumerate_from 0 m.buses)) _ buses
+          (all_append P (flat_map unit_signals (enumerate_from 0 m.units)) _ units
+          (all_append P (flat_map file_signals (enumerate_from 0 m.files)) _ files
+          (all_append P (flat_map imm_signals (enumerate_from 0 m.imms)) _ imms (refl, tt)))),
+    ),
   )

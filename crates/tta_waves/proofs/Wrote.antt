@@ -24,16 +24,17 @@ module _ (m : Machine) (back : ℕ) (s : State) where
   moves_part : (slots : List (Option Move)) (rest : List Effect) → all (map effect_of (filter_map (λ o. o) slots) ++ rest) ≡ moves_write m back s slots ++ all rest
   moves_part [] rest = refl
   moves_part (None ∷ slots) rest = moves_part slots rest
-  moves_part (Some v ∷ slots) rest = by (moved (read_source s) (effect_of v)) where
-    put : (o : Option (Place × ℕ)) → cons_option o (all (map effect_of (filter_map (λ o. o) slots) ++ rest)) ≡ (option_to_list o ++ moves_write m back s slots) ++ all rest
-    put None = moves_part slots rest
-    put (Some p) = ap (λ l. p ∷ l) (moves_part slots rest)
+  moves_part (Some v ∷ slots) rest = by (moves_part slots rest) (moved (read_source s) (effect_of v)) where
+    put : all (map effect_of (filter_map (λ o. o) slots) ++ rest) ≡ moves_write m back s slots ++ all rest → (o : Option (Place × ℕ))
+        → cons_option o (all (map effect_of (filter_map (λ o. o) slots) ++ rest)) ≡ (option_to_list o ++ moves_write m back s slots) ++ all rest
+    put tail None = tail
+    put tail (Some p) = ap (λ l. p ∷ l) tail
 
-    by : (o : Option ℕ)
+    by : all (map effect_of (filter_map (λ o. o) slots) ++ rest) ≡ moves_write m back s slots ++ all rest → (o : Option ℕ)
         → filter_map (write_of m back) (cons_option (option_map_or (λ word. Some (target_of v.dst, word)) o None) (filter_map (bring (read_source s)) (map effect_of (filter_map (λ o. o) slots) ++ rest)))
         ≡ (slot_writes m back (Some v) o ++ moves_write m back s slots) ++ all rest
-    by None = moves_part slots rest
-    by (Some w) = put (write_of m back (target_of v.dst, w))
+    by tail None = tail
+    by tail (Some w) = put tail (write_of m back (target_of v.dst, w))
 
   long_part : (long : Option Long) → all (long_effects m long) ≡ long_writes m long
   long_part None = refl

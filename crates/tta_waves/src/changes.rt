@@ -5,6 +5,7 @@ ghost use Rattle.std.specs.Option.{option_map_or};
 ghost use Rattle.tta_waves.specs.Dump.{binary_of, change_text, changes_text, end_text, last_text, level_text};
 ghost use Rattle.tta_waves.specs.Dump.{same_word, state_text, word_text};
 ghost use Rattle.tta_waves.specs.Steps.{outcome_of};
+ghost use Rattle.tta_code.specs.Cycle.{Fault};
 
 use crate::declare::{push_code, push_number};
 use crate::level::{Level, same_word};
@@ -124,6 +125,16 @@ pub fn push_state(
     push_changes(out, before, now)
 }
 
+/// Puts the number of a fault; its time is not told.
+fn push_fault(out: &mut Vec<u8>, number: u8) -> Result<(), AllocError>
+    ensures { OnOk result (out.new.items ≡ out.old.items ++ end_text (Fault number 0)) }
+{
+    out.extend_from_slice(b"$comment fault ")?;
+    push_number(out, u64::from(number))?;
+    out.extend_from_slice(b" $end\n")?;
+    Ok(())
+}
+
 /// Puts why a run is over, by the answer of its last cycle.
 fn push_end(out: &mut Vec<u8>, step: CycleStep) -> Result<(), AllocError>
     ensures { (cycle : ℕ) → OnOk result
@@ -133,11 +144,7 @@ fn push_end(out: &mut Vec<u8>, step: CycleStep) -> Result<(), AllocError>
         CycleStep::Ran { .. } => Ok(()),
         CycleStep::Halted => out.extend_from_slice(b"$comment halted $end\n"),
         CycleStep::Waiting => out.extend_from_slice(b"$comment waiting $end\n"),
-        CycleStep::Fault(number) => {
-            out.extend_from_slice(b"$comment fault ")?;
-            push_number(out, u64::from(number))?;
-            out.extend_from_slice(b" $end\n")
-        }
+        CycleStep::Fault(number) => push_fault(out, number),
     }
 }
 

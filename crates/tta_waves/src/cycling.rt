@@ -9,8 +9,7 @@ ghost use Rattle.tta_list.specs.Input.{IsFed, left};
 ghost use Rattle.tta_arch.specs.Effects.{Written};
 ghost use Rattle.tta_code.specs.Cycle.{State, next as next_state};
 ghost use Rattle.tta_sim.specs.Held.{Stands, IsRunOf};
-ghost use Rattle.tta_arch.specs.Effects.{KeptImm};
-ghost use Rattle.tta_sim.specs.Places.{is_place, HasWritten};
+ghost use Rattle.tta_sim.specs.Places.{HasWritten};
 ghost use Rattle.tta_waves.specs.Told.{is_slot_written_to};
 ghost use Rattle.tta_waves.specs.Dump.{state_text, states_text};
 ghost use Rattle.tta_waves.specs.Levels.{carried, coming, levels_in, slots_of};
@@ -94,13 +93,14 @@ fn levels_of(
 {
     let mut levels = Vec::new(alloc);
     let m = basis.m;
+    let units = m.units.len();
     let slots = slots_of(coming(sim, basis.code));
     dump.carried.clear();
     push_carried(&mut dump.carried, &dump.row, sim, slots)?;
     let at = Moment {
         sim,
         row: &dump.row,
-        units: m.units.len(),
+        units,
         slots,
         carried: dump.carried.as_slice(),
     };
@@ -170,16 +170,15 @@ fn write_made(
     requires within { IfSome (option_copied made) (λ i. pc < 65536) }
     requires slots { IfSome (option_copied made)
         (λ i. AllByRecursion (λ slot. IsTrue (is_slot_written_to slot)) i.moves) }
-    requires templates { AllByRecursion (λ t. IsTrue (is_place (KeptImm t.imm t.reg)))
-        m.now.templates }
     ensures { (s : State) (ws : Written)
         → words.now ≡ map (carried s) (slots_of (option_copied made.entry))
         → HasWritten row.old ws → HasWritten row.new (option_map_or
         (writes_in m.now (pc + 1 + m.now.control.delay) s) (option_copied made.entry) [] ++ ws) }
 {
-    if let Some(i) = made {
-        write_instruction(row, m, back_of(m, pc), i, words);
-    }
+    let Some(i) = made else {
+        return;
+    };
+    write_instruction(row, m, back_of(m, pc), i, words);
 }
 
 /// Carries out a cycle, and writes what it writes.
@@ -197,11 +196,13 @@ fn cycle_once(dump: &mut Dump, sim: &mut Sim, basis: &Basis<'_>, next: Option<u3
         → dump.old.carried.items ≡ map (carried s) (slots_of (coming on.code.now.words s))
         → Goes step (λ t. Stands sim.new t × HasWritten dump.new.row t.written) s result }
 {
+    let m = basis.m;
+    let _ = &m.buses;
     let pc = sim.pc();
     let coming = coming(&*sim, basis.code);
-    let step = sim.cycle(basis.m, basis.code, basis.units, next);
+    let step = sim.cycle(m, basis.code, basis.units, next);
     let made = made_of(coming, step);
-    write_made(&mut dump.row, basis.m, pc, made, dump.carried.as_slice());
+    write_made(&mut dump.row, m, pc, made, dump.carried.as_slice());
     step
 }
 
@@ -226,12 +227,13 @@ pub fn push_states(
 {
     let mut left = bound;
     let mut rest = input;
-    'cycles: while left > 0 {
+    'states: while left > 0 {
         push_moment(alloc, dump, basis, &*sim)?;
         let cycle = sim.cycles();
         let step = cycle_once(dump, sim, basis, first_of(rest));
         let Some(took) = went_on(step) else {
-            return push_last(&mut dump.out, step, cycle);
+            push_last(&mut dump.out, step, cycle)?;
+            return Ok(());
         };
         rest = left_of(rest, took);
         left -= 1;
@@ -244,5 +246,6 @@ pub fn push_states(
             took: false,
         },
         sim.cycles(),
-    )
+    )?;
+    Ok(())
 }

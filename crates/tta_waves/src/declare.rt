@@ -88,5 +88,6 @@ pub fn push_header(out: &mut Vec<u8>, m: &Machine, signals: &[Signal]) -> Result
         b"$version tta waves $end\n$timescale 1 ns $end\n$scope module tta_core $end\n",
     )?;
     push_declarations(out, m, signals)?;
-    out.extend_from_slice(b"$upscope $end\n$enddefinitions $end\n")
+    out.extend_from_slice(b"$upscope $end\n$enddefinitions $end\n")?;
+    Ok(())
 }

@@ -1,11 +1,12 @@
 //! What the buses carry in a state.
 
 ghost use Rattle.std.specs.Prelude.{◌≡◌, ◌++◌, map, length, slice_get, IsTrue, OnOk};
+ghost use Rattle.std.specs.Prelude.{None, if◌then◌else◌};
 ghost use Rattle.std.specs.List.{AllByRecursion, list_any};
 ghost use Rattle.std.specs.Option.{option_copied};
 ghost use Rattle.tta_arch.specs.Effects.{is_active};
 ghost use Rattle.tta_code.specs.Cycle.{State, read_source, effect_of};
-ghost use Rattle.tta_sim.specs.Held.{Stands};
+ghost use Rattle.tta_sim.specs.Held.{Stands, is_halted};
 ghost use Rattle.tta_sim.specs.Moves.{is_askable, is_possible_slot, is_readable};
 ghost use Rattle.tta_sim.specs.Places.{HasWritten};
 ghost use Rattle.tta_waves.specs.Levels.{acts, carried, coming, is_start, slots_of, starts};
@@ -18,7 +19,10 @@ use tta_sim::Sim;
 
 /// The instruction that a run comes to, none where it has halted.
 pub fn coming<'c>(sim: &Sim, code: &'c Code) -> Option<&'c Instruction>
-    ensures { (s : State) → Stands sim.now s → option_copied result ≡ coming code.now.words s }
+    ensures is { option_copied result
+        ≡ (if is_halted sim.now.outcome then None else slice_get code.now.words sim.now.pc) }
+    ensures comes { (s : State) → Stands sim.now s
+        → option_copied result ≡ coming code.now.words s }
 {
     if sim.halted() {
         return None;
@@ -139,9 +143,10 @@ pub fn is_started(row: &Row, units: usize, unit: u8, op: u8, slots: &[Option<Mov
     ensures { (s : State) → HasWritten row.now s.written
         → result ≡ list_any (starts s unit op) slots.now }
 {
-    let mut found = false;
     for slot in slots {
-        found = found || starts(row, units, unit, op, *slot);
+        if starts(row, units, unit, op, *slot) {
+            return true;
+        }
     }
-    found
+    false
 }

@@ -1,7 +1,7 @@
 //! What an instruction writes.
 
 ghost use Rattle.std.specs.Prelude.{◌≡◌, ◌++◌, ◌%◌, ◌==◌, if◌then◌else◌, map, slice_get, IsTrue};
-ghost use Rattle.std.specs.Prelude.{option_to_list};
+ghost use Rattle.std.specs.Prelude.{option_to_list, IfSome};
 ghost use Rattle.std.specs.List.{AllByRecursion};
 ghost use Rattle.std.specs.Option.{option_copied};
 ghost use Rattle.tta_arch.specs.Effects.{KeptImm, Written, target_of, width_of, write_of};
@@ -72,15 +72,24 @@ fn write_moves(row: &mut Row, m: &Machine, back: u32, slots: &[Option<Move>], wo
 }
 
 /// The template of a long immediate.
-fn template_of(m: &Machine, l: Long) -> Option<&Template>
+fn template_at(m: &Machine, l: Long) -> Option<&Template>
     ensures { option_copied result ≡ slice_get m.now.templates l.template }
 {
     m.templates.as_slice().get(usize::from(l.template))
 }
 
+/// The template of a long immediate, whose register is there.
+fn template_of(m: &Machine, l: Long) -> Option<&Template>
+    ensures is { option_copied result ≡ slice_get m.now.templates l.template }
+    ensures there { IfSome (option_copied result)
+        (λ t. IsTrue (is_place (KeptImm t.imm t.reg))) }
+{
+    let _ = &m.templates;
+    template_at(m, l)
+}
+
 /// Writes what a long immediate writes.
 fn write_long(row: &mut Row, m: &Machine, long: Option<Long>)
-    requires { AllByRecursion (λ t. IsTrue (is_place (KeptImm t.imm t.reg))) m.now.templates }
     ensures { (ws : Written) → HasWritten row.old ws
         → HasWritten row.new (long_writes m.now long ++ ws) }
 {
@@ -101,9 +110,7 @@ pub fn write_instruction(
     i: &Instruction,
     words: &[Option<u32>],
 )
-    requires slots { AllByRecursion (λ slot. IsTrue (is_slot_written_to slot)) i.now.moves }
-    requires templates { AllByRecursion (λ t. IsTrue (is_place (KeptImm t.imm t.reg)))
-        m.now.templates }
+    requires { AllByRecursion (λ slot. IsTrue (is_slot_written_to slot)) i.now.moves }
     ensures { (s : State) (ws : Written) → words.now ≡ map (carried s) i.now.moves
         → HasWritten row.old ws → HasWritten row.new (writes_in m.now back s i.now ++ ws) }
 {

@@ -5,7 +5,7 @@ use Rattle.tta_waves.proofs.Binary.{more_bits}
 use Rattle.tta_waves.proofs.changes.+push_binary.Goals as goal
 
 pub returns : goal.returns
-returns c =
+returns n c =
     let some = c.if-bits-eq0.false in
     let above = c.if-word-lt2.false in
     let old = c.args.out.now.items in

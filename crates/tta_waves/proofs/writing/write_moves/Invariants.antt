@@ -10,7 +10,7 @@ use Rattle.tta_waves.proofs.writing.write_moves.Given as goal
 abbrev pub invariant-loop-i : goal.invariant-loop-i
 invariant-loop-i l = record {
   within : l.i ≤ length l.slots;
-  written : (s : State) (ws : Written) → l.words ≡ map (carried s) l.slots → HasWritten l.fn.row ws → HasWritten l.row (moves_write l.m.now l.back s (drop l.i l.slots) ++ ws);
+  written : (s : State) (ws : Written) → l.words ≡ map (carried s) l.slots → HasWritten l.initial.row ws → HasWritten l.row (moves_write l.m l.back s (drop l.i l.slots) ++ ws);
 }
 
 abbrev pub decreases-loop-i : goal.decreases-loop-i
