@@ -5,7 +5,7 @@ use Rattle.tta_given.specs.Runs.{bound_of}
 use Rattle.tta_designer.specs.declared.view.View.{View}
 use Rattle.tta_designer.specs.declared.view.View.TheVariants.{Picture, Info}
 use Rattle.tta_designer.specs.declared.view.RunView.{RunView}
-use Rattle.tta_designer.specs.declared.view.RunView.TheVariants.{Profile, Play}
+use Rattle.tta_designer.specs.declared.view.RunView.TheVariants.{Profile, Play, Waves}
 use Rattle.tta_designer.specs.declared.request.Request.{Request as Asked}
 use Rattle.tta_designer.specs.declared.request.Request.TheVariants as for
 
@@ -26,7 +26,11 @@ view_of word = if bytes_eq word (codes "picture") then Some Picture else if byte
 
 -- the view of a run that a word names
 abbrev pub run_view_of : (word : List ℕ) → Option RunView
-run_view_of word = if bytes_eq word (codes "profile") then Some Profile else if bytes_eq word (codes "play") then Some Play else None
+run_view_of word =
+    if bytes_eq word (codes "profile") then Some Profile
+    else if bytes_eq word (codes "play") then Some Play
+    else if bytes_eq word (codes "waves") then Some Waves
+    else None
 
 -- the request of the name of a command with a bound, after which the file of an input may be named
 abbrev pub run_request : (word machine subject input last : List ℕ) → (stream : Option (List ℕ)) → Option Request

@@ -1,4 +1,4 @@
--- What `profile` and `play` do, and why they do not.
+-- What `profile`, `play` and `waves` do, and why they do not.
 use Rattle.std.specs.Prelude.{◌≡◌, ◌↔◌, ℕ, List, Option, Err}
 use Rattle.tta_input.specs.Input.{input_of, stream_of}
 use Rattle.tta_list.specs.Laid.{over}
@@ -16,6 +16,7 @@ use Rattle.tta_stages.specs.Stages.{AreStages}
 use Rattle.tta_profile.specs.Statement.{IsProfile}
 use Rattle.tta_blocks.specs.Statement.{IsBlockProfile}
 use Rattle.tta_play.specs.Statement.{page_of}
+use Rattle.tta_waves.specs.Statement.{waves_of}
 use Rattle.tta_given.specs.declared.machine.MachineFile.{MachineFile}
 use Rattle.tta_given.specs.declared.status.Status.{Status}
 use Rattle.tta_given.specs.declared.status.Status.TheVariants as status
@@ -29,12 +30,13 @@ use Rattle.tta_designer.specs.declared.subject.Subject.TheVariants.{Code as OfCo
 use Rattle.tta_designer.specs.Subjects.{IsSubject, RefusesSubject}
 use Rattle.tta_designer.specs.Stages.{IsCauseOf}
 use Rattle.tta_designer.specs.declared.view.RunView.{RunView}
-use Rattle.tta_designer.specs.declared.view.RunView.TheVariants.{Profile, Play}
+use Rattle.tta_designer.specs.declared.view.RunView.TheVariants.{Profile, Play, Waves}
 
 -- a text is what is shown of at most so many cycles of code from a state
 abbrev pub IsRunShown : Units → RunView → Machine → Code → State → (bound : ℕ) → (text : List ℕ) → Type 0
 IsRunShown u Profile m code s bound text = IsProfile u m code s bound text
 IsRunShown u Play m code s bound text = text ≡ page_of u m code s bound
+IsRunShown u Waves m code s bound text = text ≡ waves_of u m code s bound
 
 -- the same from these data words, the code's own data laid over them, with this input
 abbrev pub IsViewOf : Units → RunView → (bound : ℕ) → MachineFile → Whole → (memory words : List ℕ) → (text : List ℕ) → Type 0
@@ -47,6 +49,7 @@ IsViewOf u view bound file whole memory words text =
 abbrev pub IsCompiledShown : Units → RunView → Machine → Program → Stages → State → (bound : ℕ) → (text : List ℕ) → Type 0
 IsCompiledShown u Profile m p stages s bound text = IsBlockProfile u m p stages s bound text
 IsCompiledShown u Play m p stages s bound text = text ≡ page_of u m stages.code s bound
+IsCompiledShown u Waves m p stages s bound text = text ≡ waves_of u m stages.code s bound
 
 -- The program has stages on the way to code for the machine, and a text is what is shown of their code from these data words,
 -- the program's own data laid over them, with this input.
@@ -72,7 +75,7 @@ abbrev pub Tells : Units → RunView → (bound : ℕ) → MachineFile → Subje
 Tells u view bound file subject memory words old new s =
     TextEnds (IsShown u view bound file subject memory words) (Lacks u file subject) old new s
 
--- How `profile M F IN N`, `play M F IN N` and both with STREAM end, where F is the file of an image or of a program. Each ending
+-- How `profile M F IN N`, `play M F IN N`, `waves M F IN N` and all with STREAM end, where F is the file of an image or of a program. Each ending
 -- but out of memory comes only where its cause holds.
 abbrev pub ShowsRun : Units → RunView → (M F IN : List ℕ) → (STREAM : Option (List ℕ)) → (bound : ℕ) → (before after : World) → (old new : Output) → Status → Type 0
 ShowsRun u view M F IN STREAM bound before after old new s =

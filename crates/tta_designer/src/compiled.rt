@@ -1,6 +1,6 @@
 //! The view of a run of a program: its code is built as `build` does, and then run.
 
-ghost use Rattle.std.specs.Prelude.{◌≡◌, ◌+◌, ◌<◌, ◌^◌, ℕ, List, length, IfOk};
+ghost use Rattle.std.specs.Prelude.{◌≡◌, ◌+◌, ◌<◌, ◌^◌, ℕ, List, [], length, IfOk};
 ghost use Rattle.tta_list.specs.Laid.{over};
 ghost use Rattle.tta_ops.specs.Set.{stated};
 ghost use Rattle.tta_arch.specs.Over as machines;
@@ -25,6 +25,7 @@ use tta_profile::Basis;
 use tta_program::{Program, lay_lines};
 use tta_sim::Sim;
 use tta_stages::stages_of;
+use tta_waves::waves;
 
 /// Loads the code of a program for a run from data words, with the program's data laid over them.
 fn load_compiled(alloc: Global, on: &Compiled<'_>, memory: Vec<u32>) -> Result<Sim, AllocError>
@@ -54,7 +55,7 @@ fn text_of_blocks(
     requires stages { AreStages (stated unit_meaning on.now.units.now) on.now.m.now on.now.p.now
         on.now.stages.now }
     ensures { let U = stated unit_meaning on.now.units.now in
-        (s : State) → Stands sim.old s → s.rest ≡ words.now
+        (s : State) → Stands sim.old s → s.written ≡ [] → s.rest ≡ words.now
         → MadeEnds (IsCompiledShown U view on.now.m.now on.now.p.now on.now.stages.now s bound)
         no_memory (λ v. v.items) result }
 {
@@ -66,6 +67,7 @@ fn text_of_blocks(
     let text = match view {
         RunView::Profile => profile_blocks(alloc, on, sim, words, bound),
         RunView::Play => play(alloc, &basis, sim, words, bound),
+        RunView::Waves => waves(alloc, &basis, sim, words, bound),
     };
     match text {
         Ok(text) => Ok(text),

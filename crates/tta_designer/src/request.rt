@@ -48,6 +48,9 @@ fn run_view_of(word: &str) -> Option<RunView>
     if word == "play" {
         return Some(RunView::Play);
     }
+    if word == "waves" {
+        return Some(RunView::Waves);
+    }
     None
 }
 

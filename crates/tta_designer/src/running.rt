@@ -1,7 +1,7 @@
-//! The commands `profile` and `play`: the code of an image, or of a program, is run cycle by cycle, and it
-//! is told where the cycles go, or a page is made that plays them.
+//! The commands `profile`, `play` and `waves`: the code of an image, or of a program, is run cycle by cycle,
+//! and it is told where the cycles go, or a page is made that plays them, or a dump of their signals.
 
-ghost use Rattle.std.specs.Prelude.{◌≡◌, ◌+◌, ◌<◌, ◌^◌, ℕ, List, length, option_map, IfOk};
+ghost use Rattle.std.specs.Prelude.{◌≡◌, ◌+◌, ◌<◌, ◌^◌, ℕ, List, [], length, option_map, IfOk};
 ghost use Rattle.tta_list.specs.Laid.{over};
 ghost use Rattle.tta_ops.specs.Set.{stated};
 ghost use Rattle.tta_arch.specs.Over as machines;
@@ -27,6 +27,7 @@ use tta_play::play;
 use tta_ports::{Files, Sink};
 use tta_profile::{Basis, profile};
 use tta_sim::Sim;
+use tta_waves::waves;
 
 /// Loads code for a run from data words, with its data laid over them.
 pub fn load_code(
@@ -58,13 +59,14 @@ fn text_of_basis(
     requires loaded { IsRunOf basis.now.m.now basis.now.code.now sim.old }
     requires few { sim.old.cycle + bound < 2 ^ 62 }
     ensures { let on = basis.now in let U = stated unit_meaning on.units.now in
-        (s : State) → Stands sim.old s → s.rest ≡ words.now
+        (s : State) → Stands sim.old s → s.written ≡ [] → s.rest ≡ words.now
         → MadeEnds (IsRunShown U view on.m.now on.code.now s bound) no_memory
         (λ v. v.items) result }
 {
     let text = match view {
         RunView::Profile => profile(alloc, basis, sim, words, bound),
         RunView::Play => play(alloc, basis, sim, words, bound),
+        RunView::Waves => waves(alloc, basis, sim, words, bound),
     };
     match text {
         Ok(text) => Ok(text),
@@ -91,7 +93,7 @@ fn text_of_sim<'x>(
     requires loaded { IsRunOf on.now.file.now.machine on.now.whole.now.code sim.old }
     requires few { sim.old.cycle + request.now.bound < 2 ^ 62 }
     ensures { let U = stated unit_meaning units.now in
-        (s : State) → Stands sim.old s → s.rest ≡ words.now
+        (s : State) → Stands sim.old s → s.written ≡ [] → s.rest ≡ words.now
         → MadeEnds (IsRunShown U request.now.view on.now.file.now.machine on.now.whole.now.code s
         request.now.bound) no_memory (λ v. v.items) result }
 {

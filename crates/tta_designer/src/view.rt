@@ -16,4 +16,6 @@ pub enum RunView {
     Profile,
     /// A page that plays it, as HTML.
     Play,
+    /// A dump of its signals, cycle by cycle.
+    Waves,
 }

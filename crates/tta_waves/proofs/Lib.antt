@@ -1,0 +1,9 @@
+mod Lists
+mod Binary
+mod Machines
+mod Wrote
+mod Told
+mod Going
+mod Rows
+mod Slots
+mod Headers

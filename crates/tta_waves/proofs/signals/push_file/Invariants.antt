@@ -1,0 +1,8 @@
+use Rattle.std.proofs.Common.{◌≡◌, ◌++◌}
+use Rattle.std.specs.Prelude.{map}
+use Rattle.std.specs.List.{range_with_len}
+use Rattle.tta_waves.specs.declared.signal.Signal.TheVariants.{Register}
+use Rattle.tta_waves.proofs.signals.push_file.Given as goal
+
+abbrev pub invariant-loop-index : goal.invariant-loop-index
+invariant-loop-index l = l.list.items ≡ l.initial.list.items ++ map (λ index. Register l.file index) (range_with_len 0 l.index)

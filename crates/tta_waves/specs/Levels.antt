@@ -1,0 +1,74 @@
+-- The word of each signal in a state.
+use Rattle.std.specs.Prelude.{ℕ, ◌==◌, Bool, false, ◌&&◌, if◌then◌else◌, List, [], map, Option, Some, None, slice_get, slice_index_or, option_and_then}
+use Rattle.std.specs.Option.{option_map_or}
+use Rattle.std.specs.List.{list_any}
+use Rattle.tta_arch.specs.declared.ends.Dest.{Dest}
+use Rattle.tta_arch.specs.declared.ends.Dest.TheVariants as dest
+use Rattle.tta_arch.specs.Machine.{Machine}
+use Rattle.tta_arch.specs.Effects.{KeptReg, KeptImm, KeptOperand, KeptRa, kept, is_active, moved}
+use Rattle.tta_code.specs.declared.code.Move.{Move}
+use Rattle.tta_code.specs.declared.code.Instruction.{Instruction}
+use Rattle.tta_code.specs.Cycle.{State, read_source, effect_of, port}
+use Rattle.tta_sim.specs.Held.{is_halted}
+use Rattle.tta_waves.specs.declared.level.Level.{Level}
+use Rattle.tta_waves.specs.declared.signal.Signal.{Signal}
+use Rattle.tta_waves.specs.declared.signal.Signal.TheVariants.{Address, Halted, Acts, Carried, Starts, Operand, Shown, Register, Immediate, ReturnAddress}
+use Rattle.tta_waves.specs.Signals.{signals_of, is_wide}
+
+-- ---- what the buses carry
+
+-- the instruction that a state comes to: none where the run has halted
+abbrev pub coming : List Instruction → State → Option Instruction
+coming words s = if is_halted s.outcome then None else slice_get words s.pc
+
+-- its slots
+abbrev pub slots_of : Option Instruction → List (Option Move)
+slots_of coming = option_map_or (λ i. i.moves) coming []
+
+-- whether a slot has a move that acts
+abbrev pub acts : State → Option Move → Bool
+acts s slot = option_map_or (λ v. is_active (read_source s) (effect_of v)) slot false
+
+-- the word that the move of a slot carries, if it acts
+abbrev pub carried : State → Option Move → Option ℕ
+carried s slot = option_and_then (λ v. moved (read_source s) (effect_of v)) slot
+
+-- whether a destination starts an operation of a unit
+abbrev pub is_start : (unit op : ℕ) → Dest → Bool
+is_start unit op (dest.Trigger other which) = other == unit && which == op
+is_start unit op (dest.Reg file index) = false
+is_start unit op (dest.Operand other) = false
+is_start unit op dest.Jump = false
+is_start unit op dest.Call = false
+is_start unit op dest.Halt = false
+
+-- whether a slot has a move that acts and starts it
+abbrev pub starts : State → (unit op : ℕ) → Option Move → Bool
+starts s unit op slot = option_map_or (λ v. is_start unit op v.dst && is_active (read_source s) (effect_of v)) slot false
+
+-- ---- levels
+
+-- a truth as a word
+abbrev pub bit : Bool → ℕ
+bit truth = if truth then 1 else 0
+
+-- the word of a signal in a state that comes to these slots; none where no word was ever written, or where a bus carries none
+abbrev pub word_in : State → List (Option Move) → Signal → Option ℕ
+word_in s slots Address = Some s.pc
+word_in s slots Halted = Some (bit (is_halted s.outcome))
+word_in s slots (Acts bus) = Some (bit (acts s (slice_index_or slots bus None)))
+word_in s slots (Carried bus) = carried s (slice_index_or slots bus None)
+word_in s slots (Starts unit op) = Some (bit (list_any (starts s unit op) slots))
+word_in s slots (Operand unit) = kept s.written (KeptOperand unit)
+word_in s slots (Shown unit) = port s unit
+word_in s slots (Register file index) = kept s.written (KeptReg file index)
+word_in s slots (Immediate unit index) = kept s.written (KeptImm unit index)
+word_in s slots ReturnAddress = kept s.written KeptRa
+
+-- what is told of a signal: its word, and whether it has more than one bit
+abbrev pub level_in : Machine → State → List (Option Move) → Signal → Level
+level_in m s slots signal = record { wide = is_wide m signal; word = word_in s slots signal }
+
+-- the levels of all signals in a state
+unfoldable pub levels_in : Machine → List Instruction → State → List Level
+levels_in m words s = map (level_in m s (slots_of (coming words s))) (signals_of m)

@@ -1,0 +1,7 @@
+pub mod Signals
+pub mod Levels
+pub mod Writes
+pub mod Dump
+pub mod Statement
+pub mod Steps
+pub mod Told
