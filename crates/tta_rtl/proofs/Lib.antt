@@ -1,1 +1,3 @@
+mod Choices
 mod Layouts
+mod RegisterTexts

@@ -1,11 +1,16 @@
 -- The text of lists: of choices, of wires and of registers.
-use Rattle.std.specs.Prelude.{ℕ, ◌+◌, Bool, true, false, List, [], ◌∷◌, ◌++◌, map, codes}
-use Rattle.std.specs.List.{flat_map}
+use Rattle.std.specs.Prelude.{ℕ, ◌+◌, Bool, true, false, List, [], ◌∷◌, ◌++◌, map, filter, if◌then◌else◌, codes}
+use Rattle.std.specs.List.{flat_map, enumerate_from}
 use Rattle.tta_arch.specs.declared.parts.UnitOp.{UnitOp}
 use Rattle.tta_arch.specs.declared.ends.Dest.TheVariants as dest
 use Rattle.tta_arch.specs.Machine.{Machine}
-use Rattle.tta_hardware.specs.Signals.{Signal as Named, Operand, Trigger, Expression}
-use Rattle.tta_hardware.specs.Wires.{arrivals}
+use Rattle.tta_arch.specs.Joins.{is_dest_on}
+use Rattle.tta_arch.specs.declared.ends.Dest.{Dest}
+use Rattle.tta_arch.specs.declared.parts.Op.{Op}
+use Rattle.tta_arch.specs.declared.parts.Unit.{Unit as OpUnit}
+use Rattle.tta_circuit.specs.Circuit.{Signal}
+use Rattle.tta_hardware.specs.Signals.{Signal as Named, Word, Operand, Trigger, Expression}
+use Rattle.tta_hardware.specs.Wires.{arrivals, hits}
 use Rattle.tta_hardware.specs.Hardware.{wire}
 use Rattle.tta_hardware.specs.Registers.{register}
 use Rattle.tta_verilog.specs.Circuits.{range, wire_text, register_text}
@@ -24,6 +29,14 @@ choice_start test on = codes "(" ++ (test ++ (codes ")?(" ++ (on ++ codes "):"))
 abbrev pub choices : Machine → List (Expression × Expression) → List ℕ
 choices m [] = []
 choices m (x ∷ xs) = choice_start (text_of m x.0) (text_of m x.1) ++ choices m xs
+
+-- what the move of a bus brings to a destination, after the test whether it does; nothing where the bus does not lead there
+unfoldable pub arrival : Machine → Dest → (bus : ℕ) → List ℕ
+arrival m dst bus = if is_dest_on m bus dst then choice_start (text_of m (hits m dst bus)) (text_of m (Signal (Word bus))) else []
+
+-- where those operations of a unit stand that pass a test
+unfoldable pub places_in : (Op → Bool) → ℕ × OpUnit → List (ℕ × ℕ)
+places_in test u = map (λ o. (u.0, o.0)) (filter (λ o. test o.1.op) (enumerate_from 0 u.1.ops))
 
 -- what starts these operations of a unit, the first having this number
 abbrev pub triggers : Machine → (unit op : ℕ) → List UnitOp → List ℕ

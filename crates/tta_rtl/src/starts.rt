@@ -8,7 +8,7 @@ ghost use Rattle.tta_hardware.specs.Chains.{any_of, first_of};
 ghost use Rattle.tta_hardware.specs.Signals as s;
 ghost use Rattle.tta_hardware.specs.Wires as w;
 ghost use Rattle.tta_names.specs.Names.{text_of};
-ghost use Rattle.tta_rtl.specs.Texts.{places_of, unit_word};
+ghost use Rattle.tta_rtl.specs.Texts.{places_in, places_of, unit_word};
 
 use crate::on::On;
 use crate::reach::{push_arrivals, push_reached};
@@ -144,6 +144,16 @@ fn add_ops(
     }
 }
 
+/// Adds those of the operations of a unit that are one.
+#[tactic(auto, unfolding(crate::specs::Texts::places_in))]
+fn add_unit(found: &mut Vec<OpAt>, wanted: Op, unit: u8, u: &Unit) -> Result<(), AllocError>
+    requires few { length u.now.ops ≤ 255 }
+    ensures { OnOk result (places_of found.new.items
+        ≡ places_of found.old.items ++ places_in (same_op wanted) (unit, u.now)) }
+{
+    add_ops(found, wanted, unit, 0, u.ops.as_slice())
+}
+
 /// Adds those of the operations of some units that are one, these being the units from one on.
 fn add_units(
     found: &mut Vec<OpAt>,
@@ -155,19 +165,19 @@ fn add_units(
     requires few { unit + length units.now ≤ 255 }
     requires rules { list_all (is_unit sockets.now) units.now ≡ true }
     ensures { OnOk result (places_of found.new.items ≡ places_of found.old.items
-        ++ flat_map (λ u. map (λ o. (u.0, o.0))
-        (filter (λ o. same_op wanted o.1.op) (enumerate_from 0 u.1.ops))) (enumerate_from unit units.now)) }
+        ++ flat_map (places_in (same_op wanted)) (enumerate_from unit units.now)) }
 {
     match units {
         [] => Ok(()),
         [u, rest @ ..] => {
-            add_ops(found, wanted, unit, 0, u.ops.as_slice())?;
+            add_unit(found, wanted, unit, u)?;
             add_units(found, sockets, wanted, unit + 1, rest)
         }
     }
 }
 
 /// Where units offer an operation.
+#[tactic(auto, unfolding(crate::specs::Texts::places_in))]
 pub fn all_ops(alloc: Global, m: &Machine, wanted: Op) -> Result<Vec<OpAt>, AllocError>
     ensures { IfOk result (λ ops. places_of ops.items ≡ w.all_ops m.now (same_op wanted)) }
 {
