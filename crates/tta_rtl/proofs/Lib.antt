@@ -1,3 +1,5 @@
 mod Choices
 mod Layouts
+mod Pieces
 mod RegisterTexts
+mod UnitWires

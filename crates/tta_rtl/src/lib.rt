@@ -13,6 +13,8 @@ mod results;
 mod spaces;
 mod starts;
 mod templates;
+mod unit_wires;
+mod units;
 mod whole;
 
 pub use whole::write_rtl;
