@@ -2,11 +2,15 @@
 #![tactic(auto)]
 
 mod buses;
+mod coming;
 mod control;
+mod dues;
 mod fields;
 mod functions;
+mod loads;
 mod on;
 mod pipes;
+mod ports;
 mod reach;
 mod registers;
 mod results;
