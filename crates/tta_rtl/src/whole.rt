@@ -5,14 +5,16 @@ ghost use Rattle.tta_code.specs.Legal.{IsLegalCode};
 ghost use Rattle.tta_code.specs.Whole.{fits};
 
 use crate::buses::push_buses;
-use crate::control::{push_control, push_ports};
+use crate::control::push_control;
 use crate::fields::push_fields;
 use crate::functions::push_functions;
 use crate::on::On;
 use crate::pipes::push_pipes;
+use crate::ports::push_ports;
 use crate::registers::{push_kept, push_states};
 use crate::spaces::{push_code, push_memory, push_store};
-use crate::starts::{all_ops, push_units};
+use crate::starts::all_ops;
+use crate::unit_wires::push_units;
 use std::alloc::{AllocError, Global};
 use tta_arch::{Layout, Machine, Op};
 use tta_code::{Whole, lay};

@@ -1,5 +1,5 @@
 use Rattle.std.proofs.Common.{length}
-use Rattle.tta_rtl.proofs.pipes.+push_loads_from.Given as goal
+use Rattle.tta_rtl.proofs.loads.+push_loads_from.Given as goal
 
 -- the rest of the list is shorter
 abbrev pub decreases-push_loads_from : goal.decreases-push_loads_from

@@ -1,5 +1,5 @@
 use Rattle.std.proofs.Common.{length}
-use Rattle.tta_rtl.proofs.starts.+push_units_from.Given as goal
+use Rattle.tta_rtl.proofs.unit_wires.+push_units_from.Given as goal
 
 -- the rest of the list is shorter
 abbrev pub decreases-push_units_from : goal.decreases-push_units_from
