@@ -1,1 +1,3 @@
 mod Layouts
+mod Shares
+mod Texts
