@@ -1,3 +1,5 @@
+mod Choices
 mod Layouts
+mod RegisterTexts
 mod Shares
 mod Texts

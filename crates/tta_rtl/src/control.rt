@@ -7,7 +7,7 @@ ghost use Rattle.tta_arch.specs.Rules.{is_unit};
 use crate::on::On;
 use crate::reach::{push_arrivals, push_reached};
 use crate::results::push_fresh;
-use crate::starts::{OpAt, all_ops, push_some_start, push_word_of_start};
+use crate::starts::{OpAt, UnitWord, all_ops, push_some_start, push_word_of_start};
 use std::alloc::{AllocError, Global};
 use tta_arch::{Dest, Op, Unit};
 use tta_names::push_of_unit;
@@ -117,6 +117,6 @@ pub fn push_control(alloc: Global, out: &mut Vec<u8>, on: &On<'_>) -> Result<(),
         out,
         b"wire [0:0] n_puts = (n_goes)&&(n_gives);\nwire [31:0] n_put = ",
     )?;
-    push_word_of_start(out, on.m, b"trigger_", gives.as_slice())?;
+    push_word_of_start(out, on.m, UnitWord::Trigger, gives.as_slice())?;
     push_text(out, b";\n")
 }

@@ -1,8 +1,9 @@
 //! The registers: those of files, of immediate units and of control.
 
-ghost use Rattle.std.specs.Prelude.{◌≡◌, ◌+◌, ◌<◌, ◌≤◌, ◌^◌, map, length};
+ghost use Rattle.std.specs.Prelude.{◌≡◌, ◌+◌, ◌<◌, ◌≤◌, ◌^◌, ◌++◌, map, length, OnOk};
 ghost use Rattle.std.specs.List.{range_with_len};
 ghost use Rattle.tta_arch.specs.Layout.{fields_of};
+ghost use Rattle.tta_rtl.specs.Texts.{register_start};
 
 use crate::on::On;
 use crate::reach::{push_hits, push_reached};
@@ -13,12 +14,16 @@ use tta_verilog::{push_constant, push_number, push_range, push_text};
 
 /// Puts how the line of a register begins: where it is declared, how many bits it has, and else when it
 /// takes a word.
+#[tactic(auto, unfolding(crate::specs::Texts::register_start))]
 pub fn start_register(
     out: &mut Vec<u8>,
     declares: bool,
     width: u32,
     restarts: bool,
-) -> Result<(), AllocError> {
+) -> Result<(), AllocError>
+    ensures { OnOk result
+        (out.new.items ≡ out.old.items ++ register_start declares width restarts) }
+{
     if declares {
         push_text(out, b"reg ")?;
         return push_range(out, width);

@@ -1,7 +1,7 @@
 //! The memories: the code as a function of its address, and the two spaces.
 
 use crate::on::On;
-use crate::starts::{OpAt, push_some_start, push_word_of_start};
+use crate::starts::{OpAt, UnitWord, push_some_start, push_word_of_start};
 use std::alloc::AllocError;
 use tta_verilog::{push_bit, push_constant, push_number, push_range, push_text};
 
@@ -100,14 +100,14 @@ pub fn push_store(
     push_text(out, b"always @(posedge clk) if ((n_goes)&&((")?;
     push_some_start(out, on.m, stores)?;
     push_text(out, b")&&((")?;
-    push_word_of_start(out, on.m, b"operand_", stores)?;
+    push_word_of_start(out, on.m, UnitWord::Operand, stores)?;
     push_text(out, b")<(")?;
     push_constant(out, 32, u64::from(size))?;
     push_text(out, b")))) ")?;
     push_text(out, name)?;
     push_text(out, b"[")?;
-    push_word_of_start(out, on.m, b"operand_", stores)?;
+    push_word_of_start(out, on.m, UnitWord::Operand, stores)?;
     push_text(out, b"] <= ")?;
-    push_word_of_start(out, on.m, b"trigger_", stores)?;
+    push_word_of_start(out, on.m, UnitWord::Trigger, stores)?;
     push_text(out, b";\n")
 }
