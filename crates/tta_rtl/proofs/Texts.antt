@@ -1,5 +1,5 @@
 -- Texts that are put one after another.
-use Rattle.std.proofs.Common.{◌≡◌, ℕ, List, [], ◌∷◌, ◌++◌, map, length, sym, ap, ◌∙◌}
+use Rattle.std.proofs.Common.{◌≡◌, ℕ, List, [], ◌∷◌, ◌++◌, map, length, sym, ap, append_assoc, ◌∙◌}
 use Rattle.std.specs.List.{flat_map}
 use Rattle.std.proofs.lemmas.List.{append-nil, map-append}
 use Rattle.std.proofs.lemmas.Grind.{flat_map-append}
@@ -33,5 +33,6 @@ pub all_fields_text : (m : Machine)
 all_fields_text m =
     let buses = flat_map (bus_fields m) (numbers (length m.buses)) in
     let template = with_bits (template_width m) TemplateOf in
-    fields_append m buses (template ++ LongOf ∷ [])
-    ∙ ap (λ (t : List ℕ). fields_text m buses ++ t) (fields_append m template (LongOf ∷ []))
+    let long = fields_text m (LongOf ∷ []) in
+    fields_append m (buses ++ template) (LongOf ∷ []) ∙ ap (λ (t : List ℕ). t ++ long) (fields_append m buses template)
+    ∙ append_assoc (fields_text m buses) (fields_text m template) long
