@@ -72,12 +72,12 @@ shares_of_buses m taken bus (suc n) =
     let width = min (bus_width m bus) (32 - left) in
     let below = shares_from m (Signal Whole) taken (bus + 1) n in
     ap (λ (k : ℕ). if has_bit taken bus && nat_lt k 32
-      then above_text k (sum_by (λ f. f.width) (map (fields_of m) (range_with_len (bus + 1) n))) (min (bus_width m bus) (32 - k))
-      (shares_text taken (bus + 1) (map (fields_of m) (range_with_len (bus + 1) n)))
-      else shares_text taken (bus + 1) (map (fields_of m) (range_with_len (bus + 1) n))) (share_of_buses m taken (bus + 1) n)
+    then above_text k (sum_by (λ f. f.width) (map (fields_of m) (range_with_len (bus + 1) n))) (min (bus_width m bus) (32 - k))
+    (shares_text taken (bus + 1) (map (fields_of m) (range_with_len (bus + 1) n)))
+    else shares_text taken (bus + 1) (map (fields_of m) (range_with_len (bus + 1) n))) (share_of_buses m taken (bus + 1) n)
     ∙ ap (λ (k : ℕ). if has_bit taken bus && nat_lt left 32
-      then above_text left k width (shares_text taken (bus + 1) (map (fields_of m) (range_with_len (bus + 1) n)))
-      else shares_text taken (bus + 1) (map (fields_of m) (range_with_len (bus + 1) n))) (width_of_buses m (bus + 1) n)
+    then above_text left k width (shares_text taken (bus + 1) (map (fields_of m) (range_with_len (bus + 1) n)))
+    else shares_text taken (bus + 1) (map (fields_of m) (range_with_len (bus + 1) n))) (width_of_buses m (bus + 1) n)
     ∙ ap (λ (t : List ℕ). if has_bit taken bus && nat_lt left 32 then above_text left low width t else t) rest
     ∙ ap (λ (t : List ℕ). if has_bit taken bus && nat_lt left 32 then t else text_of m below) (above_is m left low width below)
     ∙ either m (has_bit taken bus && nat_lt left 32) (above (Signal Whole) left low width below) below

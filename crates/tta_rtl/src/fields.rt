@@ -1,6 +1,6 @@
 //! The fields of an instruction as parts of its word.
 
-ghost use Rattle.std.specs.Prelude.{◌≡◌, ◌+◌, ◌<◌, ◌≤◌, ◌^◌, ◌++◌, [], ◌∷◌, true, map, length, OnOk};
+ghost use Rattle.std.specs.Prelude.{◌≡◌, ◌+◌, ◌<◌, ◌≤◌, ◌^◌, ◌++◌, [], ◌∷◌, map, length, OnOk};
 ghost use Rattle.std.specs.List.{flat_map, range_with_len, sum_by};
 ghost use Rattle.tta_arch.specs.Fields.{dest_width, numbers, template_width};
 ghost use Rattle.tta_arch.specs.Layout.{fields_of};
@@ -126,12 +126,7 @@ fn push_guard(
 
 /// Puts the word of the short field of a bus. So many bits stand below it.
 #[tactic(auto, unfolding(crate::specs::Parts::wire_start, tta_verilog::specs::Circuits::wire_line))]
-fn push_short_wire(
-    out: &mut Vec<u8>,
-    m: &Machine,
-    bus: usize,
-    below: u32,
-) -> Result<(), AllocError>
+fn push_short_wire(out: &mut Vec<u8>, m: &Machine, bus: usize, below: u32) -> Result<(), AllocError>
     requires room { below < 2 ^ 31 }
     requires low { below ≡ p.below_payload m.now bus }
     ensures { OnOk result (out.new.items ≡ out.old.items
@@ -162,8 +157,7 @@ fn push_source(
     push_short_wire(out, m, bus, below)
 }
 
-/// Puts the word of the destination's field, which has so many bits, and below which so many
-/// stand. A bus that is taken has none.
+/// Puts the word of the destination's field, below which so many bits stand; a bus that is taken has none.
 #[tactic(auto, unfolding(tta_verilog::specs::Expressions::choice))]
 fn push_dest_word(
     out: &mut Vec<u8>,

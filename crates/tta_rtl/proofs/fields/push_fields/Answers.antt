@@ -20,6 +20,6 @@ returns c =
     let second = c.push_template_wire.new.out.items in
     let last = c.push_long_wire.new.out.items in
     onward c.push_long_wire.result (λ put.
-      then_more old first last buses (template ++ long) c.in_ok-push_all_buses.ensures
-      (then_more first second last template long c.in_ok-push_template_wire.ensures put)
-      ∙ ap (λ (t : List ℕ). old ++ t) (sym (all_fields_text m))) c.push_long_wire.ensures
+    then_more old first last buses (template ++ long) c.in_ok-push_all_buses.ensures
+    (then_more first second last template long c.in_ok-push_template_wire.ensures put)
+    ∙ ap (λ (t : List ℕ). old ++ t) (sym (all_fields_text m))) c.push_long_wire.ensures

@@ -25,10 +25,10 @@ returns g c =
     let r3 = a3 ++ r4 in
     let r2 = a2 ++ r3 in
     onward c.push_function-7.result (λ last.
-      then_more c.args.out.now.items c.push_function.new.out.items c.push_function-7.new.out.items a1 r2 c.in_ok-push_function.ensures
-      (then_more c.push_function.new.out.items c.push_function-2.new.out.items c.push_function-7.new.out.items a2 r3 c.in_ok-push_function-2.ensures
-      (then_more c.push_function-2.new.out.items c.push_function-3.new.out.items c.push_function-7.new.out.items a3 r4 c.in_ok-push_function-3.ensures
-      (then_more c.push_function-3.new.out.items c.push_function-4.new.out.items c.push_function-7.new.out.items a4 r5 c.in_ok-push_function-4.ensures
-      (then_more c.push_function-4.new.out.items c.push_function-5.new.out.items c.push_function-7.new.out.items a5 r6 c.in_ok-push_function-5.ensures
-      (then_more c.push_function-5.new.out.items c.push_function-6.new.out.items c.push_function-7.new.out.items a6 r7 c.in_ok-push_function-6.ensures
-      (alone c.push_function-6.new.out.items c.push_function-7.new.out.items a7 last))))))) c.push_function-7.ensures
+    then_more c.args.out.now.items c.push_function.new.out.items c.push_function-7.new.out.items a1 r2 c.in_ok-push_function.ensures
+    (then_more c.push_function.new.out.items c.push_function-2.new.out.items c.push_function-7.new.out.items a2 r3 c.in_ok-push_function-2.ensures
+    (then_more c.push_function-2.new.out.items c.push_function-3.new.out.items c.push_function-7.new.out.items a3 r4 c.in_ok-push_function-3.ensures
+    (then_more c.push_function-3.new.out.items c.push_function-4.new.out.items c.push_function-7.new.out.items a4 r5 c.in_ok-push_function-4.ensures
+    (then_more c.push_function-4.new.out.items c.push_function-5.new.out.items c.push_function-7.new.out.items a5 r6 c.in_ok-push_function-5.ensures
+    (then_more c.push_function-5.new.out.items c.push_function-6.new.out.items c.push_function-7.new.out.items a6 r7 c.in_ok-push_function-6.ensures
+    (alone c.push_function-6.new.out.items c.push_function-7.new.out.items a7 last))))))) c.push_function-7.ensures

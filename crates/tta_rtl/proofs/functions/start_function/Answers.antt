@@ -11,8 +11,8 @@ returns c =
     let name = c.args.name.now in
     let number = decimal c.args.id.0 in
     onward c.push_text-4.result (λ last.
-      then_more _ _ _ (codes "// ") (name ++ (before_number ++ (number ++ after_number))) c.in_ok-push_text.ensures
-      (then_more _ _ _ name (before_number ++ (number ++ after_number)) c.in_ok-push_text-2.ensures
-      (then_more _ _ _ before_number (number ++ after_number) c.in_ok-push_text-3.ensures
-      (then_more _ _ _ number after_number
-        (c.in_ok-push_number.ensures ∙ ap (λ (n : ℕ). c.push_text-3.new.out.items ++ decimal n) c.from.ensures) last)))) c.push_text-4.ensures
+    then_more _ _ _ (codes "// ") (name ++ (before_number ++ (number ++ after_number))) c.in_ok-push_text.ensures
+    (then_more _ _ _ name (before_number ++ (number ++ after_number)) c.in_ok-push_text-2.ensures
+    (then_more _ _ _ before_number (number ++ after_number) c.in_ok-push_text-3.ensures
+    (then_more _ _ _ number after_number
+    (c.in_ok-push_number.ensures ∙ ap (λ (n : ℕ). c.push_text-3.new.out.items ++ decimal n) c.from.ensures) last)))) c.push_text-4.ensures
