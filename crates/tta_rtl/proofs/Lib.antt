@@ -2,6 +2,8 @@ mod Choices
 mod Layouts
 mod Pieces
 mod RegisterTexts
+mod Shares
 mod Shown
+mod Texts
 mod UnitRegisters
 mod UnitWires
