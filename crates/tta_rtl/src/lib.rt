@@ -5,13 +5,16 @@ mod buses;
 mod control;
 mod fields;
 mod functions;
+mod longs;
 mod on;
 mod pipes;
+mod ports;
 mod reach;
 mod registers;
 mod results;
 mod spaces;
 mod starts;
+mod states;
 mod templates;
 mod whole;
 
