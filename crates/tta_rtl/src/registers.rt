@@ -44,12 +44,12 @@ pub fn start_register(
     }
 }
 
-/// How many bits the registers of a file have.
+/// How many bits the registers of a file have, and 32 where the machine has no such file.
 fn width_of(m: &Machine, file: u8) -> u8
     ensures { result ≡ width_of m.now file }
 {
     match m.files.as_slice().get(usize::from(file)) {
-        None => 0,
+        None => 32,
         Some(f) => f.width,
     }
 }
