@@ -1,4 +1,5 @@
 mod Choices
+mod Digits
 mod Layouts
 mod Pieces
 mod RegisterTexts

@@ -1,8 +1,9 @@
 -- Texts that are put one after another.
-use Rattle.std.proofs.Common.{◌≡◌, ℕ, List, [], ◌∷◌, ◌++◌, map, length, sym, ap, append_assoc, ◌∙◌}
-use Rattle.std.specs.List.{flat_map}
-use Rattle.std.proofs.lemmas.List.{append-nil, map-append}
+use Rattle.std.proofs.Common.{◌≡◌, ℕ, ◌+◌, List, [], ◌∷◌, ◌++◌, map, length, sym, ap, append_assoc, ◌∙◌}
+use Rattle.std.specs.List.{flat_map, range_with_len}
+use Rattle.std.proofs.lemmas.List.{append-nil, map-append, flat_map_more}
 use Rattle.std.proofs.lemmas.Grind.{flat_map-append}
+use Rattle.tta_list.proofs.Lists.{range_more}
 use Rattle.tta_arch.specs.Machine.{Machine}
 use Rattle.tta_arch.specs.Fields.{numbers, template_width}
 use Rattle.tta_hardware.specs.Signals.{Field, Fetched, TemplateOf, LongOf, Signal as Named}
@@ -15,6 +16,13 @@ use Rattle.tta_rtl.specs.Parts.{fields_text}
 -- a text that is put last
 pub alone : (old new a : List ℕ) → new ≡ old ++ a → new ≡ old ++ (a ++ [])
 alone old new a put = put ∙ ap (λ (t : List ℕ). old ++ t) (sym (append-nil a))
+
+-- texts of numbers from one on, and that of one number more
+pub number_more : (F : ℕ → List ℕ) (old mid new : List ℕ) (a k j : ℕ) → a + k ≡ j → mid ≡ old ++ flat_map F (range_with_len a k) → new ≡ mid ++ F j
+    → new ≡ old ++ flat_map F (range_with_len a (k + 1))
+number_more F old mid new a k j is before put =
+    put ∙ ap (λ (t : List ℕ). t ++ F j) before ∙ flat_map_more F old (range_with_len a k) j
+    ∙ ap (λ (ns : List ℕ). old ++ flat_map F ns) (sym (range_more a k j is))
 
 -- wires one after another
 pub wires_append : (m : Machine) (ns ms : List Named) → wires_text m (ns ++ ms) ≡ wires_text m ns ++ wires_text m ms

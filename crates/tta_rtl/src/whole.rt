@@ -9,90 +9,20 @@ use crate::control::push_control;
 use crate::fields::push_fields;
 use crate::functions::push_functions;
 use crate::on::On;
+use crate::pins::{push_common_ports, push_head, push_in_ports, push_out_ports, push_shown};
 use crate::pipes::push_pipes;
 use crate::ports::push_ports;
-use crate::registers::{push_kept, push_states};
-use crate::spaces::{push_code, push_memory, push_store};
+use crate::registers::push_kept;
+use crate::spaces::{push_code, push_empty_memory, push_memory, push_store};
 use crate::starts::all_ops;
+use crate::states::push_states;
 use crate::unit_wires::push_units;
 use std::alloc::{AllocError, Global};
 use tta_arch::{Layout, Machine, Op};
 use tta_code::{Whole, lay};
 use tta_image::write_image;
 use tta_ops::UnitSet;
-use tta_verilog::{push_range, push_text};
-
-/// Puts the first line, which names the ports.
-fn push_head(out: &mut Vec<u8>, gives: bool, takes: bool) -> Result<(), AllocError> {
-    push_text(out, b"module tta_core (clk, reset, halted, cycle, pc")?;
-    if gives {
-        push_text(out, b", out_valid, out_data, out_ready")?;
-    }
-    if takes {
-        push_text(out, b", in_valid, in_data, in_ready")?;
-    }
-    push_text(out, b");\n")
-}
-
-/// Puts the ports of all machines. A port of one bit has a range, too.
-fn push_common_ports(out: &mut Vec<u8>, on: &On<'_>) -> Result<(), AllocError> {
-    push_text(
-        out,
-        b"input clk;\ninput [0:0] reset;\noutput [0:0] halted;\noutput [0:0] cycle;\noutput ",
-    )?;
-    let m = on.m;
-    push_range(out, u32::from(m.control.address))?;
-    push_text(out, b"pc;\n")
-}
-
-/// Puts the ports of the output, or what stands for the input of the circuit that belongs to it.
-fn push_out_ports(out: &mut Vec<u8>, gives: bool) -> Result<(), AllocError> {
-    if gives {
-        push_text(
-            out,
-            b"output [0:0] out_valid;\noutput [31:0] out_data;\ninput [0:0] out_ready;\n",
-        )
-    } else {
-        push_text(out, b"wire [0:0] out_ready = 1'd0;\n")
-    }
-}
-
-/// Puts the ports of the input, or what stands for the inputs of the circuit that belong to it.
-fn push_in_ports(out: &mut Vec<u8>, takes: bool) -> Result<(), AllocError> {
-    if takes {
-        push_text(
-            out,
-            b"input [0:0] in_valid;\ninput [31:0] in_data;\noutput [0:0] in_ready;\n",
-        )
-    } else {
-        push_text(
-            out,
-            b"wire [0:0] in_valid = 1'd0;\nwire [31:0] in_data = 32'd0;\n",
-        )
-    }
-}
-
-/// Puts what the ports show.
-fn push_outputs(out: &mut Vec<u8>, gives: bool, takes: bool) -> Result<(), AllocError> {
-    push_text(
-        out,
-        b"assign halted = n_halted;\nassign cycle = n_goes;\nassign pc = n_pc;\n",
-    )?;
-    if gives {
-        push_text(
-            out,
-            b"assign out_valid = (!(reset))&&((!(n_halted))&&(n_gives));\n",
-        )?;
-        push_text(out, b"assign out_data = n_put;\n")?;
-    }
-    if takes {
-        push_text(
-            out,
-            b"assign in_ready = (!(reset))&&((!(n_halted))&&(n_asks));\n",
-        )?;
-    }
-    push_text(out, b"endmodule\n")
-}
+use tta_verilog::push_text;
 
 /// Puts all registers: how many bits each has, and else what each becomes.
 fn push_registers(out: &mut Vec<u8>, on: &On<'_>, declares: bool) -> Result<(), AllocError> {
@@ -115,8 +45,8 @@ fn push_stores(alloc: Global, out: &mut Vec<u8>, on: &On<'_>) -> Result<(), Allo
     let data = all_ops(alloc, on.m, Op::Stw)?;
     let frame = all_ops(alloc, on.m, Op::Stf)?;
     let m = on.m;
-    push_store(out, on, b"data", m.data_words, data.as_slice())?;
-    push_store(out, on, b"frame", m.frame_words, frame.as_slice())
+    push_store(out, m, b"data", m.data_words, data.as_slice())?;
+    push_store(out, m, b"frame", m.frame_words, frame.as_slice())
 }
 
 /// The words that the data space begins with.
@@ -144,24 +74,28 @@ fn push_module(
     push_in_ports(out, takes)?;
     push_text(out, b"integer k;\n")?;
     push_registers(out, on, true)?;
-    let at = bits_before(whole.init.len());
-    push_code(out, on, whole.code.words.len(), image, at)?;
+    push_code(out, on, whole.code.words.len(), body_of(image, whole.init.len()))?;
     let m = on.m;
     push_memory(out, b"data", m.data_words, words.as_slice())?;
-    push_memory(out, b"frame", m.frame_words, &[])?;
+    push_empty_memory(out, b"frame", m.frame_words)?;
     push_functions(out, on.m, units)?;
     push_wires(alloc, out, on)?;
     push_registers(out, on, false)?;
     push_stores(alloc, out, on)?;
-    push_outputs(out, gives, takes)
+    push_shown(out, gives, takes)
 }
 
-/// How many bits stand before the instructions of an image with so many data.
-fn bits_before(count: usize) -> usize {
-    if count == 0 {
-        return 8 * 48;
+/// The bytes of the instructions of an image with so many data.
+fn body_of(image: &[u8], count: usize) -> &[u8] {
+    let before = if count == 0 {
+        48
+    } else {
+        count.saturating_mul(8).saturating_add(52)
+    };
+    match image.get(before..) {
+        Some(body) => body,
+        None => b"",
     }
-    count.saturating_mul(8).saturating_add(52).saturating_mul(8)
 }
 
 /// The text of the circuit of a machine with the code and data of an image, as a module of Verilog.

@@ -1,5 +1,5 @@
 use Rattle.std.proofs.Common.{length}
-use Rattle.tta_rtl.proofs.registers.+push_imms_from.Given as goal
+use Rattle.tta_rtl.proofs.longs.+push_imms_from.Given as goal
 
 -- the rest of the list is shorter
 abbrev pub decreases-push_imms_from : goal.decreases-push_imms_from
