@@ -1,6 +1,7 @@
 mod Choices
 mod Digits
 mod Layouts
+mod Modules
 mod Pieces
 mod RegisterTexts
 mod Shares

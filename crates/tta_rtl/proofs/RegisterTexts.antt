@@ -1,7 +1,7 @@
 -- The lines of registers.
 use Rattle.std.proofs.Common.{◌≡◌, ◌+◌, ◌++◌, ◌∷◌, [], List, ℕ, Bool, true, false, map, length, refl, sym, ap, ◌∙◌, append_assoc}
 use Rattle.std.specs.Prelude.{◌==◌, ◌&&◌, codes}
-use Rattle.std.specs.List.{flat_map, enumerate_from}
+use Rattle.std.specs.List.{flat_map, enumerate_from, range_with_len}
 use Rattle.std.proofs.lemmas.List.{map-append}
 use Rattle.std.proofs.lemmas.List.Folds.{flat_map-map}
 use Rattle.std.proofs.lemmas.Grind.{flat_map-append}
@@ -12,14 +12,14 @@ use Rattle.tta_arch.specs.Fields.{numbers, template_width}
 use Rattle.tta_arch.specs.Joins.{is_dest_on}
 use Rattle.tta_arch.specs.Machine.{Machine}
 use Rattle.tta_circuit.specs.Circuit.{Signal, Const, Equal}
-use Rattle.tta_hardware.specs.Signals.{Signal as Named, Word, Keeps, Fetched, TemplateOf, LongOf, Expression}
+use Rattle.tta_hardware.specs.Signals.{Signal as Named, Word, Keeps, Underway, Fetched, TemplateOf, LongOf, Expression}
 use Rattle.tta_hardware.specs.Wires.{hits, buses_to}
 use Rattle.tta_hardware.specs.Registers.{register, register_width, restarts, becomes, kept_next, narrowed, longs}
-use Rattle.tta_verilog.specs.Expressions.{between, choice, constant}
+use Rattle.tta_verilog.specs.Expressions.{between}
 use Rattle.tta_verilog.specs.Circuits.{register_text}
 use Rattle.tta_names.specs.Names.{names_of, signal_name, text_of}
 use Rattle.tta_rtl.specs.Texts.{choice_start, register_start, register_rest, register_line, registers_text}
-use Rattle.tta_rtl.specs.Kept.{brought, long_choice, line_of}
+use Rattle.tta_rtl.specs.Kept.{brought, file_line, imm_line, line_of, long_choice, registers_of_file, registers_of_imm, template_choice, underway_line, underway_name, underways}
 use Rattle.tta_rtl.proofs.Choices.{choices_passed, text_first}
 
 next_line : (m : Machine) (n : Named) (b : Bool) → restarts n ≡ b
@@ -49,6 +49,24 @@ pub numbered_lines : (m : Machine) (declares : Bool) (f : ℕ → Named) (ks : L
     → registers_text m declares (map f ks) ≡ flat_map (λ k. line_of m declares (f k)) ks
 numbered_lines m declares f ks = lines_of m declares (map f ks) ∙ flat_map-map (line_of m declares) f ks
 
+-- the registers of a file by their numbers
+pub file_lines : (m : Machine) (declares : Bool) (file size : ℕ)
+    → registers_text m declares (registers_of_file file size) ≡ flat_map (file_line m declares file) (numbers size)
+unfolding file_line
+file_lines m declares file size = numbered_lines m declares (λ index. Keeps (KeptReg file index)) (numbers size)
+
+-- the same of an immediate unit
+pub imm_lines : (m : Machine) (declares : Bool) (unit size : ℕ)
+    → registers_text m declares (registers_of_imm unit size) ≡ flat_map (imm_line m declares unit) (numbers size)
+unfolding imm_line
+imm_lines m declares unit size = numbered_lines m declares (λ index. Keeps (KeptImm unit index)) (numbers size)
+
+-- what says when control moves take effect
+pub underway_lines : (m : Machine) (declares : Bool)
+    → registers_text m declares (underways m) ≡ flat_map (underway_line m declares) (range_with_len 1 m.control.delay)
+unfolding underway_line underway_name
+underway_lines m declares = numbered_lines m declares Underway (range_with_len 1 m.control.delay)
+
 -- registers and more registers
 pub registers_append : (m : Machine) (declares : Bool) (ns os : List Named)
     → registers_text m declares (ns ++ os) ≡ registers_text m declares ns ++ registers_text m declares os
@@ -72,15 +90,10 @@ file_next m file index =
 pub imm_next : (m : Machine) (unit index : ℕ)
     → text_of m (kept_next m (KeptImm unit index))
     ≡ flat_map (long_choice m unit index) (enumerate_from 0 m.templates) ++ text_of m (Signal (Keeps (KeptImm unit index)))
-unfolding long_choice
+unfolding long_choice template_choice
 imm_next m unit index =
     let keeps : Expression = Signal (Keeps (KeptImm unit index)) in
     text_first m (longs m unit index) keeps
     ∙ ap (λ (t : List ℕ). t ++ text_of m keeps)
     (choices_passed m (λ (t : ℕ × Template). t.1.imm == unit && t.1.reg == index)
     (λ t. Equal (Signal (Fetched TemplateOf)) (Const (template_width m) (t.0 + 1))) (λ t. Signal (Fetched LongOf)) (enumerate_from 0 m.templates))
-
--- what is 0 at a clock that begins anew
-pub again_text : (off : List ℕ) → choice (codes "reset") (constant 1 0) off ≡ choice_start (codes "reset") (constant 1 0) ++ off
-unfolding choice choice_start
-again_text off = simp append_assoc

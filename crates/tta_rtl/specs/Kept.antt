@@ -1,5 +1,5 @@
 -- The text of what registers take, piece by piece.
-use Rattle.std.specs.Prelude.{ℕ, ◌+◌, ◌-◌, ◌==◌, ◌&&◌, Bool, if◌then◌else◌, List, [], ◌∷◌, map}
+use Rattle.std.specs.Prelude.{ℕ, ◌+◌, ◌-◌, ◌==◌, ◌&&◌, Bool, true, if◌then◌else◌, List, [], ◌∷◌, ◌++◌, map, codes, decimal}
 use Rattle.std.specs.List.{range_with_len}
 use Rattle.tta_arch.specs.declared.ends.Dest.{Dest}
 use Rattle.tta_arch.specs.declared.parts.Template.{Template}
@@ -23,12 +23,18 @@ unfoldable pub brought : Machine → Dest → (one_bit : Bool) → (bus : ℕ) �
 brought m dst one_bit bus =
     if is_dest_on m bus dst then choice_start (text_of m (hits m dst bus)) (text_of m (cut one_bit (Signal (Word bus)))) else []
 
--- the long immediate, after the test whether the instruction has a template with a number; nothing where that writes another register
+-- whether the instruction has a template with a number
+abbrev pub has_template : Machine → (template : ℕ) → Expression
+has_template m template = Equal (Signal (Fetched TemplateOf)) (Const (template_width m) (template + 1))
+
+-- the long immediate, after that test
+unfoldable pub template_choice : Machine → (template : ℕ) → List ℕ
+template_choice m template = choice_start (text_of m (has_template m template)) (text_of m (Signal (Fetched LongOf)))
+
+-- the same, and nothing where the template writes another register
 unfoldable pub long_choice : Machine → (unit index : ℕ) → ℕ × Template → List ℕ
 long_choice m unit index t =
-    if t.1.imm == unit && t.1.reg == index
-    then choice_start (text_of m (Equal (Signal (Fetched TemplateOf)) (Const (template_width m) (t.0 + 1)))) (text_of m (Signal (Fetched LongOf)))
-    else []
+    if t.1.imm == unit && t.1.reg == index then template_choice m t.0 else []
 
 -- so many registers of a file, and of an immediate unit
 abbrev pub registers_of_file : (file size : ℕ) → List Named
@@ -40,6 +46,10 @@ registers_of_imm unit size = map (λ index. Keeps (KeptImm unit index)) (numbers
 -- the registers that say when control moves take effect
 abbrev pub underways : Machine → List Named
 underways m = map Underway (range_with_len 1 m.control.delay)
+
+-- the name of what says whether a control move takes effect in so many cycles
+unfoldable pub underway_name : (delay : ℕ) → List ℕ
+underway_name delay = codes "n_underway_" ++ decimal delay
 
 -- the registers that every machine has
 abbrev pub fixed : List Named
@@ -53,3 +63,14 @@ return_address m =
 -- the line of a register by its name
 abbrev pub line_of : Machine → (declares : Bool) → Named → List ℕ
 line_of m declares n = register_line declares (register_width m n) (restarts n) (signal_name m n) (text_of m (becomes m n))
+
+-- the line of a register of a file, and of an immediate unit
+unfoldable pub file_line : Machine → (declares : Bool) → (file index : ℕ) → List ℕ
+file_line m declares file index = line_of m declares (Keeps (KeptReg file index))
+
+unfoldable pub imm_line : Machine → (declares : Bool) → (unit index : ℕ) → List ℕ
+imm_line m declares unit index = line_of m declares (Keeps (KeptImm unit index))
+
+-- the line of what says whether a control move takes effect in so many cycles
+unfoldable pub underway_line : Machine → (declares : Bool) → (delay : ℕ) → List ℕ
+underway_line m declares delay = register_line declares 1 true (underway_name delay) (text_of m (becomes m (Underway delay)))

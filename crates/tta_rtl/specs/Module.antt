@@ -1,18 +1,19 @@
 -- The text of a machine with its code and data as a module.
-use Rattle.std.specs.Prelude.{ℕ, Bool, nat_lt, if◌then◌else◌, List, [], ◌++◌, codes, length, replicate}
+use Rattle.std.specs.Prelude.{ℕ, ◌+◌, ◌*◌, ◌==◌, Bool, nat_lt, if◌then◌else◌, List, [], ◌++◌, codes, length, replicate}
+use Rattle.std.specs.List.{flat_map}
 use Rattle.tta_list.specs.Laid.{over}
 use Rattle.tta_ops.specs.Units.{Units}
 use Rattle.tta_arch.specs.declared.parts.Op.{Op}
-use Rattle.tta_arch.specs.declared.parts.Op.TheVariants.{Out, Take}
+use Rattle.tta_arch.specs.declared.parts.Op.TheVariants.{Out, Take, Stw, Stf}
 use Rattle.tta_arch.specs.Machine.{Machine}
 use Rattle.tta_arch.specs.Rules.{same_op}
 use Rattle.tta_code.specs.Whole.{Whole, data_in}
-use Rattle.tta_circuit.specs.Circuit.{Circuit}
+use Rattle.tta_circuit.specs.Circuit.{Circuit, WritePort}
 use Rattle.tta_hardware.specs.Signals.{Signal as Named, Store}
 use Rattle.tta_hardware.specs.Wires.{all_ops}
-use Rattle.tta_hardware.specs.Hardware.{circuit_of}
-use Rattle.tta_verilog.specs.Circuits.{range, parts_text}
-use Rattle.tta_names.specs.Names.{names_of}
+use Rattle.tta_hardware.specs.Hardware.{circuit_of, store_port}
+use Rattle.tta_verilog.specs.Circuits.{range, memory_text, parts_text, write_line}
+use Rattle.tta_names.specs.Names.{names_of, text_of}
 use Rattle.tta_rtl.specs.Functions.{functions_text}
 
 -- ---- the ports
@@ -58,16 +59,37 @@ shown_text gives takes =
 
 -- ---- the module
 
--- what stands before the parts of the circuit
-abbrev pub before_parts : Machine → List ℕ
-before_parts m =
-    head_text (offers m Out) (offers m Take)
-    ++ (common_ports m ++ (out_ports (offers m Out) ++ (in_ports (offers m Take) ++ codes "integer k;\n")))
+-- how many bytes stand before the instructions of an image with so many data
+abbrev pub bytes_before : (count : ℕ) → ℕ
+bytes_before count = if count == 0 then 48 else 52 + 8 * count
 
--- a circuit of a machine as a module, with functions of the operations that the machine offers
+-- what stands before the parts of the circuit
+abbrev pub before_parts : Machine → (gives takes : Bool) → List ℕ
+before_parts m gives takes =
+    head_text gives takes ++ (common_ports m ++ (out_ports gives ++ (in_ports takes ++ codes "integer k;\n")))
+
+-- the memories of a circuit
+abbrev pub memories_text : Machine → Circuit Named Store → List ℕ
+memories_text m c = flat_map (memory_text (names_of m)) c.memories
+
+-- where a memory is written
+abbrev pub store_line : Machine → (name : List ℕ) → WritePort Named Store → List ℕ
+store_line m name p = write_line name (text_of m p.enable) (text_of m p.address) (text_of m p.word)
+
+-- where the two spaces are written
+abbrev pub stores_text : Machine → List ℕ
+stores_text m =
+    store_line m (codes "data") (store_port m m.data_words (same_op Stw))
+    ++ store_line m (codes "frame") (store_port m m.frame_words (same_op Stf))
+
+-- the parts of a circuit, with functions of the operations that the machine offers
+abbrev pub core_text : Units → Machine → Circuit Named Store → List ℕ
+core_text u m c = parts_text (names_of m) (functions_text u m) c
+
+-- a circuit of a machine as a module
 abbrev pub module_text : Units → Machine → Circuit Named Store → List ℕ
 module_text u m c =
-    before_parts m ++ (parts_text (names_of m) (functions_text u m) c ++ shown_text (offers m Out) (offers m Take))
+    before_parts m (offers m Out) (offers m Take) ++ (core_text u m c ++ shown_text (offers m Out) (offers m Take))
 
 -- the words that the data space begins with
 abbrev pub first_words : Machine → Whole → List ℕ

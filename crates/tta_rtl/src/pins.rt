@@ -2,6 +2,7 @@
 
 ghost use Rattle.std.specs.Prelude.{◌≡◌, ◌++◌, [], if◌then◌else◌, OnOk};
 ghost use Rattle.tta_rtl.specs.Module as p;
+ghost use Rattle.tta_verilog.specs.Circuits.{range};
 
 use crate::on::On;
 use std::alloc::AllocError;
@@ -25,6 +26,15 @@ pub fn push_head(out: &mut Vec<u8>, gives: bool, takes: bool) -> Result<(), Allo
     push_text(out, b");\n")
 }
 
+/// Puts how many bits an address has.
+fn push_address_range(out: &mut Vec<u8>, on: &On<'_>) -> Result<(), AllocError>
+    ensures { OnOk result
+        (out.new.items ≡ out.old.items ++ range on.now.m.now.control.address) }
+{
+    let m = on.m;
+    push_range(out, u32::from(m.control.address))
+}
+
 /// Puts the ports of all machines. A port of one bit has a range, too.
 pub fn push_common_ports(out: &mut Vec<u8>, on: &On<'_>) -> Result<(), AllocError>
     ensures { OnOk result (out.new.items ≡ out.old.items ++ p.common_ports on.now.m.now) }
@@ -33,8 +43,7 @@ pub fn push_common_ports(out: &mut Vec<u8>, on: &On<'_>) -> Result<(), AllocErro
         out,
         b"input clk;\ninput [0:0] reset;\noutput [0:0] halted;\noutput [0:0] cycle;\noutput ",
     )?;
-    let m = on.m;
-    push_range(out, u32::from(m.control.address))?;
+    push_address_range(out, on)?;
     push_text(out, b"pc;\n")
 }
 
@@ -73,7 +82,8 @@ pub fn push_in_ports(out: &mut Vec<u8>, takes: bool) -> Result<(), AllocError>
 pub fn push_shown(out: &mut Vec<u8>, gives: bool, takes: bool) -> Result<(), AllocError>
     ensures { OnOk result (out.new.items ≡ out.old.items ++ p.shown_text gives takes) }
 {
-    let output = b"assign out_valid = (!(reset))&&((!(n_halted))&&(n_gives));\nassign out_data = n_put;\n";
+    let output =
+        b"assign out_valid = (!(reset))&&((!(n_halted))&&(n_gives));\nassign out_data = n_put;\n";
     let input = b"assign in_ready = (!(reset))&&((!(n_halted))&&(n_asks));\n";
     push_text(
         out,

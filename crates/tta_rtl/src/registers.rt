@@ -8,9 +8,9 @@ ghost use Rattle.tta_arch.specs.Layout.{fields_of};
 ghost use Rattle.tta_circuit.specs.Circuit as c;
 ghost use Rattle.tta_hardware.specs.Signals as s;
 ghost use Rattle.tta_hardware.specs.Registers as r;
-ghost use Rattle.tta_names.specs.Names.{place_name, text_of};
-ghost use Rattle.tta_rtl.specs.Kept.{brought, cut, registers_of_file, registers_of_imm};
-ghost use Rattle.tta_rtl.specs.Texts.{register_line, register_start, registers_text};
+ghost use Rattle.tta_names.specs.Names.{text_of};
+ghost use Rattle.tta_rtl.specs.Kept.{brought, cut, file_line, registers_of_file, registers_of_imm};
+ghost use Rattle.tta_rtl.specs.Texts.{register_start, registers_text};
 
 use crate::buses::has_one_bit;
 use crate::longs::push_imms_from;
@@ -147,7 +147,7 @@ fn push_file_next(out: &mut Vec<u8>, on: &On<'_>, file: u8, index: u8) -> Result
 }
 
 /// Puts a register of a file.
-#[tactic(auto, unfolding(crate::specs::Texts::register_rest))]
+#[tactic(auto, unfolding(crate::specs::Texts::register_rest, crate::specs::Kept::file_line))]
 fn push_file_register(
     out: &mut Vec<u8>,
     on: &On<'_>,
@@ -155,10 +155,8 @@ fn push_file_register(
     file: u8,
     index: u8,
 ) -> Result<(), AllocError>
-    ensures { let M = on.now.m.now in
-        OnOk result (out.new.items ≡ out.old.items
-        ++ register_line declares (width_of M file) false (place_name M (KeptReg file index))
-        (text_of M (r.kept_next M (KeptReg file index)))) }
+    ensures { OnOk result
+        (out.new.items ≡ out.old.items ++ file_line on.now.m.now declares file index) }
 {
     start_register(out, declares, u32::from(width_of(on.m, file)), false)?;
     push_register(out, on.m, file, index)?;
@@ -170,8 +168,24 @@ fn push_file_register(
     push_text(out, b";\n")
 }
 
+/// Puts the lines of so many registers of a file.
+fn push_file_lines(
+    out: &mut Vec<u8>,
+    on: &On<'_>,
+    declares: bool,
+    file: u8,
+    size: u8,
+) -> Result<(), AllocError>
+    ensures { OnOk result (out.new.items ≡ out.old.items
+        ++ flat_map (file_line on.now.m.now declares file) (numbers size)) }
+{
+    for index in 0..size {
+        push_file_register(out, on, declares, file, index)?;
+    }
+    Ok(())
+}
+
 /// Puts so many registers of a file.
-#[tactic(auto, using(crate::proofs::RegisterTexts::numbered_lines))]
 fn push_file(
     out: &mut Vec<u8>,
     on: &On<'_>,
@@ -182,10 +196,7 @@ fn push_file(
     ensures { OnOk result (out.new.items ≡ out.old.items
         ++ registers_text on.now.m.now declares (registers_of_file file size)) }
 {
-    for index in 0..size {
-        push_file_register(out, on, declares, file, index)?;
-    }
-    Ok(())
+    push_file_lines(out, on, declares, file, size)
 }
 
 /// Puts the registers of files, from one on.

@@ -208,12 +208,7 @@ pub fn push_empty_memory(out: &mut Vec<u8>, name: &[u8], size: u32) -> Result<()
 
 /// Puts whether the address of these stores is below a size.
 #[tactic(auto, unfolding(tta_verilog::specs::Expressions::between))]
-fn push_inside(
-    out: &mut Vec<u8>,
-    m: &Machine,
-    size: u32,
-    stores: &[OpAt],
-) -> Result<(), AllocError>
+fn push_inside(out: &mut Vec<u8>, m: &Machine, size: u32, stores: &[OpAt]) -> Result<(), AllocError>
     ensures { OnOk result (out.new.items ≡ out.old.items
         ++ text_of m.now (is_inside size (places_of stores.now))) }
 {
@@ -244,12 +239,7 @@ fn push_starts_inside(
 
 /// Puts when a memory of so many words is written by these stores.
 #[tactic(auto, unfolding(tta_verilog::specs::Expressions::between))]
-fn push_enable(
-    out: &mut Vec<u8>,
-    m: &Machine,
-    size: u32,
-    stores: &[OpAt],
-) -> Result<(), AllocError>
+fn push_enable(out: &mut Vec<u8>, m: &Machine, size: u32, stores: &[OpAt]) -> Result<(), AllocError>
     ensures { OnOk result (out.new.items ≡ out.old.items
         ++ text_of m.now (stored size (places_of stores.now)).enable) }
 {

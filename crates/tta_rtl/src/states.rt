@@ -1,14 +1,13 @@
 //! The registers of control.
 
-ghost use Rattle.std.specs.Prelude.{◌≡◌, ◌+◌, ◌++◌, [], ◌∷◌, true, false, codes, decimal, map, OnOk};
-ghost use Rattle.std.specs.List.{range_with_len};
+ghost use Rattle.std.specs.Prelude.{◌≡◌, ◌+◌, ◌++◌, [], ◌∷◌, true, false, codes, map, OnOk};
+ghost use Rattle.std.specs.List.{flat_map, range_with_len};
 ghost use Rattle.tta_arch.specs.Effects.{KeptRa};
 ghost use Rattle.tta_hardware.specs.Signals as s;
 ghost use Rattle.tta_hardware.specs.Registers as r;
 ghost use Rattle.tta_names.specs.Names.{text_of};
-ghost use Rattle.tta_rtl.specs.Kept.{fixed, return_address, underways};
-ghost use Rattle.tta_rtl.specs.Texts.{choice_start, register_line, registers_text};
-ghost use Rattle.tta_verilog.specs.Expressions.{constant};
+ghost use Rattle.tta_rtl.specs.Kept.{fixed, line_of, return_address, underway_line, underway_name, underways};
+ghost use Rattle.tta_rtl.specs.Texts.{register_line, registers_text};
 
 use crate::on::On;
 use crate::reach::push_reached;
@@ -18,15 +17,16 @@ use tta_arch::Dest;
 use tta_verilog::{push_constant, push_number, push_text};
 
 /// Puts the name of what says whether a control move takes effect in so many cycles.
+#[tactic(auto, unfolding(crate::specs::Kept::underway_name))]
 fn push_underway_name(out: &mut Vec<u8>, delay: u64) -> Result<(), AllocError>
-    ensures { OnOk result
-        (out.new.items ≡ out.old.items ++ (codes "n_underway_" ++ decimal delay)) }
+    ensures { OnOk result (out.new.items ≡ out.old.items ++ underway_name delay) }
 {
     push_text(out, b"n_underway_")?;
     push_number(out, delay)
 }
 
 /// Puts whether a control move is to take effect in so many cycles, at a clock that carries an instruction out.
+#[tactic(auto, unfolding(crate::specs::Kept::underway_name))]
 fn push_next_underway(out: &mut Vec<u8>, on: &On<'_>, delay: u8) -> Result<(), AllocError>
     ensures { let T = text_of on.now.m.now in
         OnOk result (out.new.items ≡ out.old.items ++ T (r.next_of on.now.m.now (s.Underway delay))) }
@@ -39,29 +39,28 @@ fn push_next_underway(out: &mut Vec<u8>, on: &On<'_>, delay: u8) -> Result<(), A
     }
 }
 
-/// Puts what a register becomes that is 0 at a clock that begins anew, up to what it else becomes.
-#[tactic(auto, unfolding(crate::specs::Texts::choice_start))]
-fn start_again(out: &mut Vec<u8>) -> Result<(), AllocError>
-    ensures { OnOk result (out.new.items ≡ out.old.items
-        ++ choice_start (codes "reset") (constant 1 0)) }
+/// Puts that at the next clock, which may begin anew.
+#[tactic(auto, unfolding(tta_verilog::specs::Expressions::choice))]
+fn push_underway_next(out: &mut Vec<u8>, on: &On<'_>, delay: u8) -> Result<(), AllocError>
+    ensures { let T = text_of on.now.m.now in
+        OnOk result (out.new.items ≡ out.old.items ++ T (r.becomes on.now.m.now (s.Underway delay))) }
 {
     push_text(out, b"(reset)?(")?;
     push_constant(out, 1, 0)?;
-    push_text(out, b"):")
+    push_text(out, b"):")?;
+    push_next_underway(out, on, delay)
 }
 
 /// Puts whether a control move takes effect in so many cycles.
-#[tactic(auto, using(crate::proofs::RegisterTexts::again_text), unfolding(crate::specs::Texts::register_rest))]
+#[tactic(auto, unfolding(crate::specs::Texts::register_rest, crate::specs::Kept::underway_line))]
 fn push_underway(
     out: &mut Vec<u8>,
     on: &On<'_>,
     declares: bool,
     delay: u8,
 ) -> Result<(), AllocError>
-    ensures { let M = on.now.m.now in
-        OnOk result (out.new.items ≡ out.old.items
-        ++ register_line declares 1 true (codes "n_underway_" ++ decimal delay)
-        (text_of M (r.becomes M (s.Underway delay)))) }
+    ensures { OnOk result
+        (out.new.items ≡ out.old.items ++ underway_line on.now.m.now declares delay) }
 {
     start_register(out, declares, 1, true)?;
     push_underway_name(out, u64::from(delay))?;
@@ -69,8 +68,7 @@ fn push_underway(
         return push_text(out, b";\n");
     }
     push_text(out, b" <= ")?;
-    start_again(out)?;
-    push_next_underway(out, on, delay)?;
+    push_underway_next(out, on, delay)?;
     push_text(out, b";\n")
 }
 
@@ -141,8 +139,19 @@ fn push_state(
     push_text(out, b";\n")
 }
 
+/// Puts whether the machine has halted at the next clock, which may begin anew.
+#[tactic(auto, unfolding(tta_verilog::specs::Expressions::between, tta_verilog::specs::Expressions::choice))]
+fn push_halted_next(out: &mut Vec<u8>, on: &On<'_>) -> Result<(), AllocError>
+    ensures { let T = text_of on.now.m.now in
+        OnOk result (out.new.items ≡ out.old.items ++ T (r.becomes on.now.m.now s.HasHalted)) }
+{
+    push_text(out, b"(reset)?(")?;
+    push_constant(out, 1, 0)?;
+    push_text(out, b"):(n_lands)&&(n_ends_now)")
+}
+
 /// Puts whether the machine has halted.
-#[tactic(auto, using(crate::proofs::RegisterTexts::again_text), unfolding(crate::specs::Texts::register_rest, tta_verilog::specs::Expressions::between))]
+#[tactic(auto, unfolding(crate::specs::Texts::register_rest))]
 fn push_halted(out: &mut Vec<u8>, on: &On<'_>, declares: bool) -> Result<(), AllocError>
     ensures { let M = on.now.m.now in
         OnOk result (out.new.items ≡ out.old.items
@@ -154,16 +163,15 @@ fn push_halted(out: &mut Vec<u8>, on: &On<'_>, declares: bool) -> Result<(), All
         return push_text(out, b";\n");
     }
     push_text(out, b" <= ")?;
-    start_again(out)?;
-    push_text(out, b"(n_lands)&&(n_ends_now)")?;
+    push_halted_next(out, on)?;
     push_text(out, b";\n")
 }
 
-/// Puts whether control moves take effect in the next cycle or later.
-#[tactic(auto, using(crate::proofs::RegisterTexts::numbered_lines))]
-fn push_underways(out: &mut Vec<u8>, on: &On<'_>, declares: bool) -> Result<(), AllocError>
+/// Puts the lines of what says whether control moves take effect in the next cycle or later.
+fn push_underway_lines(out: &mut Vec<u8>, on: &On<'_>, declares: bool) -> Result<(), AllocError>
     ensures { let M = on.now.m.now in
-        OnOk result (out.new.items ≡ out.old.items ++ registers_text M declares (underways M)) }
+        OnOk result (out.new.items ≡ out.old.items
+        ++ flat_map (underway_line M declares) (range_with_len 1 M.control.delay)) }
 {
     let m = on.m;
     for before in 0..m.control.delay {
@@ -172,19 +180,54 @@ fn push_underways(out: &mut Vec<u8>, on: &On<'_>, declares: bool) -> Result<(), 
     Ok(())
 }
 
+/// Puts whether control moves take effect in the next cycle or later.
+fn push_underways(out: &mut Vec<u8>, on: &On<'_>, declares: bool) -> Result<(), AllocError>
+    ensures { let M = on.now.m.now in
+        OnOk result (out.new.items ≡ out.old.items ++ registers_text M declares (underways M)) }
+{
+    push_underway_lines(out, on, declares)
+}
+
+/// Puts the address of the instruction.
+fn push_pc(out: &mut Vec<u8>, on: &On<'_>, declares: bool) -> Result<(), AllocError>
+    ensures { OnOk result (out.new.items ≡ out.old.items ++ line_of on.now.m.now declares s.Pc) }
+{
+    let m = on.m;
+    push_state(
+        out,
+        declares,
+        u32::from(m.control.address),
+        true,
+        b"n_pc",
+        b"n_next_pc",
+    )
+}
+
+/// Puts the word of the instruction.
+fn push_word(out: &mut Vec<u8>, on: &On<'_>, declares: bool) -> Result<(), AllocError>
+    ensures { OnOk result
+        (out.new.items ≡ out.old.items ++ line_of on.now.m.now declares s.Whole) }
+{
+    push_state(
+        out,
+        declares,
+        on.layout.width,
+        true,
+        b"n_word",
+        b"code(n_next_pc)",
+    )
+}
+
 /// Puts the registers of control.
 pub fn push_states(out: &mut Vec<u8>, on: &On<'_>, declares: bool) -> Result<(), AllocError>
     ensures { let M = on.now.m.now in
         OnOk result (out.new.items ≡ out.old.items
         ++ registers_text M declares (underways M ++ fixed)) }
 {
-    let m = on.m;
     push_underways(out, on, declares)?;
     push_return(out, on, declares)?;
-    let address = u32::from(m.control.address);
-    push_state(out, declares, address, true, b"n_pc", b"n_next_pc")?;
-    let width = on.layout.width;
-    push_state(out, declares, width, true, b"n_word", b"code(n_next_pc)")?;
+    push_pc(out, on, declares)?;
+    push_word(out, on, declares)?;
     push_halted(out, on, declares)?;
     push_state(out, declares, 32, false, b"n_goal", b"n_goal_now")?;
     push_state(out, declares, 1, false, b"n_ends", b"n_ends_now")

@@ -1,11 +1,10 @@
-use Rattle.std.proofs.Common.{arith}
-use Rattle.tta_arch.specs.Effects.{KeptImm}
-use Rattle.tta_hardware.specs.Signals.{Keeps}
-use Rattle.tta_rtl.specs.Kept.{line_of}
-use Rattle.tta_rtl.proofs.Texts.{number_more}
+use Rattle.std.proofs.Common.{List, ℕ, ◌++◌, sym, ap, ◌∙◌}
+use Rattle.tta_list.proofs.Results.{onward}
+use Rattle.tta_rtl.proofs.RegisterTexts.{imm_lines}
 use Rattle.tta_rtl.proofs.longs.push_imm.Goals as goal
 
-pub loop-index-preserved : goal.loop-index-preserved
-loop-index-preserved c =
-    number_more (λ k. line_of c.args.on.now.m.now c.args.declares (Keeps (KeptImm c.args.unit k))) _ _ _ 0 c.loop-index.index c.loop-index.index (omega arith)
-    c.loop-index.invariant c.in_ok-push_imm_register.ensures
+pub returns : goal.returns
+returns c =
+    onward c.push_imm_lines.result (λ last.
+    last ∙ ap (λ (t : List ℕ). c.args.out.now.items ++ t) (sym (imm_lines c.args.on.now.m.now c.args.declares c.args.unit c.args.size)))
+    c.push_imm_lines.ensures

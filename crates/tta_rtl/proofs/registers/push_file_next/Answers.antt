@@ -19,6 +19,6 @@ returns c =
     let name = place_name m (KeptReg file index) in
     let brings : Bool → List ℕ = λ b. flat_map (brought m (dest.Reg file index) b) (numbers (length m.buses)) in
     onward c.push_register.result (λ last.
-      then_more _ _ _ (brings c.has_one_bit-one_bit.result) name c.in_ok-push_all_brought.ensures last
-      ∙ ap (λ (b : Bool). old ++ (brings b ++ name)) c.has_one_bit-one_bit.ensures
-      ∙ ap (λ (t : List ℕ). old ++ t) (sym (file_next m file index))) c.push_register.ensures
+    then_more _ _ _ (brings c.has_one_bit-one_bit.result) name c.in_ok-push_all_brought.ensures last
+    ∙ ap (λ (b : Bool). old ++ (brings b ++ name)) c.has_one_bit-one_bit.ensures
+    ∙ ap (λ (t : List ℕ). old ++ t) (sym (file_next m file index))) c.push_register.ensures

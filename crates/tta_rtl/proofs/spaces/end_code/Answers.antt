@@ -12,7 +12,7 @@ returns c =
     let zero = constant c.args.width 0 in
     let end = codes ";\nendcase\nendfunction\n" in
     onward c.push_text-4.result (λ last.
-      then_more _ _ _ (codes "default: ") (codes "code" ++ (codes " = " ++ (zero ++ end))) c.in_ok-push_text.ensures
-      (then_more _ _ _ (codes "code") (codes " = " ++ (zero ++ end)) c.in_ok-push_text-2.ensures
-      (then_more _ _ _ (codes " = ") (zero ++ end) c.in_ok-push_text-3.ensures
-      (then_more _ _ _ zero end c.in_ok-push_constant.ensures last)))) c.push_text-4.ensures
+    then_more _ _ _ (codes "default: ") (codes "code" ++ (codes " = " ++ (zero ++ end))) c.in_ok-push_text.ensures
+    (then_more _ _ _ (codes "code") (codes " = " ++ (zero ++ end)) c.in_ok-push_text-2.ensures
+    (then_more _ _ _ (codes " = ") (zero ++ end) c.in_ok-push_text-3.ensures
+    (then_more _ _ _ zero end c.in_ok-push_constant.ensures last)))) c.push_text-4.ensures

@@ -21,8 +21,8 @@ returns c =
     let text : ℕ → List ℕ = λ v. case_start code v ++ (words v ++ case_end code v) in
     let had = on.layout.now.width in
     onward c.end_code.result (λ last.
-      then_more _ _ _ (case_start code had) (words had ++ case_end code had) c.in_ok-start_code.ensures
-      (then_more _ _ _ (words had) (case_end code had) c.in_ok-push_code_words.ensures last)
-      ∙ ap (λ (v : ℕ). old ++ text v) (ap (λ (l : Layout). l.width) on.layout_is)
-      ∙ ap (λ (t : List ℕ). old ++ (case_start code w ++ (t ++ case_end code w)))
-      (sym (words_by_number (λ k. case_line code w k.0 k.1) (word w) 0 c.args.words))) c.end_code.ensures
+    then_more _ _ _ (case_start code had) (words had ++ case_end code had) c.in_ok-start_code.ensures
+    (then_more _ _ _ (words had) (case_end code had) c.in_ok-push_code_words.ensures last)
+    ∙ ap (λ (v : ℕ). old ++ text v) (ap (λ (l : Layout). l.width) on.layout_is)
+    ∙ ap (λ (t : List ℕ). old ++ (case_start code w ++ (t ++ case_end code w)))
+    (sym (words_by_number (λ k. case_line code w k.0 k.1) (word w) 0 c.args.words))) c.end_code.ensures

@@ -18,11 +18,11 @@ returns c =
     let r4 = codes " = " ++ r5 in
     let r3 = codes "code" ++ r4 in
     onward c.push_text-5.result (λ last.
-      then_more _ _ _ (decimal c.args.k) (codes ": " ++ r3) c.in_ok-push_number.ensures
-      (then_more _ _ _ (codes ": ") r3 c.in_ok-push_text.ensures
-      (then_more _ _ _ (codes "code") r4 c.in_ok-push_text-2.ensures
-      (then_more _ _ _ (codes " = ") r5 c.in_ok-push_text-3.ensures
-      (then_more _ _ _ (decimal width) r6 (c.in_ok-push_number-2.ensures ∙ ap (λ (n : ℕ). c.push_text-3.new.out.items ++ decimal n) c.from.ensures)
-      (then_more _ _ _ (codes "'b") (bits ++ codes ";\n") c.in_ok-push_text-4.ensures
-      (then_more _ _ _ bits (codes ";\n")
-        (c.in_ok-push_bits.ensures ∙ ap (λ (t : List ℕ). c.push_text-4.new.out.items ++ t) (digits_of_field bytes c.args.at width c.requires.inside)) last))))))) c.push_text-5.ensures
+    then_more _ _ _ (decimal c.args.k) (codes ": " ++ r3) c.in_ok-push_number.ensures
+    (then_more _ _ _ (codes ": ") r3 c.in_ok-push_text.ensures
+    (then_more _ _ _ (codes "code") r4 c.in_ok-push_text-2.ensures
+    (then_more _ _ _ (codes " = ") r5 c.in_ok-push_text-3.ensures
+    (then_more _ _ _ (decimal width) r6 (c.in_ok-push_number-2.ensures ∙ ap (λ (n : ℕ). c.push_text-3.new.out.items ++ decimal n) c.from.ensures)
+    (then_more _ _ _ (codes "'b") (bits ++ codes ";\n") c.in_ok-push_text-4.ensures
+    (then_more _ _ _ bits (codes ";\n")
+    (c.in_ok-push_bits.ensures ∙ ap (λ (t : List ℕ). c.push_text-4.new.out.items ++ t) (digits_of_field bytes c.args.at width c.requires.inside)) last))))))) c.push_text-5.ensures

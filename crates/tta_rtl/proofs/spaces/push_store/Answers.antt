@@ -19,11 +19,11 @@ returns c =
     let r4 = codes "[" ++ r5 in
     let r3 = name ++ r4 in
     onward c.push_text-6.result (λ last.
-      then_more _ _ _ (codes "always @(posedge clk) if (") (text_of m port.enable ++ (codes ") " ++ r3)) c.in_ok-push_text.ensures
-      (then_more _ _ _ (text_of m port.enable) (codes ") " ++ r3) c.in_ok-push_enable.ensures
-      (then_more _ _ _ (codes ") ") r3 c.in_ok-push_text-2.ensures
-      (then_more _ _ _ name r4 c.in_ok-push_text-3.ensures
-      (then_more _ _ _ (codes "[") r5 c.in_ok-push_text-4.ensures
-      (then_more _ _ _ (text_of m port.address) r6 c.in_ok-push_word_of_start.ensures
-      (then_more _ _ _ (codes "] <= ") (text_of m port.word ++ codes ";\n") c.in_ok-push_text-5.ensures
-      (then_more _ _ _ (text_of m port.word) (codes ";\n") c.in_ok-push_word_of_start-2.ensures last)))))))) c.push_text-6.ensures
+    then_more _ _ _ (codes "always @(posedge clk) if (") (text_of m port.enable ++ (codes ") " ++ r3)) c.in_ok-push_text.ensures
+    (then_more _ _ _ (text_of m port.enable) (codes ") " ++ r3) c.in_ok-push_enable.ensures
+    (then_more _ _ _ (codes ") ") r3 c.in_ok-push_text-2.ensures
+    (then_more _ _ _ name r4 c.in_ok-push_text-3.ensures
+    (then_more _ _ _ (codes "[") r5 c.in_ok-push_text-4.ensures
+    (then_more _ _ _ (text_of m port.address) r6 c.in_ok-push_word_of_start.ensures
+    (then_more _ _ _ (codes "] <= ") (text_of m port.word ++ codes ";\n") c.in_ok-push_text-5.ensures
+    (then_more _ _ _ (text_of m port.word) (codes ";\n") c.in_ok-push_word_of_start-2.ensures last)))))))) c.push_text-6.ensures

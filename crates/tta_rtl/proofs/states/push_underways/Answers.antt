@@ -1,10 +1,10 @@
-use Rattle.std.proofs.Common.{◌+◌, arith}
-use Rattle.tta_hardware.specs.Signals.{Underway}
-use Rattle.tta_rtl.specs.Kept.{line_of}
-use Rattle.tta_rtl.proofs.Texts.{number_more}
+use Rattle.std.proofs.Common.{List, ℕ, ◌++◌, sym, ap, ◌∙◌}
+use Rattle.tta_list.proofs.Results.{onward}
+use Rattle.tta_rtl.proofs.RegisterTexts.{underway_lines}
 use Rattle.tta_rtl.proofs.states.push_underways.Goals as goal
 
-pub loop-before-preserved : goal.loop-before-preserved
-loop-before-preserved c =
-    number_more (λ k. line_of c.args.on.now.m.now c.args.declares (Underway k)) _ _ _ 1 c.loop-before.before (c.loop-before.before + 1) (omega arith)
-    c.loop-before.invariant c.in_ok-push_underway.ensures
+pub returns : goal.returns
+returns c =
+    onward c.push_underway_lines.result (λ last.
+    last ∙ ap (λ (t : List ℕ). c.args.out.now.items ++ t) (sym (underway_lines c.args.on.now.m.now c.args.declares)))
+    c.push_underway_lines.ensures
