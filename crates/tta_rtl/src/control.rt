@@ -1,10 +1,13 @@
 //! The wires of control, and of the words that come and go.
 
 ghost use Rattle.std.specs.Prelude.{◌≡◌, ◌++◌, [], ◌∷◌, OnOk};
+ghost use Rattle.tta_arch.specs.declared.ends.Dest.TheVariants as dest;
+ghost use Rattle.tta_circuit.specs.Circuit as c;
 ghost use Rattle.tta_hardware.specs.Signals as s;
 ghost use Rattle.tta_hardware.specs.Wires as w;
 ghost use Rattle.tta_names.specs.Names.{text_of};
 ghost use Rattle.tta_rtl.specs.Texts.{wire_of, wire_start, wires_text};
+ghost use Rattle.tta_verilog.specs.Expressions.{part};
 
 use crate::on::On;
 use crate::reach::{push_arrivals, push_reached};
@@ -24,19 +27,41 @@ fn start_wire(out: &mut Vec<u8>, name: &[u8], width: u32) -> Result<(), AllocErr
     push_text(out, b" = ")
 }
 
+/// Puts whether a call or a halt acts.
+#[tactic(auto, unfolding(tta_verilog::specs::Expressions::between))]
+fn push_calls_or_halts(out: &mut Vec<u8>, on: &On<'_>) -> Result<(), AllocError>
+    ensures { let M = on.now.m.now in
+        OnOk result (out.new.items ≡ out.old.items
+        ++ text_of M (c.Either (w.reached M dest.Call) (w.reached M dest.Halt))) }
+{
+    push_text(out, b"(")?;
+    push_reached(out, on, Dest::Call)?;
+    push_text(out, b")||(")?;
+    push_reached(out, on, Dest::Halt)?;
+    push_text(out, b")")
+}
+
+/// Puts the test that a control move acts.
+#[tactic(auto, unfolding(tta_verilog::specs::Expressions::between))]
+fn push_controls_test(out: &mut Vec<u8>, on: &On<'_>) -> Result<(), AllocError>
+    ensures { OnOk result (out.new.items ≡ out.old.items
+        ++ text_of on.now.m.now (w.made_of on.now.m.now s.Controls)) }
+{
+    push_text(out, b"(")?;
+    push_reached(out, on, Dest::Jump)?;
+    push_text(out, b")||(")?;
+    push_calls_or_halts(out, on)?;
+    push_text(out, b")")
+}
+
 /// Puts whether a control move acts.
-#[tactic(auto, unfolding(crate::specs::Texts::wire_of, crate::specs::Texts::wire_start, tta_verilog::specs::Circuits::wire_line, tta_verilog::specs::Expressions::between))]
+#[tactic(auto, unfolding(crate::specs::Texts::wire_of, crate::specs::Texts::wire_start, tta_verilog::specs::Circuits::wire_line))]
 fn push_controls(out: &mut Vec<u8>, on: &On<'_>) -> Result<(), AllocError>
     ensures { OnOk result (out.new.items ≡ out.old.items ++ wire_of on.now.m.now s.Controls) }
 {
     start_wire(out, b"n_controls", 1)?;
-    push_text(out, b"(")?;
-    push_reached(out, on, Dest::Jump)?;
-    push_text(out, b")||((")?;
-    push_reached(out, on, Dest::Call)?;
-    push_text(out, b")||(")?;
-    push_reached(out, on, Dest::Halt)?;
-    push_text(out, b"));\n")
+    push_controls_test(out, on)?;
+    push_text(out, b";\n")
 }
 
 /// Puts the address to which a control move leads.
@@ -113,33 +138,82 @@ fn push_gives(alloc: Global, out: &mut Vec<u8>, on: &On<'_>) -> Result<(), Alloc
     push_text(out, b";\n")
 }
 
+/// Puts the test that this clock carries the instruction out.
+#[tactic(auto, unfolding(tta_verilog::specs::Expressions::between, tta_verilog::specs::Expressions::negated))]
+fn push_goes_test(out: &mut Vec<u8>, on: &On<'_>) -> Result<(), AllocError>
+    ensures { OnOk result (out.new.items ≡ out.old.items
+        ++ text_of on.now.m.now (w.made_of on.now.m.now s.Goes)) }
+{
+    push_text(
+        out,
+        b"(!(reset))&&((!(n_halted))&&(((!(n_asks))||(in_valid))&&((!(n_gives))||(out_ready))))",
+    )
+}
+
 /// Puts whether this clock carries the instruction out.
-#[tactic(auto, unfolding(crate::specs::Texts::wire_of, crate::specs::Texts::wire_start, tta_verilog::specs::Circuits::wire_line, tta_verilog::specs::Expressions::between, tta_verilog::specs::Expressions::negated))]
+#[tactic(auto, unfolding(crate::specs::Texts::wire_of, crate::specs::Texts::wire_start, tta_verilog::specs::Circuits::wire_line))]
 fn push_goes(out: &mut Vec<u8>, on: &On<'_>) -> Result<(), AllocError>
     ensures { OnOk result (out.new.items ≡ out.old.items ++ wire_of on.now.m.now s.Goes) }
 {
     start_wire(out, b"n_goes", 1)?;
-    push_text(out, b"(!(reset))&&((!(n_halted))&&")?;
-    push_text(
-        out,
-        b"(((!(n_asks))||(in_valid))&&((!(n_gives))||(out_ready))));\n",
-    )
+    push_goes_test(out, on)?;
+    push_text(out, b";\n")
+}
+
+/// Puts a part of a signal by its name.
+#[tactic(auto, unfolding(tta_verilog::specs::Expressions::part))]
+fn push_part_of(out: &mut Vec<u8>, name: &[u8], low: u32, width: u32) -> Result<(), AllocError>
+    ensures { OnOk result (out.new.items ≡ out.old.items ++ part name.now low width) }
+{
+    push_text(out, name)?;
+    push_text(out, b"[")?;
+    push_number(out, u64::from(low))?;
+    push_text(out, b"+:")?;
+    push_number(out, u64::from(width))?;
+    push_text(out, b"]")
+}
+
+/// Puts the address to which the control move leads that takes effect.
+fn push_landed(out: &mut Vec<u8>, on: &On<'_>, address: u32) -> Result<(), AllocError>
+    ensures { OnOk result (out.new.items ≡ out.old.items
+        ++ text_of on.now.m.now (c.Slice 0 address (c.Signal s.GoalNow))) }
+{
+    push_part_of(out, b"n_goal_now", 0, address)
+}
+
+/// Puts the address after that of the instruction.
+#[tactic(auto, unfolding(tta_verilog::specs::Expressions::between))]
+fn push_following(out: &mut Vec<u8>, on: &On<'_>, address: u32) -> Result<(), AllocError>
+    ensures { OnOk result (out.new.items ≡ out.old.items
+        ++ text_of on.now.m.now (c.Plus address (c.Signal s.Pc) (c.Const address 1))) }
+{
+    push_text(out, b"(n_pc)+(")?;
+    push_constant(out, address, 1)?;
+    push_text(out, b")")
+}
+
+/// Puts the test that a control move takes effect that does not halt.
+#[tactic(auto, unfolding(tta_verilog::specs::Expressions::between, tta_verilog::specs::Expressions::negated))]
+fn push_leads(out: &mut Vec<u8>, on: &On<'_>) -> Result<(), AllocError>
+    ensures { OnOk result (out.new.items ≡ out.old.items ++ text_of on.now.m.now
+        (c.Both (c.Signal s.Lands) (c.Not (c.Signal s.EndsNow)))) }
+{
+    push_text(out, b"(n_lands)&&(!(n_ends_now))")
 }
 
 /// Puts the address of the instruction that comes next.
-#[tactic(auto, unfolding(tta_verilog::specs::Expressions::between, tta_verilog::specs::Expressions::choice, tta_verilog::specs::Expressions::negated, tta_verilog::specs::Expressions::part))]
+#[tactic(auto, unfolding(tta_verilog::specs::Expressions::choice))]
 fn push_sequel(out: &mut Vec<u8>, on: &On<'_>, address: u32) -> Result<(), AllocError>
     requires { address ≡ on.now.m.now.control.address }
     ensures { OnOk result (out.new.items ≡ out.old.items
         ++ text_of on.now.m.now (w.next_pc on.now.m.now)) }
 {
-    push_text(out, b"((n_lands)&&(!(n_ends_now)))?(n_goal_now[")?;
-    push_number(out, 0)?;
-    push_text(out, b"+:")?;
-    push_number(out, u64::from(address))?;
-    push_text(out, b"]):(n_pc)+(")?;
-    push_constant(out, address, 1)?;
-    push_text(out, b")")
+    push_text(out, b"(")?;
+    push_leads(out, on)?;
+    push_text(out, b")?(")?;
+    push_landed(out, on, address)?;
+    push_text(out, b"):")?;
+    push_following(out, on, address)
 }
 
 /// Puts the address at which the next instruction is fetched.

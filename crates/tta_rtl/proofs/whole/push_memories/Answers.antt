@@ -4,6 +4,7 @@ use Rattle.std.specs.List.{flat_map, enumerate_from}
 use Rattle.std.proofs.lemmas.List.{length-replicate}
 use Rattle.tta_list.proofs.Lists.{then_more}
 use Rattle.tta_list.proofs.Results.{onward}
+use Rattle.tta_arch.specs.Machine.{Machine}
 use Rattle.tta_hardware.specs.Hardware.{rom}
 use Rattle.tta_names.specs.Names.{names_of}
 use Rattle.tta_verilog.specs.Circuits.{array_start, first_line, function_text}
@@ -22,10 +23,12 @@ returns g c =
     let frame : ℕ → List ℕ → List ℕ = λ n l. array_start (codes "frame") 32 n ++ (l ++ codes "end\n") in
     let zeros = replicate m.frame_words 0 in
     let lines = flat_map (λ k. first_line (codes "frame") 32 k.0 k.1) (enumerate_from 0 zeros) in
+    let had = c.m.inside.frame_words in
     onward c.push_empty_memory.result (λ last.
-    then_more _ _ _ code (space ++ (frame m.frame_words [] ++ [])) c.in_ok-push_code.ensures
-    (then_more _ _ _ space (frame m.frame_words [] ++ []) c.in_ok-push_memory.ensures
-    (alone _ _ (frame m.frame_words []) last))
+    then_more _ _ _ code (space ++ (frame had [] ++ [])) c.in_ok-push_code.ensures
+    (then_more _ _ _ space (frame had [] ++ []) c.in_ok-push_memory.ensures
+    (alone _ _ (frame had []) last))
+    ∙ ap (λ (x : Machine). old ++ (code ++ (space ++ (frame x.frame_words [] ++ [])))) c.m.view_is
     ∙ ap (λ (n : ℕ). old ++ (code ++ (space ++ (frame n [] ++ [])))) (sym (length-replicate m.frame_words 0))
     ∙ ap (λ (l : List ℕ). old ++ (code ++ (space ++ (frame (length zeros) l ++ [])))) (sym (no_lines (codes "frame") 0 m.frame_words)))
     c.push_empty_memory.ensures
