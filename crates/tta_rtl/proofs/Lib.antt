@@ -1,1 +1,11 @@
+mod Choices
+mod Digits
 mod Layouts
+mod Modules
+mod Pieces
+mod RegisterTexts
+mod Shares
+mod Shown
+mod Texts
+mod UnitRegisters
+mod UnitWires

@@ -1,122 +1,269 @@
 //! The wires of control, and of the words that come and go.
 
-ghost use Rattle.std.specs.Prelude.{◌≡◌, ◌+◌, ◌≤◌, true, length};
-ghost use Rattle.std.specs.List.{list_all};
-ghost use Rattle.tta_arch.specs.Rules.{is_unit};
+ghost use Rattle.std.specs.Prelude.{◌≡◌, ◌++◌, [], ◌∷◌, OnOk};
+ghost use Rattle.tta_arch.specs.declared.ends.Dest.TheVariants as dest;
+ghost use Rattle.tta_circuit.specs.Circuit as c;
+ghost use Rattle.tta_hardware.specs.Signals as s;
+ghost use Rattle.tta_hardware.specs.Wires as w;
+ghost use Rattle.tta_names.specs.Names.{text_of};
+ghost use Rattle.tta_rtl.specs.Texts.{wire_of, wire_start, wires_text};
+ghost use Rattle.tta_verilog.specs.Expressions.{part};
 
 use crate::on::On;
 use crate::reach::{push_arrivals, push_reached};
-use crate::results::push_fresh;
-use crate::starts::{OpAt, all_ops, push_some_start, push_word_of_start};
+use crate::starts::{UnitWord, push_starts, push_word_where};
 use std::alloc::{AllocError, Global};
-use tta_arch::{Dest, Op, Unit};
-use tta_names::push_of_unit;
+use tta_arch::{Dest, Op};
 use tta_verilog::{push_constant, push_number, push_range, push_text};
 
-/// Puts the words that result ports show, of units from one on.
-fn push_ports_from(
-    out: &mut Vec<u8>,
-    on: &On<'_>,
-    unit: u8,
-    units: &[Unit],
-) -> Result<(), AllocError>
-    requires few { unit + length units.now ≤ 255 }
-    requires rules { list_all (is_unit on.now.m.now.sockets) units.now ≡ true }
+/// Puts how the line of a wire begins.
+#[tactic(auto, unfolding(crate::specs::Texts::wire_start))]
+fn start_wire(out: &mut Vec<u8>, name: &[u8], width: u32) -> Result<(), AllocError>
+    ensures { OnOk result (out.new.items ≡ out.old.items ++ wire_start name.now width) }
 {
-    match units {
-        [] => Ok(()),
-        [u, rest @ ..] => {
-            push_text(out, b"wire [31:0] ")?;
-            push_of_unit(out, on.m, b"shown_", unit)?;
-            push_text(out, b" = ")?;
-            push_fresh(out, on, unit, 1, u.ops.as_slice())?;
-            push_of_unit(out, on.m, b"result_", unit)?;
-            push_text(out, b";\n")?;
-            push_ports_from(out, on, unit + 1, rest)
-        }
-    }
+    push_text(out, b"wire ")?;
+    push_range(out, width)?;
+    push_text(out, name)?;
+    push_text(out, b" = ")
 }
 
-/// Puts the words that all result ports show.
-pub fn push_ports(out: &mut Vec<u8>, on: &On<'_>) -> Result<(), AllocError> {
-    let m = on.m;
-    push_ports_from(out, on, 0, m.units.as_slice())
-}
-
-/// Puts whether a control move acts, its address, and whether it halts.
-fn push_control_moves(out: &mut Vec<u8>, on: &On<'_>) -> Result<(), AllocError> {
-    push_text(out, b"wire [0:0] n_controls = (")?;
-    push_reached(out, on, Dest::Jump)?;
-    push_text(out, b")||((")?;
+/// Puts whether a call or a halt acts.
+#[tactic(auto, unfolding(tta_verilog::specs::Expressions::between))]
+fn push_calls_or_halts(out: &mut Vec<u8>, on: &On<'_>) -> Result<(), AllocError>
+    ensures { let M = on.now.m.now in
+        OnOk result (out.new.items ≡ out.old.items
+        ++ text_of M (c.Either (w.reached M dest.Call) (w.reached M dest.Halt))) }
+{
+    push_text(out, b"(")?;
     push_reached(out, on, Dest::Call)?;
     push_text(out, b")||(")?;
     push_reached(out, on, Dest::Halt)?;
-    push_text(out, b"));\nwire [31:0] n_goal_now = ")?;
+    push_text(out, b")")
+}
+
+/// Puts the test that a control move acts.
+#[tactic(auto, unfolding(tta_verilog::specs::Expressions::between))]
+fn push_controls_test(out: &mut Vec<u8>, on: &On<'_>) -> Result<(), AllocError>
+    ensures { OnOk result (out.new.items ≡ out.old.items
+        ++ text_of on.now.m.now (w.made_of on.now.m.now s.Controls)) }
+{
+    push_text(out, b"(")?;
+    push_reached(out, on, Dest::Jump)?;
+    push_text(out, b")||(")?;
+    push_calls_or_halts(out, on)?;
+    push_text(out, b")")
+}
+
+/// Puts whether a control move acts.
+#[tactic(auto, unfolding(crate::specs::Texts::wire_of, crate::specs::Texts::wire_start, tta_verilog::specs::Circuits::wire_line))]
+fn push_controls(out: &mut Vec<u8>, on: &On<'_>) -> Result<(), AllocError>
+    ensures { OnOk result (out.new.items ≡ out.old.items ++ wire_of on.now.m.now s.Controls) }
+{
+    start_wire(out, b"n_controls", 1)?;
+    push_controls_test(out, on)?;
+    push_text(out, b";\n")
+}
+
+/// Puts the address to which a control move leads.
+fn push_goal_word(out: &mut Vec<u8>, on: &On<'_>) -> Result<(), AllocError>
+    ensures { OnOk result (out.new.items ≡ out.old.items
+        ++ text_of on.now.m.now (w.made_of on.now.m.now s.GoalNow)) }
+{
     push_arrivals(out, on, Dest::Jump)?;
     push_arrivals(out, on, Dest::Call)?;
-    push_text(out, b"n_goal;\nwire [0:0] n_ends_now = (n_controls)?(")?;
+    push_text(out, b"n_goal")
+}
+
+/// Puts the wire of that address.
+#[tactic(auto, unfolding(crate::specs::Texts::wire_of, crate::specs::Texts::wire_start, tta_verilog::specs::Circuits::wire_line))]
+fn push_goal(out: &mut Vec<u8>, on: &On<'_>) -> Result<(), AllocError>
+    ensures { OnOk result (out.new.items ≡ out.old.items ++ wire_of on.now.m.now s.GoalNow) }
+{
+    start_wire(out, b"n_goal_now", 32)?;
+    push_goal_word(out, on)?;
+    push_text(out, b";\n")
+}
+
+/// Puts whether the control move that is under way halts.
+#[tactic(auto, unfolding(crate::specs::Texts::wire_of, crate::specs::Texts::wire_start, tta_verilog::specs::Circuits::wire_line, tta_verilog::specs::Expressions::choice))]
+fn push_ends(out: &mut Vec<u8>, on: &On<'_>) -> Result<(), AllocError>
+    ensures { OnOk result (out.new.items ≡ out.old.items ++ wire_of on.now.m.now s.EndsNow) }
+{
+    start_wire(out, b"n_ends_now", 1)?;
+    push_text(out, b"(n_controls)?(")?;
     push_reached(out, on, Dest::Halt)?;
     push_text(out, b"):n_ends;\n")
 }
 
-/// Puts whether a control move takes effect at this clock.
-fn push_lands(out: &mut Vec<u8>, on: &On<'_>) -> Result<(), AllocError> {
-    push_text(out, b"wire [0:0] n_lands = ")?;
+/// Puts the test that a control move takes effect at this clock.
+fn push_landing(out: &mut Vec<u8>, on: &On<'_>) -> Result<(), AllocError>
+    ensures { OnOk result (out.new.items ≡ out.old.items
+        ++ text_of on.now.m.now (w.landing on.now.m.now)) }
+{
     let m = on.m;
     if m.control.delay == 0 {
-        push_text(out, b"n_controls")?;
-    } else {
-        push_text(out, b"n_underway_1")?;
+        return push_text(out, b"n_controls");
     }
+    push_text(out, b"n_underway_")?;
+    push_number(out, 1)
+}
+
+/// Puts the wire of that test.
+#[tactic(auto, unfolding(crate::specs::Texts::wire_of, crate::specs::Texts::wire_start, tta_verilog::specs::Circuits::wire_line))]
+fn push_lands(out: &mut Vec<u8>, on: &On<'_>) -> Result<(), AllocError>
+    ensures { OnOk result (out.new.items ≡ out.old.items ++ wire_of on.now.m.now s.Lands) }
+{
+    start_wire(out, b"n_lands", 1)?;
+    push_landing(out, on)?;
     push_text(out, b";\n")
 }
 
-/// Puts the address at which the next instruction is fetched.
-fn push_next_pc(out: &mut Vec<u8>, on: &On<'_>) -> Result<(), AllocError> {
-    let m = on.m;
-    let address = u32::from(m.control.address);
-    push_text(out, b"wire ")?;
-    push_range(out, address)?;
-    push_text(out, b"n_next_pc = (reset)?(")?;
-    push_constant(out, address, 0)?;
-    push_text(out, b"):((n_lands)&&(!(n_ends_now)))?(n_goal_now[0+:")?;
-    push_number(out, u64::from(address))?;
-    push_text(out, b"]):(n_pc)+(")?;
-    push_constant(out, address, 1)?;
-    push_text(out, b");\n")
+/// Puts whether a word of the input is asked for.
+#[tactic(auto, unfolding(crate::specs::Texts::wire_of, crate::specs::Texts::wire_start, tta_verilog::specs::Circuits::wire_line))]
+fn push_asks(alloc: Global, out: &mut Vec<u8>, on: &On<'_>) -> Result<(), AllocError>
+    ensures { OnOk result (out.new.items ≡ out.old.items ++ wire_of on.now.m.now s.Asks) }
+{
+    start_wire(out, b"n_asks", 1)?;
+    push_starts(alloc, out, on.m, Op::Take)?;
+    push_text(out, b";\n")
 }
 
-/// Puts whether a word of the input is asked for, whether one is to be put out, and whether this clock
-/// carries the instruction out.
-fn push_goes(
-    out: &mut Vec<u8>,
-    on: &On<'_>,
-    takes: &[OpAt],
-    gives: &[OpAt],
-) -> Result<(), AllocError> {
-    push_text(out, b"wire [0:0] n_asks = ")?;
-    push_some_start(out, on.m, takes)?;
-    push_text(out, b";\nwire [0:0] n_gives = ")?;
-    push_some_start(out, on.m, gives)?;
-    push_text(out, b";\nwire [0:0] n_goes = (!(reset))&&((!(n_halted))&&")?;
+/// Puts whether a word is to be put out.
+#[tactic(auto, unfolding(crate::specs::Texts::wire_of, crate::specs::Texts::wire_start, tta_verilog::specs::Circuits::wire_line))]
+fn push_gives(alloc: Global, out: &mut Vec<u8>, on: &On<'_>) -> Result<(), AllocError>
+    ensures { OnOk result (out.new.items ≡ out.old.items ++ wire_of on.now.m.now s.Gives) }
+{
+    start_wire(out, b"n_gives", 1)?;
+    push_starts(alloc, out, on.m, Op::Out)?;
+    push_text(out, b";\n")
+}
+
+/// Puts the test that this clock carries the instruction out.
+#[tactic(auto, unfolding(tta_verilog::specs::Expressions::between, tta_verilog::specs::Expressions::negated))]
+fn push_goes_test(out: &mut Vec<u8>, on: &On<'_>) -> Result<(), AllocError>
+    ensures { OnOk result (out.new.items ≡ out.old.items
+        ++ text_of on.now.m.now (w.made_of on.now.m.now s.Goes)) }
+{
     push_text(
         out,
-        b"(((!(n_asks))||(in_valid))&&((!(n_gives))||(out_ready))));\n",
+        b"(!(reset))&&((!(n_halted))&&(((!(n_asks))||(in_valid))&&((!(n_gives))||(out_ready))))",
     )
 }
 
-/// Puts the wires of control, and of the words that come and go.
-pub fn push_control(alloc: Global, out: &mut Vec<u8>, on: &On<'_>) -> Result<(), AllocError> {
-    let takes = all_ops(alloc, on.m, Op::Take)?;
-    let gives = all_ops(alloc, on.m, Op::Out)?;
-    push_control_moves(out, on)?;
-    push_lands(out, on)?;
-    push_goes(out, on, takes.as_slice(), gives.as_slice())?;
-    push_next_pc(out, on)?;
-    push_text(
-        out,
-        b"wire [0:0] n_puts = (n_goes)&&(n_gives);\nwire [31:0] n_put = ",
-    )?;
-    push_word_of_start(out, on.m, b"trigger_", gives.as_slice())?;
+/// Puts whether this clock carries the instruction out.
+#[tactic(auto, unfolding(crate::specs::Texts::wire_of, crate::specs::Texts::wire_start, tta_verilog::specs::Circuits::wire_line))]
+fn push_goes(out: &mut Vec<u8>, on: &On<'_>) -> Result<(), AllocError>
+    ensures { OnOk result (out.new.items ≡ out.old.items ++ wire_of on.now.m.now s.Goes) }
+{
+    start_wire(out, b"n_goes", 1)?;
+    push_goes_test(out, on)?;
     push_text(out, b";\n")
+}
+
+/// Puts a part of a signal by its name.
+#[tactic(auto, unfolding(tta_verilog::specs::Expressions::part))]
+fn push_part_of(out: &mut Vec<u8>, name: &[u8], low: u32, width: u32) -> Result<(), AllocError>
+    ensures { OnOk result (out.new.items ≡ out.old.items ++ part name.now low width) }
+{
+    push_text(out, name)?;
+    push_text(out, b"[")?;
+    push_number(out, u64::from(low))?;
+    push_text(out, b"+:")?;
+    push_number(out, u64::from(width))?;
+    push_text(out, b"]")
+}
+
+/// Puts the address to which the control move leads that takes effect.
+fn push_landed(out: &mut Vec<u8>, on: &On<'_>, address: u32) -> Result<(), AllocError>
+    ensures { OnOk result (out.new.items ≡ out.old.items
+        ++ text_of on.now.m.now (c.Slice 0 address (c.Signal s.GoalNow))) }
+{
+    push_part_of(out, b"n_goal_now", 0, address)
+}
+
+/// Puts the address after that of the instruction.
+#[tactic(auto, unfolding(tta_verilog::specs::Expressions::between))]
+fn push_following(out: &mut Vec<u8>, on: &On<'_>, address: u32) -> Result<(), AllocError>
+    ensures { OnOk result (out.new.items ≡ out.old.items
+        ++ text_of on.now.m.now (c.Plus address (c.Signal s.Pc) (c.Const address 1))) }
+{
+    push_text(out, b"(n_pc)+(")?;
+    push_constant(out, address, 1)?;
+    push_text(out, b")")
+}
+
+/// Puts the test that a control move takes effect that does not halt.
+#[tactic(auto, unfolding(tta_verilog::specs::Expressions::between, tta_verilog::specs::Expressions::negated))]
+fn push_leads(out: &mut Vec<u8>, on: &On<'_>) -> Result<(), AllocError>
+    ensures { OnOk result (out.new.items ≡ out.old.items ++ text_of on.now.m.now
+        (c.Both (c.Signal s.Lands) (c.Not (c.Signal s.EndsNow)))) }
+{
+    push_text(out, b"(n_lands)&&(!(n_ends_now))")
+}
+
+/// Puts the address of the instruction that comes next.
+#[tactic(auto, unfolding(tta_verilog::specs::Expressions::choice))]
+fn push_sequel(out: &mut Vec<u8>, on: &On<'_>, address: u32) -> Result<(), AllocError>
+    requires { address ≡ on.now.m.now.control.address }
+    ensures { OnOk result (out.new.items ≡ out.old.items
+        ++ text_of on.now.m.now (w.next_pc on.now.m.now)) }
+{
+    push_text(out, b"(")?;
+    push_leads(out, on)?;
+    push_text(out, b")?(")?;
+    push_landed(out, on, address)?;
+    push_text(out, b"):")?;
+    push_following(out, on, address)
+}
+
+/// Puts the address at which the next instruction is fetched.
+#[tactic(auto, unfolding(crate::specs::Texts::wire_of, crate::specs::Texts::wire_start, tta_verilog::specs::Circuits::wire_line, tta_verilog::specs::Expressions::choice))]
+fn push_next_pc(out: &mut Vec<u8>, on: &On<'_>) -> Result<(), AllocError>
+    ensures { OnOk result (out.new.items ≡ out.old.items ++ wire_of on.now.m.now s.NextPc) }
+{
+    let m = on.m;
+    let address = u32::from(m.control.address);
+    start_wire(out, b"n_next_pc", address)?;
+    push_text(out, b"(reset)?(")?;
+    push_constant(out, address, 0)?;
+    push_text(out, b"):")?;
+    push_sequel(out, on, address)?;
+    push_text(out, b";\n")
+}
+
+/// Puts whether this clock puts a word out.
+#[tactic(auto, unfolding(crate::specs::Texts::wire_of, crate::specs::Texts::wire_start, tta_verilog::specs::Circuits::wire_line, tta_verilog::specs::Expressions::between))]
+fn push_puts(out: &mut Vec<u8>, on: &On<'_>) -> Result<(), AllocError>
+    ensures { OnOk result (out.new.items ≡ out.old.items ++ wire_of on.now.m.now s.Puts) }
+{
+    start_wire(out, b"n_puts", 1)?;
+    push_text(out, b"(n_goes)&&(n_gives);\n")
+}
+
+/// Puts the word that it puts out.
+#[tactic(auto, unfolding(crate::specs::Texts::wire_of, crate::specs::Texts::wire_start, tta_verilog::specs::Circuits::wire_line))]
+fn push_put(alloc: Global, out: &mut Vec<u8>, on: &On<'_>) -> Result<(), AllocError>
+    ensures { OnOk result (out.new.items ≡ out.old.items ++ wire_of on.now.m.now s.PutWord) }
+{
+    start_wire(out, b"n_put", 32)?;
+    push_word_where(alloc, out, on.m, Op::Out, UnitWord::Trigger)?;
+    push_text(out, b";\n")
+}
+
+/// Puts the wires of control, and of the words that come and go.
+pub fn push_control(alloc: Global, out: &mut Vec<u8>, on: &On<'_>) -> Result<(), AllocError>
+    ensures { OnOk result (out.new.items ≡ out.old.items ++ wires_text on.now.m.now
+        (s.Controls ∷ s.GoalNow ∷ s.EndsNow ∷ s.Lands ∷ s.Asks ∷ s.Gives ∷ s.Goes ∷ s.NextPc
+        ∷ s.Puts ∷ s.PutWord ∷ [])) }
+{
+    push_controls(out, on)?;
+    push_goal(out, on)?;
+    push_ends(out, on)?;
+    push_lands(out, on)?;
+    push_asks(alloc, out, on)?;
+    push_gives(alloc, out, on)?;
+    push_goes(out, on)?;
+    push_next_pc(out, on)?;
+    push_puts(out, on)?;
+    push_put(alloc, out, on)
 }

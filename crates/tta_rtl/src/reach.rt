@@ -1,13 +1,16 @@
 //! Whether moves reach a destination, and what they bring.
 
 ghost use Rattle.std.specs.Prelude.{◌≡◌, ◌+◌, ◌<◌, ◌^◌, ◌++◌, map, filter, length, OnOk};
-ghost use Rattle.std.specs.List.{range_with_len, position_or_len};
+ghost use Rattle.std.specs.List.{flat_map, range_with_len, position_or_len};
 ghost use Rattle.tta_arch.specs.Fields.{same_dest};
 ghost use Rattle.tta_arch.specs.Joins.{is_dest_on};
 ghost use Rattle.tta_arch.specs.Layout.{fields_of};
+ghost use Rattle.tta_circuit.specs.Circuit as c;
 ghost use Rattle.tta_hardware.specs.Chains.{any_of};
+ghost use Rattle.tta_hardware.specs.Signals as s;
 ghost use Rattle.tta_hardware.specs.Wires as w;
 ghost use Rattle.tta_names.specs.Names.{text_of};
+ghost use Rattle.tta_rtl.specs.Texts.{arrival, choices};
 
 use crate::buses::push_is_code;
 use crate::on::On;
@@ -106,6 +109,29 @@ pub fn push_reached(out: &mut Vec<u8>, on: &On<'_>, dst: Dest) -> Result<(), All
     push_reached_from(out, on, 0, on.layout.buses.as_slice(), dst)
 }
 
+/// Puts whether the move of a bus brings its word to a destination, and that word, as a choice begins;
+/// nothing where the bus does not lead there.
+#[tactic(auto, unfolding(crate::specs::Texts::choice_start, crate::specs::Texts::arrival))]
+fn push_arrival(
+    out: &mut Vec<u8>,
+    on: &On<'_>,
+    bus: usize,
+    f: &BusFields,
+    dst: Dest,
+) -> Result<(), AllocError>
+    requires { f.now ≡ fields_of on.now.m.now bus }
+    ensures { OnOk result (out.new.items ≡ out.old.items ++ arrival on.now.m.now dst bus) }
+{
+    if !is_dest_on(on.m, bus, dst) {
+        return Ok(());
+    }
+    push_text(out, b"(")?;
+    push_hits(out, on, bus, f, dst)?;
+    push_text(out, b")?(")?;
+    push_of_bus(out, on.m, b"bus_", bus)?;
+    push_text(out, b"):")
+}
+
 /// Puts what some buses can bring to a destination, each after the test whether it does.
 fn push_arrivals_from(
     out: &mut Vec<u8>,
@@ -117,25 +143,23 @@ fn push_arrivals_from(
     requires room { bus + length buses.now < 2 ^ 64 }
     requires fields { buses.now ≡ map (fields_of on.now.m.now)
         (range_with_len bus (length buses.now)) }
+    ensures { OnOk result (out.new.items ≡ out.old.items
+        ++ flat_map (arrival on.now.m.now dst) (range_with_len bus (length buses.now))) }
 {
     match buses {
         [] => Ok(()),
         [f, rest @ ..] => {
-            if !is_dest_on(on.m, bus, dst) {
-                return push_arrivals_from(out, on, bus + 1, rest, dst);
-            }
-            push_text(out, b"(")?;
-            push_hits(out, on, bus, f, dst)?;
-            push_text(out, b")?(")?;
-            push_of_bus(out, on.m, b"bus_", bus)?;
-            push_text(out, b"):")?;
+            push_arrival(out, on, bus, f, dst)?;
             push_arrivals_from(out, on, bus + 1, rest, dst)
         }
     }
 }
 
 /// Puts what the buses can bring to a destination, each after the test whether it does.
-#[tactic(auto, using(crate::proofs::Layouts::layout_fields, crate::proofs::Layouts::layout_count))]
-pub fn push_arrivals(out: &mut Vec<u8>, on: &On<'_>, dst: Dest) -> Result<(), AllocError> {
+#[tactic(auto, using(crate::proofs::Layouts::layout_fields, crate::proofs::Layouts::layout_count, crate::proofs::Choices::arrivals_text))]
+pub fn push_arrivals(out: &mut Vec<u8>, on: &On<'_>, dst: Dest) -> Result<(), AllocError>
+    ensures { OnOk result (out.new.items ≡ out.old.items
+        ++ choices on.now.m.now (w.arrivals on.now.m.now dst)) }
+{
     push_arrivals_from(out, on, 0, on.layout.buses.as_slice(), dst)
 }

@@ -1,7 +1,12 @@
 //! The templates of an instruction, which buses they take, and its long immediate.
 
-ghost use Rattle.std.specs.Prelude.{◌≡◌, ◌+◌, ◌<◌, ◌≤◌, ◌^◌, length};
+ghost use Rattle.std.specs.Prelude.{◌≡◌, ◌+◌, ◌<◌, ◌≤◌, ◌^◌, ◌++◌, length, OnOk};
 ghost use Rattle.std.specs.List.{sum_by};
+ghost use Rattle.tta_hardware.specs.Parts as p;
+ghost use Rattle.tta_hardware.specs.Signals as s;
+ghost use Rattle.tta_circuit.specs.Circuit as c;
+ghost use Rattle.tta_names.specs.Names.{text_of};
+ghost use Rattle.tta_rtl.specs.Parts.{part_text, share_width, shares_text};
 
 use crate::on::On;
 use std::alloc::AllocError;
@@ -23,7 +28,8 @@ pub fn width_of(buses: &[BusFields]) -> u32
 fn long_width(taken: u16, bus: usize, buses: &[BusFields]) -> u32
     requires room { bus + length buses.now < 2 ^ 64 }
     requires fits { sum_by (λ f. f.width) buses.now < 2 ^ 32 }
-    ensures { result ≤ sum_by (λ f. f.width) buses.now }
+    ensures within { result ≤ sum_by (λ f. f.width) buses.now }
+    ensures value { result ≡ share_width taken bus buses.now }
 {
     match buses {
         [] => 0,
@@ -39,7 +45,10 @@ fn long_width(taken: u16, bus: usize, buses: &[BusFields]) -> u32
 }
 
 /// Puts a part of the instruction's word.
-pub fn push_part(out: &mut Vec<u8>, low: u32, width: u32) -> Result<(), AllocError> {
+#[tactic(auto, unfolding(tta_verilog::specs::Expressions::part))]
+pub fn push_part(out: &mut Vec<u8>, low: u32, width: u32) -> Result<(), AllocError>
+    ensures { OnOk result (out.new.items ≡ out.old.items ++ part_text low width) }
+{
     push_text(out, b"n_word")?;
     push_text(out, b"[")?;
     push_number(out, u64::from(low))?;
@@ -49,7 +58,12 @@ pub fn push_part(out: &mut Vec<u8>, low: u32, width: u32) -> Result<(), AllocErr
 }
 
 /// Puts the code of the template.
-pub fn push_template(out: &mut Vec<u8>, on: &On<'_>) -> Result<(), AllocError> {
+#[tactic(auto, using(crate::proofs::Shares::layout_width))]
+pub fn push_template(out: &mut Vec<u8>, on: &On<'_>) -> Result<(), AllocError>
+    ensures { let T = text_of on.now.m.now in
+        OnOk result (out.new.items ≡ out.old.items
+        ++ T (p.template_part on.now.m.now (c.Signal s.Whole))) }
+{
     push_part(
         out,
         width_of(on.layout.buses.as_slice()),
@@ -58,7 +72,12 @@ pub fn push_template(out: &mut Vec<u8>, on: &On<'_>) -> Result<(), AllocError> {
 }
 
 /// Puts whether the instruction has a template.
-fn push_has_template(out: &mut Vec<u8>, on: &On<'_>, template: u8) -> Result<(), AllocError> {
+#[tactic(auto, unfolding(tta_verilog::specs::Expressions::between))]
+fn push_has_template(out: &mut Vec<u8>, on: &On<'_>, template: u8) -> Result<(), AllocError>
+    ensures { let T = text_of on.now.m.now in
+        OnOk result (out.new.items ≡ out.old.items
+        ++ T (p.has_template on.now.m.now (c.Signal s.Whole) template)) }
+{
     push_text(out, b"(")?;
     push_template(out, on)?;
     push_text(out, b")==(")?;
@@ -67,6 +86,7 @@ fn push_has_template(out: &mut Vec<u8>, on: &On<'_>, template: u8) -> Result<(),
 }
 
 /// Puts whether the instruction has a template that takes a bus, of these from one on.
+#[tactic(auto, unfolding(tta_verilog::specs::Expressions::between))]
 pub fn push_takes_from(
     out: &mut Vec<u8>,
     on: &On<'_>,
@@ -75,9 +95,12 @@ pub fn push_takes_from(
     templates: &[Template],
 ) -> Result<(), AllocError>
     requires { template + length templates.now ≤ 255 }
+    ensures { let T = text_of on.now.m.now in
+        OnOk result (out.new.items ≡ out.old.items
+        ++ T (p.takes_from on.now.m.now (c.Signal s.Whole) bus template templates.now)) }
 {
     match templates {
-        [] => push_text(out, b"1'd0"),
+        [] => push_constant(out, 1, 0),
         [t, rest @ ..] => {
             if !has_bus(t.buses, bus) {
                 return push_takes_from(out, on, bus, template + 1, rest);
@@ -93,6 +116,7 @@ pub fn push_takes_from(
 
 /// Puts the low 32 bits of a long immediate: the parts of those of some buses that are taken, these being
 /// those from one on.
+#[tactic(auto, unfolding(tta_verilog::specs::Expressions::joined))]
 fn push_shares_from(
     out: &mut Vec<u8>,
     taken: u16,
@@ -101,6 +125,7 @@ fn push_shares_from(
 ) -> Result<(), AllocError>
     requires room { bus + length buses.now < 2 ^ 64 }
     requires fits { sum_by (λ f. f.width) buses.now < 2 ^ 32 }
+    ensures { OnOk result (out.new.items ≡ out.old.items ++ shares_text taken bus buses.now) }
 {
     match buses {
         [] => push_constant(out, 0, 0),
@@ -121,7 +146,18 @@ fn push_shares_from(
     }
 }
 
+/// Puts the low 32 bits of the long immediate of a template that takes a set of buses.
+#[tactic(auto, using(crate::proofs::Shares::shares_of_layout))]
+fn push_shares(out: &mut Vec<u8>, on: &On<'_>, taken: u16) -> Result<(), AllocError>
+    ensures { let T = text_of on.now.m.now in
+        OnOk result (out.new.items ≡ out.old.items
+        ++ T (p.shares_from on.now.m.now (c.Signal s.Whole) taken 0 (length on.now.m.now.buses))) }
+{
+    push_shares_from(out, taken, 0, on.layout.buses.as_slice())
+}
+
 /// Puts the long immediate of the template that the instruction has, of these from one on.
+#[tactic(auto, unfolding(tta_verilog::specs::Expressions::choice))]
 pub fn push_long_from(
     out: &mut Vec<u8>,
     on: &On<'_>,
@@ -129,14 +165,17 @@ pub fn push_long_from(
     templates: &[Template],
 ) -> Result<(), AllocError>
     requires { template + length templates.now ≤ 255 }
+    ensures { let T = text_of on.now.m.now in
+        OnOk result (out.new.items ≡ out.old.items
+        ++ T (p.long_from on.now.m.now (c.Signal s.Whole) template templates.now)) }
 {
     match templates {
-        [] => push_text(out, b"32'd0"),
+        [] => push_constant(out, 32, 0),
         [t, rest @ ..] => {
             push_text(out, b"(")?;
             push_has_template(out, on, template)?;
             push_text(out, b")?(")?;
-            push_shares_from(out, t.buses, 0, on.layout.buses.as_slice())?;
+            push_shares(out, on, t.buses)?;
             push_text(out, b"):")?;
             push_long_from(out, on, template + 1, rest)
         }

@@ -1,106 +1,71 @@
 //! The module of a machine with its code.
 
-ghost use Rattle.std.specs.Prelude.{◌≡◌, true};
+ghost use Rattle.std.specs.Prelude.{◌≡◌, ◌+◌, ◌*◌, ◌<◌, ◌≤◌, ◌^◌, ◌==◌, ◌++◌, [], ◌∷◌, if◌then◌else◌};
+ghost use Rattle.std.specs.Prelude.{Bool, true, false, not, nat_lt, codes, drop, length, map, IfOk, OnOk};
+ghost use Rattle.std.specs.List.{flat_map};
+ghost use Rattle.tta_arch.specs.Rules.{same_op};
 ghost use Rattle.tta_code.specs.Legal.{IsLegalCode};
 ghost use Rattle.tta_code.specs.Whole.{fits};
+ghost use Rattle.tta_hardware.specs.Hardware as h;
+ghost use Rattle.tta_names.specs.Names.{names_of};
+ghost use Rattle.tta_ops.specs.Set.{stated};
+ghost use Rattle.tta_rtl.specs.Memories.{words_in};
+ghost use Rattle.tta_rtl.specs.Module as p;
+ghost use Rattle.tta_rtl.specs.Texts.{registers_text, wires_text};
+ghost use Rattle.tta_verilog.specs.Circuits as v;
 
 use crate::buses::push_buses;
-use crate::control::{push_control, push_ports};
+use crate::control::push_control;
 use crate::fields::push_fields;
 use crate::functions::push_functions;
 use crate::on::On;
+use crate::pins::{push_common_ports, push_head, push_in_ports, push_out_ports, push_shown};
 use crate::pipes::push_pipes;
-use crate::registers::{push_kept, push_states};
-use crate::spaces::{push_code, push_memory, push_store};
-use crate::starts::{all_ops, push_units};
+use crate::ports::push_ports;
+use crate::registers::push_kept;
+use crate::spaces::{push_code, push_empty_memory, push_memory, push_store};
+use crate::starts::all_ops;
+use crate::states::push_states;
+use crate::unit_wires::push_units;
 use std::alloc::{AllocError, Global};
 use tta_arch::{Layout, Machine, Op};
 use tta_code::{Whole, lay};
 use tta_image::write_image;
 use tta_ops::UnitSet;
-use tta_verilog::{push_range, push_text};
+use tta_verilog::push_text;
 
-/// Puts the first line, which names the ports.
-fn push_head(out: &mut Vec<u8>, gives: bool, takes: bool) -> Result<(), AllocError> {
-    push_text(out, b"module tta_core (clk, reset, halted, cycle, pc")?;
-    if gives {
-        push_text(out, b", out_valid, out_data, out_ready")?;
-    }
-    if takes {
-        push_text(out, b", in_valid, in_data, in_ready")?;
-    }
-    push_text(out, b");\n")
-}
-
-/// Puts the ports of all machines. A port of one bit has a range, too.
-fn push_common_ports(out: &mut Vec<u8>, on: &On<'_>) -> Result<(), AllocError> {
-    push_text(
-        out,
-        b"input clk;\ninput [0:0] reset;\noutput [0:0] halted;\noutput [0:0] cycle;\noutput ",
-    )?;
-    let m = on.m;
-    push_range(out, u32::from(m.control.address))?;
-    push_text(out, b"pc;\n")
-}
-
-/// Puts the ports of the output, or what stands for the input of the circuit that belongs to it.
-fn push_out_ports(out: &mut Vec<u8>, gives: bool) -> Result<(), AllocError> {
-    if gives {
-        push_text(
-            out,
-            b"output [0:0] out_valid;\noutput [31:0] out_data;\ninput [0:0] out_ready;\n",
-        )
-    } else {
-        push_text(out, b"wire [0:0] out_ready = 1'd0;\n")
-    }
-}
-
-/// Puts the ports of the input, or what stands for the inputs of the circuit that belong to it.
-fn push_in_ports(out: &mut Vec<u8>, takes: bool) -> Result<(), AllocError> {
-    if takes {
-        push_text(
-            out,
-            b"input [0:0] in_valid;\ninput [31:0] in_data;\noutput [0:0] in_ready;\n",
-        )
-    } else {
-        push_text(
-            out,
-            b"wire [0:0] in_valid = 1'd0;\nwire [31:0] in_data = 32'd0;\n",
-        )
-    }
-}
-
-/// Puts what the ports show.
-fn push_outputs(out: &mut Vec<u8>, gives: bool, takes: bool) -> Result<(), AllocError> {
-    push_text(
-        out,
-        b"assign halted = n_halted;\nassign cycle = n_goes;\nassign pc = n_pc;\n",
-    )?;
-    if gives {
-        push_text(
-            out,
-            b"assign out_valid = (!(reset))&&((!(n_halted))&&(n_gives));\n",
-        )?;
-        push_text(out, b"assign out_data = n_put;\n")?;
-    }
-    if takes {
-        push_text(
-            out,
-            b"assign in_ready = (!(reset))&&((!(n_halted))&&(n_asks));\n",
-        )?;
-    }
-    push_text(out, b"endmodule\n")
+/// A machine with its operations, and what its memories begin with.
+#[derive(Clone, Copy)]
+struct Core<'a> {
+    on: &'a On<'a>,
+    units: &'a UnitSet,
+    /// How many instructions the code has.
+    words: usize,
+    /// The bytes of the instructions.
+    body: &'a [u8],
+    /// The words that the data space begins with.
+    first: &'a [u32],
+    ghost inside: { words * on.now.layout.now.width ≤ 8 * length body.now },
+    ghost few: { 8 * length body.now < 2 ^ 64 },
+    ghost sized: { length first.now ≡ on.now.m.now.data_words },
 }
 
 /// Puts all registers: how many bits each has, and else what each becomes.
-fn push_registers(out: &mut Vec<u8>, on: &On<'_>, declares: bool) -> Result<(), AllocError> {
+fn push_registers(out: &mut Vec<u8>, on: &On<'_>, declares: bool) -> Result<(), AllocError>
+    ensures { let M = on.now.m.now in
+        OnOk result (out.new.items ≡ out.old.items
+        ++ registers_text M declares (h.register_names M)) }
+{
     push_kept(out, on, declares)?;
     push_pipes(out, on, declares)?;
     push_states(out, on, declares)
 }
 
 /// Puts all wires.
-fn push_wires(alloc: Global, out: &mut Vec<u8>, on: &On<'_>) -> Result<(), AllocError> {
+fn push_wires(alloc: Global, out: &mut Vec<u8>, on: &On<'_>) -> Result<(), AllocError>
+    ensures { let M = on.now.m.now in
+        OnOk result (out.new.items ≡ out.old.items ++ wires_text M (h.wire_names M)) }
+{
     push_fields(out, on)?;
     push_ports(out, on)?;
     push_buses(out, on)?;
@@ -108,58 +73,125 @@ fn push_wires(alloc: Global, out: &mut Vec<u8>, on: &On<'_>) -> Result<(), Alloc
     push_control(alloc, out, on)
 }
 
+/// Puts the memories.
+fn push_memories(out: &mut Vec<u8>, core: &Core<'_>) -> Result<(), AllocError>
+    ensures { let M = core.now.on.now.m.now in
+        let WORDS = words_in M core.now.body.now core.now.words in
+        OnOk result (out.new.items ≡ out.old.items
+        ++ p.memories_text M (h.circuit_with M WORDS core.now.first.now)) }
+{
+    let m = core.on.m;
+    push_code(out, core.on, core.words, core.body)?;
+    push_memory(out, b"data", m.data_words, core.first)?;
+    push_empty_memory(out, b"frame", m.frame_words)
+}
+
+/// Puts where one of the two spaces is written: by the units that store.
+fn push_store_of(
+    alloc: Global,
+    out: &mut Vec<u8>,
+    m: &Machine,
+    name: &[u8],
+    size: u32,
+    store: Op,
+) -> Result<(), AllocError>
+    ensures { OnOk result (out.new.items ≡ out.old.items
+        ++ p.store_line m.now name.now (h.store_port m.now size (same_op store))) }
+{
+    let stores = all_ops(alloc, m, store)?;
+    push_store(out, m, name, size, stores.as_slice())
+}
+
 /// Puts where the two spaces are written.
-fn push_stores(alloc: Global, out: &mut Vec<u8>, on: &On<'_>) -> Result<(), AllocError> {
-    let data = all_ops(alloc, on.m, Op::Stw)?;
-    let frame = all_ops(alloc, on.m, Op::Stf)?;
-    let m = on.m;
-    push_store(out, on, b"data", m.data_words, data.as_slice())?;
-    push_store(out, on, b"frame", m.frame_words, frame.as_slice())
+fn push_stores(alloc: Global, out: &mut Vec<u8>, m: &Machine) -> Result<(), AllocError>
+    ensures { OnOk result (out.new.items ≡ out.old.items ++ p.stores_text m.now) }
+{
+    push_store_of(alloc, out, m, b"data", m.data_words, Op::Stw)?;
+    push_store_of(alloc, out, m, b"frame", m.frame_words, Op::Stf)
+}
+
+/// Puts the parts of the circuit, with the functions of its operations.
+fn push_parts(alloc: Global, out: &mut Vec<u8>, core: &Core<'_>) -> Result<(), AllocError>
+    ensures { let M = core.now.on.now.m.now in
+        let WORDS = words_in M core.now.body.now core.now.words in
+        OnOk result (out.new.items ≡ out.old.items ++ p.core_text
+        (stated unit_meaning core.now.units.now) M (h.circuit_with M WORDS core.now.first.now)) }
+{
+    let on = core.on;
+    push_registers(out, on, true)?;
+    push_memories(out, core)?;
+    push_functions(out, on.m, core.units)?;
+    push_wires(alloc, out, on)?;
+    push_registers(out, on, false)?;
+    push_stores(alloc, out, on.m)
+}
+
+/// Whether some unit of the machine offers an operation.
+fn offers(alloc: Global, m: &Machine, op: Op) -> Result<bool, AllocError>
+    ensures { IfOk result (λ b. b ≡ p.offers m.now op) }
+{
+    let places = all_ops(alloc, m, op)?;
+    Ok(!places.is_empty())
+}
+
+/// Puts what stands before the parts of the circuit.
+fn push_before(out: &mut Vec<u8>, on: &On<'_>, gives: bool, takes: bool) -> Result<(), AllocError>
+    ensures { OnOk result
+        (out.new.items ≡ out.old.items ++ p.before_parts on.now.m.now gives takes) }
+{
+    push_head(out, gives, takes)?;
+    push_common_ports(out, on)?;
+    push_out_ports(out, gives)?;
+    push_in_ports(out, takes)?;
+    push_text(out, b"integer k;\n")
+}
+
+/// Puts the module.
+fn push_module(alloc: Global, out: &mut Vec<u8>, core: &Core<'_>) -> Result<(), AllocError>
+    ensures { let M = core.now.on.now.m.now in
+        let WORDS = words_in M core.now.body.now core.now.words in
+        OnOk result (out.new.items ≡ out.old.items ++ p.module_text
+        (stated unit_meaning core.now.units.now) M (h.circuit_with M WORDS core.now.first.now)) }
+{
+    let gives = offers(alloc, core.on.m, Op::Out)?;
+    let takes = offers(alloc, core.on.m, Op::Take)?;
+    push_before(out, core.on, gives, takes)?;
+    push_parts(alloc, out, core)?;
+    push_shown(out, gives, takes)
 }
 
 /// The words that the data space begins with.
-fn first_words(alloc: Global, m: &Machine, whole: &Whole) -> Result<Vec<u32>, AllocError> {
+fn first_words(alloc: Global, m: &Machine, whole: &Whole) -> Result<Vec<u32>, AllocError>
+    ensures { IfOk result (λ v. v.items ≡ p.first_words m.now whole.now) }
+{
     let mut words = vec![in alloc; 0; m.data_words as usize]?;
     lay(whole.init.as_slice(), &mut words);
     Ok(words)
 }
 
-/// Puts the module.
-fn push_module(
-    alloc: Global,
-    out: &mut Vec<u8>,
-    on: &On<'_>,
-    units: &UnitSet,
-    whole: &Whole,
-    image: &[u8],
-) -> Result<(), AllocError> {
-    let gives = !all_ops(alloc, on.m, Op::Out)?.is_empty();
-    let takes = !all_ops(alloc, on.m, Op::Take)?.is_empty();
-    let words = first_words(alloc, on.m, whole)?;
-    push_head(out, gives, takes)?;
-    push_common_ports(out, on)?;
-    push_out_ports(out, gives)?;
-    push_in_ports(out, takes)?;
-    push_text(out, b"integer k;\n")?;
-    push_registers(out, on, true)?;
-    let at = bits_before(whole.init.len());
-    push_code(out, on, whole.code.words.len(), image, at)?;
-    let m = on.m;
-    push_memory(out, b"data", m.data_words, words.as_slice())?;
-    push_memory(out, b"frame", m.frame_words, &[])?;
-    push_functions(out, on.m, units)?;
-    push_wires(alloc, out, on)?;
-    push_registers(out, on, false)?;
-    push_stores(alloc, out, on)?;
-    push_outputs(out, gives, takes)
+/// How many bytes stand before the instructions of an image with so many data.
+fn bytes_before(count: usize) -> usize
+    requires { count < 2 ^ 32 }
+    ensures { result ≡ p.bytes_before count }
+{
+    if count == 0 { 48 } else { 52 + 8 * count }
 }
 
-/// How many bits stand before the instructions of an image with so many data.
-fn bits_before(count: usize) -> usize {
-    if count == 0 {
-        return 8 * 48;
+/// The bytes after so many.
+fn bytes_after(bytes: &[u8], before: usize) -> &[u8]
+    ensures { result.now ≡ drop before bytes.now }
+{
+    match bytes.get(before..) {
+        Some(rest) => rest,
+        None => b"",
     }
-    count.saturating_mul(8).saturating_add(52).saturating_mul(8)
+}
+
+/// How many bits an instruction has.
+fn bits_of(layout: &Layout) -> u32
+    ensures { result ≡ layout.now.width }
+{
+    layout.width
 }
 
 /// The text of the circuit of a machine with the code and data of an image, as a module of Verilog.
@@ -172,12 +204,26 @@ pub fn write_rtl(
 ) -> Result<Vec<u8>, AllocError>
     requires legal { IsLegalCode m.now whole.now.code }
     requires data { fits m.now.data_words whole.now.init ≡ true }
+    ensures { let U = stated unit_meaning units.now in
+        IfOk result (λ v. v.items ≡ p.rtl_of U m.now whole.now) }
 {
     let _rules = m.addresses();
     let layout = Layout::of(alloc, m)?;
+    // Its bits are fewer than 2 to the 32, and so an image has fewer than 2 to the 64.
+    let _width = bits_of(&layout);
     let image = write_image(alloc, whole, m, digest)?;
+    let first = first_words(alloc, m, whole)?;
+    let before = bytes_before(whole.init.len());
+    let body = bytes_after(image.as_slice(), before);
     let on = On { m, layout: &layout };
+    let core = Core {
+        on: &on,
+        units,
+        words: whole.code.words.len(),
+        body,
+        first: first.as_slice(),
+    };
     let mut out = Vec::new(alloc);
-    push_module(alloc, &mut out, &on, units, whole, image.as_slice())?;
+    push_module(alloc, &mut out, &core)?;
     Ok(out)
 }

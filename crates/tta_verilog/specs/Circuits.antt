@@ -1,7 +1,7 @@
 -- The text of the parts of a circuit.
 use Rattle.std.specs.Prelude.{ℕ, zero, suc, ◌-◌, ◌/◌, ◌%◌, ◌^◌, ◌==◌, Bool, true, false, if◌then◌else◌, List, [], ◌++◌, length, Option, Some, None, codes, decimal}
 use Rattle.std.specs.List.{flat_map, enumerate_from}
-use Rattle.tta_circuit.specs.Circuit.{Wire, Register, WritePort, Memory}
+use Rattle.tta_circuit.specs.Circuit.{Wire, Register, WritePort, Memory, Circuit}
 use Rattle.tta_verilog.specs.Expressions.{Names, constant, expression}
 
 -- how many bits a name has, before the name
@@ -21,6 +21,40 @@ bits_text (suc w) word = (if word / 2 ^ w % 2 == 1 then codes "1" else codes "0"
 abbrev pub clocked : (enable done : List ℕ) → List ℕ
 clocked enable done = codes "always @(posedge clk) if (" ++ enable ++ codes ") " ++ done
 
+-- ---- the lines of memories by their names
+
+-- a word of a memory that keeps its first words, by its address
+unfoldable pub case_line : (name : List ℕ) → (width address word : ℕ) → List ℕ
+case_line name width address word =
+    decimal address ++ (codes ": " ++ (name ++ (codes " = " ++ (decimal width ++ (codes "'b" ++ (bits_text width word ++ codes ";\n"))))))
+
+-- such a memory is a function of an address: the lines before its words, and those after them; past its end its words are 0
+unfoldable pub case_start : (name : List ℕ) → (width : ℕ) → List ℕ
+case_start name width = codes "function " ++ (range width ++ (name ++ (codes ";\ninput " ++ (range 32 ++ codes "at;\ncase (at)\n"))))
+
+unfoldable pub case_end : (name : List ℕ) → (width : ℕ) → List ℕ
+case_end name width = codes "default: " ++ (name ++ (codes " = " ++ (constant width 0 ++ codes ";\nendcase\nendfunction\n")))
+
+-- a first word of a memory that is written, if it is not 0
+unfoldable pub first_line : (name : List ℕ) → (width address word : ℕ) → List ℕ
+first_line name width address word =
+    if word == 0 then [] else name ++ (codes "[" ++ (decimal address ++ (codes "] = " ++ (constant width word ++ codes ";\n"))))
+
+-- all words of a memory are set to 0
+unfoldable pub array_zeros : (name : List ℕ) → (width size : ℕ) → List ℕ
+array_zeros name width size =
+    codes "];\ninitial begin\n`ifndef SYNTHESIS\nfor (k = 0; k < " ++ (decimal size
+    ++ (codes "; k = k + 1) " ++ (name ++ (codes "[k] = " ++ (constant width 0 ++ codes ";\n`endif\n")))))
+
+-- The lines of such a memory before its first words. A simulator sets all to 0 before; in hardware they are 0 without that.
+unfoldable pub array_start : (name : List ℕ) → (width size : ℕ) → List ℕ
+array_start name width size = codes "reg " ++ (range width ++ (name ++ (codes " [0:" ++ (decimal (size - 1) ++ array_zeros name width size))))
+
+-- where it is written at a clock
+unfoldable pub write_line : (name enable address word : List ℕ) → List ℕ
+write_line name enable address word =
+    codes "always @(posedge clk) if (" ++ (enable ++ (codes ") " ++ (name ++ (codes "[" ++ (address ++ (codes "] <= " ++ (word ++ codes ";\n")))))))
+
 module _ {N M : Type 0} (names : Names N M) where
   -- a wire
   abbrev pub wire_text : Wire N M → List ℕ
@@ -39,29 +73,18 @@ module _ {N M : Type 0} (names : Names N M) where
   register_text true r = declared r
   register_text false r = next_text r
 
-  -- a word of a memory that keeps its first words, by its address
-  abbrev pub case_text : M → (width : ℕ) → ℕ × ℕ → List ℕ
-  case_text m width k = decimal k.0 ++ codes ": " ++ names.memory m ++ codes " = " ++ decimal width ++ codes "'b" ++ bits_text width k.1 ++ codes ";\n"
-
-  -- such a memory as a function of an address; past its end its words are 0
+  -- a memory that keeps its first words
   abbrev pub function_text : Memory N M → List ℕ
   function_text m =
-      codes "function " ++ range m.width ++ names.memory m.name ++ codes ";\ninput [31:0] at;\ncase (at)\n"
-      ++ flat_map (case_text m.name m.width) (enumerate_from 0 m.words)
-      ++ codes "default: " ++ names.memory m.name ++ codes " = " ++ constant m.width 0 ++ codes ";\nendcase\nendfunction\n"
+      let name = names.memory m.name in
+      case_start name m.width ++ (flat_map (λ k. case_line name m.width k.0 k.1) (enumerate_from 0 m.words) ++ case_end name m.width)
 
-  -- a first word of a memory, if it is not 0
-  abbrev pub first_text : M → (width : ℕ) → ℕ × ℕ → List ℕ
-  first_text m width k =
-      if k.1 == 0 then [] else names.memory m ++ codes "[" ++ decimal k.0 ++ codes "] = " ++ constant width k.1 ++ codes ";\n"
-
-  -- A memory that is written, with its first words. A simulator sets all to 0 before; in hardware they are 0 without that.
+  -- a memory that is written
   abbrev pub array_text : Memory N M → List ℕ
   array_text m =
-      codes "reg " ++ range m.width ++ names.memory m.name ++ codes " [0:" ++ decimal (length m.words - 1)
-      ++ codes "];\ninitial begin\n`ifndef SYNTHESIS\nfor (k = 0; k < " ++ decimal (length m.words) ++ codes "; k = k + 1) " ++ names.memory m.name
-      ++ codes "[k] = " ++ constant m.width 0 ++ codes ";\n`endif\n"
-      ++ flat_map (first_text m.name m.width) (enumerate_from 0 m.words) ++ codes "end\n"
+      let name = names.memory m.name in
+      array_start name m.width (length m.words)
+      ++ (flat_map (λ k. first_line name m.width k.0 k.1) (enumerate_from 0 m.words) ++ codes "end\n")
 
   -- a memory
   abbrev pub memory_text : Memory N M → List ℕ
@@ -69,9 +92,7 @@ module _ {N M : Type 0} (names : Names N M) where
 
   -- where a memory is written at a clock
   abbrev pub port_text : M → WritePort N M → List ℕ
-  port_text m p =
-      clocked (expression names p.enable)
-      (names.memory m ++ codes "[" ++ expression names p.address ++ codes "] <= " ++ expression names p.word ++ codes ";\n")
+  port_text m p = write_line (names.memory m) (expression names p.enable) (expression names p.address) (expression names p.word)
 
   -- the same of a memory, if it is written
   abbrev pub store_text : Memory N M → List ℕ
@@ -79,3 +100,10 @@ module _ {N M : Type 0} (names : Names N M) where
     of : Option (WritePort N M) → List ℕ
     of None = []
     of (Some p) = port_text m.name p
+
+  -- The parts of a circuit, with functions of its operations: the registers are declared, then come the memories, the functions, the
+  -- wires in their order, what each register takes at a clock, and where memories are written.
+  abbrev pub parts_text : (functions : List ℕ) → Circuit N M → List ℕ
+  parts_text functions c =
+      flat_map (register_text true) c.registers ++ (flat_map memory_text c.memories ++ (functions ++ (flat_map wire_text c.wires
+      ++ (flat_map (register_text false) c.registers ++ flat_map store_text c.memories))))

@@ -1,0 +1,100 @@
+-- The text of a machine with its code and data as a module.
+use Rattle.std.specs.Prelude.{ℕ, ◌+◌, ◌*◌, ◌==◌, Bool, nat_lt, if◌then◌else◌, List, [], ◌++◌, codes, length, replicate}
+use Rattle.std.specs.List.{flat_map}
+use Rattle.tta_list.specs.Laid.{over}
+use Rattle.tta_ops.specs.Units.{Units}
+use Rattle.tta_arch.specs.declared.parts.Op.{Op}
+use Rattle.tta_arch.specs.declared.parts.Op.TheVariants.{Out, Take, Stw, Stf}
+use Rattle.tta_arch.specs.Machine.{Machine}
+use Rattle.tta_arch.specs.Rules.{same_op}
+use Rattle.tta_code.specs.Whole.{Whole, data_in}
+use Rattle.tta_circuit.specs.Circuit.{Circuit, WritePort}
+use Rattle.tta_hardware.specs.Signals.{Signal as Named, Store}
+use Rattle.tta_hardware.specs.Wires.{all_ops}
+use Rattle.tta_hardware.specs.Hardware.{circuit_of, store_port}
+use Rattle.tta_verilog.specs.Circuits.{range, memory_text, parts_text, write_line}
+use Rattle.tta_names.specs.Names.{names_of, text_of}
+use Rattle.tta_rtl.specs.Functions.{functions_text}
+
+-- ---- the ports
+
+-- whether some unit offers an operation
+abbrev pub offers : Machine → Op → Bool
+offers m op = nat_lt 0 (length (all_ops m (same_op op)))
+
+-- the first line, which names the ports: those of the output where words can be put out, and those of the input where words can be
+-- taken
+abbrev pub head_text : (gives takes : Bool) → List ℕ
+head_text gives takes =
+    codes "module tta_core (clk, reset, halted, cycle, pc"
+    ++ ((if gives then codes ", out_valid, out_data, out_ready" else [])
+    ++ ((if takes then codes ", in_valid, in_data, in_ready" else []) ++ codes ");\n"))
+
+-- the ports of every machine
+abbrev pub common_ports : Machine → List ℕ
+common_ports m =
+    codes "input clk;\ninput [0:0] reset;\noutput [0:0] halted;\noutput [0:0] cycle;\noutput "
+    ++ (range m.control.address ++ codes "pc;\n")
+
+-- the ports of the output, or what stands for the input of the circuit that belongs to it
+abbrev pub out_ports : (gives : Bool) → List ℕ
+out_ports gives =
+    if gives
+    then codes "output [0:0] out_valid;\noutput [31:0] out_data;\ninput [0:0] out_ready;\n"
+    else codes "wire [0:0] out_ready = 1'd0;\n"
+
+-- the ports of the input, or what stands for the inputs of the circuit that belong to it
+abbrev pub in_ports : (takes : Bool) → List ℕ
+in_ports takes =
+    if takes
+    then codes "input [0:0] in_valid;\ninput [31:0] in_data;\noutput [0:0] in_ready;\n"
+    else codes "wire [0:0] in_valid = 1'd0;\nwire [31:0] in_data = 32'd0;\n"
+
+-- what the ports show
+abbrev pub shown_text : (gives takes : Bool) → List ℕ
+shown_text gives takes =
+    codes "assign halted = n_halted;\nassign cycle = n_goes;\nassign pc = n_pc;\n"
+    ++ ((if gives then codes "assign out_valid = (!(reset))&&((!(n_halted))&&(n_gives));\nassign out_data = n_put;\n" else [])
+    ++ ((if takes then codes "assign in_ready = (!(reset))&&((!(n_halted))&&(n_asks));\n" else []) ++ codes "endmodule\n"))
+
+-- ---- the module
+
+-- how many bytes stand before the instructions of an image with so many data
+abbrev pub bytes_before : (count : ℕ) → ℕ
+bytes_before count = if count == 0 then 48 else 52 + 8 * count
+
+-- what stands before the parts of the circuit
+abbrev pub before_parts : Machine → (gives takes : Bool) → List ℕ
+before_parts m gives takes =
+    head_text gives takes ++ (common_ports m ++ (out_ports gives ++ (in_ports takes ++ codes "integer k;\n")))
+
+-- the memories of a circuit
+abbrev pub memories_text : Machine → Circuit Named Store → List ℕ
+memories_text m c = flat_map (memory_text (names_of m)) c.memories
+
+-- where a memory is written
+abbrev pub store_line : Machine → (name : List ℕ) → WritePort Named Store → List ℕ
+store_line m name p = write_line name (text_of m p.enable) (text_of m p.address) (text_of m p.word)
+
+-- where the two spaces are written
+abbrev pub stores_text : Machine → List ℕ
+stores_text m =
+    store_line m (codes "data") (store_port m m.data_words (same_op Stw))
+    ++ store_line m (codes "frame") (store_port m m.frame_words (same_op Stf))
+
+-- the parts of a circuit, with functions of the operations that the machine offers
+abbrev pub core_text : Units → Machine → Circuit Named Store → List ℕ
+core_text u m c = parts_text (names_of m) (functions_text u m) c
+
+-- a circuit of a machine as a module
+abbrev pub module_text : Units → Machine → Circuit Named Store → List ℕ
+module_text u m c =
+    before_parts m (offers m Out) (offers m Take) ++ (core_text u m c ++ shown_text (offers m Out) (offers m Take))
+
+-- the words that the data space begins with
+abbrev pub first_words : Machine → Whole → List ℕ
+first_words m whole = over (data_in whole) (replicate m.data_words 0)
+
+-- the circuit of a machine with code and data as a module
+abbrev pub rtl_of : Units → Machine → Whole → List ℕ
+rtl_of u m whole = module_text u m (circuit_of m whole.code (first_words m whole))
