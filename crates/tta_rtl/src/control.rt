@@ -1,6 +1,8 @@
 //! The wires of control, and of the words that come and go.
 
 ghost use Rattle.std.specs.Prelude.{◌≡◌, ◌++◌, [], ◌∷◌, OnOk};
+ghost use Rattle.tta_arch.specs.declared.ends.Dest.TheVariants as dest;
+ghost use Rattle.tta_circuit.specs.Circuit as c;
 ghost use Rattle.tta_hardware.specs.Signals as s;
 ghost use Rattle.tta_hardware.specs.Wires as w;
 ghost use Rattle.tta_names.specs.Names.{text_of};
@@ -24,19 +26,40 @@ fn start_wire(out: &mut Vec<u8>, name: &[u8], width: u32) -> Result<(), AllocErr
     push_text(out, b" = ")
 }
 
-/// Puts whether a control move acts.
-#[tactic(auto, unfolding(crate::specs::Texts::wire_of, crate::specs::Texts::wire_start, tta_verilog::specs::Circuits::wire_line, tta_verilog::specs::Expressions::between))]
+/// Puts whether a call or a halt acts.
+#[tactic(auto, unfolding(tta_verilog::specs::Expressions::between))]
+fn push_leaving(out: &mut Vec<u8>, on: &On<'_>) -> Result<(), AllocError>
+    ensures { OnOk result (out.new.items ≡ out.old.items ++ text_of on.now.m.now
+        (c.Either (w.reached on.now.m.now dest.Call) (w.reached on.now.m.now dest.Halt))) }
+{
+    push_text(out, b"(")?;
+    push_reached(out, on, Dest::Call)?;
+    push_text(out, b")||(")?;
+    push_reached(out, on, Dest::Halt)?;
+    push_text(out, b")")
+}
+
+/// Puts the test that a control move acts.
+#[tactic(auto, unfolding(tta_verilog::specs::Expressions::between))]
+fn push_controls_test(out: &mut Vec<u8>, on: &On<'_>) -> Result<(), AllocError>
+    ensures { OnOk result (out.new.items ≡ out.old.items
+        ++ text_of on.now.m.now (w.made_of on.now.m.now s.Controls)) }
+{
+    push_text(out, b"(")?;
+    push_reached(out, on, Dest::Jump)?;
+    push_text(out, b")||(")?;
+    push_leaving(out, on)?;
+    push_text(out, b")")
+}
+
+/// Puts the wire of that test.
+#[tactic(auto, unfolding(crate::specs::Texts::wire_of, crate::specs::Texts::wire_start, tta_verilog::specs::Circuits::wire_line))]
 fn push_controls(out: &mut Vec<u8>, on: &On<'_>) -> Result<(), AllocError>
     ensures { OnOk result (out.new.items ≡ out.old.items ++ wire_of on.now.m.now s.Controls) }
 {
     start_wire(out, b"n_controls", 1)?;
-    push_text(out, b"(")?;
-    push_reached(out, on, Dest::Jump)?;
-    push_text(out, b")||((")?;
-    push_reached(out, on, Dest::Call)?;
-    push_text(out, b")||(")?;
-    push_reached(out, on, Dest::Halt)?;
-    push_text(out, b"));\n")
+    push_controls_test(out, on)?;
+    push_text(out, b";\n")
 }
 
 /// Puts the address to which a control move leads.
@@ -113,47 +136,100 @@ fn push_gives(alloc: Global, out: &mut Vec<u8>, on: &On<'_>) -> Result<(), Alloc
     push_text(out, b";\n")
 }
 
-/// Puts whether this clock carries the instruction out.
-#[tactic(auto, unfolding(crate::specs::Texts::wire_of, crate::specs::Texts::wire_start, tta_verilog::specs::Circuits::wire_line, tta_verilog::specs::Expressions::between, tta_verilog::specs::Expressions::negated))]
+/// Puts the test that this clock carries the instruction out.
+#[tactic(auto, unfolding(tta_verilog::specs::Expressions::between, tta_verilog::specs::Expressions::negated))]
+fn push_goes_test(out: &mut Vec<u8>, on: &On<'_>) -> Result<(), AllocError>
+    ensures { OnOk result (out.new.items ≡ out.old.items
+        ++ text_of on.now.m.now (w.made_of on.now.m.now s.Goes)) }
+{
+    push_text(
+        out,
+        b"(!(reset))&&((!(n_halted))&&(((!(n_asks))||(in_valid))&&((!(n_gives))||(out_ready))))",
+    )
+}
+
+/// Puts the wire of that test.
+#[tactic(auto, unfolding(crate::specs::Texts::wire_of, crate::specs::Texts::wire_start, tta_verilog::specs::Circuits::wire_line))]
 fn push_goes(out: &mut Vec<u8>, on: &On<'_>) -> Result<(), AllocError>
     ensures { OnOk result (out.new.items ≡ out.old.items ++ wire_of on.now.m.now s.Goes) }
 {
     start_wire(out, b"n_goes", 1)?;
-    push_text(out, b"(!(reset))&&((!(n_halted))&&")?;
-    push_text(
-        out,
-        b"(((!(n_asks))||(in_valid))&&((!(n_gives))||(out_ready))));\n",
-    )
+    push_goes_test(out, on)?;
+    push_text(out, b";\n")
 }
 
-/// Puts the address of the instruction that comes next.
-#[tactic(auto, unfolding(tta_verilog::specs::Expressions::between, tta_verilog::specs::Expressions::choice, tta_verilog::specs::Expressions::negated, tta_verilog::specs::Expressions::part))]
-fn push_sequel(out: &mut Vec<u8>, on: &On<'_>, address: u32) -> Result<(), AllocError>
-    requires { address ≡ on.now.m.now.control.address }
-    ensures { OnOk result (out.new.items ≡ out.old.items
-        ++ text_of on.now.m.now (w.next_pc on.now.m.now)) }
+/// Puts the test that a jump or a call takes effect at this clock.
+#[tactic(auto, unfolding(tta_verilog::specs::Expressions::between, tta_verilog::specs::Expressions::negated))]
+fn push_leads(out: &mut Vec<u8>, on: &On<'_>) -> Result<(), AllocError>
+    ensures { OnOk result (out.new.items ≡ out.old.items ++ text_of on.now.m.now
+        (c.Both (c.Signal s.Lands) (c.Not (c.Signal s.EndsNow)))) }
 {
-    push_text(out, b"((n_lands)&&(!(n_ends_now)))?(n_goal_now[")?;
+    push_text(out, b"(n_lands)&&(!(n_ends_now))")
+}
+
+/// Puts the address to which it leads.
+#[tactic(auto, unfolding(tta_verilog::specs::Expressions::part))]
+fn push_led_to(out: &mut Vec<u8>, on: &On<'_>) -> Result<(), AllocError>
+    ensures { OnOk result (out.new.items ≡ out.old.items ++ text_of on.now.m.now
+        (c.Slice 0 on.now.m.now.control.address (c.Signal s.GoalNow))) }
+{
+    let m = on.m;
+    push_text(out, b"n_goal_now")?;
+    push_text(out, b"[")?;
     push_number(out, 0)?;
     push_text(out, b"+:")?;
-    push_number(out, u64::from(address))?;
-    push_text(out, b"]):(n_pc)+(")?;
-    push_constant(out, address, 1)?;
+    push_number(out, u64::from(m.control.address))?;
+    push_text(out, b"]")
+}
+
+/// Puts the address behind that of the instruction.
+#[tactic(auto, unfolding(tta_verilog::specs::Expressions::between))]
+fn push_following(out: &mut Vec<u8>, on: &On<'_>) -> Result<(), AllocError>
+    ensures { OnOk result (out.new.items ≡ out.old.items ++ text_of on.now.m.now
+        (c.Plus on.now.m.now.control.address (c.Signal s.Pc)
+        (c.Const on.now.m.now.control.address 1))) }
+{
+    let m = on.m;
+    push_text(out, b"(n_pc)+(")?;
+    push_constant(out, u32::from(m.control.address), 1)?;
     push_text(out, b")")
 }
 
-/// Puts the address at which the next instruction is fetched.
-#[tactic(auto, unfolding(crate::specs::Texts::wire_of, crate::specs::Texts::wire_start, tta_verilog::specs::Circuits::wire_line, tta_verilog::specs::Expressions::choice))]
+/// Puts the address of the instruction that comes next.
+#[tactic(auto, unfolding(tta_verilog::specs::Expressions::choice))]
+fn push_sequel(out: &mut Vec<u8>, on: &On<'_>) -> Result<(), AllocError>
+    ensures { OnOk result (out.new.items ≡ out.old.items
+        ++ text_of on.now.m.now (w.next_pc on.now.m.now)) }
+{
+    push_text(out, b"(")?;
+    push_leads(out, on)?;
+    push_text(out, b")?(")?;
+    push_led_to(out, on)?;
+    push_text(out, b"):")?;
+    push_following(out, on)
+}
+
+/// Puts the address at which the next instruction is fetched: the first where the circuit begins anew.
+#[tactic(auto, unfolding(tta_verilog::specs::Expressions::choice))]
+fn push_next_address(out: &mut Vec<u8>, on: &On<'_>) -> Result<(), AllocError>
+    ensures { OnOk result (out.new.items ≡ out.old.items
+        ++ text_of on.now.m.now (w.made_of on.now.m.now s.NextPc)) }
+{
+    let m = on.m;
+    push_text(out, b"(reset)?(")?;
+    push_constant(out, u32::from(m.control.address), 0)?;
+    push_text(out, b"):")?;
+    push_sequel(out, on)
+}
+
+/// Puts the wire of that address.
+#[tactic(auto, unfolding(crate::specs::Texts::wire_of, crate::specs::Texts::wire_start, tta_verilog::specs::Circuits::wire_line))]
 fn push_next_pc(out: &mut Vec<u8>, on: &On<'_>) -> Result<(), AllocError>
     ensures { OnOk result (out.new.items ≡ out.old.items ++ wire_of on.now.m.now s.NextPc) }
 {
     let m = on.m;
-    let address = u32::from(m.control.address);
-    start_wire(out, b"n_next_pc", address)?;
-    push_text(out, b"(reset)?(")?;
-    push_constant(out, address, 0)?;
-    push_text(out, b"):")?;
-    push_sequel(out, on, address)?;
+    start_wire(out, b"n_next_pc", u32::from(m.control.address))?;
+    push_next_address(out, on)?;
     push_text(out, b";\n")
 }
 
