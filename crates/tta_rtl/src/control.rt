@@ -6,6 +6,7 @@ ghost use Rattle.tta_circuit.specs.Circuit as c;
 ghost use Rattle.tta_hardware.specs.Signals as s;
 ghost use Rattle.tta_hardware.specs.Wires as w;
 ghost use Rattle.tta_names.specs.Names.{text_of};
+ghost use Rattle.tta_verilog.specs.Expressions.{part};
 ghost use Rattle.tta_rtl.specs.Texts.{wire_of, wire_start, wires_text};
 
 use crate::on::On;
@@ -167,19 +168,26 @@ fn push_leads(out: &mut Vec<u8>, on: &On<'_>) -> Result<(), AllocError>
     push_text(out, b"(n_lands)&&(!(n_ends_now))")
 }
 
-/// Puts the address to which it leads.
+/// Puts so many bits of what has a name, from a bit on.
 #[tactic(auto, unfolding(tta_verilog::specs::Expressions::part))]
+fn push_bits_of(out: &mut Vec<u8>, name: &[u8], low: u32, width: u32) -> Result<(), AllocError>
+    ensures { OnOk result (out.new.items ≡ out.old.items ++ part name.now low width) }
+{
+    push_text(out, name)?;
+    push_text(out, b"[")?;
+    push_number(out, u64::from(low))?;
+    push_text(out, b"+:")?;
+    push_number(out, u64::from(width))?;
+    push_text(out, b"]")
+}
+
+/// Puts the address to which it leads.
 fn push_led_to(out: &mut Vec<u8>, on: &On<'_>) -> Result<(), AllocError>
     ensures { OnOk result (out.new.items ≡ out.old.items ++ text_of on.now.m.now
         (c.Slice 0 on.now.m.now.control.address (c.Signal s.GoalNow))) }
 {
     let m = on.m;
-    push_text(out, b"n_goal_now")?;
-    push_text(out, b"[")?;
-    push_number(out, 0)?;
-    push_text(out, b"+:")?;
-    push_number(out, u64::from(m.control.address))?;
-    push_text(out, b"]")
+    push_bits_of(out, b"n_goal_now", 0, u32::from(m.control.address))
 }
 
 /// Puts the address behind that of the instruction.
