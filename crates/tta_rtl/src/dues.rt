@@ -92,7 +92,6 @@ fn push_due_word(
 }
 
 /// Puts whether results of a unit are due, for so many delays from one on.
-#[tactic(auto, using(crate::proofs::UnitRegisters::one_more))]
 fn push_dues(
     out: &mut Vec<u8>,
     on: &On<'_>,
@@ -113,7 +112,6 @@ fn push_dues(
 }
 
 /// Puts the words of a unit that are due, for so many delays from one on.
-#[tactic(auto, using(crate::proofs::UnitRegisters::one_more))]
 fn push_due_words(
     out: &mut Vec<u8>,
     on: &On<'_>,
@@ -135,7 +133,8 @@ fn push_due_words(
 
 /// For how many delays a result of a unit is kept before it is in its port.
 fn later_delays(m: &Machine, unit: u8) -> u8
-    ensures { result ≡ w.longest m.now unit - 1 }
+    ensures count { result ≡ w.longest m.now unit - 1 }
+    ensures few { result < 255 }
 {
     longest(m, unit).saturating_sub(1)
 }

@@ -4,11 +4,13 @@ ghost use Rattle.std.specs.Prelude.{◌≡◌, ◌+◌, ◌≤◌, ◌++◌, tru
 ghost use Rattle.std.specs.List.{list_all, flat_map, enumerate_from};
 ghost use Rattle.tta_arch.specs.Effects.{KeptOperand, KeptPort};
 ghost use Rattle.tta_arch.specs.Rules.{is_unit};
+ghost use Rattle.tta_circuit.specs.Circuit as c;
 ghost use Rattle.tta_hardware.specs.Hardware.{unit_registers};
 ghost use Rattle.tta_hardware.specs.Registers.{kept_next};
 ghost use Rattle.tta_hardware.specs.Signals as s;
 ghost use Rattle.tta_names.specs.Names.{text_of};
-ghost use Rattle.tta_rtl.specs.Texts.{register_of, registers_text, unit_registers_text};
+ghost use Rattle.tta_rtl.specs.Texts.{register_of, register_rest, registers_text};
+ghost use Rattle.tta_rtl.specs.Texts.{unit_registers_text};
 
 use crate::coming::{push_coming, push_is_coming};
 use crate::dues::{push_all_due_words, push_all_dues};
@@ -21,8 +23,27 @@ use std::alloc::AllocError;
 use tta_arch::Unit;
 use tta_verilog::push_text;
 
+/// Puts how the line of the operand port of a unit ends.
+#[tactic(auto, unfolding(crate::specs::Texts::register_rest))]
+fn push_operand_rest(
+    out: &mut Vec<u8>,
+    on: &On<'_>,
+    declares: bool,
+    unit: u8,
+) -> Result<(), AllocError>
+    ensures { OnOk result (out.new.items ≡ out.old.items
+        ++ register_rest declares (text_of on.now.m.now (c.Signal (s.Operand unit)))) }
+{
+    if declares {
+        return push_text(out, b";\n");
+    }
+    push_text(out, b" <= ")?;
+    push_unit_word(out, on.m, UnitWord::Operand, unit)?;
+    push_text(out, b";\n")
+}
+
 /// Puts the operand port of a unit.
-#[tactic(auto, unfolding(crate::specs::Texts::register_of, crate::specs::Texts::register_rest))]
+#[tactic(auto, unfolding(crate::specs::Texts::register_of))]
 fn push_operand_port(
     out: &mut Vec<u8>,
     on: &On<'_>,
@@ -34,12 +55,7 @@ fn push_operand_port(
 {
     start_register(out, declares, 32, false)?;
     push_unit_word(out, on.m, UnitWord::Kept, unit)?;
-    if declares {
-        return push_text(out, b";\n");
-    }
-    push_text(out, b" <= ")?;
-    push_unit_word(out, on.m, UnitWord::Operand, unit)?;
-    push_text(out, b";\n")
+    push_operand_rest(out, on, declares, unit)
 }
 
 /// Puts what the result port of a unit becomes.

@@ -1,0 +1,15 @@
+use Rattle.std.proofs.Common.{◌≡◌, ◌+◌, ◌-◌, ◌<◌, List, ℕ, OnOk, arith, subst}
+use Rattle.std.specs.List.{flat_map, range_with_len}
+use Rattle.tta_rtl.specs.Texts.{due_text}
+use Rattle.tta_rtl.proofs.Pieces.{two}
+use Rattle.tta_rtl.proofs.UnitRegisters.{one_more}
+use Rattle.tta_rtl.proofs.dues.+push_dues.Goals as goal
+
+pub returns : goal.returns
+returns t c =
+    let some : 0 < c.args.count = omega arith in
+    let f = due_text c.args.on.now.m.now c.args.declares c.args.unit in
+    subst (λ (r : List ℕ). OnOk c.push_dues.result (c.push_dues.new.out.items ≡ r))
+    (two c.args.out.now.items (f c.args.delay) (flat_map f (range_with_len (c.args.delay + 1) (c.args.count - 1)))
+    (flat_map f (range_with_len c.args.delay c.args.count)) c.push_due.new.out.items c.in_ok-push_due.ensures
+    (one_more f c.args.delay c.args.count some)) c.push_dues.ensures
