@@ -217,17 +217,27 @@ fn push_sequel(out: &mut Vec<u8>, on: &On<'_>, address: u32) -> Result<(), Alloc
 }
 
 /// Puts the address at which the next instruction is fetched.
-#[tactic(auto, unfolding(crate::specs::Texts::wire_of, crate::specs::Texts::wire_start, tta_verilog::specs::Circuits::wire_line, tta_verilog::specs::Expressions::choice))]
+#[tactic(auto, unfolding(tta_verilog::specs::Expressions::choice))]
+fn push_next_address(out: &mut Vec<u8>, on: &On<'_>, address: u32) -> Result<(), AllocError>
+    requires { address ≡ on.now.m.now.control.address }
+    ensures { OnOk result (out.new.items ≡ out.old.items
+        ++ text_of on.now.m.now (w.made_of on.now.m.now s.NextPc)) }
+{
+    push_text(out, b"(reset)?(")?;
+    push_constant(out, address, 0)?;
+    push_text(out, b"):")?;
+    push_sequel(out, on, address)
+}
+
+/// Puts the wire of that address.
+#[tactic(auto, unfolding(crate::specs::Texts::wire_of, crate::specs::Texts::wire_start, tta_verilog::specs::Circuits::wire_line))]
 fn push_next_pc(out: &mut Vec<u8>, on: &On<'_>) -> Result<(), AllocError>
     ensures { OnOk result (out.new.items ≡ out.old.items ++ wire_of on.now.m.now s.NextPc) }
 {
     let m = on.m;
     let address = u32::from(m.control.address);
     start_wire(out, b"n_next_pc", address)?;
-    push_text(out, b"(reset)?(")?;
-    push_constant(out, address, 0)?;
-    push_text(out, b"):")?;
-    push_sequel(out, on, address)?;
+    push_next_address(out, on, address)?;
     push_text(out, b";\n")
 }
 
