@@ -5,7 +5,7 @@ ghost use Rattle.tta_ops.specs.Set.{stated};
 ghost use Rattle.tta_code.specs.Legal.{IsLegalCode};
 ghost use Rattle.tta_code.specs.Whole.{fits};
 ghost use Rattle.tta_given.specs.Held.{MadeEnds, no_memory};
-ghost use Rattle.tta_designer.specs.Command.{IsSomeText, ShowsCircuit};
+ghost use Rattle.tta_designer.specs.Command.{IsCircuitText, ShowsCircuit};
 
 use crate::names::RtlRequest;
 use std::alloc::Global;
@@ -18,7 +18,8 @@ use tta_rtl::write_rtl;
 fn text_of_circuit(alloc: Global, units: &UnitSet, pair: &CodePair) -> Result<Vec<u8>, Status>
     requires legal { IsLegalCode pair.now.file.machine pair.now.whole.code }
     requires inside { fits pair.now.file.machine.data_words pair.now.whole.init ≡ true }
-    ensures { MadeEnds (IsSomeText pair.now.file pair.now.whole) no_memory
+    ensures { let U = stated unit_meaning units.now in
+        MadeEnds (IsCircuitText U pair.now.file pair.now.whole) no_memory
         (λ v. v.items) result }
 {
     let file = &pair.file;
