@@ -1,5 +1,5 @@
 -- How `sample` ends where no call fails: it puts its summary, is out of memory, or there is a cause for which no code is built.
-use Rattle.std.proofs.Common.{◌≡◌, ◌⊎◌, ℕ, List, refl, subst, inl, inr}
+use Rattle.std.proofs.Common.{◌≡◌, ◌⊎◌, ℕ, List, Option, refl, subst, inl, inr}
 use Rattle.tta_ports.specs.Faults.{Rose}
 use Rattle.tta_ports.specs.Output.{Output}
 use Rattle.tta_ops.specs.Units.{Units}
