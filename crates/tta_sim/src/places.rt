@@ -1,7 +1,7 @@
 //! The words of registers and operand ports.
 
 ghost use Rattle.std.specs.Prelude.{◌≡◌, ◌<◌, [], ◌∷◌, None, slice_index_or, IfOk, IsTrue};
-ghost use Rattle.tta_arch.specs.Effects.{KeptReg, KeptOperand, Place, Written};
+ghost use Rattle.tta_arch.specs.Effects.{KeptReg, KeptImm, KeptOperand, KeptRa, Place, Written};
 ghost use Rattle.tta_sim.specs.Places.{is_place, number_of, word_at, HasWritten};
 
 use std::alloc::{AllocError, Global};
@@ -68,12 +68,28 @@ impl Places {
         self.words[usize::from(file) * REGISTERS as usize + usize::from(index)]
     }
 
+    /// The word of a register of an immediate unit, if it was set.
+    pub fn immediate(&self, unit: u8, index: u8) -> Option<u32>
+        requires { IsTrue (is_place (KeptImm unit index)) }
+        ensures { result ≡ word_at self.now (KeptImm unit index) }
+    {
+        let first = IMMEDIATES as usize + usize::from(unit) * IMMEDIATE_REGISTERS as usize;
+        self.words[first + usize::from(index)]
+    }
+
     /// The word at the operand port of a unit, if one was brought.
     pub fn operand(&self, unit: u8) -> Option<u32>
         requires { IsTrue (is_place (KeptOperand unit)) }
         ensures { result ≡ word_at self.now (KeptOperand unit) }
     {
         self.words[OPERANDS as usize + usize::from(unit)]
+    }
+
+    /// The return address, if one was kept.
+    pub fn return_address(&self) -> Option<u32>
+        ensures { result ≡ word_at self.now KeptRa }
+    {
+        self.words[RETURN_ADDRESS as usize]
     }
 
     /// Puts a word into the place with this number in the row.

@@ -4,7 +4,7 @@ ghost use Rattle.std.specs.Prelude.{◌≡◌, ◌+◌, ◌<◌, ◌≤◌, ◌^
 ghost use Rattle.std.specs.Prelude.{option_map, if◌then◌else◌, false, ◌&&◌, is_none};
 ghost use Rattle.std.specs.Prelude.{replicate, slice_index, IfOk, IsTrue};
 ghost use Rattle.tta_ops.specs.Set.{stated};
-ghost use Rattle.tta_arch.specs.Effects.{KeptReg, kept};
+ghost use Rattle.tta_arch.specs.Effects.{KeptReg, KeptImm, KeptOperand, KeptRa, kept};
 ghost use Rattle.tta_code.specs.Cycle.{State, next as next_state, start};
 ghost use Rattle.tta_code.specs.Cycle.{port as port_of};
 ghost use Rattle.tta_code.specs.Legal.{IsLegalCode};
@@ -164,6 +164,30 @@ impl Sim {
         self.state.reg(file, index)
     }
 
+    /// The word in a register of an immediate unit, `None` where none was ever written.
+    pub fn immediate(&self, unit: u8, index: u8) -> Option<u32>
+        requires { IsTrue (is_place (KeptImm unit index)) }
+        ensures { (s : State) → Stands self.now s
+            → result ≡ kept s.written (KeptImm unit index) }
+    {
+        self.state.immediate(unit, index)
+    }
+
+    /// The word at a unit's operand port, `None` where none was ever brought.
+    pub fn operand(&self, unit: u8) -> Option<u32>
+        requires { IsTrue (is_place (KeptOperand unit)) }
+        ensures { (s : State) → Stands self.now s → result ≡ kept s.written (KeptOperand unit) }
+    {
+        self.state.operand(unit)
+    }
+
+    /// The return address, `None` where none was ever kept.
+    pub fn return_address(&self) -> Option<u32>
+        ensures { (s : State) → Stands self.now s → result ≡ kept s.written KeptRa }
+    {
+        self.state.return_address()
+    }
+
     /// The word on a unit's result port, `None` where no result was due yet.
     pub fn port(&self, unit: u8) -> Option<u32>
         requires { unit < length self.now.shown }
@@ -195,6 +219,13 @@ impl Sim {
         ensures { result.now ≡ self.now.memory }
     {
         self.state.memory()
+    }
+
+    /// All frame words, from address 0 on.
+    pub fn frame(&self) -> &[u32]
+        ensures { result.now ≡ self.now.frame }
+    {
+        self.state.frame()
     }
 
     /// The address of the next instruction.

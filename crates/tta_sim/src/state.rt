@@ -3,7 +3,7 @@
 ghost use Rattle.std.specs.Prelude.{◌≡◌, ◌+◌, ◌<◌, ◌≤◌, ◌^◌, [], ℕ, List, length, slice_index};
 ghost use Rattle.std.specs.Prelude.{IfOk, IsTrue, if◌then◌else◌, true, false, ◌&&◌, is_none};
 ghost use Rattle.tta_ops.specs.Set.{stated};
-ghost use Rattle.tta_arch.specs.Effects.{KeptReg, kept};
+ghost use Rattle.tta_arch.specs.Effects.{KeptReg, KeptImm, KeptOperand, KeptRa, kept};
 ghost use Rattle.tta_code.specs.Cycle.{State, Running, next as next_state, start};
 ghost use Rattle.tta_code.specs.Legal.{IsLegalCode};
 ghost use Rattle.tta_flight.specs.Flight.{StayBeside};
@@ -33,9 +33,8 @@ use tta_flight::Region;
 use tta_list::Items;
 use tta_ops::UnitSet;
 
-/// The run of a machine's code, cycle by cycle, but for its results: the words of registers, operand
-/// ports and spaces, and control. The results are kept in some units of a region. The input and the
-/// output are not kept.
+/// The run of a machine's code, cycle by cycle, but for its results, which some units of a region
+/// keep: the words of places and spaces, and control. The input and the output are not kept.
 #[derive(Drop)]
 pub struct SimState {
     run: Run,
@@ -204,6 +203,31 @@ impl SimState {
         self.run.store.places.register(file, index)
     }
 
+    /// The word in a register of an immediate unit, `None` where none was ever written.
+    pub fn immediate(&self, unit: u8, index: u8) -> Option<u32>
+        requires { IsTrue (is_place (KeptImm unit index)) }
+        ensures { (r : Results) (s : State) → StandsWith r self.now s
+            → result ≡ kept s.written (KeptImm unit index) }
+    {
+        self.run.store.places.immediate(unit, index)
+    }
+
+    /// The word at a unit's operand port, `None` where none was ever brought.
+    pub fn operand(&self, unit: u8) -> Option<u32>
+        requires { IsTrue (is_place (KeptOperand unit)) }
+        ensures { (r : Results) (s : State) → StandsWith r self.now s
+            → result ≡ kept s.written (KeptOperand unit) }
+    {
+        self.run.store.places.operand(unit)
+    }
+
+    /// The return address, `None` where none was ever kept.
+    pub fn return_address(&self) -> Option<u32>
+        ensures { (r : Results) (s : State) → StandsWith r self.now s → result ≡ kept s.written KeptRa }
+    {
+        self.run.store.places.return_address()
+    }
+
     /// A data word.
     pub fn mem(&self, i: u32) -> u32
         requires { i < length self.now.memory }
@@ -217,6 +241,13 @@ impl SimState {
         ensures { result.now ≡ self.now.memory }
     {
         self.run.store.memory.as_slice()
+    }
+
+    /// All frame words, from address 0 on.
+    pub fn frame(&self) -> &[u32]
+        ensures { result.now ≡ self.now.frame }
+    {
+        self.run.store.frame.as_slice()
     }
 
     /// The address of the next instruction.
