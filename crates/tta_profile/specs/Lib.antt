@@ -1,4 +1,5 @@
 pub mod Counts
+pub mod Feed
 pub mod Steps
 pub mod Report
 pub mod Statement

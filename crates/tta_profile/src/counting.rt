@@ -5,13 +5,14 @@ ghost use Rattle.std.specs.Prelude.{replicate};
 ghost use Rattle.std.specs.Option.{option_copied, option_map_or};
 ghost use Rattle.tta_ops.specs.Set.{stated};
 ghost use Rattle.tta_arch.specs.Joins.{has_bit};
-ghost use Rattle.tta_list.specs.Input.{IsFed, left};
+ghost use Rattle.tta_list.specs.Input.{IsFed};
 ghost use Rattle.tta_code.specs.Cycle.{State, next as next_state};
 ghost use Rattle.tta_sim.specs.Held.{Stands, IsRunOf};
 ghost use Rattle.tta_profile.specs.Counts.{AreCounts, is_stopped, slot_at};
 ghost use Rattle.tta_profile.specs.Steps.{AreSmall, Goes};
 
 use crate::counts::Counts;
+use crate::feed::{first_of, left_of};
 use crate::stopped::stopped_of;
 use tta_arch::Machine;
 use tta_code::{Code, Instruction};
@@ -24,24 +25,6 @@ pub struct Basis<'a> {
     pub m: &'a Machine,
     pub code: &'a Code,
     pub units: &'a UnitSet,
-}
-
-/// The next word of an input.
-fn first_of(rest: &[u32]) -> Option<u32>
-    ensures { result ≡ slice_get rest.now 0 }
-{
-    rest.first().copied()
-}
-
-/// What is left of an input, where its next word was taken or was not.
-fn left_of(rest: &[u32], took: bool) -> &[u32]
-    ensures { result.now ≡ left took rest.now }
-{
-    if took && !rest.is_empty() {
-        &rest[1..]
-    } else {
-        rest
-    }
 }
 
 /// The instruction of an address, if there is one.

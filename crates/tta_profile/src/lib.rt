@@ -4,6 +4,7 @@
 
 mod counting;
 mod counts;
+mod feed;
 mod hot;
 mod profiling;
 mod report;
@@ -13,6 +14,7 @@ mod uses;
 
 pub use counting::{Basis, Went};
 pub use counts::Counts;
+pub use feed::{first_of, left_of, went_on};
 pub use hot::Hot;
 pub use profiling::{count_run, profile};
 pub use report::words_of;

@@ -15,7 +15,8 @@ use Rattle.tta_sim.specs.declared.cycle_step.CycleStep.TheVariants.{Ran, Halted,
 use Rattle.tta_sim.specs.Held.{Held, Stands, GoesTo, IsAnswer, cycles_of, is_halted}
 use Rattle.tta_profile.specs.Counts.{is_made}
 use Rattle.tta_waves.specs.Levels.{coming}
-use Rattle.tta_waves.specs.Steps.{Goes, went_on}
+use Rattle.tta_profile.specs.Feed.{went_on}
+use Rattle.tta_waves.specs.Steps.{Goes}
 use Rattle.tta_waves.specs.Writes.{writes_in, cycle_writes}
 use Rattle.tta_waves.proofs.Wrote.{written_in, lands_writes}
 

@@ -1,11 +1,11 @@
 //! The states of a run, cycle by cycle.
 
-ghost use Rattle.std.specs.Prelude.{◌≡◌, ◌+◌, ◌<◌, ◌≤◌, ◌^◌, [], ◌++◌, map, slice_get};
+ghost use Rattle.std.specs.Prelude.{◌≡◌, ◌+◌, ◌<◌, ◌≤◌, ◌^◌, [], ◌++◌, map};
 ghost use Rattle.std.specs.Prelude.{IfOk, IfSome, IsTrue, None, OnOk, if◌then◌else◌, is_some};
 ghost use Rattle.std.specs.List.{AllByRecursion};
 ghost use Rattle.std.specs.Option.{option_copied, option_map_or};
 ghost use Rattle.tta_ops.specs.Set.{stated};
-ghost use Rattle.tta_list.specs.Input.{IsFed, left};
+ghost use Rattle.tta_list.specs.Input.{IsFed};
 ghost use Rattle.tta_arch.specs.Effects.{Written};
 ghost use Rattle.tta_code.specs.Cycle.{State, next as next_state};
 ghost use Rattle.tta_sim.specs.Held.{Stands, IsRunOf};
@@ -14,7 +14,8 @@ ghost use Rattle.tta_waves.specs.Told.{is_slot_written_to};
 ghost use Rattle.tta_waves.specs.Dump.{state_text, states_text};
 ghost use Rattle.tta_waves.specs.Levels.{carried, coming, levels_in, slots_of};
 ghost use Rattle.tta_waves.specs.Signals.{signals_of};
-ghost use Rattle.tta_waves.specs.Steps.{Goes, IsTold, went_on};
+ghost use Rattle.tta_profile.specs.Feed.{went_on};
+ghost use Rattle.tta_waves.specs.Steps.{Goes, IsTold};
 ghost use Rattle.tta_waves.specs.Writes.{cycle_writes, writes_in};
 
 use crate::changes::{push_last, push_state};
@@ -27,7 +28,7 @@ use crate::writing::write_instruction;
 use std::alloc::{AllocError, Global};
 use tta_arch::Machine;
 use tta_code::Instruction;
-use tta_profile::Basis;
+use tta_profile::{Basis, first_of, left_of, went_on};
 use tta_sim::{CycleStep, Sim};
 
 /// A dump that is written, and what it needs to know of its run beside the run itself: the signals that
@@ -40,36 +41,6 @@ pub struct Dump {
     pub row: Row,
     pub before: Vec<Level>,
     pub carried: Vec<Option<u32>>,
-}
-
-/// The next word of an input.
-fn first_of(rest: &[u32]) -> Option<u32>
-    ensures { result ≡ slice_get rest.now 0 }
-{
-    rest.first().copied()
-}
-
-/// What is left of an input, where its next word was taken or was not.
-fn left_of(rest: &[u32], took: bool) -> &[u32]
-    ensures { result.now ≡ left took rest.now }
-{
-    if took && !rest.is_empty() {
-        &rest[1..]
-    } else {
-        rest
-    }
-}
-
-/// Whether a cycle was carried out, and if so whether it took a word of the input.
-fn went_on(step: CycleStep) -> Option<bool>
-    ensures { result ≡ went_on step }
-{
-    match step {
-        CycleStep::Ran { took, .. } => Some(took),
-        CycleStep::Halted => None,
-        CycleStep::Waiting => None,
-        CycleStep::Fault(_) => None,
-    }
 }
 
 /// Notes the words that the moves of the next instruction carry, and gives the levels of all signals.
