@@ -1,7 +1,7 @@
-use Rattle.std.proofs.Common.{◌≡◌, [], ◌∷◌, ◌++◌, ap, ◌∙◌}
-use Rattle.tta_waves.specs.Levels.{carried}
-use Rattle.tta_waves.proofs.Lists.{one_on}
-use Rattle.tta_waves.proofs.moment.push_carried.Goals as goal
+use Rattle.std.proofs.Common.{[], ◌∷◌, ◌++◌, ap, ◌∙◌}
+use Rattle.tta_places.specs.Carried.{carried}
+use Rattle.tta_places.proofs.Lists.{one_on}
+use Rattle.tta_places.proofs.carrying.push_carried.Goals as goal
 
 pub loop-slot-preserved : goal.loop-slot-preserved
 loop-slot-preserved c = λ s stands had.

@@ -1,11 +1,11 @@
-use Rattle.std.proofs.Common.{◌≡◌, ◌≤◌, List, ◌++◌, drop, length}
+use Rattle.std.proofs.Common.{◌≡◌, ◌≤◌, ◌++◌, drop, length}
 use Rattle.std.specs.Prelude.{map}
 use Rattle.tta_arch.specs.Effects.{Written}
 use Rattle.tta_code.specs.Cycle.{State}
 use Rattle.tta_sim.specs.Places.{HasWritten}
-use Rattle.tta_waves.specs.Levels.{carried}
-use Rattle.tta_waves.specs.Writes.{moves_write}
-use Rattle.tta_waves.proofs.writing.write_moves.Given as goal
+use Rattle.tta_places.specs.Carried.{carried}
+use Rattle.tta_places.specs.Writes.{moves_write}
+use Rattle.tta_places.proofs.writing.write_moves.Given as goal
 
 abbrev pub invariant-loop-i : goal.invariant-loop-i
 invariant-loop-i l = record {

@@ -1,20 +1,19 @@
 -- What an instruction writes, slot by slot.
 use Rattle.std.proofs.Common.{◌≡◌, ℕ, ◌+◌, ◌-◌, ◌<◌, ◌≤◌, ◌==◌, Bool, true, false, List, [], ◌∷◌, ◌++◌, length, drop, map, Option, None, Some, refl, sym, ap, ◌∙◌, subst, arith}
-use Rattle.std.specs.Prelude.{get_or, slice_get, slice_index_or, option_to_list, option_and_then, if◌then◌else◌}
+use Rattle.std.specs.Prelude.{get_or, slice_get, option_to_list, option_and_then, if◌then◌else◌}
 use Rattle.std.specs.Option.{option_map_or}
 use Rattle.std.specs.List.{filter_map, cons_option}
 use Rattle.std.proofs.lemmas.List.{append_assoc, drop_more, get_or-map}
-use Rattle.tta_ops.specs.Units.{Units}
 use Rattle.tta_arch.specs.declared.parts.Template.{Template}
 use Rattle.tta_arch.specs.Machine.{Machine}
 use Rattle.tta_arch.specs.Effects.{Kind, Jumps, Calls, Halts, Place, Effect, Written, KeptImm, long_effect, bring, moved, target_of, write_of}
 use Rattle.tta_code.specs.declared.code.Move.{Move}
 use Rattle.tta_code.specs.declared.code.Long.{Long}
 use Rattle.tta_code.specs.declared.code.Instruction.{Instruction}
-use Rattle.tta_code.specs.Cycle.{State, Pending, effect_of, effects_of, moves_of, long_effects, read_source, lands, takes_effect}
+use Rattle.tta_code.specs.Cycle.{State, Pending, effect_of, effects_of, long_effects, read_source, lands, takes_effect}
 use Rattle.tta_sim.specs.Places.{HasWritten}
-use Rattle.tta_waves.specs.Levels.{carried}
-use Rattle.tta_waves.specs.Writes.{slot_writes, moves_write, long_writes, writes_in}
+use Rattle.tta_places.specs.Carried.{carried}
+use Rattle.tta_places.specs.Writes.{slot_writes, moves_write, long_writes, writes_in}
 
 module _ (m : Machine) (back : ℕ) (s : State) where
   -- what some effects write

@@ -1,21 +1,33 @@
 //! What an instruction writes.
 
-ghost use Rattle.std.specs.Prelude.{◌≡◌, ◌++◌, ◌%◌, ◌==◌, if◌then◌else◌, map, slice_get, IsTrue};
-ghost use Rattle.std.specs.Prelude.{option_to_list, IfSome};
+ghost use Rattle.std.specs.Prelude.{◌≡◌, ◌+◌, ◌<◌, [], ◌++◌, ◌%◌, ◌==◌, if◌then◌else◌, map};
+ghost use Rattle.std.specs.Prelude.{slice_get, option_to_list, IfSome, IsTrue};
 ghost use Rattle.std.specs.List.{AllByRecursion};
-ghost use Rattle.std.specs.Option.{option_copied};
+ghost use Rattle.std.specs.Option.{option_copied, option_map_or};
 ghost use Rattle.tta_arch.specs.Effects.{KeptImm, Written, target_of, width_of, write_of};
 ghost use Rattle.tta_code.specs.Cycle.{State};
 ghost use Rattle.tta_sim.specs.Places.{is_place, HasWritten};
-ghost use Rattle.tta_waves.specs.Levels.{carried};
-ghost use Rattle.tta_waves.specs.Told.{is_slot_written_to, is_written_to};
-ghost use Rattle.tta_waves.specs.Writes.{long_writes, moves_write, slot_writes, writes_in};
+ghost use Rattle.tta_places.specs.Carried.{carried, slots_of};
+ghost use Rattle.tta_places.specs.Written.{is_slot_written_to, is_written_to};
+ghost use Rattle.tta_places.specs.Writes.{long_writes, moves_write, slot_writes, writes_in};
 
-use crate::levels::word_of;
+use crate::carrying::word_of;
 use crate::row::Row;
-use crate::signal::width_of;
 use tta_arch::{Dest, Machine, Template};
 use tta_code::{Instruction, Long, Move};
+
+/// How wide a register is of a file that is not there.
+const WORD_BITS: u8 = 32;
+
+/// How wide a register of a file is.
+pub fn width_of(m: &Machine, file: u8) -> u8
+    ensures { result ≡ width_of m.now file }
+{
+    match m.files.as_slice().get(usize::from(file)) {
+        None => WORD_BITS,
+        Some(f) => f.width,
+    }
+}
 
 /// A word as a file keeps it.
 fn narrowed(m: &Machine, file: u8, word: u32) -> u32
@@ -103,17 +115,41 @@ fn write_long(row: &mut Row, m: &Machine, long: Option<Long>)
 }
 
 /// Writes what an instruction writes whose moves carry these words.
-pub fn write_instruction(
-    row: &mut Row,
-    m: &Machine,
-    back: u32,
-    i: &Instruction,
-    words: &[Option<u32>],
-)
+fn write_instruction(row: &mut Row, m: &Machine, back: u32, i: &Instruction, words: &[Option<u32>])
     requires { AllByRecursion (λ slot. IsTrue (is_slot_written_to slot)) i.now.moves }
     ensures { (s : State) (ws : Written) → words.now ≡ map (carried s) i.now.moves
         → HasWritten row.old ws → HasWritten row.new (writes_in m.now back s i.now ++ ws) }
 {
     write_long(row, m, i.long);
     write_moves(row, m, back, i.moves.as_slice(), words);
+}
+
+/// The address to come back to after a call in the instruction of an address.
+fn back_of(m: &Machine, pc: u32) -> u32
+    requires { pc < 65536 }
+    ensures { result ≡ pc + 1 + m.now.control.delay }
+{
+    pc + 1 + u32::from(m.control.delay)
+}
+
+/// Writes what the instruction of an address writes, if one was carried out.
+pub fn write_made(
+    row: &mut Row,
+    m: &Machine,
+    pc: u32,
+    made: Option<&Instruction>,
+    words: &[Option<u32>],
+)
+    requires within { IfSome (option_copied made) (λ i. pc < 65536) }
+    requires slots { IfSome (option_copied made)
+        (λ i. AllByRecursion (λ slot. IsTrue (is_slot_written_to slot)) i.moves) }
+    ensures { (s : State) (ws : Written)
+        → words.now ≡ map (carried s) (slots_of (option_copied made.entry))
+        → HasWritten row.old ws → HasWritten row.new (option_map_or
+        (writes_in m.now (pc + 1 + m.now.control.delay) s) (option_copied made.entry) [] ++ ws) }
+{
+    let Some(i) = made else {
+        return;
+    };
+    write_instruction(row, m, back_of(m, pc), i, words);
 }

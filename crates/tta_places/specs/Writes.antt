@@ -9,7 +9,7 @@ use Rattle.tta_code.specs.declared.code.Long.{Long}
 use Rattle.tta_code.specs.declared.code.Instruction.{Instruction}
 use Rattle.tta_code.specs.declared.code.Code.{Code}
 use Rattle.tta_code.specs.Cycle.{State}
-use Rattle.tta_waves.specs.Levels.{coming, carried}
+use Rattle.tta_places.specs.Carried.{coming, carried}
 
 -- what the move of a slot writes where it carries a word
 abbrev pub slot_writes : Machine → (back : ℕ) → Option Move → (word : Option ℕ) → Written

@@ -1,8 +1,8 @@
-use Rattle.std.proofs.Common.{◌≡◌, ◌≤◌, ◌-◌, ◌++◌, None, drop, get_or, length, subst, arith}
+use Rattle.std.proofs.Common.{◌≡◌, ◌-◌, ◌++◌, None, drop, get_or, subst, arith}
 use Rattle.tta_sim.specs.Places.{HasWritten}
-use Rattle.tta_waves.specs.Writes.{moves_write, slot_writes}
-use Rattle.tta_waves.proofs.Wrote.{moves_next}
-use Rattle.tta_waves.proofs.writing.write_moves.Goals as goal
+use Rattle.tta_places.specs.Writes.{moves_write, slot_writes}
+use Rattle.tta_places.proofs.Wrote.{moves_next}
+use Rattle.tta_places.proofs.writing.write_moves.Goals as goal
 
 pub loop-i-preserved : goal.loop-i-preserved
 loop-i-preserved c = record {

@@ -3,8 +3,8 @@ use Rattle.std.specs.Prelude.{map}
 use Rattle.tta_code.specs.Cycle.{State}
 use Rattle.tta_sim.specs.Held.{Stands}
 use Rattle.tta_sim.specs.Places.{HasWritten}
-use Rattle.tta_waves.specs.Levels.{carried}
-use Rattle.tta_waves.proofs.moment.push_carried.Given as goal
+use Rattle.tta_places.specs.Carried.{carried}
+use Rattle.tta_places.proofs.carrying.push_carried.Given as goal
 
 abbrev pub invariant-loop-slot : goal.invariant-loop-slot
 invariant-loop-slot l =

@@ -1,6 +1,6 @@
 use Rattle.std.proofs.Common.{◌+◌, ◌*◌, sym, ap, ◌∙◌}
 use Rattle.tta_arch.specs.Effects.{KeptReg}
-use Rattle.tta_waves.proofs.row.Row.set_register.Goals as goal
+use Rattle.tta_places.proofs.row.Row.set_register.Goals as goal
 
 pub returns : goal.returns
 returns c = λ written had.
