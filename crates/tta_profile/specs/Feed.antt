@@ -1,5 +1,5 @@
 -- Whether the cycles of a run go on.
-use Rattle.std.specs.Prelude.{ℕ, Bool, Option, None, Some}
+use Rattle.std.specs.Prelude.{Bool, Option, None, Some}
 use Rattle.tta_sim.specs.declared.cycle_step.CycleStep.{CycleStep}
 use Rattle.tta_sim.specs.declared.cycle_step.CycleStep.TheVariants.{Ran, Halted, Waiting, Fault}
 

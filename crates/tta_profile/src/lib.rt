@@ -5,7 +5,9 @@
 mod counting;
 mod counts;
 mod feed;
+mod following;
 mod hot;
+mod outside;
 mod profiling;
 mod report;
 mod stopped;
