@@ -1,6 +1,6 @@
 """Compiles each of some programs for each of some machines, runs the images, and prints a table of designs: words, bits of an
-instruction, bits of the code, steps, cycles, cycles a step, and how the run ends, also where its output is not that of `exec` on the first
-machine, or why there is no image. Pairs are worked at side by side, on all processors.
+instruction, bits of the code, steps, cycles, cycles a step, how many accesses are outside the data space, and how the run ends, also where its
+output is not that of `exec` on the first machine, or why there is no image. Pairs are worked at side by side, on all processors.
 
 Its words are machines, `--` and programs, and among them options: `--csv` asks for values with commas, `--bound N` for at most N steps and
 cycles, `--vary 'LINE {A,B}'` for a machine with each of these values (sweep.py), and `--synth FLOW` for what each core costs in hardware
@@ -22,7 +22,11 @@ import sweep
 import words as command_words
 from designs import columns, synth
 
-HEADS = ["machine", "program", "words", "bits", "code bits", "steps", "cycles", "cycles/step", "ends"]
+HEADS = ["machine", "program", "words", "bits", "code bits", "steps", "cycles", "cycles/step", "outside", "ends"]
+# Where the cycles stand among the cells of a row, after the names.
+CYCLES = HEADS.index("cycles") - 2
+# The cells of a pair that has no image.
+NOTHING = [""] * (len(HEADS) - 3)
 BOUND = "1000000000"
 DIFFERS = ", with another output"
 USAGE, FAILED = 1, 1
@@ -68,7 +72,7 @@ class Explorer:
 
     def __init__(self, tta, programs, asked, folder, count):
         self.tta, self.asked, self.folder = tta, asked, folder
-        self.program, self.view = programs[0], programs[-1]
+        self.program, self.view = programs
         self.runs = runs.Runs()
         self.columns = columns.Columns(asked.flow, self.runs, count) if asked.flow else None
 
@@ -77,7 +81,17 @@ class Explorer:
 
     def exec(self, machine, text, program):
         """What `exec` prints of a pair, where this file has the program's text."""
-        return self.run("exec", machine, text, beside(program, ".input") or os.devnull, self.asked.bound, *self.stream(program))
+        return self.run("exec", machine, text, *self.given(program))
+
+    def outside(self, machine, image, program):
+        """How many accesses of an image's run are outside the data space."""
+        told = self.runs.run([self.view, "profile", machine, image, *self.given(program)], read=lambda pipe: (None, pipe.read().decode("utf-8", "replace")))
+        found = told.number_after("outside data")
+        return "" if found is None else found
+
+    def given(self, program):
+        """The words of a command that say what a program is given, and for how long it runs."""
+        return [beside(program, ".input") or os.devnull, self.asked.bound, *self.stream(program)]
 
     def stream(self, program):
         return [path for path in [beside(program, ".stream")] if path]
@@ -89,7 +103,7 @@ class Explorer:
         text = os.path.join(self.folder, f"{number}.program")
         made = self.runs.run(from_c.command(self.tta, ["--machine", machine, program, text]))
         if made.status:
-            return Row([""] * 6, None, None, why(made.error).removeprefix(f"{program}:"), False)
+            return Row(NOTHING, None, None, why(made.error).removeprefix(f"{program}:"), False)
         return self.row_of(machine, text, program, number)
 
     def measure(self, machine, image, number):
@@ -107,18 +121,18 @@ class Explorer:
         wanted = None if steps is None else stepped.output
         built = self.run("build", machine, text, image)
         if built.status:
-            return Row([""] * 6, None, wanted, why(built.error), False)
+            return Row(NOTHING, None, wanted, why(built.error), False)
         bits, count = header(image)
         sizes = [count, bits, count * bits]
-        ran = self.run("run", machine, image, beside(program, ".input") or os.devnull, self.asked.bound, *self.stream(program))
+        ran = self.run("run", machine, image, *self.given(program))
         cycles = ran.number_after("cycles")
         self.measure(machine, image, number)
         if cycles is None:
-            return Row([*sizes, "", "", ""], None, wanted, why(ran.error), False)
+            return Row([*sizes, *NOTHING[len(sizes):]], None, wanted, why(ran.error), False)
         ends = "halted" if ran.status == 0 else why(ran.error)
         if ends == "waiting" and not self.stream(program):
             ends = f"waiting, and there is no {os.path.basename(os.path.splitext(program)[0])}.stream"
-        cells = [*sizes, "" if steps is None else steps, cycles, f"{cycles / steps:.2f}" if steps else ""]
+        cells = [*sizes, "" if steps is None else steps, cycles, f"{cycles / steps:.2f}" if steps else "", self.outside(machine, image, program)]
         return Row(cells, ran.output, wanted, ends, ends.split(",")[0] in ("halted", "waiting"))
 
 
@@ -131,7 +145,7 @@ def compared(pairs, rows, extra):
             row = rows[at]
             first = wanted[program] = wanted.get(program) or row.wanted
             differs = None not in (row.output, first) and row.output != first
-            more = extra.cells(at, row.cells[-2]) if extra else []
+            more = extra.cells(at, row.cells[CYCLES]) if extra else []
             table.append([machine, program, *row.cells, *more, row.ends + (DIFFERS if differs else "")])
             is_well = is_well and row.is_well and not differs
     return table, is_well
@@ -237,7 +251,7 @@ def explore(tta, words):
     except (Faulty, sweep.Faulty) as error:
         ending.say(str(error))
         return USAGE
-    programs = built(tta, ["build", "rtl"] if asked.flow else ["build"])
+    programs = built(tta, ["build", "profile"])
     if isinstance(programs, int):
         return programs
     pairs = [(name, program) for program in names_of(asked.programs) for name, _ in changed]

@@ -9,7 +9,7 @@ import files
 import formats
 import units
 import words as command_words
-from causes import assembly, coverage, fault, image, machine, near, program
+from causes import assembly, coverage, fault, image, machine, near, program, walks
 from causes import words as input_words
 from texts import machine as machine_reader
 from texts import program as program_reader
@@ -18,6 +18,8 @@ from texts.tokens import lines_of, tokens_of
 LONGEST = 120
 # No cause is looked for in a longer text, which takes memory and time.
 LONGEST_TEXT = 1 << 22
+# The code of `check` that has two causes.
+UNCERTAIN = 80
 # A token that is longer than any name may be.
 LONG_NAME = re.compile("`([^` ]{64})[^` ]+`")
 # How a word that is a number has to be.
@@ -228,6 +230,10 @@ def of_fault(said):
         lines = found(fault.of_run, program, said.words, said.number("cycle")) or []
     elif program and said.kind == "unsafe":
         lines = found(fault.instruction, program, said.path("M"), said.path("IMG"), said.number("word")) or []
+    if program and lines and said.number("code") == UNCERTAIN:
+        of_walks = found(walks.cause, said.machine(), found(fault.code_of, program, said.path("M"), said.path("IMG")), said.number("word"))
+        if of_walks:
+            return [*lines, of_walks]
     return lines + codes("fault", said.number("code")) or of_status(said)
 
 

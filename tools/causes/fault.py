@@ -26,12 +26,17 @@ def is_lasting(path):
     return stat.S_ISREG(mode) or os.path.samefile(path, os.devnull)
 
 
-def instruction(program, machine, image, address):
-    """The line for an instruction, or nothing."""
+def code_of(program, machine, image):
+    """The lines of an image's instructions, or none."""
     if not is_lasting(machine) or not is_lasting(image):
         return []
     shown = answer(program, ["dis", machine, image, "/dev/stdout"])
-    lines = [line for line in (shown or "").split("\n")[:-1] if not line.startswith("data ")]
+    return [line for line in (shown or "").split("\n")[:-1] if not line.startswith("data ")]
+
+
+def instruction(program, machine, image, address):
+    """The line for an instruction, or nothing."""
+    lines = code_of(program, machine, image)
     if address >= len(lines):
         return [f"the address {address} lies outside the code, which has {near.count(len(lines), 'instruction')}"] if lines else []
     return [f"address {address}: {lines[address]}"]

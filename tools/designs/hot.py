@@ -2,7 +2,7 @@
 import re
 from collections import namedtuple
 
-AT = re.compile(r"^at (\d+) times (\d+) share \d+(?: passed \S+ \d+)* : (.*)$", re.M)
+AT = re.compile(r"^at (\d+) times (\d+) share \d+(?: passed \S+ \d+)*(?: outside \d+)? : (.*)$", re.M)
 BUS = re.compile(r"^bus (\S+) moves (\d+) ", re.M)
 UNIT = re.compile(r"^unit (\S+) starts (\d+) ", re.M)
 BLOCK = re.compile(r"^block \S+ steps of (\S+) lines (\d+) (\d+) address \d+ cycles (\d+) spent (\d+) ", re.M)

@@ -5,6 +5,7 @@ use Rattle.tta_code.specs.Cycle.{State}
 use Rattle.tta_sim.specs.declared.cycle_step.CycleStep.{CycleStep}
 use Rattle.tta_sim.specs.declared.cycle_step.CycleStep.TheVariants.{Ran, Halted, Waiting, Fault}
 use Rattle.tta_profile.specs.Counts.{is_made}
+use Rattle.tta_profile.specs.Feed.{went_on}
 use Rattle.tta_play.specs.States.{out_text, outs_text, end_text}
 
 -- what is told of an answer: the word that the cycle output, or why the run is over
@@ -14,13 +15,6 @@ step_text (Ran (Some word) took) = out_text word
 step_text Halted = codes "halted\n"
 step_text Waiting = codes "waiting\n"
 step_text (Fault number) = codes "fault " ++ (decimal number ++ codes "\n")
-
--- whether the cycle was carried out, and if so whether it took a word of the input
-abbrev pub went_on : CycleStep → Option Bool
-went_on (Ran word took) = Some took
-went_on Halted = None
-went_on Waiting = None
-went_on (Fault number) = None
 
 -- a cycle was carried out: the run stands for the state after it, and what is told is what the cycle output
 pub record IsOn (step : State → State) (Stands : State → Type 0) (s : State) (told : List ℕ) (took : Bool) : Type 0 where

@@ -1,37 +1,19 @@
 //! The states of a run, cycle by cycle.
 
-ghost use Rattle.std.specs.Prelude.{◌≡◌, ◌+◌, ◌<◌, ◌≤◌, ◌^◌, ◌++◌, OnOk, slice_get};
+ghost use Rattle.std.specs.Prelude.{◌≡◌, ◌+◌, ◌<◌, ◌≤◌, ◌^◌, ◌++◌, OnOk};
 ghost use Rattle.tta_ops.specs.Set.{stated};
-ghost use Rattle.tta_list.specs.Input.{IsFed, left};
+ghost use Rattle.tta_list.specs.Input.{IsFed};
 ghost use Rattle.tta_code.specs.Cycle.{State, next as next_state};
 ghost use Rattle.tta_sim.specs.Held.{Stands, IsRunOf};
 ghost use Rattle.tta_play.specs.States.{out_text, state_text, states_text};
-ghost use Rattle.tta_play.specs.Steps.{Goes, step_text, went_on};
+ghost use Rattle.tta_play.specs.Steps.{Goes, step_text};
 ghost use Rattle.tta_sim.specs.declared.cycle_step.CycleStep.TheVariants.{Fault};
 
 use crate::state::push_state;
 use crate::words::push_number;
 use std::alloc::AllocError;
-use tta_profile::Basis;
+use tta_profile::{Basis, first_of, left_of, went_on};
 use tta_sim::{CycleStep, Sim};
-
-/// The next word of an input.
-fn first_of(rest: &[u32]) -> Option<u32>
-    ensures { result ≡ slice_get rest.now 0 }
-{
-    rest.first().copied()
-}
-
-/// What is left of an input, where its next word was taken or was not.
-fn left_of(rest: &[u32], took: bool) -> &[u32]
-    ensures { result.now ≡ left took rest.now }
-{
-    if took && !rest.is_empty() {
-        &rest[1..]
-    } else {
-        rest
-    }
-}
 
 /// Puts a word that is output.
 #[tactic(auto, unfolding(crate::specs::States::out_text))]
@@ -65,18 +47,6 @@ fn push_step(out: &mut Vec<u8>, step: CycleStep) -> Result<(), AllocError>
         CycleStep::Halted => out.extend_from_slice(b"halted\n"),
         CycleStep::Waiting => out.extend_from_slice(b"waiting\n"),
         CycleStep::Fault(number) => push_fault(out, number),
-    }
-}
-
-/// Whether a cycle was carried out, and if so whether it took a word of the input.
-fn went_on(step: CycleStep) -> Option<bool>
-    ensures { result ≡ went_on step }
-{
-    match step {
-        CycleStep::Ran { took, .. } => Some(took),
-        CycleStep::Halted => None,
-        CycleStep::Waiting => None,
-        CycleStep::Fault(_) => None,
     }
 }
 

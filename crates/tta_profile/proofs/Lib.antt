@@ -1,3 +1,4 @@
 mod Tallies
 mod Guards
 mod Onward
+mod Accesses

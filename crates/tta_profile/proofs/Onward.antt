@@ -1,12 +1,18 @@
 -- When a cycle is carried out, and when none will be.
-use Rattle.std.proofs.Common.{◌≡◌, inl, inr, ℕ, zero, suc, ◌+◌, ◌<◌, ◌≤◌, ◌==◌, Bool, true, false, ◌&&◌, List, [], ◌∷◌, None, length, refl, sym, ap, ◌∙◌, arith}
-use Rattle.std.specs.Prelude.{slice_get}
+use Rattle.std.proofs.Common.{◌≡◌, inl, inr, ℕ, zero, suc, ◌+◌, ◌<◌, ◌≤◌, ◌==◌, Bool, true, false, ◌&&◌, List, [], ◌∷◌, Option, None, length, refl, sym, ap, ◌∙◌, arith}
+use Rattle.std.specs.Prelude.{if◌then◌else◌, slice_get, slice_index}
+use Rattle.std.specs.List.{list_any}
 use Rattle.std.proofs.lemmas.Bool.{cases_eq, cases_lt, ne_eqb, eqb-true}
 use Rattle.tta_ops.specs.Units.{Units}
 use Rattle.tta_arch.specs.Machine.{Machine}
 use Rattle.tta_code.specs.declared.code.Code.{Code}
+use Rattle.tta_code.specs.declared.code.Instruction.{Instruction}
+use Rattle.tta_code.specs.declared.code.Move.{Move}
 use Rattle.tta_code.specs.Cycle.{State, Running, Halted, Waiting, Fault, next, next_of, carry_out}
+use Rattle.tta_places.specs.Carried.{slots_of}
 use Rattle.tta_profile.specs.Counts.{is_made}
+use Rattle.tta_profile.specs.declared.outside.Space.{Space}
+use Rattle.tta_profile.specs.Outside.{is_outside, strays}
 use Rattle.tta_profile.specs.Steps.{IsOver}
 
 -- nothing stands past the end of a list
@@ -71,3 +77,16 @@ at_address a pc has f is = elim (cases_eq a pc) [
   | inl same ↦ ap (λ (b : Bool). a == pc && b) (is ∙ ap f (sym same))
   | inr other ↦ rw (ne_eqb a pc other) refl
 ]
+
+-- What the moves of the instruction did that was carried out is counted at its address, and nothing at others.
+pub strays_more : (step : State → State) (m : Machine) (words : List Instruction) (space : Space) (s : State) (address a : ℕ) (slots : List (Option Move))
+    → address ≡ s.pc → is_made step s ≡ true → slots ≡ slots_of (slice_get words s.pc) → (old mid new : List ℕ) → mid ≡ old
+    → slice_index new a ≡ slice_index mid a + (if a == address && list_any (is_outside m space (step s).written s) slots then 1 else 0)
+    → slice_index new a ≡ slice_index old a + (if strays step m words space a s then 1 else 0)
+strays_more step m words space s address a slots here made are old mid new same is =
+    is ∙ ap (λ (l : List ℕ). slice_index l a + (if a == address && did slots then 1 else 0)) same
+    ∙ ap (λ (b : Bool). slice_index old a + (if b then 1 else 0))
+    (ap (λ (n : ℕ). a == n && did slots) here ∙ at_address a s.pc (did slots) (λ n. did (slots_of (slice_get words n))) (ap did are)
+    ∙ sym (ap (λ (b : Bool). b && (a == s.pc && did (slots_of (slice_get words a)))) made)) where
+      did : List (Option Move) → Bool
+      did = list_any (is_outside m space (step s).written s)

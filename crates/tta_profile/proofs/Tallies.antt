@@ -1,18 +1,23 @@
 -- Counts of one cycle more, and of none more where a run is over.
 use Rattle.std.proofs.Common.{◌≡◌, inl, inr, ℕ, nat_lt, zero, suc, ◌+◌, ◌*◌, ◌<◌, ◌≤◌, ◌^◌, ◌==◌, Bool, true, false, ◌&&◌, List, [], ◌∷◌, ◌++◌, filter, length, refl, sym, ap, ◌∙◌, subst, arith}
-use Rattle.std.specs.Prelude.{if◌then◌else◌, slice_index, replicate}
+use Rattle.std.specs.Prelude.{if◌then◌else◌, slice_get, slice_index, replicate}
 use Rattle.std.specs.Option.{option_map_or}
-use Rattle.std.specs.List.{count_by}
+use Rattle.std.specs.List.{count_by, list_any}
 use Rattle.std.proofs.lemmas.Bool.{cases_eq, cases_lt, eq-eqb, ne_eqb, lt-ltb, le-ltb, ltb-true, ltb-false}
 use Rattle.std.proofs.lemmas.List.{length-append, length-replicate}
 use Rattle.std.proofs.lemmas.List.Sums.{length-filter}
 use Rattle.std.proofs.lemmas.List.Elements.{filter-append}
 use Rattle.tta_list.specs.Iterate.{iterate}
+use Rattle.tta_arch.specs.Machine.{Machine}
 use Rattle.tta_arch.proofs.CodeLists.{numbered_more}
 use Rattle.tta_code.specs.declared.code.Instruction.{Instruction}
 use Rattle.tta_code.specs.Cycle.{State}
-use Rattle.tta_profile.specs.Steps.{AreSmall, Adds, IsOver}
+use Rattle.tta_places.specs.Carried.{slots_of}
+use Rattle.tta_profile.specs.declared.outside.Space.{Space}
+use Rattle.tta_profile.specs.declared.outside.Space.TheVariants.{Data, Frame}
+use Rattle.tta_profile.specs.Steps.{AreSmall, AreSmallOutside, Adds, AddsOutside, IsOver}
 use Rattle.tta_profile.specs.Counts.{states, is_made, slot_at, is_stopped, carries, stops, executed, passed, Counts, AreCounts}
+use Rattle.tta_profile.specs.Outside.{AreOutside, is_outside, outside, strays}
 use Rattle.tta_list.proofs.Lists.{zeros}
 
 -- a count over one item more at the end
@@ -96,6 +101,12 @@ module _ (step : State → State) (s : State) where
       ∙ ap (λ (b : Bool). count_by p (states step s (j + suc k)) + (if b then 1 else 0)) (ap p (stays k over j) ∙ next)
       ∙ omega arith ∙ ap (λ (n : ℕ). count_by p (states step s n)) f ∙ count_stays p k over here next (suc j)
 
+  -- nor does such a cycle count later, if it is over
+  pub over_next : (k : ℕ) → IsOver step (before k) → is_made step (step (before k)) ≡ false
+  over_next k over =
+      ne_eqb (step (step (before k))).cycle ((step (before k)).cycle + 1)
+      (λ e. let same : (step (step (before k))).cycle ≡ (step (before k)).cycle = ap (λ (t : State). t.cycle) over.stays in absurd (omega (arith, e, same)))
+
   -- there are no more of them than cycles
   pub count_few : (p : State → Bool) (k : ℕ) → count_by p (states step s k) ≤ k
   count_few p zero = omega arith
@@ -108,8 +119,6 @@ module _ (step : State → State) (s : State) where
         at_most : (b : Bool) → (if b then 1 else 0) ≤ 1
         at_most true = omega arith
         at_most false = omega arith
-
--- a row of zeros
 
 module _ (step : State → State) (words : List Instruction) (s : State) where
   abbrev now : ℕ → State
@@ -143,8 +152,7 @@ module _ (step : State → State) (words : List Instruction) (s : State) where
   -- where no cycle will be made any more they are those of any number of cycles
   pub counts_over : (k j : ℕ) (c : Counts) → AreCounts step words s k c → IsOver step (now k) → AreCounts step words s (j + k) c
   counts_over k j c are over =
-      let next : is_made step (step (now k)) ≡ false =
-      ne_eqb (step (step (now k))).cycle ((step (now k)).cycle + 1) (λ e. let same : (step (step (now k))).cycle ≡ (step (now k)).cycle = ap (λ (t : State). t.cycle) over.stays in absurd (omega (arith, e, same))) in
+      let next : is_made step (step (now k)) ≡ false = over_next step s k over in
       record {
         executed = λ a. are.executed a
             ∙ sym (count_stays step s (carries step a) k over.stays (ap (λ (b : Bool). b && a == (now k).pc) over.made) (ap (λ (b : Bool). b && a == (step (now k)).pc) next) j);
@@ -154,3 +162,48 @@ module _ (step : State → State) (words : List Instruction) (s : State) where
             (ap (λ (t : Bool). t && (a == (step (now k)).pc && option_map_or (is_stopped (step (now k))) (slot_at words a b) false)) next) j);
         sizes = are.sizes;
       }
+
+module _ (step : State → State) (m : Machine) (words : List Instruction) (s : State) where
+  abbrev at : ℕ → State
+  at k = iterate k step s
+
+  -- no access outside is counted of no cycles
+  pub outside_begin : (c : Counts) → c.outside_data ≡ replicate (length words) 0 → c.outside_frame ≡ replicate (length words) 0 → AreOutside step m words s 0 c
+  outside_begin c of_data of_frame = record {
+    of_data = λ a. ap (λ (l : List ℕ). slice_index l a) of_data ∙ zeros (length words) a;
+    of_frame = λ a. ap (λ (l : List ℕ). slice_index l a) of_frame ∙ zeros (length words) a;
+    sizes = (ap length of_data ∙ length-replicate (length words) 0, ap length of_frame ∙ length-replicate (length words) 0);
+  }
+
+  -- counts of few cycles are small
+  pub are_small_outside : (k : ℕ) (c : Counts) → k < 2 ^ 62 → AreOutside step m words s k c → AreSmallOutside c
+  are_small_outside k c few are = record {
+    of_data = λ a. let here = are.of_data a in let most = count_few step s (strays step m words Data a) k in omega (arith, here, most, few);
+    of_frame = λ a. let here = are.of_frame a in let most = count_few step s (strays step m words Frame a) k in omega (arith, here, most, few);
+  }
+
+  -- with what a cycle adds they are those of one cycle more
+  pub outside_on : (k : ℕ) (c c' : Counts) → AreOutside step m words s k c → AddsOutside step m words (at k) c c'
+      → length c'.outside_data ≡ length c.outside_data → length c'.outside_frame ≡ length c.outside_frame → AreOutside step m words s (k + 1) c'
+  outside_on k c c' are adds size_data size_frame = record {
+    of_data = λ a. adds.of_data a ∙ ap (λ (n : ℕ). n + (if strays step m words Data a (at k) then 1 else 0)) (are.of_data a)
+        ∙ sym (count_more step s (strays step m words Data a) k);
+    of_frame = λ a. adds.of_frame a ∙ ap (λ (n : ℕ). n + (if strays step m words Frame a (at k) then 1 else 0)) (are.of_frame a)
+        ∙ sym (count_more step s (strays step m words Frame a) k);
+    sizes = (size_data ∙ are.sizes.0, size_frame ∙ are.sizes.1);
+  }
+
+  -- where no cycle will be made any more they are those of any number of cycles
+  strays_stays : (space : Space) (a k j : ℕ) → IsOver step (at k) → outside step m words s (j + k) space a ≡ outside step m words s k space a
+  strays_stays space a k j over =
+      count_stays step s (strays step m words space a) k over.stays
+      (ap (λ (b : Bool). b && (a == (at k).pc && list_any (is_outside m space (step (at k)).written (at k)) (slots_of (slice_get words a)))) over.made)
+      (ap (λ (b : Bool). b && (a == (step (at k)).pc && list_any (is_outside m space (step (step (at k))).written (step (at k))) (slots_of (slice_get words a)))) (over_next step s k over))
+      j
+
+  pub outside_over : (k j : ℕ) (c : Counts) → AreOutside step m words s k c → IsOver step (at k) → AreOutside step m words s (j + k) c
+  outside_over k j c are over = record {
+    of_data = λ a. are.of_data a ∙ sym (strays_stays Data a k j over);
+    of_frame = λ a. are.of_frame a ∙ sym (strays_stays Frame a k j over);
+    sizes = are.sizes;
+  }

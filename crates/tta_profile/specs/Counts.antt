@@ -40,10 +40,13 @@ executed step s n address = count_by (carries step address) (states step s n)
 abbrev pub passed : (step : State → State) → List Instruction → State → (n address bus : ℕ) → ℕ
 passed step words s n address bus = count_by (stops step words address bus) (states step s n)
 
--- what is counted: of each instruction how often it was carried out, and of each of 16 buses how often its move was passed over
+-- What is counted: of each instruction how often it was carried out, and of each of 16 buses how often its move was passed over; and of
+-- each instruction how often it accessed the data space, and the frame, at an address outside.
 pub record Counts : Type 0 where
   pub executed : List ℕ
   pub passed : List ℕ
+  pub outside_data : List ℕ
+  pub outside_frame : List ℕ
 
 -- the counts are those of the first n cycles from a state
 pub record AreCounts (step : State → State) (words : List Instruction) (s : State) (n : ℕ) (c : Counts) : Type 0 where

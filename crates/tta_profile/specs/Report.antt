@@ -53,6 +53,10 @@ cycles_sum c = sum_by (λ n. n) c.executed
 abbrev pub percent : (part whole : ℕ) → ℕ
 percent part whole = if whole == 0 then 0 else 100 * part / whole
 
+-- how often the instruction of an address accessed the spaces at addresses outside
+abbrev pub outside_of : Counts → (address : ℕ) → ℕ
+outside_of c address = slice_index c.outside_data address + slice_index c.outside_frame address
+
 -- ---- lines
 
 -- a number and its share
@@ -103,10 +107,15 @@ all_passed_text m c address slots = flat_map (λ o. passed_text m c address o.0 
 unfoldable pub times_text : Counts → (whole address : ℕ) → List ℕ
 times_text c whole address = codes "at " ++ (decimal address ++ (codes " times " ++ share_text (slice_index c.executed address) whole))
 
--- an instruction: its address, how often it was carried out, what was passed over, and its assembly
+-- how many accesses were outside, if some were
+unfoldable pub outside_text : ℕ → List ℕ
+outside_text n = if n == 0 then [] else codes " outside " ++ decimal n
+
+-- an instruction: its address, how often it was carried out, what was passed over, its accesses outside the spaces, and its assembly
 unfoldable pub hot_text : Units → Machine → Counts → (whole address : ℕ) → Instruction → List ℕ
 hot_text u m c whole address i =
-    times_text c whole address ++ (all_passed_text m c address i.moves ++ (codes " : " ++ instruction_text u m i))
+    times_text c whole address
+    ++ (all_passed_text m c address i.moves ++ (outside_text (outside_of c address) ++ (codes " : " ++ instruction_text u m i)))
 
 -- the same of the instruction of an address
 abbrev pub hot_at_text : Units → Machine → Counts → List Instruction → (whole : ℕ) → Hot → List ℕ
@@ -116,10 +125,15 @@ hot_at_text u m c words whole h = option_map_or (hot_text u m c whole h.address)
 abbrev pub hottest_text : Units → Machine → Counts → List Instruction → (whole : ℕ) → List Hot → List ℕ
 hottest_text u m c words whole order = flat_map (hot_at_text u m c words whole) order
 
--- how many cycles were made, and what was used
+-- how many accesses to a space were outside it
+unfoldable pub space_text : (name : List ℕ) → List ℕ → List ℕ
+space_text name counts = codes "outside " ++ (name ++ (codes " " ++ (decimal (sum_by (λ n. n) counts) ++ codes "\n")))
+
+-- how many cycles were made, what was used, and how many accesses were outside
 unfoldable pub uses_text : Machine → List Instruction → Counts → (whole : ℕ) → List ℕ
 uses_text m words c whole =
-    codes "cycles " ++ (decimal whole ++ (codes "\n" ++ (buses_text c words whole m.buses ++ units_text c words whole m.units)))
+    codes "cycles " ++ (decimal whole ++ (codes "\n" ++ (buses_text c words whole m.buses ++ (units_text c words whole m.units
+    ++ (space_text (codes "data") c.outside_data ++ space_text (codes "frame") c.outside_frame)))))
 
 -- these, and the instructions in this order
 unfoldable pub told_text : Units → Machine → List Instruction → Counts → (whole : ℕ) → List Hot → List ℕ

@@ -1,11 +1,15 @@
 -- What a cycle adds to the counts.
 use Rattle.std.specs.Prelude.{◌≡◌, ℕ, ◌+◌, ◌*◌, ◌<◌, ◌^◌, Bool, true, false, if◌then◌else◌, List, slice_index}
 use Rattle.tta_list.specs.Input.{left}
+use Rattle.tta_arch.specs.Machine.{Machine}
+use Rattle.tta_arch.specs.Effects.{Written}
 use Rattle.tta_code.specs.declared.code.Instruction.{Instruction}
 use Rattle.tta_code.specs.Cycle.{State}
 use Rattle.tta_profile.specs.declared.counting.Went.{Went}
 use Rattle.tta_profile.specs.declared.counting.Went.TheVariants.{On, Over}
 use Rattle.tta_profile.specs.Counts.{Counts, is_made, carries, stops}
+use Rattle.tta_profile.specs.declared.outside.Space.TheVariants.{Data, Frame}
+use Rattle.tta_profile.specs.Outside.{strays}
 
 -- no count is near its greatest
 pub record AreSmall (c : Counts) : Type 0 where
@@ -17,6 +21,18 @@ pub record Adds (step : State → State) (words : List Instruction) (s : State) 
   pub executed : (address : ℕ) → slice_index new.executed address ≡ slice_index old.executed address + (if carries step address s then 1 else 0)
   pub passed : (address bus : ℕ) → bus < 16
       → slice_index new.passed (16 * address + bus) ≡ slice_index old.passed (16 * address + bus) + (if stops step words address bus s then 1 else 0)
+
+-- no count of accesses outside the spaces is near its greatest
+pub record AreSmallOutside (c : Counts) : Type 0 where
+  pub of_data : (address : ℕ) → slice_index c.outside_data address < 2 ^ 63
+  pub of_frame : (address : ℕ) → slice_index c.outside_frame address < 2 ^ 63
+
+-- the counts of accesses outside the spaces are those before, and one more of what the cycle of a state accesses so
+pub record AddsOutside (step : State → State) (m : Machine) (words : List Instruction) (s : State) (old new : Counts) : Type 0 where
+  pub of_data : (address : ℕ)
+      → slice_index new.outside_data address ≡ slice_index old.outside_data address + (if strays step m words Data address s then 1 else 0)
+  pub of_frame : (address : ℕ)
+      → slice_index new.outside_frame address ≡ slice_index old.outside_frame address + (if strays step m words Frame address s then 1 else 0)
 
 -- a cycle was carried out, and the run stands for the state after it
 pub record IsOn (step : State → State) (Stands : State → Type 0) (s : State) (took : Bool) : Type 0 where
@@ -33,3 +49,9 @@ pub record IsOver (step : State → State) (s : State) : Type 0 where
 abbrev pub Goes : (step : State → State) → List Instruction → (Stands : State → Type 0) → State → (old new : Counts) → Went → Type 0
 Goes step words Stands s old new (On took) = IsOn step Stands s took × Adds step words s old new
 Goes step words Stands s old new Over = IsOver step s × (new ≡ old)
+
+-- what it wrote and accessed outside, where this is kept of what was written
+abbrev pub GoesOutside : (step : State → State) → Machine → List Instruction → (Keeps : Written → Type 0) → State → (old new : Counts) → Went
+    → Type 0
+GoesOutside step m words Keeps s old new (On took) = Keeps (step s).written × AddsOutside step m words s old new
+GoesOutside step m words Keeps s old new Over = new ≡ old

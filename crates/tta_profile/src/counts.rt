@@ -12,12 +12,15 @@ use tta_arch::has_bus;
 const BUSES: usize = 16;
 
 /// Of each instruction how often it was carried out, and of each of its moves how often it was passed
-/// over by its guard. A move has its bus's number.
+/// over by its guard. A move has its bus's number. And of each instruction how often it accessed the
+/// data space, and the frame, at an address outside.
 #[derive(Drop)]
 pub struct Counts {
     executed: Vec<u64>,
     /// 16 for each instruction.
     passed: Vec<u64>,
+    outside_data: Vec<u64>,
+    outside_frame: Vec<u64>,
 }
 
 impl Model for Counts {
@@ -25,7 +28,12 @@ impl Model for Counts {
 
     ghost Value = { Counts };
 
-    ghost view = { λ c. record { executed = c.executed.items; passed = c.passed.items } };
+    ghost view = { λ c. record {
+      executed = c.executed.items;
+      passed = c.passed.items;
+      outside_data = c.outside_data.items;
+      outside_frame = c.outside_frame.items;
+    } };
 }
 
 /// So many counts of 0.
@@ -99,7 +107,7 @@ fn entry(row: &[u64], place: usize) -> u64
 }
 
 impl Counts {
-    ghost use Rattle.tta_profile.specs.Report.{active};
+    ghost use Rattle.tta_profile.specs.Report.{active, outside_of};
     ghost use Rattle.std.specs.Prelude.{◌≡◌, ◌+◌, ◌*◌, ◌<◌, ◌≤◌, ◌^◌, ◌==◌, ◌&&◌, ℕ, length};
     ghost use Rattle.std.specs.Prelude.{if◌then◌else◌, replicate, slice_index, IfOk};
     ghost use Rattle.tta_arch.specs.Joins.{has_bit};
@@ -109,10 +117,19 @@ impl Counts {
         requires few { words ≤ 65536 }
         ensures executed { IfOk result (λ c. c.executed ≡ replicate words 0) }
         ensures passed { IfOk result (λ c. c.passed ≡ replicate (16 * words) 0) }
+        ensures outside_data { IfOk result (λ c. c.outside_data ≡ replicate words 0) }
+        ensures outside_frame { IfOk result (λ c. c.outside_frame ≡ replicate words 0) }
     {
         let executed = zeros(alloc, words)?;
         let passed = zeros(alloc, BUSES * words)?;
-        Ok(Counts { executed, passed })
+        let outside_data = zeros(alloc, words)?;
+        let outside_frame = zeros(alloc, words)?;
+        Ok(Counts {
+            executed,
+            passed,
+            outside_data,
+            outside_frame,
+        })
     }
 
     /// How often each instruction was carried out.
@@ -147,6 +164,54 @@ impl Counts {
         entry(self.executed.as_slice(), address).saturating_sub(self.passed(address, bus))
     }
 
+    /// How often each instruction accessed the data space at an address outside.
+    pub fn outside_data(&self) -> &[u64]
+        ensures { result.now ≡ self.now.outside_data }
+    {
+        self.outside_data.as_slice()
+    }
+
+    /// How often each instruction accessed the frame at an address outside.
+    pub fn outside_frame(&self) -> &[u64]
+        ensures { result.now ≡ self.now.outside_frame }
+    {
+        self.outside_frame.as_slice()
+    }
+
+    /// How often the instruction of an address accessed the spaces at addresses outside.
+    pub fn outside(&self, address: u32) -> u128
+        ensures { result ≡ outside_of self.now address }
+    {
+        let data = entry(self.outside_data.as_slice(), address as usize);
+        let frame = entry(self.outside_frame.as_slice(), address as usize);
+        u128::from(data) + u128::from(frame)
+    }
+
+    /// Counts that the instruction of an address accessed the data space, and the frame, at an address
+    /// outside, or did not. It does nothing where there is no such instruction.
+    pub fn add_outside(&mut self, address: usize, of_data: bool, of_frame: bool)
+        requires room_data { length self.old.outside_data ≡ length self.old.executed }
+        requires room_frame { length self.old.outside_frame ≡ length self.old.executed }
+        ensures executed { self.new.executed ≡ self.old.executed }
+        ensures passed { self.new.passed ≡ self.old.passed }
+        ensures of_data { address < length self.old.executed
+            → slice_index self.old.outside_data address < 2 ^ 63
+            → (k : ℕ) → slice_index self.new.outside_data k
+            ≡ slice_index self.old.outside_data k + (if k == address && of_data then 1 else 0) }
+        ensures of_frame { address < length self.old.executed
+            → slice_index self.old.outside_frame address < 2 ^ 63
+            → (k : ℕ) → slice_index self.new.outside_frame k
+            ≡ slice_index self.old.outside_frame k + (if k == address && of_frame then 1 else 0) }
+        ensures size_data { length self.new.outside_data ≡ length self.old.outside_data }
+        ensures size_frame { length self.new.outside_frame ≡ length self.old.outside_frame }
+    {
+        if address >= self.executed.len() {
+            return;
+        }
+        add_if(&mut self.outside_data, address, of_data);
+        add_if(&mut self.outside_frame, address, of_frame);
+    }
+
     /// Counts that the instruction of an address was carried out, and that guards stopped the moves of
     /// some buses. It does nothing where there is no such instruction.
     pub fn add(&mut self, address: usize, stopped: u16)
@@ -162,6 +227,8 @@ impl Counts {
             + (if a == address && has_bit stopped bus then 1 else 0) }
         ensures size { length self.new.executed ≡ length self.old.executed }
         ensures size_passed { length self.new.passed ≡ length self.old.passed }
+        ensures outside_data { self.new.outside_data ≡ self.old.outside_data }
+        ensures outside_frame { self.new.outside_frame ≡ self.old.outside_frame }
     {
         if address >= self.executed.len() {
             return;

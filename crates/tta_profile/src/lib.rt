@@ -4,7 +4,10 @@
 
 mod counting;
 mod counts;
+mod feed;
+mod following;
 mod hot;
+mod outside;
 mod profiling;
 mod report;
 mod stopped;
@@ -13,6 +16,7 @@ mod uses;
 
 pub use counting::{Basis, Went};
 pub use counts::Counts;
+pub use feed::{first_of, left_of, went_on};
 pub use hot::Hot;
 pub use profiling::{count_run, profile};
 pub use report::words_of;

@@ -1,14 +1,16 @@
 //! The profile of a run.
 
-ghost use Rattle.std.specs.Prelude.{◌≡◌, ◌+◌, ◌<◌, ◌≤◌, ◌^◌, length, IfOk};
+ghost use Rattle.std.specs.Prelude.{◌≡◌, ◌+◌, ◌<◌, ◌≤◌, ◌^◌, [], length, IfOk};
 ghost use Rattle.tta_ops.specs.Set.{stated};
 ghost use Rattle.tta_code.specs.Cycle.{State, next as next_state};
 ghost use Rattle.tta_sim.specs.Held.{Stands, IsRunOf};
 ghost use Rattle.tta_profile.specs.Counts.{AreCounts};
+ghost use Rattle.tta_profile.specs.Outside.{AreOutside};
 ghost use Rattle.tta_profile.specs.Statement.{IsProfile};
 
 use crate::counting::{Basis, count_cycles};
 use crate::counts::Counts;
+use crate::following::unset;
 use crate::report::tell_counts;
 use std::alloc::{AllocError, Global};
 use tta_sim::Sim;
@@ -39,9 +41,14 @@ pub fn count_run(
         let step = next_state (stated unit_meaning on.units.now) on.m.now on.code.now in
         (s : State) → Stands sim.old s → s.rest ≡ input.now
         → IfOk result (λ c. AreCounts step on.code.now.words s bound c) }
+    ensures outside { let on = basis.now in
+        let step = next_state (stated unit_meaning on.units.now) on.m.now on.code.now in
+        (s : State) → Stands sim.old s → s.rest ≡ input.now → s.written ≡ []
+        → IfOk result (λ c. AreOutside step on.m.now on.code.now.words s bound c) }
 {
     let mut counts = Counts::new(alloc, count_words(&*sim, basis))?;
-    count_cycles(sim, &mut counts, basis, input, bound);
+    let mut followed = unset(alloc)?;
+    count_cycles(&mut followed, sim, &mut counts, basis, input, bound)?;
     Ok(counts)
 }
 

@@ -7,7 +7,7 @@ ghost use Rattle.tta_ops.specs.Set.{stated};
 ghost use Rattle.tta_code.specs.Legal.{IsLegalCode};
 ghost use Rattle.tta_profile.specs.Report.{passed_text, all_passed_text, hot_text, hot_at_text};
 ghost use Rattle.tta_profile.specs.Report.{hottest_text, told_text, IsReport, bus_name};
-ghost use Rattle.tta_profile.specs.Report.{is_guarded, count_text, times_text};
+ghost use Rattle.tta_profile.specs.Report.{is_guarded, count_text, times_text, outside_text};
 
 use crate::counts::Counts;
 use crate::hot::{Hot, hottest};
@@ -105,8 +105,20 @@ fn push_times(out: &mut Vec<u8>, profiled: &Profiled<'_>, address: u32) -> Resul
     )
 }
 
-/// Puts an instruction: its address, how often it was carried out, what was passed over, and its
-/// assembly.
+/// Puts how many accesses were outside, if some were.
+#[tactic(auto, unfolding(crate::specs::Report::outside_text))]
+fn push_outside(out: &mut Vec<u8>, n: u128) -> Result<(), AllocError>
+    ensures { OnOk result (out.new.items ≡ out.old.items ++ outside_text n) }
+{
+    if n == 0 {
+        return Ok(());
+    }
+    out.extend_from_slice(b" outside ")?;
+    push_number(out, n)
+}
+
+/// Puts an instruction: its address, how often it was carried out, what was passed over, its accesses
+/// outside the spaces, and its assembly.
 #[tactic(auto, unfolding(crate::specs::Report::hot_text))]
 fn push_hot(
     out: &mut Vec<u8>,
@@ -123,6 +135,7 @@ fn push_hot(
 {
     push_times(out, profiled, address)?;
     push_all_passed(out, profiled, address, i.moves.as_slice())?;
+    push_outside(out, profiled.counts.outside(address))?;
     out.extend_from_slice(b" : ")?;
     push_instruction(out, units, profiled.m, i)
 }

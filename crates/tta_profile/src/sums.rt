@@ -82,6 +82,17 @@ pub fn code_sum(counts: &Counts, test: Test, words: &[Instruction]) -> u128
     sum
 }
 
+/// The sum of counts.
+pub fn total(counts: &[u64]) -> u128
+    ensures { result ≡ sum_by (λ n. n) counts.now }
+{
+    let mut sum = 0;
+    for n in counts {
+        sum += u128::from(*n);
+    }
+    sum
+}
+
 /// How many cycles were made.
 pub fn cycles_sum(executed: &[u64]) -> u128
     requires few { length executed.now ≤ 65536 }

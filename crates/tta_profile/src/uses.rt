@@ -1,11 +1,11 @@
-//! How many cycles were made, and what was used in them.
+//! How many cycles were made, what was used in them, and how many accesses were outside.
 
 ghost use Rattle.std.specs.Prelude.{◌≡◌, ◌≤◌, ◌++◌, ◌^◌, decimal, length, All, OnOk};
 ghost use Rattle.tta_profile.specs.Report.{share_text, used_text, bus_text, buses_text, unit_text};
-ghost use Rattle.tta_profile.specs.Report.{units_text, uses_text, percent, code_sum};
+ghost use Rattle.tta_profile.specs.Report.{units_text, uses_text, percent, code_sum, space_text};
 
 use crate::counts::Counts;
-use crate::sums::{Test, code_sum};
+use crate::sums::{Test, code_sum, total};
 use itoa::Buffer;
 use std::alloc::AllocError;
 use tta_arch::{Bus, Machine, Unit};
@@ -147,7 +147,19 @@ fn push_units(out: &mut Vec<u8>, profiled: &Profiled<'_>, units: &[Unit]) -> Res
     Ok(())
 }
 
-/// Puts how many cycles were made, and what was used.
+/// Puts how many accesses to a space were outside it.
+#[tactic(auto, unfolding(crate::specs::Report::space_text))]
+fn push_space(out: &mut Vec<u8>, name: &[u8], counts: &[u64]) -> Result<(), AllocError>
+    ensures { OnOk result (out.new.items ≡ out.old.items ++ space_text name.now counts.now) }
+{
+    out.extend_from_slice(b"outside ")?;
+    out.extend_from_slice(name)?;
+    out.extend_from_slice(b" ")?;
+    push_number(out, total(counts))?;
+    out.extend_from_slice(b"\n")
+}
+
+/// Puts how many cycles were made, what was used, and how many accesses were outside.
 #[tactic(auto, unfolding(crate::specs::Report::uses_text))]
 pub fn push_uses(out: &mut Vec<u8>, profiled: &Profiled<'_>) -> Result<(), AllocError>
     requires few { length profiled.now.words.now ≤ 65536 }
@@ -160,5 +172,7 @@ pub fn push_uses(out: &mut Vec<u8>, profiled: &Profiled<'_>) -> Result<(), Alloc
     out.extend_from_slice(b"\n")?;
     let m = profiled.m;
     push_buses(out, profiled, m.buses.as_slice())?;
-    push_units(out, profiled, m.units.as_slice())
+    push_units(out, profiled, m.units.as_slice())?;
+    push_space(out, b"data", profiled.counts.outside_data())?;
+    push_space(out, b"frame", profiled.counts.outside_frame())
 }

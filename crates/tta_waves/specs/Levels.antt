@@ -1,37 +1,26 @@
 -- The word of each signal in a state.
-use Rattle.std.specs.Prelude.{ℕ, ◌==◌, Bool, false, ◌&&◌, if◌then◌else◌, List, [], map, Option, Some, None, slice_get, slice_index_or, option_and_then}
+use Rattle.std.specs.Prelude.{ℕ, ◌==◌, Bool, false, ◌&&◌, if◌then◌else◌, List, map, Option, Some, None, slice_index_or}
 use Rattle.std.specs.Option.{option_map_or}
 use Rattle.std.specs.List.{list_any}
 use Rattle.tta_arch.specs.declared.ends.Dest.{Dest}
 use Rattle.tta_arch.specs.declared.ends.Dest.TheVariants as dest
 use Rattle.tta_arch.specs.Machine.{Machine}
-use Rattle.tta_arch.specs.Effects.{KeptReg, KeptImm, KeptOperand, KeptRa, kept, is_active, moved}
+use Rattle.tta_arch.specs.Effects.{KeptReg, KeptImm, KeptOperand, KeptRa, kept, is_active}
 use Rattle.tta_code.specs.declared.code.Move.{Move}
 use Rattle.tta_code.specs.declared.code.Instruction.{Instruction}
 use Rattle.tta_code.specs.Cycle.{State, read_source, effect_of, port}
 use Rattle.tta_sim.specs.Held.{is_halted}
+use Rattle.tta_places.specs.Carried.{carried, coming, slots_of}
 use Rattle.tta_waves.specs.declared.level.Level.{Level}
 use Rattle.tta_waves.specs.declared.signal.Signal.{Signal}
 use Rattle.tta_waves.specs.declared.signal.Signal.TheVariants.{Address, Halted, Acts, Carried, Starts, Operand, Shown, Register, Immediate, ReturnAddress}
 use Rattle.tta_waves.specs.Signals.{signals_of, is_wide}
 
--- ---- what the buses carry
-
--- the instruction that a state comes to: none where the run has halted
-abbrev pub coming : List Instruction → State → Option Instruction
-coming words s = if is_halted s.outcome then None else slice_get words s.pc
-
--- its slots
-abbrev pub slots_of : Option Instruction → List (Option Move)
-slots_of coming = option_map_or (λ i. i.moves) coming []
+-- ---- what acts
 
 -- whether a slot has a move that acts
 abbrev pub acts : State → Option Move → Bool
 acts s slot = option_map_or (λ v. is_active (read_source s) (effect_of v)) slot false
-
--- the word that the move of a slot carries, if it acts
-abbrev pub carried : State → Option Move → Option ℕ
-carried s slot = option_and_then (λ v. moved (read_source s) (effect_of v)) slot
 
 -- whether a destination starts an operation of a unit
 abbrev pub is_start : (unit op : ℕ) → Dest → Bool

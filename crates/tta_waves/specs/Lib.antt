@@ -1,6 +1,5 @@
 pub mod Signals
 pub mod Levels
-pub mod Writes
 pub mod Dump
 pub mod Statement
 pub mod Steps

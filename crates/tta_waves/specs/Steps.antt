@@ -5,6 +5,7 @@ use Rattle.tta_code.specs.Cycle.{State, Outcome, Running, Halted, Waiting, Fault
 use Rattle.tta_sim.specs.declared.cycle_step.CycleStep.{CycleStep}
 use Rattle.tta_sim.specs.declared.cycle_step.CycleStep.TheVariants.{Ran, Halted as HadHalted, Waiting as Waits, Fault as Faults}
 use Rattle.tta_profile.specs.Counts.{is_made}
+use Rattle.tta_profile.specs.Feed.{went_on}
 use Rattle.tta_waves.specs.declared.level.Level.{Level}
 use Rattle.tta_waves.specs.Dump.{state_text}
 
@@ -25,13 +26,6 @@ outcome_of (Ran word took) cycle = Running
 outcome_of HadHalted cycle = Halted
 outcome_of Waits cycle = Waiting
 outcome_of (Faults number) cycle = Fault number cycle
-
--- whether a cycle was carried out, and if so whether it took a word of the input
-abbrev pub went_on : CycleStep → Option Bool
-went_on (Ran word took) = Some took
-went_on HadHalted = None
-went_on Waits = None
-went_on (Faults number) = None
 
 -- what became of the cycle of a state
 abbrev pub GoesBy : (step : State → State) → (Stands : State → Type 0) → State → Outcome → Option Bool → Type 0

@@ -1,33 +1,29 @@
 //! The states of a run, cycle by cycle.
 
-ghost use Rattle.std.specs.Prelude.{◌≡◌, ◌+◌, ◌<◌, ◌≤◌, ◌^◌, [], ◌++◌, map, slice_get};
-ghost use Rattle.std.specs.Prelude.{IfOk, IfSome, IsTrue, None, OnOk, if◌then◌else◌, is_some};
-ghost use Rattle.std.specs.List.{AllByRecursion};
-ghost use Rattle.std.specs.Option.{option_copied, option_map_or};
+ghost use Rattle.std.specs.Prelude.{◌≡◌, ◌+◌, ◌<◌, ◌≤◌, ◌^◌, ◌++◌, map};
+ghost use Rattle.std.specs.Prelude.{IfOk, None, OnOk, if◌then◌else◌, is_some};
+ghost use Rattle.std.specs.Option.{option_copied};
 ghost use Rattle.tta_ops.specs.Set.{stated};
-ghost use Rattle.tta_list.specs.Input.{IsFed, left};
-ghost use Rattle.tta_arch.specs.Effects.{Written};
+ghost use Rattle.tta_list.specs.Input.{IsFed};
 ghost use Rattle.tta_code.specs.Cycle.{State, next as next_state};
 ghost use Rattle.tta_sim.specs.Held.{Stands, IsRunOf};
 ghost use Rattle.tta_sim.specs.Places.{HasWritten};
-ghost use Rattle.tta_waves.specs.Told.{is_slot_written_to};
 ghost use Rattle.tta_waves.specs.Dump.{state_text, states_text};
-ghost use Rattle.tta_waves.specs.Levels.{carried, coming, levels_in, slots_of};
+ghost use Rattle.tta_places.specs.Carried.{carried, coming, slots_of};
+ghost use Rattle.tta_waves.specs.Levels.{levels_in};
 ghost use Rattle.tta_waves.specs.Signals.{signals_of};
-ghost use Rattle.tta_waves.specs.Steps.{Goes, IsTold, went_on};
-ghost use Rattle.tta_waves.specs.Writes.{cycle_writes, writes_in};
+ghost use Rattle.tta_profile.specs.Feed.{went_on};
+ghost use Rattle.tta_waves.specs.Steps.{Goes, IsTold};
 
 use crate::changes::{push_last, push_state};
 use crate::level::Level;
 use crate::levels::{Moment, push_levels};
-use crate::moment::{coming, push_carried, slots_of};
-use crate::row::Row;
 use crate::signal::Signal;
-use crate::writing::write_instruction;
 use std::alloc::{AllocError, Global};
 use tta_arch::Machine;
 use tta_code::Instruction;
-use tta_profile::Basis;
+use tta_places::{Row, coming, push_carried, slots_of, write_made};
+use tta_profile::{Basis, first_of, left_of, went_on};
 use tta_sim::{CycleStep, Sim};
 
 /// A dump that is written, and what it needs to know of its run beside the run itself: the signals that
@@ -40,36 +36,6 @@ pub struct Dump {
     pub row: Row,
     pub before: Vec<Level>,
     pub carried: Vec<Option<u32>>,
-}
-
-/// The next word of an input.
-fn first_of(rest: &[u32]) -> Option<u32>
-    ensures { result ≡ slice_get rest.now 0 }
-{
-    rest.first().copied()
-}
-
-/// What is left of an input, where its next word was taken or was not.
-fn left_of(rest: &[u32], took: bool) -> &[u32]
-    ensures { result.now ≡ left took rest.now }
-{
-    if took && !rest.is_empty() {
-        &rest[1..]
-    } else {
-        rest
-    }
-}
-
-/// Whether a cycle was carried out, and if so whether it took a word of the input.
-fn went_on(step: CycleStep) -> Option<bool>
-    ensures { result ≡ went_on step }
-{
-    match step {
-        CycleStep::Ran { took, .. } => Some(took),
-        CycleStep::Halted => None,
-        CycleStep::Waiting => None,
-        CycleStep::Fault(_) => None,
-    }
 }
 
 /// Notes the words that the moves of the next instruction carry, and gives the levels of all signals.
@@ -138,14 +104,6 @@ fn push_moment(
     Ok(())
 }
 
-/// The address to come back to after a call in the instruction of an address.
-fn back_of(m: &Machine, pc: u32) -> u32
-    requires { pc < 65536 }
-    ensures { result ≡ pc + 1 + m.now.control.delay }
-{
-    pc + 1 + u32::from(m.control.delay)
-}
-
 /// The instruction that a cycle carried out, none where it did not.
 fn made_of(coming: Option<&Instruction>, step: CycleStep) -> Option<&Instruction>
     ensures { option_copied result
@@ -157,28 +115,6 @@ fn made_of(coming: Option<&Instruction>, step: CycleStep) -> Option<&Instruction
         CycleStep::Waiting => None,
         CycleStep::Fault(_) => None,
     }
-}
-
-/// Writes what the instruction of an address writes, if one was carried out.
-fn write_made(
-    row: &mut Row,
-    m: &Machine,
-    pc: u32,
-    made: Option<&Instruction>,
-    words: &[Option<u32>],
-)
-    requires within { IfSome (option_copied made) (λ i. pc < 65536) }
-    requires slots { IfSome (option_copied made)
-        (λ i. AllByRecursion (λ slot. IsTrue (is_slot_written_to slot)) i.moves) }
-    ensures { (s : State) (ws : Written)
-        → words.now ≡ map (carried s) (slots_of (option_copied made.entry))
-        → HasWritten row.old ws → HasWritten row.new (option_map_or
-        (writes_in m.now (pc + 1 + m.now.control.delay) s) (option_copied made.entry) [] ++ ws) }
-{
-    let Some(i) = made else {
-        return;
-    };
-    write_instruction(row, m, back_of(m, pc), i, words);
 }
 
 /// Carries out a cycle, and writes what it writes.

@@ -6,16 +6,17 @@ ghost use Rattle.tta_code.specs.Cycle.{State};
 ghost use Rattle.tta_sim.specs.Held.{Stands};
 ghost use Rattle.tta_sim.specs.Moves.{is_possible_slot};
 ghost use Rattle.tta_sim.specs.Places.{HasWritten};
-ghost use Rattle.tta_waves.specs.Levels.{carried, level_in, word_in};
+ghost use Rattle.tta_places.specs.Carried.{carried};
+ghost use Rattle.tta_waves.specs.Levels.{level_in, word_in};
 ghost use Rattle.tta_waves.specs.Told.{is_told};
 
 use crate::level::Level;
 use crate::moment::{acts, is_started};
-use crate::row::Row;
 use crate::signal::{Signal, is_wide};
 use std::alloc::AllocError;
 use tta_arch::Machine;
 use tta_code::Move;
+use tta_places::{Row, word_of};
 use tta_sim::Sim;
 
 /// A state of a run: what it keeps, the slots of the instruction that comes, and the words that their
@@ -36,16 +37,6 @@ fn slot_of(slots: &[Option<Move>], bus: u8) -> Option<Move>
     match slots.get(usize::from(bus)) {
         None => None,
         Some(slot) => *slot,
-    }
-}
-
-/// The word of a bus.
-pub fn word_of(words: &[Option<u32>], bus: usize) -> Option<u32>
-    ensures { result ≡ slice_index_or words.now bus None }
-{
-    match words.get(bus) {
-        None => None,
-        Some(word) => *word,
     }
 }
 

@@ -8,11 +8,9 @@ mod declare;
 mod level;
 mod levels;
 mod moment;
-mod row;
 mod signal;
 mod signals;
 mod waving;
-mod writing;
 
 pub use level::Level;
 pub use signal::Signal;

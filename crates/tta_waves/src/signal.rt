@@ -1,10 +1,10 @@
 //! The signals that a dump tells.
 
 ghost use Rattle.std.specs.Prelude.{◌≡◌};
-ghost use Rattle.tta_arch.specs.Effects.{width_of};
 ghost use Rattle.tta_waves.specs.Signals.{bits_of, is_wide};
 
 use tta_arch::Machine;
+use tta_places::width_of;
 
 /// A signal of a machine.
 #[derive(Clone, Copy, Debug, PartialEq, Eq)]
@@ -33,16 +33,6 @@ pub enum Signal {
 
 /// How many bits a signal has that is not of one bit.
 const WORD_BITS: u8 = 32;
-
-/// How wide a register of a file is.
-pub fn width_of(m: &Machine, file: u8) -> u8
-    ensures { result ≡ width_of m.now file }
-{
-    match m.files.as_slice().get(usize::from(file)) {
-        None => WORD_BITS,
-        Some(f) => f.width,
-    }
-}
 
 /// How many bits a signal has.
 pub fn bits_of(m: &Machine, signal: Signal) -> u8

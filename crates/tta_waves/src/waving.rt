@@ -8,9 +8,9 @@ ghost use Rattle.tta_waves.specs.Statement.{limited, waves_of};
 
 use crate::cycling::{Dump, push_states};
 use crate::declare::push_header;
-use crate::row::Row;
 use crate::signals::signals_of;
 use std::alloc::{AllocError, Global};
+use tta_places::Row;
 use tta_profile::Basis;
 use tta_sim::Sim;
 

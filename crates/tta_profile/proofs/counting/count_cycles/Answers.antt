@@ -7,8 +7,10 @@ use Rattle.tta_ops.specs.Set.{stated}
 use Rattle.tta_code.specs.declared.code.Instruction.{Instruction}
 use Rattle.tta_code.specs.Cycle.{State, next}
 use Rattle.tta_sim.specs.Held.{Stands}
+use Rattle.tta_sim.specs.Places.{HasWritten}
 use Rattle.tta_profile.specs.Counts.{Counts, AreCounts}
-use Rattle.tta_profile.proofs.Tallies.{counts_begin, are_small, counts_on, counts_over}
+use Rattle.tta_profile.specs.Outside.{AreOutside}
+use Rattle.tta_profile.proofs.Tallies.{counts_begin, are_small, counts_on, counts_over, outside_begin, are_small_outside, outside_on, outside_over}
 use Rattle.tta_profile.proofs.counting.count_cycles.Given as given
 use Rattle.tta_profile.proofs.counting.count_cycles.Goals.{After-count_cycle}
 use Rattle.tta_profile.proofs.counting.count_cycles.Goals as goal
@@ -36,6 +38,10 @@ module _ (g : given.Over) (c : After-count_cycle g) where
   all_made : c.cycles.left + made ≡ c.args.bound
   all_made = let w = c.cycles.invariant.within in omega arith
 
+  -- what is kept of what was written before the cycle
+  kept : (t : State) → HasWritten c.cycles.followed.row t.written → HasWritten c.note_carried.new.followed.row t.written
+  kept t had = subst (λ r. HasWritten r t.written) (sym c.note_carried.ensures.row) had
+
   -- few cycles were made
   few_made : made < 2 ^ 62
   few_made = let b = c.cycles.invariant.bounded in omega arith
@@ -55,7 +61,14 @@ cycles-init g c =
       room = ap length c.requires.none_passed ∙ length-replicate (16 * length words) 0;
       stands = λ s stands given. subst (λ (n : ℕ). Stands c.args.sim.now (iterate n step s)) none stands;
       rest = λ s stands given. subst (λ (n : ℕ). (iterate n step s).rest ≡ c.args.input.now) none given;
+      room_data = ap length c.requires.none_data ∙ length-replicate (length words) 0;
+      room_frame = ap length c.requires.none_frame ∙ length-replicate (length words) 0;
       counts = λ s stands given. subst (λ (n : ℕ). AreCounts step words s n c.args.counts.now) none (counts_begin step words s c.args.counts.now c.requires.none c.requires.none_passed);
+      outside = λ s stands given had. (
+        subst (λ (n : ℕ). HasWritten c.args.followed.now.row (iterate n step s).written) none had,
+        subst (λ (n : ℕ). AreOutside step c.args.basis.now.m.now words s n c.args.counts.now) none
+            (outside_begin step c.args.basis.now.m.now words s c.args.counts.now c.requires.none_data c.requires.none_frame),
+      );
     }
 
 pub cycles-preserved : goal.cycles-preserved
@@ -83,6 +96,21 @@ cycles-preserved g c =
       counts = λ s stands given. subst (λ (n : ℕ). AreCounts (step g at) (words g at) s n c.count_cycle.new.counts) (one_more g at)
           (counts_on (step g at) (words g at) s (made g at) c.cycles.counts c.count_cycle.new.counts (c.cycles.invariant.counts s stands given) (goes s stands given).1
           c.count_cycle.ensures.size c.count_cycle.ensures.room);
+      room_data = c.count_cycle.ensures.room_data ∙ c.cycles.invariant.room_data;
+      room_frame = c.count_cycle.ensures.room_frame ∙ c.cycles.invariant.room_frame;
+      outside = λ s stands given had.
+          let m = c.args.basis.now.m.now in
+          let t = iterate (made g at) (step g at) s in
+          let was = c.cycles.invariant.outside s stands given had in
+          let now = c.cycles.invariant.stands s stands given in
+          let went = c.in-On.ensures.outside t now (fed g at s stands given) (kept g at t was.0) (c.in_ok-note_carried.ensures.carried t now was.0)
+          (are_small_outside (step g at) m (words g at) s (made g at) c.cycles.counts (few_made g at) was.1) in (
+            subst (λ (n : ℕ). HasWritten c.count_cycle.new.followed.row (iterate n (step g at) s).written) (one_more g at)
+                (subst (λ (n : ℕ). HasWritten c.count_cycle.new.followed.row (iterate n (step g at) s).written) (let e : suc (made g at) ≡ made g at + 1 = omega arith in e) went.0),
+            subst (λ (n : ℕ). AreOutside (step g at) m (words g at) s n c.count_cycle.new.counts) (one_more g at)
+                (outside_on (step g at) m (words g at) s (made g at) c.cycles.counts c.count_cycle.new.counts was.1 went.1 c.count_cycle.ensures.room_data
+                c.count_cycle.ensures.room_frame),
+          );
     }
 
 pub returns-in-Over : goal.returns-in-Over
@@ -96,6 +124,15 @@ returns-in-Over g c = record {
       subst (λ (x : Counts). AreCounts (step g at) (words g at) s c.args.bound x) (sym goes.1)
       (subst (λ (n : ℕ). AreCounts (step g at) (words g at) s n c.cycles.counts) (all_made g at)
       (counts_over (step g at) (words g at) s (made g at) c.cycles.left c.cycles.counts are goes.0));
+  outside = λ s stands given had.
+      let at = (goal.at.returns-in-Over g c).After-count_cycle in
+      let m = c.args.basis.now.m.now in
+      let was = c.cycles.invariant.outside s stands given had in
+      let goes = c.in-Over.ensures.goes (iterate (made g at) (step g at) s) (c.cycles.invariant.stands s stands given) (fed g at s stands given)
+      (are_small (step g at) (words g at) s (made g at) c.cycles.counts (few_made g at) (c.cycles.invariant.counts s stands given)) in
+      subst (λ (x : Counts). AreOutside (step g at) m (words g at) s c.args.bound x) (sym goes.1)
+      (subst (λ (n : ℕ). AreOutside (step g at) m (words g at) s n c.cycles.counts) (all_made g at)
+      (outside_over (step g at) m (words g at) s (made g at) c.cycles.left c.cycles.counts was.1 goes.0));
 }
 
 pub returns : goal.returns
@@ -107,4 +144,10 @@ returns g c = record {
       let test = c.cycles-test.false in
       let all : c.args.bound - c.cycles.left ≡ c.args.bound = omega arith in
       subst (λ (n : ℕ). AreCounts step words s n c.cycles.counts) all (c.cycles.invariant.counts s stands given);
+  outside = λ s stands given had.
+      let words = c.args.basis.now.code.now.words in
+      let step = next (stated (λ v. (goal.OpUnit-dyn g v).unit_meaning v.1) c.args.basis.now.units.now) c.args.basis.now.m.now c.args.basis.now.code.now in
+      let test = c.cycles-test.false in
+      let all : c.args.bound - c.cycles.left ≡ c.args.bound = omega arith in
+      subst (λ (n : ℕ). AreOutside step c.args.basis.now.m.now words s n c.cycles.counts) all (c.cycles.invariant.outside s stands given had).1;
 }

@@ -3,7 +3,9 @@ use Rattle.tta_list.specs.Iterate.{iterate}
 use Rattle.tta_ops.specs.Set.{stated}
 use Rattle.tta_code.specs.Cycle.{State, next}
 use Rattle.tta_sim.specs.Held.{Stands, IsRunOf}
+use Rattle.tta_sim.specs.Places.{HasWritten}
 use Rattle.tta_profile.specs.Counts.{AreCounts}
+use Rattle.tta_profile.specs.Outside.{AreOutside}
 use Rattle.tta_profile.proofs.counting.count_cycles.Given as goal
 
 abbrev pub decreases-cycles : goal.decreases-cycles
@@ -23,5 +25,9 @@ invariant-cycles g l =
       room : length l.counts.passed ≡ 16 * length words;
       stands : (s : State) → Stands l.initial.sim s → s.rest ≡ l.input → Stands l.sim (iterate made step s);
       rest : (s : State) → Stands l.initial.sim s → s.rest ≡ l.input → (iterate made step s).rest ≡ l.rest;
+      room_data : length l.counts.outside_data ≡ length words;
+      room_frame : length l.counts.outside_frame ≡ length words;
       counts : (s : State) → Stands l.initial.sim s → s.rest ≡ l.input → AreCounts step words s made l.counts;
+      outside : (s : State) → Stands l.initial.sim s → s.rest ≡ l.input → HasWritten l.initial.followed.row s.written
+          → HasWritten l.followed.row (iterate made step s).written × AreOutside step l.basis.m.now words s made l.counts;
     }

@@ -8,12 +8,12 @@ use Rattle.tta_code.specs.declared.code.Instruction.{Instruction}
 use Rattle.tta_code.specs.Cycle.{State}
 use Rattle.tta_sim.specs.Held.{is_halted}
 use Rattle.tta_sim.specs.Places.{HasWritten}
-use Rattle.tta_waves.specs.Levels.{carried, coming, slots_of}
-use Rattle.tta_waves.specs.Steps.{went_on}
-use Rattle.tta_waves.specs.Told.{is_slot_written_to}
-use Rattle.tta_waves.specs.Writes.{writes_in}
+use Rattle.tta_profile.specs.Feed.{went_on}
+use Rattle.tta_places.specs.Carried.{carried, coming, slots_of}
+use Rattle.tta_places.specs.Written.{is_slot_written_to}
+use Rattle.tta_places.specs.Writes.{writes_in}
 use Rattle.tta_waves.proofs.Going.{goes}
-use Rattle.tta_waves.proofs.Slots.{of_made, written_next}
+use Rattle.tta_places.proofs.Slots.{of_made, written_next}
 use Rattle.tta_waves.proofs.cycling.cycle_once.Goals as goal
 
 -- that the slots of an instruction can be written

@@ -5,9 +5,11 @@ use Rattle.tta_arch.specs.Machine.{Machine}
 use Rattle.tta_arch.specs.Rules.{IsMachine}
 use Rattle.tta_sim.specs.Held.{is_halted}
 use Rattle.tta_waves.specs.declared.signal.Signal.{Signal}
-use Rattle.tta_waves.specs.Levels.{carried, level_in, slots_of}
+use Rattle.tta_places.specs.Carried.{carried, slots_of}
+use Rattle.tta_waves.specs.Levels.{level_in}
 use Rattle.tta_waves.specs.Told.{is_told}
-use Rattle.tta_waves.proofs.Slots.{levels_are, possible_slots}
+use Rattle.tta_places.proofs.Slots.{possible_slots}
+use Rattle.tta_waves.proofs.Slots.{levels_are}
 use Rattle.tta_waves.proofs.Told.{all_told}
 use Rattle.tta_waves.proofs.cycling.levels_of.Goals as goal
 

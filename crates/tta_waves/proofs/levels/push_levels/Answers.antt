@@ -1,6 +1,6 @@
 use Rattle.std.proofs.Common.{◌≡◌, [], ◌∷◌, ◌++◌, ap, ◌∙◌}
 use Rattle.tta_waves.specs.Levels.{level_in}
-use Rattle.tta_waves.proofs.Lists.{one_on}
+use Rattle.tta_places.proofs.Lists.{one_on}
 use Rattle.tta_waves.proofs.levels.push_levels.Goals as goal
 
 pub loop-signal-preserved : goal.loop-signal-preserved

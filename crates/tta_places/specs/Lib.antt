@@ -1,0 +1,3 @@
+pub mod Carried
+pub mod Writes
+pub mod Written
