@@ -25,6 +25,9 @@ OWN = [
         "Each was built and run. --bound N runs at most N steps and cycles"),
     Own("from_c.compile_c", ["c FILE.c .. OUT"],
         "writes the text of a program in C to OUT; docs/C.md says what it takes, and its options"),
+    Own("source.front.prompt", ["prompt M P IN", "prompt M P IN STREAM"],
+        "opens a session, line by line, over the image of the program of P, by its source: with the lines of P, its variables, and cycles back. "
+        "At a terminal a session over an image has a sign, history and editing too; else it is the program's own"),
     Own("lint.lint", ["lint P", "lint M P"],
         "tells what is legal in the program of P and most likely wrong, a line each; with the machine of M also which addresses lie outside its data "
         "space. Of a program that is refused it tells all that is. It ends with 0 where it has nothing to say, and else with 1"),

@@ -3,7 +3,7 @@ use Rattle.std.specs.Prelude.{[], ◌∷◌, Option, Some, None, option_map, if�
 use Rattle.tta_reading.specs.Lines.{Lexeme, Line}
 use Rattle.tta_reading.specs.Words.{is_keyword, value_of}
 use Rattle.tta_prompt.specs.declared.own.Own.{Own}
-use Rattle.tta_prompt.specs.declared.own.Own.TheVariants.{Help, Regs, Code}
+use Rattle.tta_prompt.specs.declared.own.Own.TheVariants.{Help, Regs, Code, Slot}
 
 -- one word
 abbrev pub bare : Lexeme → Option Own
@@ -14,7 +14,10 @@ bare w =
 
 -- two words
 abbrev pub with_one : Lexeme → Lexeme → Option Own
-with_one w x = if is_keyword (codes "code") w then option_map Code (value_of x) else None
+with_one w x =
+    if is_keyword (codes "code") w then option_map Code (value_of x)
+    else if is_keyword (codes "slot") w then option_map Slot (value_of x)
+    else None
 
 -- what the words of a line ask, if it is none of what a script can
 abbrev pub own_by : Line → Option Own

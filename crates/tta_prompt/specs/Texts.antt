@@ -33,9 +33,10 @@ unfoldable pub own_help : List ℕ
 own_help =
     codes "regs: the registers that are set\n"
     ++ (codes "code A: the instruction at an address\n"
+    ++ (codes "slot N: a frame word\n"
     ++ (codes "help: this list\n"
     ++ (codes "quit: the end\n"
-    ++ codes "ok\n")))
+    ++ codes "ok\n"))))
 
 -- all commands
 abbrev pub help : List ℕ
@@ -65,6 +66,12 @@ file_lines s file f = register_lines f.name (register_word s file) 0 f.size
 abbrev pub files_lines : State → List File → List ℕ
 files_lines s files = flat_map (λ f. file_lines s f.0 f.1) (enumerate_from 0 files)
 
+-- ---- the frame
+
+-- the line of a word
+unfoldable pub word_line : ℕ → List ℕ
+word_line word = decimal word ++ codes "\n"
+
 -- ---- what is shown
 
 -- what is shown, if it is there
@@ -72,3 +79,4 @@ abbrev pub own_text : Units → Machine → Code → State → Own → Option (L
 own_text u m code s own.Help = Some help
 own_text u m code s own.Regs = Some (files_lines s m.files ++ codes "ok\n")
 own_text u m code s (own.Code address) = option_map (instruction_text u m) (slice_get code.words address)
+own_text u m code s (own.Slot n) = option_map word_line (slice_get s.frame n)

@@ -35,6 +35,7 @@ fn push_own_help(out: &mut Vec<u8>) -> Result<(), AllocError>
 {
     out.extend_from_slice(b"regs: the registers that are set\n")?;
     out.extend_from_slice(b"code A: the instruction at an address\n")?;
+    out.extend_from_slice(b"slot N: a frame word\n")?;
     out.extend_from_slice(b"help: this list\n")?;
     out.extend_from_slice(b"quit: the end\n")?;
     out.extend_from_slice(b"ok\n")

@@ -19,6 +19,8 @@ pub enum Own {
     Regs,
     /// The instruction at an address.
     Code(u32),
+    /// A word of the frame space.
+    Slot(u32),
 }
 
 /// What one word asks.
@@ -38,11 +40,15 @@ fn bare(w: Word<'_>) -> Option<Own>
 fn with_one(w: Word<'_>, x: Word<'_>) -> Option<Own>
     ensures { result ≡ spec.with_one (plain w.entry) (plain x.entry) }
 {
-    if !w.is_keyword(b"code") {
-        return None;
+    if w.is_keyword(b"code") {
+        let address = x.value()?;
+        Some(Own::Code(address))
+    } else if w.is_keyword(b"slot") {
+        let slot = x.value()?;
+        Some(Own::Slot(slot))
+    } else {
+        None
     }
-    let address = x.value()?;
-    Some(Own::Code(address))
 }
 
 /// What a line asks, where it is nothing that a script can ask.

@@ -13,7 +13,7 @@ use tta_asm::push_place;
 use tta_sim::Sim;
 
 /// Puts a number, in decimal.
-fn push_number(out: &mut Vec<u8>, n: u32) -> Result<(), AllocError>
+pub fn push_number(out: &mut Vec<u8>, n: u32) -> Result<(), AllocError>
     ensures { OnOk result (out.new.items ≡ out.old.items ++ decimal n) }
 {
     let mut buffer = Buffer::new();

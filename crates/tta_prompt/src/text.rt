@@ -6,11 +6,11 @@ ghost use Rattle.tta_ops.specs.Set.{stated};
 ghost use Rattle.tta_code.specs.Cycle.{State};
 ghost use Rattle.tta_asm.specs.Canonical.{instruction_text};
 ghost use Rattle.tta_sim.specs.Held.{Stands, IsRunOf};
-ghost use Rattle.tta_prompt.specs.Texts.{files_lines, help, own_text};
+ghost use Rattle.tta_prompt.specs.Texts.{files_lines, help, own_text, word_line};
 
 use crate::help::push_help;
 use crate::own::Own;
-use crate::registers::push_files;
+use crate::registers::{push_files, push_number};
 use std::alloc::{AllocError, Global};
 use tta_arch::Machine;
 use tta_asm::push_instruction;
@@ -77,6 +77,41 @@ fn code_text(alloc: Global, basis: &Basis<'_>, address: u32) -> Result<Option<Ve
     }
 }
 
+/// The line of a word.
+#[tactic(auto, unfolding(crate::specs::Texts::word_line))]
+fn word_text(alloc: Global, word: u32) -> Result<Vec<u8>, AllocError>
+    ensures { IfOk result (λ text. text.items ≡ word_line word) }
+{
+    let mut text = Vec::new(alloc);
+    push_number(&mut text, word)?;
+    text.extend_from_slice(b"\n")?;
+    Ok(text)
+}
+
+/// A word of the frame space, if there is one.
+fn frame_word(sim: &Sim, slot: u32) -> Option<u32>
+    ensures { (s : State) → Stands sim.now s → result ≡ slice_get s.frame slot }
+{
+    match sim.frame().get(slot as usize) {
+        Some(word) => Some(*word),
+        None => None,
+    }
+}
+
+/// The line of a frame word, if there is one.
+fn slot_text(alloc: Global, sim: &Sim, slot: u32) -> Result<Option<Vec<u8>>, AllocError>
+    ensures { (s : State) → Stands sim.now s → IfOk result (λ text.
+        option_map (λ v. v.items) text ≡ option_map word_line (slice_get s.frame slot)) }
+{
+    match frame_word(sim, slot) {
+        Some(word) => {
+            let text = word_text(alloc, word)?;
+            Ok(Some(text))
+        }
+        None => Ok(None),
+    }
+}
+
 /// What is shown of a run, if it is there. It fails only where there is no memory.
 pub fn text_of(
     alloc: Global,
@@ -98,5 +133,6 @@ pub fn text_of(
             Ok(Some(text))
         }
         Own::Code(address) => code_text(alloc, basis, address),
+        Own::Slot(slot) => slot_text(alloc, sim, slot),
     }
 }
