@@ -5,6 +5,7 @@ const takes={
 delay:w=>delay=+w[0],
 template:w=>templates[w[0]]=w[1],
 row:w=>code.set(+w[0],w.slice(1).join(' ')),
+code:(w,state)=>code.has(state.pc)||code.set(state.pc,w.join(' ')),
 state:w=>{
 states.push({cycle:w[0],pc:+w[1],files:[],units:[],input:'',out:out.slice(),memory:new Map(memory),changed});
 changed=new Set();

@@ -119,6 +119,7 @@ pub fn push_run_reading(out: &mut Vec<u8>) -> Result<(), AllocError>
         delay:w=>delay=+w[0],\n\
         template:w=>templates[w[0]]=w[1],\n\
         row:w=>code.set(+w[0],w.slice(1).join(' ')),\n\
+        code:(w,state)=>code.has(state.pc)||code.set(state.pc,w.join(' ')),\n\
         state:w=>{\n\
         states.push({cycle:w[0],pc:+w[1],files:[],units:[],input:'',out:out.slice(),memory:new Map(memory),changed});\n\
         changed=new Set();\n\
