@@ -9,7 +9,7 @@ ghost use Rattle.tta_play.specs.States.{out_text, state_text, states_text};
 ghost use Rattle.tta_play.specs.Steps.{Goes, step_text, went_on};
 ghost use Rattle.tta_sim.specs.declared.cycle_step.CycleStep.TheVariants.{Fault};
 
-use crate::memory::{push_stores, remember};
+use crate::memory::{push_changed, remember};
 use crate::state::push_state;
 use crate::words::push_number;
 use std::alloc::AllocError;
@@ -116,14 +116,14 @@ pub fn push_states(
     let mut left = bound;
     let mut rest = input;
     'cycles: while left > 0 {
-        push_state(out, basis, &*sim, first_of(rest))?;
-        let step = cycle_once(sim, basis, first_of(rest));
+        let next = first_of(rest);
+        push_state(out, basis, &*sim, next)?;
+        let step = cycle_once(sim, basis, next);
         push_step(out, step)?;
         let Some(took) = went_on(step) else {
             return Ok(());
         };
-        push_stores(out, memory.as_slice(), sim.memory())?;
-        remember(memory, sim.memory())?;
+        push_changed(out, memory, sim.memory())?;
         rest = left_of(rest, took);
         left -= 1;
     }

@@ -62,11 +62,25 @@ fn word_at(words: &[u32], address: usize) -> Option<u32>
 }
 
 /// Puts the data words that are others than before.
-pub fn push_stores(out: &mut Vec<u8>, before: &[u32], now: &[u32]) -> Result<(), AllocError>
+fn push_stores(out: &mut Vec<u8>, before: &[u32], now: &[u32]) -> Result<(), AllocError>
     ensures { OnOk result (out.new.items ≡ out.old.items ++ stores_text before.now now.now) }
 {
     for (address, word) in now.iter().enumerate() {
         push_store(out, word_at(before, address), address, *word)?;
     }
     Ok(())
+}
+
+/// Puts the data words that are others than those that were kept, and keeps them.
+pub fn push_changed(
+    out: &mut Vec<u8>,
+    memory: &mut Vec<u32>,
+    now: &[u32],
+) -> Result<(), AllocError>
+    ensures stores { OnOk result
+        (out.new.items ≡ out.old.items ++ stores_text memory.old.items now.now) }
+    ensures keeps { OnOk result (memory.new.items ≡ now.now) }
+{
+    push_stores(out, memory.as_slice(), now)?;
+    remember(memory, now)
 }
