@@ -67,11 +67,12 @@ const items=lists[0].items.map(text=>({text,now:text,was:[],gone:''}));
 let last=items.slice(),before=lists[0].items;
 for(const list of lists.slice(1)){
 const from=comesFrom(before,list.items,list.what),kept=new Set(from),old=last;
-last=list.items.map((text,k)=>{
-const item=from[k]<0?{text:'',now:'',was:[],gone:''}:old[from[k]];
-if(from[k]<0)items.push(item);
+last=[];
+list.items.forEach((text,k)=>{
+const item=from[k]<0?{text:'',now:'',was:[],gone:'',near:last[k-1]}:old[from[k]];
+if(from[k]<0)items.splice(items.indexOf(item.near)+1,0,item);
 if(item.now!=text){item.now=text;item.was.push([list.what,text]);}
-return item;
+last.push(item);
 });
 old.forEach((item,k)=>{if(!kept.has(k))item.gone=list.what;});
 before=list.items;
@@ -130,6 +131,7 @@ for(;from<=end;from++)shown[from].line=step.line;
 }
 for(;from<shown.length;from++)shown[from].line=block.code[block.code.length-1].line;
 block.items=items;
+items.forEach(item=>item.line=item.line||(item.near?item.near.line:block.code[0].line));
 placeAll(all,block,last);
 const open={};
 for(const item of last){

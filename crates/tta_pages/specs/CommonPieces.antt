@@ -49,7 +49,7 @@ follow_text =
 -- the script that follows the moves of a block from its first list to its last
 unfoldable pub passes_text : List ℕ
 passes_text =
-    codes "function followed(lists){\nconst items=lists[0].items.map(text=>({text,now:text,was:[],gone:''}));\nlet last=items.slice(),before=lists[0].items;\nfor(const list of lists.slice(1)){\nconst from=comesFrom(before,list.items,list.what),kept=new Set(from),old=last;\nlast=list.items.map((text,k)=>{\nconst item=from[k]<0?{text:'',now:'',was:[],gone:''}:old[from[k]];\nif(from[k]<0)items.push(item);\nif(item.now!=text){item.now=text;item.was.push([list.what,text]);}\nreturn item;\n});\nold.forEach((item,k)=>{if(!kept.has(k))item.gone=list.what;});\nbefore=list.items;\n}\nreturn {items,last};\n}\n"
+    codes "function followed(lists){\nconst items=lists[0].items.map(text=>({text,now:text,was:[],gone:''}));\nlet last=items.slice(),before=lists[0].items;\nfor(const list of lists.slice(1)){\nconst from=comesFrom(before,list.items,list.what),kept=new Set(from),old=last;\nlast=[];\nlist.items.forEach((text,k)=>{\nconst item=from[k]<0?{text:'',now:'',was:[],gone:'',near:last[k-1]}:old[from[k]];\nif(from[k]<0)items.splice(items.indexOf(item.near)+1,0,item);\nif(item.now!=text){item.now=text;item.was.push([list.what,text]);}\nlast.push(item);\n});\nold.forEach((item,k)=>{if(!kept.has(k))item.gone=list.what;});\nbefore=list.items;\n}\nreturn {items,last};\n}\n"
 
 -- the script that finds the cycle and the bus of each move that is left
 unfoldable pub places_text : List ℕ
@@ -69,4 +69,4 @@ moves_text =
 -- the script that joins all blocks, and the start of an operation with the reads of its result
 unfoldable pub all_joins_text : List ℕ
 all_joins_text =
-    codes "function joinAll(all){\nlet results=0;\nfor(const block of all.code){\nlineJoins(all,block);\nconst {items,last}=followed(block.lists.length?block.lists:[{what:'selected',items:[]}]),shown=items.filter(item=>item.text);\nlet from=0;\nfor(const step of block.code.slice(0,-1)){\nconst end=shown.findIndex((item,k)=>k>=from&&lastMoveOf(step.text)(item.text));\nfor(;from<=end;from++)shown[from].line=step.line;\n}\nfor(;from<shown.length;from++)shown[from].line=block.code[block.code.length-1].line;\nblock.items=items;\nplaceAll(all,block,last);\nconst open={};\nfor(const item of last){\nconst read=/(^| )([^ ]+)[.]r ->/.exec(item.now),start=/-> ([^ ]+)[.]t[.]/.exec(item.now);\nif(read&&open[read[2]])item.result=open[read[2]];\nif(start){item.starts=++results;open[start[1]]=results;}\n}\n}\nreturn all;\n}\n"
+    codes "function joinAll(all){\nlet results=0;\nfor(const block of all.code){\nlineJoins(all,block);\nconst {items,last}=followed(block.lists.length?block.lists:[{what:'selected',items:[]}]),shown=items.filter(item=>item.text);\nlet from=0;\nfor(const step of block.code.slice(0,-1)){\nconst end=shown.findIndex((item,k)=>k>=from&&lastMoveOf(step.text)(item.text));\nfor(;from<=end;from++)shown[from].line=step.line;\n}\nfor(;from<shown.length;from++)shown[from].line=block.code[block.code.length-1].line;\nblock.items=items;\nitems.forEach(item=>item.line=item.line||(item.near?item.near.line:block.code[0].line));\nplaceAll(all,block,last);\nconst open={};\nfor(const item of last){\nconst read=/(^| )([^ ]+)[.]r ->/.exec(item.now),start=/-> ([^ ]+)[.]t[.]/.exec(item.now);\nif(read&&open[read[2]])item.result=open[read[2]];\nif(start){item.starts=++results;open[start[1]]=results;}\n}\n}\nreturn all;\n}\n"

@@ -9,7 +9,7 @@ run_head_text =
 -- where the parts of such a page are
 unfoldable pub run_style_text : List ℕ
 run_style_text =
-    codes "body{height:100vh;display:flex;flex-direction:column}\nmain{flex:1;min-height:0;display:grid;grid-template-columns:minmax(0,3fr) minmax(0,2fr);grid-template-rows:minmax(0,3fr) minmax(0,2fr)}\nsection{overflow:auto;padding:.3rem .8rem;border:1px solid #c3ccd6}\n#code_part,#source_part{display:flex;flex-direction:column;overflow:hidden}#code,#program{overflow:auto;flex:1}#variables{overflow:auto;max-height:40%}\n.image #source_part{display:none}.image #code_part{grid-column:1/3}\n#slider{width:16rem}#to{width:5rem}#where{font-weight:700}\nth{position:sticky;top:0;background:#fff}\n"
+    codes "body{height:100vh;display:flex;flex-direction:column}\nmain{flex:1;min-height:0;display:grid;grid-template-columns:minmax(0,3fr) minmax(0,2fr);grid-template-rows:minmax(0,3fr) minmax(0,2fr)}\nsection{overflow:auto;padding:.3rem .8rem;border:1px solid #c3ccd6}\n#code_part,#source_part{display:flex;flex-direction:column;overflow:hidden}#code,#program{overflow:auto;flex:1}#variables{overflow:auto;max-height:40%}\n.image #source_part{display:none}.image #code_part{grid-column:1/3}\n#output{min-height:1.4rem}#slider{width:16rem}#to{width:5rem}#where{font-weight:700}\nth{position:sticky;top:0;background:#fff}\n"
 
 -- the style of the current instruction and of words
 unfoldable pub run_looks_text : List ℕ
@@ -24,7 +24,7 @@ run_body_text =
 -- the parts of the page, up to where the text of stages begins
 unfoldable pub run_sections_text : List ℕ
 run_sections_text =
-    codes "<main>\n<section id='code_part'><h2>code</h2><div id='code'></div></section>\n<section id='source_part'><h2>variables</h2><div id='variables'></div><h2>program</h2><div id='program'></div></section>\n<section><h2>units</h2><div id='flight'></div><h2>memory</h2><div id='memory'></div></section>\n<section><h2>registers</h2><div id='registers'></div><h2>output</h2><div id='output'></div></section>\n</main>\n<footer><kbd>Right</kbd> <kbd>Left</kbd> a cycle, <kbd>Home</kbd> <kbd>End</kbd>, <kbd>p</kbd> play, <kbd>f</kbd> form of words,\n<kbd>s</kbd> speed, <kbd>g</kbd> go to a cycle, <kbd>+</kbd> <kbd>-</kbd> size</footer>\n<script type='text/plain' id='source'>\n"
+    codes "<main>\n<section id='code_part'><h2>code</h2><div id='code'></div></section>\n<section id='source_part'><h2>variables</h2><div id='variables'></div><h2>program</h2><div id='program'></div></section>\n<section><h2>units</h2><div id='flight'></div><h2>memory</h2><div id='memory'></div></section>\n<section><h2>output</h2><div id='output'></div><h2>registers</h2><div id='registers'></div></section>\n</main>\n<footer><kbd>Right</kbd> <kbd>Left</kbd> a cycle, <kbd>Home</kbd> <kbd>End</kbd>, <kbd>p</kbd> play, <kbd>f</kbd> form of words,\n<kbd>s</kbd> speed, <kbd>g</kbd> go to a cycle, <kbd>+</kbd> <kbd>-</kbd> size</footer>\n<script type='text/plain' id='source'>\n"
 
 -- the end of the text of stages, and where the data begin
 unfoldable pub run_middle_text : List ℕ

@@ -208,11 +208,12 @@ pub fn push_passes(out: &mut Vec<u8>) -> Result<(), AllocError>
         let last=items.slice(),before=lists[0].items;\n\
         for(const list of lists.slice(1)){\n\
         const from=comesFrom(before,list.items,list.what),kept=new Set(from),old=last;\n\
-        last=list.items.map((text,k)=>{\n\
-        const item=from[k]<0?{text:'',now:'',was:[],gone:''}:old[from[k]];\n\
-        if(from[k]<0)items.push(item);\n\
+        last=[];\n\
+        list.items.forEach((text,k)=>{\n\
+        const item=from[k]<0?{text:'',now:'',was:[],gone:'',near:last[k-1]}:old[from[k]];\n\
+        if(from[k]<0)items.splice(items.indexOf(item.near)+1,0,item);\n\
         if(item.now!=text){item.now=text;item.was.push([list.what,text]);}\n\
-        return item;\n\
+        last.push(item);\n\
         });\n\
         old.forEach((item,k)=>{if(!kept.has(k))item.gone=list.what;});\n\
         before=list.items;\n\
@@ -307,6 +308,7 @@ pub fn push_all_joins(out: &mut Vec<u8>) -> Result<(), AllocError>
         }\n\
         for(;from<shown.length;from++)shown[from].line=block.code[block.code.length-1].line;\n\
         block.items=items;\n\
+        items.forEach(item=>item.line=item.line||(item.near?item.near.line:block.code[0].line));\n\
         placeAll(all,block,last);\n\
         const open={};\n\
         for(const item of last){\n\

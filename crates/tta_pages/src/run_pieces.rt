@@ -36,7 +36,7 @@ pub fn push_run_style(out: &mut Vec<u8>) -> Result<(), AllocError>
         section{overflow:auto;padding:.3rem .8rem;border:1px solid #c3ccd6}\n\
         #code_part,#source_part{display:flex;flex-direction:column;overflow:hidden}#code,#program{overflow:auto;flex:1}#variables{overflow:auto;max-height:40%}\n\
         .image #source_part{display:none}.image #code_part{grid-column:1/3}\n\
-        #slider{width:16rem}#to{width:5rem}#where{font-weight:700}\n\
+        #output{min-height:1.4rem}#slider{width:16rem}#to{width:5rem}#where{font-weight:700}\n\
         th{position:sticky;top:0;background:#fff}\n\
         ",
     )
@@ -86,7 +86,7 @@ pub fn push_run_sections(out: &mut Vec<u8>) -> Result<(), AllocError>
         <section id='code_part'><h2>code</h2><div id='code'></div></section>\n\
         <section id='source_part'><h2>variables</h2><div id='variables'></div><h2>program</h2><div id='program'></div></section>\n\
         <section><h2>units</h2><div id='flight'></div><h2>memory</h2><div id='memory'></div></section>\n\
-        <section><h2>registers</h2><div id='registers'></div><h2>output</h2><div id='output'></div></section>\n\
+        <section><h2>output</h2><div id='output'></div><h2>registers</h2><div id='registers'></div></section>\n\
         </main>\n\
         <footer><kbd>Right</kbd> <kbd>Left</kbd> a cycle, <kbd>Home</kbd> <kbd>End</kbd>, <kbd>p</kbd> play, <kbd>f</kbd> form of words,\n\
         <kbd>s</kbd> speed, <kbd>g</kbd> go to a cycle, <kbd>+</kbd> <kbd>-</kbd> size</footer>\n\
