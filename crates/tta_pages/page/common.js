@@ -30,19 +30,20 @@ all.variables.push({proc:w[2],name,home,first:at[0],last:at[1],span:span.join(' 
 }),
 //# code_readers : the script that reads register code, lists of moves, and the code, and then the whole text
 code:(all,w,lines)=>{
-const block=originOf(w);
-all.code.push({...block,address:+block.rest[1],cycles:+block.rest[3],steps:lines.slice(0,-2),exit:lines[lines.length-2],
-live:listed(lines[lines.length-1]),lists:[],rows:[]});
+const origin=originOf(w),block={...origin,address:+origin.rest[1],cycles:+origin.rest[3],steps:lines.slice(0,-2),exit:lines[lines.length-2],
+live:listed(lines[lines.length-1]),lists:[],rows:[]};
+all.code.push(block);
+all.named.set(block.name,block);
 },
 list:(all,w,lines)=>{
 const list=originOf(w),items=lines.filter(line=>!line.startsWith('live after'));
-all.code.find(b=>b.name==list.name).lists.push({what:list.rest.slice(0,-2).join(' '),items});
+all.named.get(list.name).lists.push({what:list.rest.slice(0,-2).join(' '),items});
 },
 placed:(all,w,lines)=>{
-all.code.find(b=>b.name==w[1]).rows=lines.map(line=>/^([0-9]+) : (.*) ;$/.exec(line)).map(m=>({address:+m[1],text:m[2]}));
+all.named.get(w[1]).rows=lines.map(line=>/^([0-9]+) : (.*) ;$/.exec(line)).map(m=>({address:+m[1],text:m[2]}));
 }};
 function stagesOf(text){
-const all={pair:'',blocks:[],variables:[],code:[]};
+const all={pair:'',blocks:[],variables:[],code:[],named:new Map()};
 for(const part of partsOf(text))if(readers[part.words[0]])readers[part.words[0]](all,part.words,part.lines);else all.pair=part.words[1];
 all.code.forEach((block,k)=>block.tint='tint'+k%6);
 return all;
@@ -86,7 +87,7 @@ return long?[...slots,{address:row.address,bus:-1,text:'['+long}]:slots;
 }
 function placeAll(all,block,last){
 block.slots=block.rows.flatMap(slotsOf).filter(slot=>slot.text!='...');
-const numbered=text=>text.replace(/(^| )(b[0-9]+) ->/,(m,blank,name)=>blank+all.code.find(b=>b.name==name).address+' ->');
+const numbered=text=>text.replace(/(^| )(b[0-9]+) ->/,(m,blank,name)=>blank+all.named.get(name).address+' ->');
 for(const item of last){
 const text=numbered(item.now),long=text.startsWith('long ');
 const slot=block.slots.find(s=>!s.item&&(long?s.bus<0:s.text==text));

@@ -12,8 +12,7 @@ changed=new Set();
 },
 registers:(w,state)=>state.files.push(w),
 results:(w,state)=>state.units.push(w),
-input:(w,state)=>state.input=w[0],
-out:w=>out.push(w[0]),
+input:(w,state)=>state.input=w[0],out:w=>out.push(w[0]),
 store:w=>{memory.set(+w[0],w[1]);changed.add(+w[0]);}
 };
 for(const line of find('data').textContent.split(newline)){

@@ -39,7 +39,7 @@ stages_text =
 -- the script that reads register code, lists of moves, and the code, and then the whole text
 unfoldable pub code_readers_text : List ℕ
 code_readers_text =
-    codes "code:(all,w,lines)=>{\nconst block=originOf(w);\nall.code.push({...block,address:+block.rest[1],cycles:+block.rest[3],steps:lines.slice(0,-2),exit:lines[lines.length-2],\nlive:listed(lines[lines.length-1]),lists:[],rows:[]});\n},\nlist:(all,w,lines)=>{\nconst list=originOf(w),items=lines.filter(line=>!line.startsWith('live after'));\nall.code.find(b=>b.name==list.name).lists.push({what:list.rest.slice(0,-2).join(' '),items});\n},\nplaced:(all,w,lines)=>{\nall.code.find(b=>b.name==w[1]).rows=lines.map(line=>/^([0-9]+) : (.*) ;$/.exec(line)).map(m=>({address:+m[1],text:m[2]}));\n}};\nfunction stagesOf(text){\nconst all={pair:'',blocks:[],variables:[],code:[]};\nfor(const part of partsOf(text))if(readers[part.words[0]])readers[part.words[0]](all,part.words,part.lines);else all.pair=part.words[1];\nall.code.forEach((block,k)=>block.tint='tint'+k%6);\nreturn all;\n}\n"
+    codes "code:(all,w,lines)=>{\nconst origin=originOf(w),block={...origin,address:+origin.rest[1],cycles:+origin.rest[3],steps:lines.slice(0,-2),exit:lines[lines.length-2],\nlive:listed(lines[lines.length-1]),lists:[],rows:[]};\nall.code.push(block);\nall.named.set(block.name,block);\n},\nlist:(all,w,lines)=>{\nconst list=originOf(w),items=lines.filter(line=>!line.startsWith('live after'));\nall.named.get(list.name).lists.push({what:list.rest.slice(0,-2).join(' '),items});\n},\nplaced:(all,w,lines)=>{\nall.named.get(w[1]).rows=lines.map(line=>/^([0-9]+) : (.*) ;$/.exec(line)).map(m=>({address:+m[1],text:m[2]}));\n}};\nfunction stagesOf(text){\nconst all={pair:'',blocks:[],variables:[],code:[],named:new Map()};\nfor(const part of partsOf(text))if(readers[part.words[0]])readers[part.words[0]](all,part.words,part.lines);else all.pair=part.words[1];\nall.code.forEach((block,k)=>block.tint='tint'+k%6);\nreturn all;\n}\n"
 
 -- the script that follows moves through the passes: which are changed, and which are left out and by what
 unfoldable pub follow_text : List ℕ
@@ -54,7 +54,7 @@ passes_text =
 -- the script that finds the cycle and the bus of each move that is left
 unfoldable pub places_text : List ℕ
 places_text =
-    codes "function slotsOf(row){\nconst [moves,long]=row.text.split(' ['),slots=moves.split(' , ').map((text,bus)=>({address:row.address,bus,text}));\nreturn long?[...slots,{address:row.address,bus:-1,text:'['+long}]:slots;\n}\nfunction placeAll(all,block,last){\nblock.slots=block.rows.flatMap(slotsOf).filter(slot=>slot.text!='...');\nconst numbered=text=>text.replace(/(^| )(b[0-9]+) ->/,(m,blank,name)=>blank+all.code.find(b=>b.name==name).address+' ->');\nfor(const item of last){\nconst text=numbered(item.now),long=text.startsWith('long ');\nconst slot=block.slots.find(s=>!s.item&&(long?s.bus<0:s.text==text));\nif(slot){slot.item=item;item.slot=slot;}\n}\n}\n"
+    codes "function slotsOf(row){\nconst [moves,long]=row.text.split(' ['),slots=moves.split(' , ').map((text,bus)=>({address:row.address,bus,text}));\nreturn long?[...slots,{address:row.address,bus:-1,text:'['+long}]:slots;\n}\nfunction placeAll(all,block,last){\nblock.slots=block.rows.flatMap(slotsOf).filter(slot=>slot.text!='...');\nconst numbered=text=>text.replace(/(^| )(b[0-9]+) ->/,(m,blank,name)=>blank+all.named.get(name).address+' ->');\nfor(const item of last){\nconst text=numbered(item.now),long=text.startsWith('long ');\nconst slot=block.slots.find(s=>!s.item&&(long?s.bus<0:s.text==text));\nif(slot){slot.item=item;item.slot=slot;}\n}\n}\n"
 
 -- the script that joins lines of the program, steps of register code and moves
 unfoldable pub joins_text : List ℕ

@@ -34,7 +34,7 @@ run_middle_text =
 -- the script that reads the data: names, instructions and states
 unfoldable pub run_reading_text : List ℕ
 run_reading_text =
-    codes "const names={bus:[],file:[],unit:[]},templates={},states=[],code=new Map(),out=[],memory=new Map();\nlet end='more cycles may follow',delay=0,changed=new Set();\nconst takes={\ndelay:w=>delay=+w[0],\ntemplate:w=>templates[w[0]]=w[1],\nrow:w=>code.set(+w[0],w.slice(1).join(' ')),\ncode:(w,state)=>code.has(state.pc)||code.set(state.pc,w.join(' ')),\nstate:w=>{\nstates.push({cycle:w[0],pc:+w[1],files:[],units:[],input:'',out:out.slice(),memory:new Map(memory),changed});\nchanged=new Set();\n},\nregisters:(w,state)=>state.files.push(w),\nresults:(w,state)=>state.units.push(w),\ninput:(w,state)=>state.input=w[0],\nout:w=>out.push(w[0]),\nstore:w=>{memory.set(+w[0],w[1]);changed.add(+w[0]);}\n};\nfor(const line of find('data').textContent.split(newline)){\nconst [kind,...words]=line.split(' ');\nif(names[kind])names[kind].push(words[0]);\nelse if(takes[kind])takes[kind](words,states[states.length-1]);\nelse if(line)end=line;\n}\nconst joined=joinAll(stagesOf(find('source').textContent));\n"
+    codes "const names={bus:[],file:[],unit:[]},templates={},states=[],code=new Map(),out=[],memory=new Map();\nlet end='more cycles may follow',delay=0,changed=new Set();\nconst takes={\ndelay:w=>delay=+w[0],\ntemplate:w=>templates[w[0]]=w[1],\nrow:w=>code.set(+w[0],w.slice(1).join(' ')),\ncode:(w,state)=>code.has(state.pc)||code.set(state.pc,w.join(' ')),\nstate:w=>{\nstates.push({cycle:w[0],pc:+w[1],files:[],units:[],input:'',out:out.slice(),memory:new Map(memory),changed});\nchanged=new Set();\n},\nregisters:(w,state)=>state.files.push(w),\nresults:(w,state)=>state.units.push(w),\ninput:(w,state)=>state.input=w[0],out:w=>out.push(w[0]),\nstore:w=>{memory.set(+w[0],w[1]);changed.add(+w[0]);}\n};\nfor(const line of find('data').textContent.split(newline)){\nconst [kind,...words]=line.split(' ');\nif(names[kind])names[kind].push(words[0]);\nelse if(takes[kind])takes[kind](words,states[states.length-1]);\nelse if(line)end=line;\n}\nconst joined=joinAll(stagesOf(find('source').textContent));\n"
 
 -- the script that works out which moves of a state act, and the words that they carry
 unfoldable pub run_moves_text : List ℕ

@@ -153,19 +153,20 @@ pub fn push_code_readers(out: &mut Vec<u8>) -> Result<(), AllocError>
 {
     out.extend_from_slice(
         b"code:(all,w,lines)=>{\n\
-        const block=originOf(w);\n\
-        all.code.push({...block,address:+block.rest[1],cycles:+block.rest[3],steps:lines.slice(0,-2),exit:lines[lines.length-2],\n\
-        live:listed(lines[lines.length-1]),lists:[],rows:[]});\n\
+        const origin=originOf(w),block={...origin,address:+origin.rest[1],cycles:+origin.rest[3],steps:lines.slice(0,-2),exit:lines[lines.length-2],\n\
+        live:listed(lines[lines.length-1]),lists:[],rows:[]};\n\
+        all.code.push(block);\n\
+        all.named.set(block.name,block);\n\
         },\n\
         list:(all,w,lines)=>{\n\
         const list=originOf(w),items=lines.filter(line=>!line.startsWith('live after'));\n\
-        all.code.find(b=>b.name==list.name).lists.push({what:list.rest.slice(0,-2).join(' '),items});\n\
+        all.named.get(list.name).lists.push({what:list.rest.slice(0,-2).join(' '),items});\n\
         },\n\
         placed:(all,w,lines)=>{\n\
-        all.code.find(b=>b.name==w[1]).rows=lines.map(line=>/^([0-9]+) : (.*) ;$/.exec(line)).map(m=>({address:+m[1],text:m[2]}));\n\
+        all.named.get(w[1]).rows=lines.map(line=>/^([0-9]+) : (.*) ;$/.exec(line)).map(m=>({address:+m[1],text:m[2]}));\n\
         }};\n\
         function stagesOf(text){\n\
-        const all={pair:'',blocks:[],variables:[],code:[]};\n\
+        const all={pair:'',blocks:[],variables:[],code:[],named:new Map()};\n\
         for(const part of partsOf(text))if(readers[part.words[0]])readers[part.words[0]](all,part.words,part.lines);else all.pair=part.words[1];\n\
         all.code.forEach((block,k)=>block.tint='tint'+k%6);\n\
         return all;\n\
@@ -236,7 +237,7 @@ pub fn push_places(out: &mut Vec<u8>) -> Result<(), AllocError>
         }\n\
         function placeAll(all,block,last){\n\
         block.slots=block.rows.flatMap(slotsOf).filter(slot=>slot.text!='...');\n\
-        const numbered=text=>text.replace(/(^| )(b[0-9]+) ->/,(m,blank,name)=>blank+all.code.find(b=>b.name==name).address+' ->');\n\
+        const numbered=text=>text.replace(/(^| )(b[0-9]+) ->/,(m,blank,name)=>blank+all.named.get(name).address+' ->');\n\
         for(const item of last){\n\
         const text=numbered(item.now),long=text.startsWith('long ');\n\
         const slot=block.slots.find(s=>!s.item&&(long?s.bus<0:s.text==text));\n\

@@ -126,8 +126,7 @@ pub fn push_run_reading(out: &mut Vec<u8>) -> Result<(), AllocError>
         },\n\
         registers:(w,state)=>state.files.push(w),\n\
         results:(w,state)=>state.units.push(w),\n\
-        input:(w,state)=>state.input=w[0],\n\
-        out:w=>out.push(w[0]),\n\
+        input:(w,state)=>state.input=w[0],out:w=>out.push(w[0]),\n\
         store:w=>{memory.set(+w[0],w[1]);changed.add(+w[0]);}\n\
         };\n\
         for(const line of find('data').textContent.split(newline)){\n\
