@@ -1,4 +1,4 @@
-//# parts : the script that finds elements, and takes the text of stages apart into headings with their lines
+//# parts : the script that finds elements, and takes the text of stages apart into headings with their lines, and the lines of C beside these
 const newline=String.fromCharCode(10);
 const find=id=>document.getElementById(id);
 function make(kind,look,...inner){
@@ -9,9 +9,10 @@ return element;
 }
 function partsOf(text){
 const parts=[];
-for(const line of text.split(newline)){
-if(line[0]==' ')parts[parts.length-1].lines.push(line.slice(1));
-else if(line)parts.push({words:line.split(' '),lines:[]});
+for(const told of text.split(newline)){
+const [line,place]=told.split(/ {2}; /),part=parts[parts.length-1];
+if(line[0]==' ')part.places[part.lines.push(line.slice(1))-1]=place||'';
+else if(line)parts.push({words:line.split(' '),lines:[],places:[]});
 }
 return parts;
 }
@@ -22,8 +23,8 @@ return {name:words[1],kind,proc:own[2],first:+own[4]||0,last:+own[5]||+own[4]||0
 }
 //# stages : the script that reads the parts: basic blocks, variables, register code, lists of moves, and the code
 const readers={
-block:(all,w,lines)=>all.blocks.push({proc:w[3],first:+w[8],last:+w[9],before:listed(lines[0]),after:listed(lines[lines.length-1]),
-steps:lines.slice(1,-1).map(line=>/^line ([0-9]+) : (.*)$/.exec(line)).map(m=>({line:+m[1],text:m[2]}))}),
+block:(all,w,lines,places)=>all.blocks.push({proc:w[3],first:+w[8],last:+w[9],before:listed(lines[0]),after:listed(lines[lines.length-1]),
+steps:lines.slice(1,-1).map(line=>/^line ([0-9]+) : (.*)$/.exec(line)).map((m,k)=>({line:+m[1],text:m[2],place:places[k+1]}))}),
 variables:(all,w,lines)=>lines.forEach(line=>{
 const [name,home,...span]=line.split(' '),at=[...line.matchAll(/entry|line ([0-9]+)/g)].map(m=>+m[1]||0);
 all.variables.push({proc:w[2],name,home,first:at[0],last:at[1],span:span.join(' ')});
@@ -44,7 +45,7 @@ all.named.get(w[1]).rows=lines.map(line=>/^([0-9]+) : (.*) ;$/.exec(line)).map(m
 }};
 function stagesOf(text){
 const all={pair:'',blocks:[],variables:[],code:[],named:new Map()};
-for(const part of partsOf(text))if(readers[part.words[0]])readers[part.words[0]](all,part.words,part.lines);else all.pair=part.words[1];
+for(const part of partsOf(text))if(readers[part.words[0]])readers[part.words[0]](all,part.words,part.lines,part.places);else all.pair=part.words[1];
 all.code.forEach((block,k)=>block.tint='tint'+k%6);
 return all;
 }

@@ -114,7 +114,7 @@ part.scrollTop+=box.top+box.height/2-within.top-within.height/2;
 const lineRows=new Map();
 for(const block of joined.blocks)for(const step of block.steps){
 const of=joined.code.find(b=>b.proc==block.proc&&b.kind=='steps'&&b.first<=step.line&&step.line<=b.last);
-lineRows.set(block.proc+':'+step.line,make('tr',of?of.tint:'',make('td','dim',of?of.name:''),make('td','dim',''+step.line),make('td','',step.text)));
+lineRows.set(block.proc+':'+step.line,make('tr',of?of.tint:'',make('td','dim',of?of.name:''),make('td','dim',''+step.line),make('td','',step.text),make('td','dim',step.place)));
 }
 find('program').append(make('table','',...lineRows.values()));
 document.body.classList.toggle('image',!bySource);

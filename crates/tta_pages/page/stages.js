@@ -7,7 +7,7 @@ element.onclick=()=>mark(line,item);
 return element;
 }
 const rows=list=>make('table','',...list.map(cells=>make('tr','',...cells)));
-const lineRow=(block,step)=>[make('td','dim',''+step.line),pick(make('td','',step.text),block.proc+':'+step.line)];
+const lineRow=(block,step)=>[make('td','dim',''+step.line),pick(make('td','',step.text),block.proc+':'+step.line),make('td','dim',step.place)];
 //# cells : the script that shows a move with what the passes made of it, and the moves of a cycle
 const why={'after bypass':'bypassed','after share':'shared: the port has it','after dead':'dropped: nothing reads it'};
 function fate(item){

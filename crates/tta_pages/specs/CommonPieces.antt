@@ -26,20 +26,20 @@ unfoldable pub end_text : List ℕ
 end_text =
     codes "</script>\n</body>\n</html>\n"
 
--- the script that finds elements, and takes the text of stages apart into headings with their lines
+-- the script that finds elements, and takes the text of stages apart into headings with their lines, and the lines of C beside these
 unfoldable pub parts_text : List ℕ
 parts_text =
-    codes "const newline=String.fromCharCode(10);\nconst find=id=>document.getElementById(id);\nfunction make(kind,look,...inner){\nconst element=document.createElement(kind);\nelement.className=look;\nelement.append(...inner);\nreturn element;\n}\nfunction partsOf(text){\nconst parts=[];\nfor(const line of text.split(newline)){\nif(line[0]==' ')parts[parts.length-1].lines.push(line.slice(1));\nelse if(line)parts.push({words:line.split(' '),lines:[]});\n}\nreturn parts;\n}\nconst listed=line=>line.split(':')[1].trim().split(' ').filter(word=>word);\nfunction originOf(words){\nconst kind=words[2],size={steps:6,entry:3,return:5}[kind],own=words.slice(2,2+size);\nreturn {name:words[1],kind,proc:own[2],first:+own[4]||0,last:+own[5]||+own[4]||0,origin:own.join(' '),rest:words.slice(2+size)};\n}\n"
+    codes "const newline=String.fromCharCode(10);\nconst find=id=>document.getElementById(id);\nfunction make(kind,look,...inner){\nconst element=document.createElement(kind);\nelement.className=look;\nelement.append(...inner);\nreturn element;\n}\nfunction partsOf(text){\nconst parts=[];\nfor(const told of text.split(newline)){\nconst [line,place]=told.split(/ {2}; /),part=parts[parts.length-1];\nif(line[0]==' ')part.places[part.lines.push(line.slice(1))-1]=place||'';\nelse if(line)parts.push({words:line.split(' '),lines:[],places:[]});\n}\nreturn parts;\n}\nconst listed=line=>line.split(':')[1].trim().split(' ').filter(word=>word);\nfunction originOf(words){\nconst kind=words[2],size={steps:6,entry:3,return:5}[kind],own=words.slice(2,2+size);\nreturn {name:words[1],kind,proc:own[2],first:+own[4]||0,last:+own[5]||+own[4]||0,origin:own.join(' '),rest:words.slice(2+size)};\n}\n"
 
 -- the script that reads the parts: basic blocks, variables, register code, lists of moves, and the code
 unfoldable pub stages_text : List ℕ
 stages_text =
-    codes "const readers={\nblock:(all,w,lines)=>all.blocks.push({proc:w[3],first:+w[8],last:+w[9],before:listed(lines[0]),after:listed(lines[lines.length-1]),\nsteps:lines.slice(1,-1).map(line=>/^line ([0-9]+) : (.*)$/.exec(line)).map(m=>({line:+m[1],text:m[2]}))}),\nvariables:(all,w,lines)=>lines.forEach(line=>{\nconst [name,home,...span]=line.split(' '),at=[...line.matchAll(/entry|line ([0-9]+)/g)].map(m=>+m[1]||0);\nall.variables.push({proc:w[2],name,home,first:at[0],last:at[1],span:span.join(' ')});\n}),\n"
+    codes "const readers={\nblock:(all,w,lines,places)=>all.blocks.push({proc:w[3],first:+w[8],last:+w[9],before:listed(lines[0]),after:listed(lines[lines.length-1]),\nsteps:lines.slice(1,-1).map(line=>/^line ([0-9]+) : (.*)$/.exec(line)).map((m,k)=>({line:+m[1],text:m[2],place:places[k+1]}))}),\nvariables:(all,w,lines)=>lines.forEach(line=>{\nconst [name,home,...span]=line.split(' '),at=[...line.matchAll(/entry|line ([0-9]+)/g)].map(m=>+m[1]||0);\nall.variables.push({proc:w[2],name,home,first:at[0],last:at[1],span:span.join(' ')});\n}),\n"
 
 -- the script that reads register code, lists of moves, and the code, and then the whole text
 unfoldable pub code_readers_text : List ℕ
 code_readers_text =
-    codes "code:(all,w,lines)=>{\nconst origin=originOf(w),block={...origin,address:+origin.rest[1],cycles:+origin.rest[3],steps:lines.slice(0,-2),exit:lines[lines.length-2],\nlive:listed(lines[lines.length-1]),lists:[],rows:[]};\nall.code.push(block);\nall.named.set(block.name,block);\n},\nlist:(all,w,lines)=>{\nconst list=originOf(w),items=lines.filter(line=>!line.startsWith('live after'));\nall.named.get(list.name).lists.push({what:list.rest.slice(0,-2).join(' '),items});\n},\nplaced:(all,w,lines)=>{\nall.named.get(w[1]).rows=lines.map(line=>/^([0-9]+) : (.*) ;$/.exec(line)).map(m=>({address:+m[1],text:m[2]}));\n}};\nfunction stagesOf(text){\nconst all={pair:'',blocks:[],variables:[],code:[],named:new Map()};\nfor(const part of partsOf(text))if(readers[part.words[0]])readers[part.words[0]](all,part.words,part.lines);else all.pair=part.words[1];\nall.code.forEach((block,k)=>block.tint='tint'+k%6);\nreturn all;\n}\n"
+    codes "code:(all,w,lines)=>{\nconst origin=originOf(w),block={...origin,address:+origin.rest[1],cycles:+origin.rest[3],steps:lines.slice(0,-2),exit:lines[lines.length-2],\nlive:listed(lines[lines.length-1]),lists:[],rows:[]};\nall.code.push(block);\nall.named.set(block.name,block);\n},\nlist:(all,w,lines)=>{\nconst list=originOf(w),items=lines.filter(line=>!line.startsWith('live after'));\nall.named.get(list.name).lists.push({what:list.rest.slice(0,-2).join(' '),items});\n},\nplaced:(all,w,lines)=>{\nall.named.get(w[1]).rows=lines.map(line=>/^([0-9]+) : (.*) ;$/.exec(line)).map(m=>({address:+m[1],text:m[2]}));\n}};\nfunction stagesOf(text){\nconst all={pair:'',blocks:[],variables:[],code:[],named:new Map()};\nfor(const part of partsOf(text))if(readers[part.words[0]])readers[part.words[0]](all,part.words,part.lines,part.places);else all.pair=part.words[1];\nall.code.forEach((block,k)=>block.tint='tint'+k%6);\nreturn all;\n}\n"
 
 -- the script that follows moves through the passes: which are changed, and which are left out and by what
 unfoldable pub follow_text : List ℕ

@@ -69,7 +69,7 @@ run_acts_text =
 -- the script that shows the lines of the program once, and then those of the current instruction
 unfoldable pub run_source_text : List ℕ
 run_source_text =
-    codes "const lineRows=new Map();\nfor(const block of joined.blocks)for(const step of block.steps){\nconst of=joined.code.find(b=>b.proc==block.proc&&b.kind=='steps'&&b.first<=step.line&&step.line<=b.last);\nlineRows.set(block.proc+':'+step.line,make('tr',of?of.tint:'',make('td','dim',of?of.name:''),make('td','dim',''+step.line),make('td','',step.text)));\n}\nfind('program').append(make('table','',...lineRows.values()));\ndocument.body.classList.toggle('image',!bySource);\nfunction showSource(state){\nconst block=blockAt(state.pc),slots=block?block.slots.filter(slot=>slot.address==state.pc&&slot.item):[];\nconst now=new Set(slots.map(slot=>slot.item.line)),own=block?block.own.map(step=>block.proc+':'+step.line):[];\nfor(const [name,row] of lineRows)row.classList.toggle('line',now.has(name));\nconst first=lineRows.get([...now][0]||own[0]);\nif(first)middle(first,find('program'));\n}\n"
+    codes "const lineRows=new Map();\nfor(const block of joined.blocks)for(const step of block.steps){\nconst of=joined.code.find(b=>b.proc==block.proc&&b.kind=='steps'&&b.first<=step.line&&step.line<=b.last);\nlineRows.set(block.proc+':'+step.line,make('tr',of?of.tint:'',make('td','dim',of?of.name:''),make('td','dim',''+step.line),make('td','',step.text),make('td','dim',step.place)));\n}\nfind('program').append(make('table','',...lineRows.values()));\ndocument.body.classList.toggle('image',!bySource);\nfunction showSource(state){\nconst block=blockAt(state.pc),slots=block?block.slots.filter(slot=>slot.address==state.pc&&slot.item):[];\nconst now=new Set(slots.map(slot=>slot.item.line)),own=block?block.own.map(step=>block.proc+':'+step.line):[];\nfor(const [name,row] of lineRows)row.classList.toggle('line',now.has(name));\nconst first=lineRows.get([...now][0]||own[0]);\nif(first)middle(first,find('program'));\n}\n"
 
 -- the script that shows the variables that are live in the current block, with their words
 unfoldable pub run_variables_text : List ℕ

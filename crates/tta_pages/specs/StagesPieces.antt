@@ -19,7 +19,7 @@ stages_body_text =
 -- the script that shows the columns of a block: its lines, its register code, its moves with what the passes made, and its cycles
 unfoldable pub stages_columns_text : List ℕ
 stages_columns_text =
-    codes "const all=joinAll(stagesOf(find('source').textContent)),picks=[];\nfunction pick(element,line,item){\nelement.classList.add('pick');\npicks.push({element,line,item});\nelement.onclick=()=>mark(line,item);\nreturn element;\n}\nconst rows=list=>make('table','',...list.map(cells=>make('tr','',...cells)));\nconst lineRow=(block,step)=>[make('td','dim',''+step.line),pick(make('td','',step.text),block.proc+':'+step.line)];\n"
+    codes "const all=joinAll(stagesOf(find('source').textContent)),picks=[];\nfunction pick(element,line,item){\nelement.classList.add('pick');\npicks.push({element,line,item});\nelement.onclick=()=>mark(line,item);\nreturn element;\n}\nconst rows=list=>make('table','',...list.map(cells=>make('tr','',...cells)));\nconst lineRow=(block,step)=>[make('td','dim',''+step.line),pick(make('td','',step.text),block.proc+':'+step.line),make('td','dim',step.place)];\n"
 
 -- the script that shows a move with what the passes made of it, and the moves of a cycle
 unfoldable pub stages_cells_text : List ℕ

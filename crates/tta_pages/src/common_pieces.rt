@@ -98,7 +98,7 @@ pub fn push_end(out: &mut Vec<u8>) -> Result<(), AllocError>
     )
 }
 
-/// Puts the script that finds elements, and takes the text of stages apart into headings with their lines.
+/// Puts the script that finds elements, and takes the text of stages apart into headings with their lines, and the lines of C beside these.
 #[tactic(auto, unfolding(crate::specs::CommonPieces::parts_text))]
 pub fn push_parts(out: &mut Vec<u8>) -> Result<(), AllocError>
     ensures { OnOk result (out.new.items ≡ out.old.items ++ parts_text) }
@@ -114,9 +114,10 @@ pub fn push_parts(out: &mut Vec<u8>) -> Result<(), AllocError>
         }\n\
         function partsOf(text){\n\
         const parts=[];\n\
-        for(const line of text.split(newline)){\n\
-        if(line[0]==' ')parts[parts.length-1].lines.push(line.slice(1));\n\
-        else if(line)parts.push({words:line.split(' '),lines:[]});\n\
+        for(const told of text.split(newline)){\n\
+        const [line,place]=told.split(/ {2}; /),part=parts[parts.length-1];\n\
+        if(line[0]==' ')part.places[part.lines.push(line.slice(1))-1]=place||'';\n\
+        else if(line)parts.push({words:line.split(' '),lines:[],places:[]});\n\
         }\n\
         return parts;\n\
         }\n\
@@ -136,8 +137,8 @@ pub fn push_stages(out: &mut Vec<u8>) -> Result<(), AllocError>
 {
     out.extend_from_slice(
         b"const readers={\n\
-        block:(all,w,lines)=>all.blocks.push({proc:w[3],first:+w[8],last:+w[9],before:listed(lines[0]),after:listed(lines[lines.length-1]),\n\
-        steps:lines.slice(1,-1).map(line=>/^line ([0-9]+) : (.*)$/.exec(line)).map(m=>({line:+m[1],text:m[2]}))}),\n\
+        block:(all,w,lines,places)=>all.blocks.push({proc:w[3],first:+w[8],last:+w[9],before:listed(lines[0]),after:listed(lines[lines.length-1]),\n\
+        steps:lines.slice(1,-1).map(line=>/^line ([0-9]+) : (.*)$/.exec(line)).map((m,k)=>({line:+m[1],text:m[2],place:places[k+1]}))}),\n\
         variables:(all,w,lines)=>lines.forEach(line=>{\n\
         const [name,home,...span]=line.split(' '),at=[...line.matchAll(/entry|line ([0-9]+)/g)].map(m=>+m[1]||0);\n\
         all.variables.push({proc:w[2],name,home,first:at[0],last:at[1],span:span.join(' ')});\n\
@@ -167,7 +168,7 @@ pub fn push_code_readers(out: &mut Vec<u8>) -> Result<(), AllocError>
         }};\n\
         function stagesOf(text){\n\
         const all={pair:'',blocks:[],variables:[],code:[],named:new Map()};\n\
-        for(const part of partsOf(text))if(readers[part.words[0]])readers[part.words[0]](all,part.words,part.lines);else all.pair=part.words[1];\n\
+        for(const part of partsOf(text))if(readers[part.words[0]])readers[part.words[0]](all,part.words,part.lines,part.places);else all.pair=part.words[1];\n\
         all.code.forEach((block,k)=>block.tint='tint'+k%6);\n\
         return all;\n\
         }\n\

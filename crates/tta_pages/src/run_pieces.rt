@@ -291,7 +291,7 @@ pub fn push_run_source(out: &mut Vec<u8>) -> Result<(), AllocError>
         b"const lineRows=new Map();\n\
         for(const block of joined.blocks)for(const step of block.steps){\n\
         const of=joined.code.find(b=>b.proc==block.proc&&b.kind=='steps'&&b.first<=step.line&&step.line<=b.last);\n\
-        lineRows.set(block.proc+':'+step.line,make('tr',of?of.tint:'',make('td','dim',of?of.name:''),make('td','dim',''+step.line),make('td','',step.text)));\n\
+        lineRows.set(block.proc+':'+step.line,make('tr',of?of.tint:'',make('td','dim',of?of.name:''),make('td','dim',''+step.line),make('td','',step.text),make('td','dim',step.place)));\n\
         }\n\
         find('program').append(make('table','',...lineRows.values()));\n\
         document.body.classList.toggle('image',!bySource);\n\

@@ -75,7 +75,7 @@ pub fn push_stages_columns(out: &mut Vec<u8>) -> Result<(), AllocError>
         return element;\n\
         }\n\
         const rows=list=>make('table','',...list.map(cells=>make('tr','',...cells)));\n\
-        const lineRow=(block,step)=>[make('td','dim',''+step.line),pick(make('td','',step.text),block.proc+':'+step.line)];\n\
+        const lineRow=(block,step)=>[make('td','dim',''+step.line),pick(make('td','',step.text),block.proc+':'+step.line),make('td','dim',step.place)];\n\
         ",
     )
 }
