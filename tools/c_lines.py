@@ -1,4 +1,4 @@
-"""Shows the lines of C beside what `stages` and `profile` tell of a program that came of C: it copies what comes in, and adds to each line
+"""Shows the lines of C beside what `stages`, `profile` and the pages of `stages` and `play` tell of a program that came of C: it copies what comes in, and adds to each line
 that names a line of the program, or a range of such lines, where that is in C. Its word is the file that `./tta c -g` writes."""
 import re
 import sys

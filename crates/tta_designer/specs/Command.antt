@@ -52,7 +52,7 @@ Ends u (Some (OfCode view M IMG)) before after old new s =
     Puts u IsImageFor RefusesImage (IsShown u view) (λ file whole. no_memory) M IMG before after old new s
 Ends u (Some (OfRun view M F IN STREAM bound)) before after old new s = ShowsRun u view M F IN STREAM bound before after old new s
 Ends u (Some (OfPrompt M IMG IN STREAM)) before after old new s = ⊥
-Ends u (Some (OfStages M P)) before after old new s = ShowsStages u M P before after old new s
+Ends u (Some (OfStages view M P)) before after old new s = ShowsStages u view M P before after old new s
 Ends u (Some (OfRtl M IMG)) before after old new s = ShowsCircuit u M IMG before after old new s
 
 -- How a request ends. Lines come of a session at a prompt alone.

@@ -6,18 +6,20 @@ use Rattle.tta_designer.specs.declared.view.View.{View}
 use Rattle.tta_designer.specs.declared.view.View.TheVariants.{Picture, Info}
 use Rattle.tta_designer.specs.declared.view.RunView.{RunView}
 use Rattle.tta_designer.specs.declared.view.RunView.TheVariants.{Profile, Play, Waves}
+use Rattle.tta_designer.specs.declared.view.StagesView.{StagesView}
+use Rattle.tta_designer.specs.declared.view.StagesView.TheVariants.{Lines, Page}
 use Rattle.tta_designer.specs.declared.request.Request.{Request as Asked}
 use Rattle.tta_designer.specs.declared.request.Request.TheVariants as for
 
 -- what can be asked for: a view of a machine, one of the code of an image for a machine, one of a run of such code or of a program,
--- a session at a prompt over a run of code, the stages of a program for a machine, or the circuit of a machine with the code of an
+-- a session at a prompt over a run of code, a view of the stages of a program for a machine, or the circuit of a machine with the code of an
 -- image
 pub data Request : Type 0 where
   OfMachine : (view : View) (machine : List ℕ) → Request
   OfCode : (view : View) (machine image : List ℕ) → Request
   OfRun : (view : RunView) (machine subject input : List ℕ) (stream : Option (List ℕ)) (bound : ℕ) → Request
   OfPrompt : (machine image input : List ℕ) (stream : Option (List ℕ)) → Request
-  OfStages : (machine program : List ℕ) → Request
+  OfStages : (view : StagesView) (machine program : List ℕ) → Request
   OfRtl : (machine image : List ℕ) → Request
 
 -- the view that a word names
@@ -60,15 +62,24 @@ is_rtl word = bytes_eq word (codes "rtl")
 -- the request of the name of a command with two files
 abbrev pub pair_request : (word machine second : List ℕ) → Option Request
 pair_request word machine second =
-    if is_stages word then Some (OfStages machine second)
+    if is_stages word then Some (OfStages Lines machine second)
     else if is_rtl word then Some (OfRtl machine second)
     else option_map (λ view. OfCode view machine second) (view_of word)
+
+-- the request of the name of a command that shows stages with a word after its two files, which asks for a page
+abbrev pub page_request : (machine program mark : List ℕ) → Option Request
+page_request machine program mark = if bytes_eq mark (codes "--html") then Some (OfStages Page machine program) else None
+
+-- the request of the name of a command with three words after it
+abbrev pub three_request : (word machine second input : List ℕ) → Option Request
+three_request word machine second input =
+    if is_stages word then page_request machine second input else prompt_request word machine second input None
 
 -- the request of some words; none where they are no command
 abbrev pub request_of : List (List ℕ) → Option Request
 request_of (word ∷ machine ∷ []) = option_map (λ view. OfMachine view machine) (view_of word)
 request_of (word ∷ machine ∷ second ∷ []) = pair_request word machine second
-request_of (word ∷ machine ∷ second ∷ input ∷ []) = prompt_request word machine second input None
+request_of (word ∷ machine ∷ second ∷ input ∷ []) = three_request word machine second input
 request_of (word ∷ machine ∷ second ∷ input ∷ last ∷ []) =
     if is_prompt word then prompt_request word machine second input (Some last) else run_request word machine second input last None
 request_of (word ∷ machine ∷ second ∷ input ∷ last ∷ stream ∷ []) = run_request word machine second input last (Some stream)
@@ -85,5 +96,5 @@ asked (for.Machine names) = OfMachine names.view names.machine.now
 asked (for.Code names) = OfCode names.view names.machine.now names.image.now
 asked (for.Run run) = OfRun run.view run.machine.now run.subject.now run.input.now (option_map (λ s. s.now) run.stream) run.bound
 asked (for.Prompt names) = OfPrompt names.machine.now names.image.now names.input.now (option_map (λ s. s.now) names.stream)
-asked (for.Stages names) = OfStages names.machine.now names.program.now
+asked (for.Stages names) = OfStages names.view names.machine.now names.program.now
 asked (for.Rtl names) = OfRtl names.machine.now names.image.now

@@ -1,5 +1,5 @@
 -- What `profile`, `play` and `waves` do, and why they do not.
-use Rattle.std.specs.Prelude.{◌≡◌, ◌↔◌, ℕ, List, Option, Err}
+use Rattle.std.specs.Prelude.{◌≡◌, ◌↔◌, ℕ, List, [], Option, Err}
 use Rattle.tta_input.specs.Input.{input_of, stream_of}
 use Rattle.tta_list.specs.Laid.{over}
 use Rattle.tta_ports.specs.Store.{Store}
@@ -13,6 +13,7 @@ use Rattle.tta_code.specs.Cycle.{State, start}
 use Rattle.tta_program.specs.Program.{Program, data_of}
 use Rattle.tta_stages.specs.declared.stages.Stages.{Stages}
 use Rattle.tta_stages.specs.Stages.{AreStages}
+use Rattle.tta_stages.specs.Text.{stages_text}
 use Rattle.tta_profile.specs.Statement.{IsProfile}
 use Rattle.tta_blocks.specs.Statement.{IsBlockProfile}
 use Rattle.tta_play.specs.Statement.{page_of}
@@ -32,10 +33,10 @@ use Rattle.tta_designer.specs.Stages.{IsCauseOf}
 use Rattle.tta_designer.specs.declared.view.RunView.{RunView}
 use Rattle.tta_designer.specs.declared.view.RunView.TheVariants.{Profile, Play, Waves}
 
--- a text is what is shown of at most so many cycles of code from a state
+-- a text is what is shown of at most so many cycles of code from a state: a page tells of no program
 abbrev pub IsRunShown : Units → RunView → Machine → Code → State → (bound : ℕ) → (text : List ℕ) → Type 0
 IsRunShown u Profile m code s bound text = IsProfile u m code s bound text
-IsRunShown u Play m code s bound text = text ≡ page_of u m code s bound
+IsRunShown u Play m code s bound text = text ≡ page_of u m code [] s bound
 IsRunShown u Waves m code s bound text = text ≡ waves_of u m code s bound
 
 -- the same from these data words, the code's own data laid over them, with this input
@@ -45,10 +46,11 @@ IsViewOf u view bound file whole memory words text =
 
 -- ---- a program
 
--- a text is what is shown of at most so many cycles of the code of a program from a state: a profile tells of its blocks
+-- a text is what is shown of at most so many cycles of the code of a program from a state: a profile tells of its blocks, and a page of its
+-- stages
 abbrev pub IsCompiledShown : Units → RunView → Machine → Program → Stages → State → (bound : ℕ) → (text : List ℕ) → Type 0
 IsCompiledShown u Profile m p stages s bound text = IsBlockProfile u m p stages s bound text
-IsCompiledShown u Play m p stages s bound text = text ≡ page_of u m stages.code s bound
+IsCompiledShown u Play m p stages s bound text = text ≡ page_of u m stages.code (stages_text u m p stages) s bound
 IsCompiledShown u Waves m p stages s bound text = text ≡ waves_of u m stages.code s bound
 
 -- The program has stages on the way to code for the machine, and a text is what is shown of their code from these data words,

@@ -10,6 +10,7 @@ use Rattle.tta_build.specs.Statement.{HasCause}
 use Rattle.tta_stages.specs.declared.stages.Stages.{Stages}
 use Rattle.tta_stages.specs.Stages.{AreStages}
 use Rattle.tta_stages.specs.Text.{stages_text}
+use Rattle.tta_pages.specs.Pages.{stages_page}
 use Rattle.tta_given.specs.declared.machine.MachineFile.{MachineFile}
 use Rattle.tta_given.specs.declared.status.Status.{Status}
 use Rattle.tta_given.specs.declared.status.Status.TheVariants as status
@@ -18,12 +19,19 @@ use Rattle.tta_given.specs.Machines.{IsBadMachine}
 use Rattle.tta_given.specs.Programs.{IsProgramFor, RefusesProgramFor, IsBadProgram, IsOutside}
 use Rattle.tta_given.specs.Ends.{Puts}
 use Rattle.tta_given.specs.Endings.{OfMachine, OfPair, PairFault}
+use Rattle.tta_designer.specs.declared.view.StagesView.{StagesView}
+use Rattle.tta_designer.specs.declared.view.StagesView.TheVariants.{Lines, Page}
 
--- A text is what is told of stages that are those of a program on the way to code for a machine.
-pub record IsStagesOf (u : Units) (file : MachineFile) (p : Program) (text : List ℕ) : Type 0 where
+-- a view of what is told of stages: that text, or the page that shows it
+abbrev pub view_of_stages : StagesView → (told : List ℕ) → List ℕ
+view_of_stages Lines told = told
+view_of_stages Page told = stages_page told
+
+-- A text is a view of what is told of stages that are those of a program on the way to code for a machine.
+pub record IsStagesOf (u : Units) (view : StagesView) (file : MachineFile) (p : Program) (text : List ℕ) : Type 0 where
   pub stages : Stages
   pub are : AreStages u file.machine p stages
-  pub told : text ≡ stages_text u file.machine p stages
+  pub told : text ≡ view_of_stages view (stages_text u file.machine p stages)
 
 -- why there are no stages of a pair, by the ending that says so: the causes for which `build` builds no code
 abbrev pub IsCauseOf : Units → Machine → Program → Status → Type 0
@@ -34,51 +42,51 @@ IsCauseOf u m p (status.CodeFull words have) = HasCause u m p (cause.CodeFull wo
 IsCauseOf u m p status.NoMemory = Unit {0}
 IsCauseOf u m p s = ⊥
 
--- How `stages M P` ends. Each ending but out of memory comes only where its cause holds.
-abbrev pub ShowsStages : Units → (M P : List ℕ) → (before after : World) → (old new : Output) → Status → Type 0
-ShowsStages u M P before after old new s =
-    Puts u (IsProgramFor u) (RefusesProgramFor u) (IsStagesOf u) (λ file p. IsCauseOf u file.machine p) M P before after old new s
+-- How `stages M P` and `stages M P --html` end. Each ending but out of memory comes only where its cause holds.
+abbrev pub ShowsStages : Units → StagesView → (M P : List ℕ) → (before after : World) → (old new : Output) → Status → Type 0
+ShowsStages u view M P before after old new s =
+    Puts u (IsProgramFor u) (RefusesProgramFor u) (IsStagesOf u view) (λ file p. IsCauseOf u file.machine p) M P before after old new s
 
 -- ---- how it ends by its status
 
 -- files hold the pair, and something is true of what is told of its stages
-abbrev pub HasStages : Units → (before : World) → (M P : List ℕ) → (Is : List ℕ → Type 0) → Type 0
-HasStages u before M P Is = OfPair u (IsProgramFor u) before.contents M P (λ file p. (text : List ℕ) × IsStagesOf u file p text × Is text)
+abbrev pub HasStages : Units → StagesView → (before : World) → (M P : List ℕ) → (Is : List ℕ → Type 0) → Type 0
+HasStages u view before M P Is = OfPair u (IsProgramFor u) before.contents M P (λ file p. (text : List ℕ) × IsStagesOf u view file p text × Is text)
 
--- what holds where `stages M P` ends with a status
-abbrev pub StagesEndings : Units → (M P : List ℕ) → (before after : World) → (old new : Output) → Status → Type 0
-StagesEndings u M P before after old new status.Ok = IsUntouched before after × HasStages u before M P (λ text. IsPut text old new)
-StagesEndings u M P before after old new (status.BadMachine line code) =
+-- what holds where such a command ends with a status
+abbrev pub StagesEndings : Units → StagesView → (M P : List ℕ) → (before after : World) → (old new : Output) → Status → Type 0
+StagesEndings u view M P before after old new status.Ok = IsUntouched before after × HasStages u view before M P (λ text. IsPut text old new)
+StagesEndings u view M P before after old new (status.BadMachine line code) =
     IsUntouched before after × IsQuiet old new × HasText before.contents M (λ text. IsBadMachine u text line code)
-StagesEndings u M P before after old new (status.BadProgram line code) =
+StagesEndings u view M P before after old new (status.BadProgram line code) =
     IsUntouched before after × IsQuiet old new
     × OfMachine u before.contents M (λ file. HasText before.contents P (λ text. IsBadProgram u text line code))
-StagesEndings u M P before after old new (status.DataRange line have) =
+StagesEndings u view M P before after old new (status.DataRange line have) =
     IsUntouched before after × IsQuiet old new
     × OfMachine u before.contents M (λ file. HasText before.contents P (λ text. IsOutside u file.machine.data_words text line have))
-StagesEndings u M P before after old new (status.NotCovered rule) =
+StagesEndings u view M P before after old new (status.NotCovered rule) =
     IsUntouched before after × IsQuiet old new
     × OfPair u (IsProgramFor u) before.contents M P (λ file p. HasCause u file.machine p (cause.NotCovered rule))
-StagesEndings u M P before after old new (status.NoUnit line) =
+StagesEndings u view M P before after old new (status.NoUnit line) =
     IsUntouched before after × IsQuiet old new
     × OfPair u (IsProgramFor u) before.contents M P (λ file p. HasCause u file.machine p (cause.NoUnit line))
-StagesEndings u M P before after old new (status.FrameFull need have) =
+StagesEndings u view M P before after old new (status.FrameFull need have) =
     IsUntouched before after × IsQuiet old new
     × OfPair u (IsProgramFor u) before.contents M P (λ file p. HasCause u file.machine p (cause.FrameFull need have))
-StagesEndings u M P before after old new (status.CodeFull words have) =
+StagesEndings u view M P before after old new (status.CodeFull words have) =
     IsUntouched before after × IsQuiet old new
     × OfPair u (IsProgramFor u) before.contents M P (λ file p. HasCause u file.machine p (cause.CodeFull words have))
-StagesEndings u M P before after old new (status.ReadFault word) =
+StagesEndings u view M P before after old new (status.ReadFault word) =
     IsQuiet old new × PairFault u before.contents M P (λ name. ReadFailed name before after) word
-StagesEndings u M P before after old new status.WriteFault =
-    IsUntouched before after × HasStages u before M P (λ text. IsCut text old new)
-StagesEndings u M P before after old new (status.TooLong word) =
+StagesEndings u view M P before after old new status.WriteFault =
+    IsUntouched before after × HasStages u view before M P (λ text. IsCut text old new)
+StagesEndings u view M P before after old new (status.TooLong word) =
     IsQuiet old new × PairFault u before.contents M P (λ name. IsTooLong name before after) word
-StagesEndings u M P before after old new status.NoMemory = IsUntouched before after × IsQuiet old new
-StagesEndings u M P before after old new s = ⊥
+StagesEndings u view M P before after old new status.NoMemory = IsUntouched before after × IsQuiet old new
+StagesEndings u view M P before after old new s = ⊥
 
 -- its clause says this of each status
 abbrev pub StagesByStatus : Type 0
 StagesByStatus =
-    (u : Units) (M P : List ℕ) (before after : World) (old new : Output) (s : Status)
-    → ShowsStages u M P before after old new s ↔ StagesEndings u M P before after old new s
+    (u : Units) (view : StagesView) (M P : List ℕ) (before after : World) (old new : Output) (s : Status)
+    → ShowsStages u view M P before after old new s ↔ StagesEndings u view M P before after old new s

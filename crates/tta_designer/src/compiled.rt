@@ -9,6 +9,8 @@ ghost use Rattle.tta_program.specs.Program.{data_of};
 ghost use Rattle.tta_code.specs.Cycle.{State, start};
 ghost use Rattle.tta_sim.specs.Held.{Stands, IsRunOf};
 ghost use Rattle.tta_stages.specs.Stages.{AreStages};
+ghost use Rattle.tta_stages.specs.Text.{stages_text};
+ghost use Rattle.tta_play.specs.Statement.{page_of};
 ghost use Rattle.tta_given.specs.Held.{MadeEnds, no_memory};
 ghost use Rattle.tta_designer.specs.Stages.{IsCauseOf};
 ghost use Rattle.tta_designer.specs.Runs.{IsCompiledShown, IsProgramShown};
@@ -24,7 +26,7 @@ use tta_play::play;
 use tta_profile::Basis;
 use tta_program::{Program, lay_lines};
 use tta_sim::Sim;
-use tta_stages::stages_of;
+use tta_stages::{stages_of, tell_stages};
 use tta_waves::waves;
 
 /// Loads the code of a program for a run from data words, with the program's data laid over them.
@@ -41,6 +43,33 @@ fn load_compiled(alloc: Global, on: &Compiled<'_>, memory: Vec<u32>) -> Result<S
     Sim::load(alloc, on.m, &on.stages.code, laid)
 }
 
+/// The page that plays a run of the code of a program, with what is told of its stages.
+fn play_program(
+    alloc: Global,
+    on: &Compiled<'_>,
+    sim: &mut Sim,
+    words: &[u32],
+    bound: u64,
+) -> Result<Vec<u8>, AllocError>
+    requires loaded { IsRunOf on.now.m.now on.now.stages.now.code sim.old }
+    requires few { sim.old.cycle + bound < 2 ^ 62 }
+    requires stages { AreStages (stated unit_meaning on.now.units.now) on.now.m.now on.now.p.now
+        on.now.stages.now }
+    requires program { programs.StandsOver (stated unit_meaning on.now.units.now) on.now.p.now }
+    ensures { let U = stated unit_meaning on.now.units.now in
+        let told = stages_text U on.now.m.now on.now.p.now on.now.stages.now in
+        (s : State) → Stands sim.old s → s.rest ≡ words.now → IfOk result
+        (λ v. v.items ≡ page_of U on.now.m.now on.now.stages.now.code told s bound) }
+{
+    let basis = Basis {
+        m: on.m,
+        code: &on.stages.code,
+        units: on.units,
+    };
+    let told = tell_stages(alloc, on.m, on.p, on.units, on.stages)?;
+    play(alloc, &basis, told.as_slice(), sim, words, bound)
+}
+
 /// The view of a run of the code of a program.
 fn text_of_blocks(
     alloc: Global,
@@ -54,6 +83,7 @@ fn text_of_blocks(
     requires few { sim.old.cycle + bound < 2 ^ 62 }
     requires stages { AreStages (stated unit_meaning on.now.units.now) on.now.m.now on.now.p.now
         on.now.stages.now }
+    requires program { programs.StandsOver (stated unit_meaning on.now.units.now) on.now.p.now }
     ensures { let U = stated unit_meaning on.now.units.now in
         (s : State) → Stands sim.old s → s.written ≡ [] → s.rest ≡ words.now
         → MadeEnds (IsCompiledShown U view on.now.m.now on.now.p.now on.now.stages.now s bound)
@@ -66,7 +96,7 @@ fn text_of_blocks(
     };
     let text = match view {
         RunView::Profile => profile_blocks(alloc, on, sim, words, bound),
-        RunView::Play => play(alloc, &basis, sim, words, bound),
+        RunView::Play => play_program(alloc, on, sim, words, bound),
         RunView::Waves => waves(alloc, &basis, sim, words, bound),
     };
     match text {
@@ -86,6 +116,7 @@ fn text_of_compiled(
     requires size { length given.memory.items ≡ on.now.m.now.data_words }
     requires stages { AreStages (stated unit_meaning on.now.units.now) on.now.m.now on.now.p.now
         on.now.stages.now }
+    requires program { programs.StandsOver (stated unit_meaning on.now.units.now) on.now.p.now }
     ensures { let U = stated unit_meaning on.now.units.now in
         MadeEnds (IsCompiledShown U request.now.view on.now.m.now on.now.p.now on.now.stages.now
         (start on.now.m.now (over (data_of on.now.p.now) given.memory.items) given.words.items)

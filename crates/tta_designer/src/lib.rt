@@ -20,4 +20,4 @@ pub use laws::{
     stages_by_status,
 };
 pub use request::is_named;
-pub use view::{RunView, View};
+pub use view::{RunView, StagesView, View};

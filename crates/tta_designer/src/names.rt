@@ -2,7 +2,7 @@
 
 ghost use Rattle.std.specs.Prelude.{◌<◌, ◌^◌};
 
-use crate::view::{RunView, View};
+use crate::view::{RunView, StagesView, View};
 
 /// A view of a machine that is asked for, and the name of the machine's file.
 #[derive(Clone, Copy)]
@@ -19,10 +19,11 @@ pub struct CodeRequest<'w> {
     pub image: &'w str,
 }
 
-/// The stages of a program for a machine that are asked for: the names of the machine's file and of
-/// the program's.
+/// A view of the stages of a program for a machine that is asked for, and the names of the machine's
+/// file and of the program's.
 #[derive(Clone, Copy)]
 pub struct StagesRequest<'w> {
+    pub view: StagesView,
     pub machine: &'w str,
     pub program: &'w str,
 }

@@ -3,18 +3,18 @@
 ghost use Rattle.std.specs.Prelude.{◌≡◌, ◌∷◌, [], map, option_map};
 ghost use Rattle.std.specs.String.{string_bytes};
 ghost use Rattle.tta_designer.specs.Request.{asked, is_named, is_rtl, is_stages, is_view, pair_request};
-ghost use Rattle.tta_designer.specs.Request.{is_prompt, prompt_request, request_of, run_request};
-ghost use Rattle.tta_designer.specs.Request.{run_view_of, view_of};
+ghost use Rattle.tta_designer.specs.Request.{is_prompt, page_request, prompt_request, request_of};
+ghost use Rattle.tta_designer.specs.Request.{run_request, run_view_of, three_request, view_of};
 
 use crate::names::{
     CodeRequest, MachineRequest, PromptRequest, RtlRequest, RunRequest, StagesRequest,
 };
-use crate::view::{RunView, View};
+use crate::view::{RunView, StagesView, View};
 use tta_given::bound_of;
 
 /// What is asked for: a view of a machine, one of the code of an image for a machine, one of a run of
-/// such code or of a program, a session at a prompt over a run of code, the stages of a program for a
-/// machine, or the circuit of a machine with the code of an image.
+/// such code or of a program, a session at a prompt over a run of code, a view of the stages of a program
+/// for a machine, or the circuit of a machine with the code of an image.
 #[derive(Clone, Copy)]
 pub enum Request<'w> {
     Machine(MachineRequest<'w>),
@@ -143,6 +143,36 @@ fn of_prompt<'w>(
     }))
 }
 
+/// The request of the name of the command that shows stages, with a word after its two files.
+fn of_page<'w>(machine: &'w str, program: &'w str, mark: &str) -> Option<Request<'w>>
+    ensures { option_map asked result ≡ page_request machine.now program.now mark.now }
+{
+    if mark != "--html" {
+        return None;
+    }
+    Some(Request::Stages(StagesRequest {
+        view: StagesView::Page,
+        machine,
+        program,
+    }))
+}
+
+/// The request of four words: a page of stages, or a session at a prompt.
+fn of_four<'w>(
+    word: &str,
+    machine: &'w str,
+    second: &'w str,
+    input: &'w str,
+) -> Option<Request<'w>>
+    ensures { option_map asked result
+        ≡ three_request word.now machine.now second.now input.now }
+{
+    if is_stages(word) {
+        return of_page(machine, second, input);
+    }
+    of_prompt(word, machine, second, input, None)
+}
+
 /// The request of five words: a session at a prompt with an input, or a view of a run without one.
 fn of_five<'w>(
     word: &str,
@@ -166,6 +196,7 @@ fn of_pair<'w>(word: &str, machine: &'w str, second: &'w str) -> Option<Request<
 {
     if is_stages(word) {
         return Some(Request::Stages(StagesRequest {
+            view: StagesView::Lines,
             machine,
             program: second,
         }));
@@ -198,7 +229,7 @@ impl<'w> Request<'w> {
                 Some(Request::Machine(MachineRequest { view, machine }))
             }
             [word, machine, second] => of_pair(word, machine, second),
-            [word, machine, second, input] => of_prompt(word, machine, second, input, None),
+            [word, machine, second, input] => of_four(word, machine, second, input),
             [word, machine, second, input, last] => of_five(word, machine, second, input, last),
             [word, machine, second, input, last, stream] => {
                 of_run(word, machine, second, input, last, Some(stream.as_str()))

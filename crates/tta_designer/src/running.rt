@@ -65,7 +65,7 @@ fn text_of_basis(
 {
     let text = match view {
         RunView::Profile => profile(alloc, basis, sim, words, bound),
-        RunView::Play => play(alloc, basis, sim, words, bound),
+        RunView::Play => play(alloc, basis, &[], sim, words, bound),
         RunView::Waves => waves(alloc, basis, sim, words, bound),
     };
     match text {

@@ -9,6 +9,15 @@ pub enum View {
     Info,
 }
 
+/// A kind of text of the stages of a program.
+#[derive(Clone, Copy, Debug, PartialEq, Eq)]
+pub enum StagesView {
+    /// Parts of lines, a heading before each part.
+    Lines,
+    /// A page that shows them side by side, as HTML.
+    Page,
+}
+
 /// A kind of text of a run.
 #[derive(Clone, Copy, Debug, PartialEq, Eq)]
 pub enum RunView {

@@ -30,6 +30,7 @@ use Rattle.tta_designer.specs.Subjects.{IsSubject, RefusesSubject}
 use Rattle.tta_designer.specs.Views.{machine_view}
 use Rattle.tta_designer.specs.Command.{IsShown as IsCodeShown}
 use Rattle.tta_designer.specs.Runs.{IsShown, Lacks, Tells}
+use Rattle.tta_designer.specs.declared.view.StagesView.{StagesView}
 use Rattle.tta_designer.specs.Stages.{IsStagesOf, ShowsStages, IsCauseOf as IsStageCause}
 use Rattle.tta_designer.specs.Prompts.{StreamFails, GivenFails, Ended, SessionEnds, FilesFail}
 use Rattle.tta_endings.specs.Completes.{showing}
@@ -115,14 +116,14 @@ run_view_completes_holds u store faults latest view M F IN STREAM bound after ol
 -- ---- stages
 
 -- `stages` of a pair that files hold is done, lacks memory, or has a cause of `build`
-stages_only : (u : Units) (store : Store) (faults : ℕ) (latest : Option Fault) (M P : List ℕ) (after : World) (old new : Output) (s : Status)
+stages_only : (u : Units) (store : Store) (faults : ℕ) (latest : Option Fault) (view : StagesView) (M P : List ℕ) (after : World) (old new : Output) (s : Status)
     (pair : HasPair u (IsProgramFor u) (Some store) M P) → IsUndisturbed (showing store faults latest) after old new
-    → ShowsStages u M P (showing store faults latest) after old new s
+    → ShowsStages u view M P (showing store faults latest) after old new s
     → (s ≡ status.Ok) ⊎ (s ≡ status.NoMemory) ⊎ IsCauseOf u pair.machine.value.machine pair.second.value s
-stages_only u store faults latest M P after old new s pair calm ends =
+stages_only u store faults latest view M P after old new s pair calm ends =
     let file = pair.machine.value in
     let program = pair.second.value in
-    elim (puts_only u store faults latest after old new calm (IsProgramFor u) (RefusesProgramFor u) (IsStagesOf u) (λ file p. IsStageCause u file.machine p) M P s pair
+    elim (puts_only u store faults latest after old new calm (IsProgramFor u) (RefusesProgramFor u) (IsStagesOf u view) (λ file p. IsStageCause u file.machine p) M P s pair
     (λ text. program_only u file.machine.data_words text program s) (λ text p is also. one_program u text p program is.read also.read) ends) [
       | inl done ↦ inl done
       | inr (inl lacks) ↦ inr (inl lacks)
@@ -130,16 +131,16 @@ stages_only u store faults latest M P after old new s pair calm ends =
     ]
 
 pub stages_completes_without_room_holds : StagesCompletesWithoutRoom
-stages_completes_without_room_holds u store faults latest M P after old new s has calm ends =
-    elim (stages_only u store faults latest M P after old new s has.pair calm ends) [
+stages_completes_without_room_holds u store faults latest view M P after old new s has calm ends =
+    elim (stages_only u store faults latest view M P after old new s has.pair calm ends) [
       | inl done ↦ inl done
       | inr (inl lacks) ↦ inr (inl lacks)
       | inr (inr lacks) ↦ inr (cause_only u has.pair.machine.value.machine has.pair.second.value s has.accepted lacks)
     ]
 
 pub stages_completes_holds : StagesCompletes
-stages_completes_holds u store faults latest M P after old new s has calm ends =
-    elim (stages_only u store faults latest M P after old new s has.pair calm ends) [
+stages_completes_holds u store faults latest view M P after old new s has calm ends =
+    elim (stages_only u store faults latest view M P after old new s has.pair calm ends) [
       | inl done ↦ inl done
       | inr (inl lacks) ↦ inr lacks
       | inr (inr lacks) ↦ inr (roomy_only u has.pair.machine.value.machine has.pair.second.value s has.roomy lacks)

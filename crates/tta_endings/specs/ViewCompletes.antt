@@ -23,6 +23,7 @@ use Rattle.tta_designer.specs.Subjects.{IsSubject}
 use Rattle.tta_designer.specs.Request.{OfMachine, OfCode}
 use Rattle.tta_designer.specs.Command.{Ends}
 use Rattle.tta_designer.specs.Runs.{ShowsRun}
+use Rattle.tta_designer.specs.declared.view.StagesView.{StagesView}
 use Rattle.tta_designer.specs.Stages.{ShowsStages}
 use Rattle.tta_designer.specs.Prompts.{OpensPrompt}
 use Rattle.tta_endings.specs.Completes.{showing, HasRoomyPair}
@@ -78,16 +79,16 @@ RunViewCompletes =
 -- `stages` of a pair that is accepted and has room, where no call fails, puts its text or is out of memory, and ends in no other way
 abbrev pub StagesCompletes : Type 0
 StagesCompletes =
-    (u : Units) (store : Store) (faults : ℕ) (latest : Option Fault) (M P : List ℕ) (after : World) (old new : Output) (s : Status)
+    (u : Units) (store : Store) (faults : ℕ) (latest : Option Fault) (view : StagesView) (M P : List ℕ) (after : World) (old new : Output) (s : Status)
     → HasRoomyPair u store M P → IsUndisturbed (showing store faults latest) after old new
-    → ShowsStages u M P (showing store faults latest) after old new s → (s ≡ status.Ok) ⊎ (s ≡ status.NoMemory)
+    → ShowsStages u view M P (showing store faults latest) after old new s → (s ≡ status.Ok) ⊎ (s ≡ status.NoMemory)
 
 -- and of one that is accepted, whatever its room, it may also find the code too long
 abbrev pub StagesCompletesWithoutRoom : Type 0
 StagesCompletesWithoutRoom =
-    (u : Units) (store : Store) (faults : ℕ) (latest : Option Fault) (M P : List ℕ) (after : World) (old new : Output) (s : Status)
+    (u : Units) (store : Store) (faults : ℕ) (latest : Option Fault) (view : StagesView) (M P : List ℕ) (after : World) (old new : Output) (s : Status)
     (has : HasAcceptedPair u store M P) → IsUndisturbed (showing store faults latest) after old new
-    → ShowsStages u M P (showing store faults latest) after old new s
+    → ShowsStages u view M P (showing store faults latest) after old new s
     → (s ≡ status.Ok) ⊎ (s ≡ status.NoMemory) ⊎ IsFull (LacksRoom u has.pair.machine.value.machine has.pair.second.value) s
 
 -- ---- a session

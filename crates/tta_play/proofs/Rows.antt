@@ -4,7 +4,7 @@ use Rattle.std.specs.Prelude.{if◌then◌else◌}
 use Rattle.std.proofs.lemmas.List.{append_assoc}
 use Rattle.tta_code.specs.Cycle.{State}
 use Rattle.tta_profile.specs.Counts.{is_made}
-use Rattle.tta_play.specs.States.{word_text, words_text, outs_text, end_text, states_text}
+use Rattle.tta_play.specs.States.{word_text, words_text, cycle_text, end_text, states_text}
 
 -- one word more was put
 pub word_more : (word : ℕ → Option ℕ) (old new all : List ℕ) (k left less : ℕ) → left ≡ suc less → new ≡ old ++ word_text (word k)
@@ -20,13 +20,13 @@ words_done word old all k left is was = sym (append-nil old) ∙ sym (ap (λ n. 
 module _ (step : State → State) (told : State → List ℕ) where
   -- a state and its cycle were put
   pub state_more : (s : State) (left less : ℕ) (old mid new all : List ℕ) → left ≡ suc less → is_made step s ≡ true
-      → mid ≡ old ++ told s → new ≡ mid ++ outs_text s (step s)
+      → mid ≡ old ++ told s → new ≡ mid ++ cycle_text s (step s)
       → old ++ states_text step told left s ≡ all → new ++ states_text step told less (step s) ≡ all
   state_more s left less old mid new all is made first second was =
       let rest = states_text step told less (step s) in
-      ap (λ l. l ++ rest) second ∙ append_assoc mid (outs_text s (step s)) rest ∙ ap (λ l. l ++ (outs_text s (step s) ++ rest)) first
-      ∙ append_assoc old (told s) (outs_text s (step s) ++ rest)
-      ∙ sym (ap (λ (b : Bool). old ++ (told s ++ (if b then outs_text s (step s) ++ rest else end_text (step s).outcome))) made)
+      ap (λ l. l ++ rest) second ∙ append_assoc mid (cycle_text s (step s)) rest ∙ ap (λ l. l ++ (cycle_text s (step s) ++ rest)) first
+      ∙ append_assoc old (told s) (cycle_text s (step s) ++ rest)
+      ∙ sym (ap (λ (b : Bool). old ++ (told s ++ (if b then cycle_text s (step s) ++ rest else end_text (step s).outcome))) made)
       ∙ sym (ap (λ n. old ++ states_text step told n s) is) ∙ was
 
   -- the last state and why the run is over were put
@@ -36,7 +36,7 @@ module _ (step : State → State) (told : State → List ℕ) where
   state_over s left less old mid new all is made first second was =
       let rest = states_text step told less (step s) in
       second ∙ ap (λ l. l ++ end_text (step s).outcome) first ∙ append_assoc old (told s) (end_text (step s).outcome)
-      ∙ sym (ap (λ (b : Bool). old ++ (told s ++ (if b then outs_text s (step s) ++ rest else end_text (step s).outcome))) made)
+      ∙ sym (ap (λ (b : Bool). old ++ (told s ++ (if b then cycle_text s (step s) ++ rest else end_text (step s).outcome))) made)
       ∙ sym (ap (λ n. old ++ states_text step told n s) is) ∙ was
 
   -- no cycle is left

@@ -1,4 +1,3 @@
-pub mod Page
 pub mod States
 pub mod Steps
 pub mod Statement

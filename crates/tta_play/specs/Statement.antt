@@ -1,11 +1,14 @@
 -- What a page that plays a run is.
-use Rattle.std.specs.Prelude.{ℕ, nat_lt, if◌then◌else◌, List, ◌++◌, codes}
-use Rattle.std.specs.List.{flat_map}
+use Rattle.std.specs.Prelude.{ℕ, nat_lt, if◌then◌else◌, List, ◌++◌, take, codes, decimal}
+use Rattle.std.specs.List.{flat_map, enumerate_from}
 use Rattle.tta_ops.specs.Units.{Units}
+use Rattle.tta_arch.specs.declared.parts.Template.{Template}
 use Rattle.tta_arch.specs.Machine.{Machine}
+use Rattle.tta_code.specs.declared.code.Instruction.{Instruction}
 use Rattle.tta_code.specs.declared.code.Code.{Code}
 use Rattle.tta_code.specs.Cycle.{State, next}
-use Rattle.tta_play.specs.Page.{head_text, tail_text}
+use Rattle.tta_asm.specs.Canonical.{imm_name, place_text, instruction_text}
+use Rattle.tta_pages.specs.Pages.{run_page}
 use Rattle.tta_play.specs.States.{state_text, states_text}
 
 -- a part of a machine: what it is, and its name
@@ -18,12 +21,39 @@ names_text m =
     flat_map (λ b. name_text (codes "bus ") b.name) m.buses
     ++ (flat_map (λ f. name_text (codes "file ") f.name) m.files ++ flat_map (λ q. name_text (codes "unit ") q.name) m.units)
 
--- a page plays so many cycles at most, whatever is asked for: so it has fewer than 8 MiB
+-- how many delay slots a jump has
+unfoldable pub delay_text : Machine → List ℕ
+delay_text m = codes "delay " ++ (decimal m.control.delay ++ codes "\n")
+
+-- a template, and the register that takes its long immediate
+unfoldable pub template_text : Machine → Template → List ℕ
+template_text m t = codes "template " ++ (t.name ++ (codes " " ++ (place_text (imm_name m t.imm) t.reg ++ codes "\n")))
+
+-- the templates of a machine
+abbrev pub templates_text : Machine → List Template → List ℕ
+templates_text m templates = flat_map (template_text m) templates
+
+-- an instruction after its address
+unfoldable pub row_text : Units → Machine → (address : ℕ) → Instruction → List ℕ
+row_text u m address i = codes "row " ++ (decimal address ++ (codes " " ++ instruction_text u m i))
+
+-- instructions, each after its address
+abbrev pub rows_text : Units → Machine → List Instruction → List ℕ
+rows_text u m words = flat_map (λ e. row_text u m e.0 e.1) (enumerate_from 0 words)
+
+-- the machine and its code, of which a page has 4096 instructions at most
+unfoldable pub code_part : Units → Machine → List Instruction → List ℕ
+code_part u m words = names_text m ++ (delay_text m ++ (templates_text m m.templates ++ rows_text u m (take 4096 words)))
+
+-- a page plays so many cycles at most, whatever is asked for: so it stays small
 abbrev pub limited : (bound : ℕ) → ℕ
 limited bound = if nat_lt bound 400 then bound else 400
 
--- The page that plays at most n cycles of code from a state: between the fixed text stand the machine's names, and the state and
--- those after each cycle, by the cycle's meaning.
-unfoldable pub page_of : Units → Machine → Code → State → (n : ℕ) → List ℕ
-page_of u m code s n =
-    head_text ++ (names_text m ++ (states_text (next u m code) (state_text u m code.words) (limited n) s ++ tail_text))
+-- the data of a page: the machine, its code, and the state and those after each cycle, by the cycle's meaning
+unfoldable pub run_data : Units → Machine → Code → State → (n : ℕ) → List ℕ
+run_data u m code s n = code_part u m code.words ++ states_text (next u m code) (state_text u m code.words) (limited n) s
+
+-- The page that plays at most n cycles of code from a state, with what is told of the program that the code is built of: between the fixed text
+-- stand that text, which is empty where there is no program, and the data of the run.
+unfoldable pub page_of : Units → Machine → Code → (told : List ℕ) → State → (n : ℕ) → List ℕ
+page_of u m code told s n = run_page told (run_data u m code s n)

@@ -1,5 +1,5 @@
 -- What a page tells of each state of a run.
-use Rattle.std.specs.Prelude.{ℕ, zero, suc, ◌+◌, if◌then◌else◌, List, [], ◌++◌, Option, None, Some, option_map, length, drop, slice_get, codes, decimal}
+use Rattle.std.specs.Prelude.{ℕ, zero, suc, ◌+◌, ◌==◌, false, if◌then◌else◌, List, [], ◌++◌, Option, None, Some, option_map, length, drop, slice_get, codes, decimal}
 use Rattle.std.specs.Option.{option_map_or}
 use Rattle.std.specs.List.{flat_map, enumerate_from}
 use Rattle.tta_ops.specs.Units.{Units}
@@ -59,6 +59,11 @@ units_text s units = flat_map (λ q. results_text s q.0) (enumerate_from 0 units
 unfoldable pub where_text : State → List ℕ
 where_text s = codes "state " ++ (decimal s.cycle ++ (codes " " ++ (decimal s.pc ++ codes "\n")))
 
+-- the word of the input that comes next, if one is left
+abbrev pub input_text : Option ℕ → List ℕ
+input_text None = []
+input_text (Some word) = codes "input " ++ (decimal word ++ codes "\n")
+
 -- an instruction as assembly
 unfoldable pub code_text : Units → Machine → Instruction → List ℕ
 code_text u m i = codes "code " ++ instruction_text u m i
@@ -67,10 +72,10 @@ code_text u m i = codes "code " ++ instruction_text u m i
 abbrev pub code_at_text : Units → Machine → List Instruction → (address : ℕ) → List ℕ
 code_at_text u m words address = option_map_or (code_text u m) (slice_get words address) []
 
--- a state: where it is, its registers, its results, and the instruction that comes next
+-- a state: where it is, its registers, its results, the word of the input and the instruction that come next
 unfoldable pub state_text : Units → Machine → List Instruction → State → List ℕ
 state_text u m words s =
-    where_text s ++ (files_text s m.files ++ (units_text s m.units ++ code_at_text u m words s.pc))
+    where_text s ++ (files_text s m.files ++ (units_text s m.units ++ (input_text (slice_get s.rest 0) ++ code_at_text u m words s.pc)))
 
 -- ---- states
 
@@ -82,6 +87,20 @@ out_text word = codes "out " ++ (decimal word ++ codes "\n")
 abbrev pub outs_text : (s t : State) → List ℕ
 outs_text s t = flat_map out_text (drop (length s.output) t.output)
 
+-- a data word, where another was before
+unfoldable pub store_text : (before : Option ℕ) → (address word : ℕ) → List ℕ
+store_text before address word =
+    if option_map_or (λ b. b == word) before false then []
+    else codes "store " ++ (decimal address ++ (codes " " ++ (decimal word ++ codes "\n")))
+
+-- the data words that a cycle changes
+abbrev pub stores_text : (before now : List ℕ) → List ℕ
+stores_text before now = flat_map (λ e. store_text (slice_get before e.0) e.0 e.1) (enumerate_from 0 now)
+
+-- what a cycle does: the words that it outputs, and the data words that it changes
+abbrev pub cycle_text : (s t : State) → List ℕ
+cycle_text s t = outs_text s t ++ stores_text s.memory t.memory
+
 -- why a run is over
 abbrev pub end_text : Outcome → List ℕ
 end_text Running = []
@@ -89,12 +108,12 @@ end_text Halted = codes "halted\n"
 end_text Waiting = codes "waiting\n"
 end_text (Fault number cycle) = codes "fault " ++ (decimal number ++ codes "\n")
 
--- A state, and those after each of at most so many cycles, with what each cycle outputs; and where a cycle is not carried
+-- A state, and those after each of at most so many cycles, with what each cycle does; and where a cycle is not carried
 -- out, why the run is over.
 abbrev pub states_text : (step : State → State) → (told : State → List ℕ) → (left : ℕ) → State → List ℕ
 states_text step told zero s = told s
 states_text step told (suc left) s =
     told s
     ++ (if is_made step s
-    then outs_text s (step s) ++ states_text step told left (step s)
+    then cycle_text s (step s) ++ states_text step told left (step s)
     else end_text (step s).outcome)

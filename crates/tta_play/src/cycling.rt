@@ -9,6 +9,7 @@ ghost use Rattle.tta_play.specs.States.{out_text, state_text, states_text};
 ghost use Rattle.tta_play.specs.Steps.{Goes, step_text};
 ghost use Rattle.tta_sim.specs.declared.cycle_step.CycleStep.TheVariants.{Fault};
 
+use crate::memory::{push_changed, remember};
 use crate::state::push_state;
 use crate::words::push_number;
 use std::alloc::AllocError;
@@ -64,9 +65,11 @@ fn cycle_once(sim: &mut Sim, basis: &Basis<'_>, next: Option<u32>) -> CycleStep
     sim.cycle(basis.m, basis.code, basis.units, next)
 }
 
-/// Puts a state of a run, and those after each of at most so many cycles.
+/// Puts a state of a run, and those after each of at most so many cycles, with what each cycle does.
+/// `memory` keeps the data words of the state before.
 pub fn push_states(
     out: &mut Vec<u8>,
+    memory: &mut Vec<u32>,
     sim: &mut Sim,
     basis: &Basis<'_>,
     input: &[u32],
@@ -79,17 +82,20 @@ pub fn push_states(
         (s : State) → Stands sim.old s → s.rest ≡ input.now → OnOk result (out.new.items
         ≡ out.old.items ++ states_text (next_state U on.m.now on.code.now) told bound s) }
 {
+    remember(memory, sim.memory())?;
     let mut left = bound;
     let mut rest = input;
     'cycles: while left > 0 {
-        push_state(out, basis, &*sim)?;
-        let step = cycle_once(sim, basis, first_of(rest));
+        let next = first_of(rest);
+        push_state(out, basis, &*sim, next)?;
+        let step = cycle_once(sim, basis, next);
         push_step(out, step)?;
         let Some(took) = went_on(step) else {
             return Ok(());
         };
+        push_changed(out, memory, sim.memory())?;
         rest = left_of(rest, took);
         left -= 1;
     }
-    push_state(out, basis, &*sim)
+    push_state(out, basis, &*sim, first_of(rest))
 }

@@ -3,8 +3,9 @@
 
 mod cycling;
 mod names;
-mod page;
+mod memory;
 mod playing;
+mod rows;
 mod state;
 mod words;
 

@@ -6,7 +6,7 @@ ghost use Rattle.tta_ops.specs.Set.{stated};
 ghost use Rattle.tta_code.specs.Cycle.{State};
 ghost use Rattle.tta_sim.specs.Held.{Stands, IsRunOf};
 ghost use Rattle.tta_play.specs.States.{code_at_text, code_text, file_text, files_text};
-ghost use Rattle.tta_play.specs.States.{results_text, state_text, units_text, where_text};
+ghost use Rattle.tta_play.specs.States.{input_text, results_text, state_text, units_text, where_text};
 
 use crate::words::{push_dues, push_number, push_registers, push_word};
 use std::alloc::AllocError;
@@ -84,6 +84,20 @@ fn push_units(out: &mut Vec<u8>, sim: &Sim, units: &[Unit]) -> Result<(), AllocE
     Ok(())
 }
 
+/// Puts the word of the input that comes next, if one is left.
+fn push_input(out: &mut Vec<u8>, next: Option<u32>) -> Result<(), AllocError>
+    ensures { OnOk result (out.new.items ≡ out.old.items ++ input_text next) }
+{
+    match next {
+        None => Ok(()),
+        Some(word) => {
+            out.extend_from_slice(b"input ")?;
+            push_number(out, u64::from(word))?;
+            out.extend_from_slice(b"\n")
+        }
+    }
+}
+
 /// Puts an instruction as assembly.
 #[tactic(auto, unfolding(crate::specs::States::code_text))]
 fn push_code(
@@ -124,18 +138,25 @@ fn push_code_at(
     }
 }
 
-/// Puts a state: where it is, its registers, its results, and the instruction that comes next.
+/// Puts a state: where it is, its registers, its results, the word of the input and the instruction
+/// that come next.
 #[tactic(auto, unfolding(crate::specs::States::state_text), using(tta_arch::proofs::Sizes::sizes))]
-pub fn push_state(out: &mut Vec<u8>, basis: &Basis<'_>, sim: &Sim) -> Result<(), AllocError>
+pub fn push_state(
+    out: &mut Vec<u8>,
+    basis: &Basis<'_>,
+    sim: &Sim,
+    next: Option<u32>,
+) -> Result<(), AllocError>
     requires loaded { IsRunOf basis.now.m.now basis.now.code.now sim.now }
     requires few { sim.now.cycle < 2 ^ 63 }
     ensures { let U = stated unit_meaning basis.now.units.now in
-        (s : State) → Stands sim.now s → OnOk result (out.new.items ≡ out.old.items
-        ++ state_text U basis.now.m.now basis.now.code.now.words s) }
+        (s : State) → Stands sim.now s → slice_get s.rest 0 ≡ next → OnOk result (out.new.items
+        ≡ out.old.items ++ state_text U basis.now.m.now basis.now.code.now.words s) }
 {
     let m = basis.m;
     push_where(out, sim)?;
     push_files(out, sim, m.files.as_slice())?;
     push_units(out, sim, m.units.as_slice())?;
+    push_input(out, next)?;
     push_code_at(out, basis.units, m, basis.code, sim.pc())
 }

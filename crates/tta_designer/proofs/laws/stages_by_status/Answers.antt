@@ -7,14 +7,15 @@ use Rattle.tta_given.specs.declared.status.Status.TheVariants as status
 use Rattle.tta_given.specs.Held.{ReadFailed, IsTooLong}
 use Rattle.tta_given.specs.Programs.{IsProgramFor, RefusesProgramFor}
 use Rattle.tta_given.proofs.Stages.{none, pair_at, PutStages, put_stages}
+use Rattle.tta_designer.specs.declared.view.StagesView.{StagesView}
 use Rattle.tta_designer.specs.Stages.{IsStagesOf, IsCauseOf, ShowsStages, StagesEndings}
 use Rattle.tta_designer.proofs.laws.stages_by_status.Goals as goal
 
-module _ (u : Units) (M P : List ℕ) (before after : World) (old new : Output) where
-  of : (s : Status) (G : Type 0) → PutStages u (IsProgramFor u) (RefusesProgramFor u) (IsStagesOf u) (λ file p. IsCauseOf u file.machine p) M P before after old new s G
-  of s G = put_stages u (IsProgramFor u) (RefusesProgramFor u) (IsStagesOf u) (λ file p. IsCauseOf u file.machine p) M P before after old new s G
+module _ (u : Units) (view : StagesView) (M P : List ℕ) (before after : World) (old new : Output) where
+  of : (s : Status) (G : Type 0) → PutStages u (IsProgramFor u) (RefusesProgramFor u) (IsStagesOf u view) (λ file p. IsCauseOf u file.machine p) M P before after old new s G
+  of s G = put_stages u (IsProgramFor u) (RefusesProgramFor u) (IsStagesOf u view) (λ file p. IsCauseOf u file.machine p) M P before after old new s G
 
-  by_status : (s : Status) → ShowsStages u M P before after old new s ↔ StagesEndings u M P before after old new s
+  by_status : (s : Status) → ShowsStages u view M P before after old new s ↔ StagesEndings u view M P before after old new s
   by_status status.Ok = (
     of status.Ok _ absurd none (λ m. absurd) (λ m. none) (λ p same e. elim e [
       | inl put ↦ (same, (p, put))

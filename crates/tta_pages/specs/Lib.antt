@@ -1,0 +1,4 @@
+pub mod Pages
+pub mod CommonPieces
+pub mod StagesPieces
+pub mod RunPieces

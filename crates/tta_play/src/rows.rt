@@ -1,0 +1,113 @@
+//! The machine and its code.
+
+ghost use Rattle.std.specs.Prelude.{◌≡◌, ◌++◌, take, OnOk};
+ghost use Rattle.tta_ops.specs.Set.{stated};
+ghost use Rattle.tta_play.specs.Statement.{code_part, delay_text, row_text, rows_text};
+ghost use Rattle.tta_play.specs.Statement.{template_text, templates_text};
+
+use crate::names::push_names;
+use crate::words::push_number;
+use std::alloc::AllocError;
+use tta_arch::{Machine, Template};
+use tta_asm::{imm_name, push_instruction, push_place};
+use tta_code::Instruction;
+use tta_ops::UnitSet;
+use tta_profile::Basis;
+
+/// How many instructions a page has at most.
+const MOST: usize = 4096;
+
+/// Puts how many delay slots a jump has.
+#[tactic(auto, unfolding(crate::specs::Statement::delay_text))]
+fn push_delay(out: &mut Vec<u8>, m: &Machine) -> Result<(), AllocError>
+    ensures { OnOk result (out.new.items ≡ out.old.items ++ delay_text m.now) }
+{
+    out.extend_from_slice(b"delay ")?;
+    push_number(out, u64::from(m.control.delay))?;
+    out.extend_from_slice(b"\n")
+}
+
+/// Puts a template, and the register that takes its long immediate.
+#[tactic(auto, unfolding(crate::specs::Statement::template_text))]
+fn push_template(out: &mut Vec<u8>, m: &Machine, t: &Template) -> Result<(), AllocError>
+    ensures { OnOk result (out.new.items ≡ out.old.items ++ template_text m.now t.now) }
+{
+    out.extend_from_slice(b"template ")?;
+    out.extend_from_slice(t.name.as_bytes())?;
+    out.extend_from_slice(b" ")?;
+    push_place(out, imm_name(m, t.imm), t.reg)?;
+    out.extend_from_slice(b"\n")
+}
+
+/// Puts templates.
+fn push_templates(
+    out: &mut Vec<u8>,
+    m: &Machine,
+    templates: &[Template],
+) -> Result<(), AllocError>
+    ensures { OnOk result (out.new.items
+        ≡ out.old.items ++ templates_text m.now templates.now) }
+{
+    for t in templates {
+        push_template(out, m, t)?;
+    }
+    Ok(())
+}
+
+/// Puts an instruction after its address.
+#[tactic(auto, unfolding(crate::specs::Statement::row_text))]
+fn push_row(
+    out: &mut Vec<u8>,
+    units: &UnitSet,
+    m: &Machine,
+    address: usize,
+    i: &Instruction,
+) -> Result<(), AllocError>
+    ensures { let U = stated unit_meaning units.now in
+        OnOk result (out.new.items ≡ out.old.items ++ row_text U m.now address i.now) }
+{
+    out.extend_from_slice(b"row ")?;
+    push_number(out, address as u64)?;
+    out.extend_from_slice(b" ")?;
+    push_instruction(out, units, m, i)
+}
+
+/// The first of some instructions, as many as a page has.
+fn first_of(words: &[Instruction]) -> &[Instruction]
+    ensures { result.now ≡ take 4096 words.now }
+{
+    if words.len() > MOST {
+        &words[..MOST]
+    } else {
+        words
+    }
+}
+
+/// Puts instructions, each after its address.
+fn push_rows(
+    out: &mut Vec<u8>,
+    units: &UnitSet,
+    m: &Machine,
+    words: &[Instruction],
+) -> Result<(), AllocError>
+    ensures { let U = stated unit_meaning units.now in
+        OnOk result (out.new.items ≡ out.old.items ++ rows_text U m.now words.now) }
+{
+    for (address, i) in words.iter().enumerate() {
+        push_row(out, units, m, address, i)?;
+    }
+    Ok(())
+}
+
+/// Puts the machine and its code.
+#[tactic(auto, unfolding(crate::specs::Statement::code_part))]
+pub fn push_code_part(out: &mut Vec<u8>, basis: &Basis<'_>) -> Result<(), AllocError>
+    ensures { let on = basis.now in let U = stated unit_meaning on.units.now in
+        OnOk result (out.new.items ≡ out.old.items ++ code_part U on.m.now on.code.now.words) }
+{
+    let m = basis.m;
+    push_names(out, m)?;
+    push_delay(out, m)?;
+    push_templates(out, m, m.templates.as_slice())?;
+    push_rows(out, basis.units, m, first_of(basis.code.words.as_slice()))
+}
