@@ -2,3 +2,5 @@ mod ImageSizes
 mod Laying
 mod Prompted
 mod Made
+mod Lacking
+mod Circuits

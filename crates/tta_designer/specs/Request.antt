@@ -11,14 +11,14 @@ use Rattle.tta_designer.specs.declared.request.Request.TheVariants as for
 
 -- what can be asked for: a view of a machine, one of the code of an image for a machine, one of a run of such code or of a program,
 -- a session at a prompt over a run of code, the stages of a program for a machine, or the circuit of a machine with the code of an
--- image
+-- image or of a program
 pub data Request : Type 0 where
   OfMachine : (view : View) (machine : List ℕ) → Request
   OfCode : (view : View) (machine image : List ℕ) → Request
   OfRun : (view : RunView) (machine subject input : List ℕ) (stream : Option (List ℕ)) (bound : ℕ) → Request
   OfPrompt : (machine image input : List ℕ) (stream : Option (List ℕ)) → Request
   OfStages : (machine program : List ℕ) → Request
-  OfRtl : (machine image : List ℕ) → Request
+  OfRtl : (machine subject : List ℕ) → Request
 
 -- the view that a word names
 abbrev pub view_of : (word : List ℕ) → Option View
@@ -86,4 +86,4 @@ asked (for.Code names) = OfCode names.view names.machine.now names.image.now
 asked (for.Run run) = OfRun run.view run.machine.now run.subject.now run.input.now (option_map (λ s. s.now) run.stream) run.bound
 asked (for.Prompt names) = OfPrompt names.machine.now names.image.now names.input.now (option_map (λ s. s.now) names.stream)
 asked (for.Stages names) = OfStages names.machine.now names.program.now
-asked (for.Rtl names) = OfRtl names.machine.now names.image.now
+asked (for.Rtl names) = OfRtl names.machine.now names.subject.now

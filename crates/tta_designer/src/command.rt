@@ -155,7 +155,7 @@ fn carry_out<F: Files, L: Lines, S: Sink>(
 /// machine of the file M: blocks, homes, register code, the lists of each block, and the code.
 ///
 /// `rtl M IMG` outputs the circuit of that machine with the code and data of that image, as a module of
-/// Verilog.
+/// Verilog; and `rtl M P` that with the code that `build` makes of that program, and its data.
 ///
 /// The output takes a text in one piece, and nothing where there is none. No file changes.
 ///

@@ -27,12 +27,12 @@ pub struct StagesRequest<'w> {
     pub program: &'w str,
 }
 
-/// The circuit of a machine with the code of an image that is asked for: the names of the machine's file
-/// and of the image's.
+/// The circuit of a machine with code that is asked for: the names of the machine's file and of that of
+/// the image or the program.
 #[derive(Clone, Copy)]
 pub struct RtlRequest<'w> {
     pub machine: &'w str,
-    pub image: &'w str,
+    pub subject: &'w str,
 }
 
 /// A view of a run that is asked for: the names of the run's files, that of the input where it has one,

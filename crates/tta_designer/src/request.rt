@@ -14,7 +14,7 @@ use tta_given::bound_of;
 
 /// What is asked for: a view of a machine, one of the code of an image for a machine, one of a run of
 /// such code or of a program, a session at a prompt over a run of code, the stages of a program for a
-/// machine, or the circuit of a machine with the code of an image.
+/// machine, or the circuit of a machine with the code of an image or of a program.
 #[derive(Clone, Copy)]
 pub enum Request<'w> {
     Machine(MachineRequest<'w>),
@@ -173,7 +173,7 @@ fn of_pair<'w>(word: &str, machine: &'w str, second: &'w str) -> Option<Request<
     if is_rtl(word) {
         return Some(Request::Rtl(RtlRequest {
             machine,
-            image: second,
+            subject: second,
         }));
     }
     let view = view_of(word)?;
