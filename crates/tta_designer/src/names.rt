@@ -35,6 +35,16 @@ pub struct RtlRequest<'w> {
     pub subject: &'w str,
 }
 
+/// The circuits of cores that are joined by queues that are asked for: the word that says how many words
+/// the queues have, the file of the links, and three files for each core.
+#[derive(Clone, Copy)]
+pub struct NetRequest<'w> {
+    pub depths: &'w str,
+    pub links: &'w str,
+    /// Of each core the machine's name, that of the image, and that of the data words.
+    pub names: &'w [String],
+}
+
 /// A view of a run that is asked for: the names of the run's files, that of the input where it has one,
 /// and how many cycles it makes at most.
 #[derive(Clone, Copy)]

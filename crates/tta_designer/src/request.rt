@@ -6,11 +6,13 @@ ghost use Rattle.tta_designer.specs.Request.{asked, is_named, is_rtl, is_stages,
 ghost use Rattle.tta_designer.specs.Request.{is_prompt, prompt_request, request_of, run_request};
 ghost use Rattle.tta_designer.specs.Request.{run_view_of, view_of};
 
+use crate::depths::are_depths;
 use crate::names::{
-    CodeRequest, MachineRequest, PromptRequest, RtlRequest, RunRequest, StagesRequest,
+    CodeRequest, MachineRequest, NetRequest, PromptRequest, RtlRequest, RunRequest, StagesRequest,
 };
 use crate::view::{RunView, View};
 use tta_given::bound_of;
+use tta_network::is_net;
 
 /// What is asked for: a view of a machine, one of the code of an image for a machine, one of a run of
 /// such code or of a program, a session at a prompt over a run of code, the stages of a program for a
@@ -23,6 +25,7 @@ pub enum Request<'w> {
     Prompt(PromptRequest<'w>),
     Stages(StagesRequest<'w>),
     Rtl(RtlRequest<'w>),
+    Net(NetRequest<'w>),
 }
 
 /// The view that a word names.
@@ -184,6 +187,30 @@ fn of_pair<'w>(word: &str, machine: &'w str, second: &'w str) -> Option<Request<
     }))
 }
 
+/// The request for the circuits of cores that are joined by queues.
+fn of_net<'w>(
+    word: &str,
+    kind: &str,
+    depths: &'w str,
+    links: &'w str,
+    names: &'w [String],
+) -> Option<Request<'w>>
+    ensures { option_map asked result ≡ net_request word.now kind.now depths.now links.now
+        (map (λ w. string_bytes w) names.now) }
+{
+    if !is_rtl(word) || kind != "net" || !is_net(names.len()) {
+        return None;
+    }
+    if !are_depths((names.len() / 3) as u8, depths) {
+        return None;
+    }
+    Some(Request::Net(NetRequest {
+        depths,
+        links,
+        names,
+    }))
+}
+
 impl<'w> Request<'w> {
     /// What the words ask for, the first of them the command's name. `None` where they are no
     /// command.
@@ -203,6 +230,7 @@ impl<'w> Request<'w> {
             [word, machine, second, input, last, stream] => {
                 of_run(word, machine, second, input, last, Some(stream.as_str()))
             }
+            [word, kind, depths, links, names @ ..] => of_net(word, kind, depths, links, names),
             _ => None,
         }
     }
