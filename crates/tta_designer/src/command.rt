@@ -158,6 +158,8 @@ fn carry_out<F: Files, L: Lines, S: Sink>(
 ///
 /// `rtl M IMG` outputs the circuit of that machine with the code and data of that image, as a module of
 /// Verilog; and `rtl M P` that with the code that `build` makes of that program, and its data.
+/// `rtl net DEPTHS LINKS M IMG IN ..` outputs the circuits of cores, three files for each, that are joined
+/// by queues as the links of the file LINKS say, with as many words in each queue as DEPTHS says.
 ///
 /// The output takes a text in one piece, and nothing where there is none. No file changes.
 ///

@@ -2,11 +2,11 @@
 
 ghost use Rattle.std.specs.Prelude.{◌≡◌, ◌≤◌, length, map};
 ghost use Rattle.std.specs.String.{string_bytes};
-ghost use Rattle.std.specs.List.{AllByRecursion};
 ghost use Rattle.tta_ops.specs.Set.{stated};
 ghost use Rattle.tta_given.specs.Held.{MadeEnds, no_memory};
 ghost use Rattle.tta_net.specs.Loaded.{CanLoadAll};
 ghost use Rattle.tta_network.specs.CoreFiles.{cores_in};
+ghost use Rattle.tta_designer.specs.Depths as d;
 ghost use Rattle.tta_designer.specs.Joining.{IsNetText, ShowsCores, ShowsNet};
 
 use crate::depths::depths_in;
@@ -18,32 +18,23 @@ use tta_network::{Cores, core_files, links_file};
 use tta_ops::UnitSet;
 use tta_ports::{Files, Sink};
 
-/// The text of cores that are joined so.
-fn text_of_cores(alloc: Global, net: &Net<'_>, taken: Cores) -> Result<Vec<u8>, Status>
-    requires load { CanLoadAll taken.cores.items (map (λ v. v.items) taken.memories.items) }
-    requires feeds { length net.now.feeds.now ≤ 8 }
-    requires depths { length net.now.depths.now ≤ 8 }
-    requires sizes { AllByRecursion (λ k. k ≤ 16) net.now.depths.now }
-    ensures { let U = stated unit_meaning net.now.units.now in
-        MadeEnds (IsNetText U taken.cores.items (map (λ v. v.items) taken.memories.items)
-        net.now.feeds.now net.now.depths.now) no_memory (λ v. v.items) result }
-{
-    let Cores { cores, memories } = taken;
-    match write_net(alloc, net, cores, memories.as_slice()) {
-        Ok(text) => Ok(text),
-        Err(_) => Err(Status::NoMemory),
-    }
-}
-
-/// The text of cores that these feed, with queues of as many words as the request says.
-fn text_of_net(
+/// The text of cores that these feed, with queues of as many words as a word says.
+fn text_of_cores(
     alloc: Global,
     units: &UnitSet,
     feeds: &[Option<u8>],
-    count: u8,
     depths: &str,
+    count: u8,
     taken: Cores,
-) -> Result<Vec<u8>, Status> {
+) -> Result<Vec<u8>, Status>
+    requires few { count ≤ 8 }
+    requires feeds { length feeds.now ≤ 8 }
+    requires load { CanLoadAll taken.cores.items (map (λ v. v.items) taken.memories.items) }
+    ensures { let U = stated unit_meaning units.now in
+        MadeEnds (IsNetText U taken.cores.items (map (λ v. v.items) taken.memories.items)
+        feeds.now (d.depths_in count depths.now)) no_memory (λ v. v.items) result }
+{
+    let Cores { cores, memories } = taken;
     let Ok(depths) = depths_in(alloc, count, depths) else {
         return Err(Status::NoMemory);
     };
@@ -52,7 +43,10 @@ fn text_of_net(
         feeds,
         depths: depths.as_slice(),
     };
-    text_of_cores(alloc, &net, taken)
+    match write_net(alloc, &net, cores, memories.as_slice()) {
+        Ok(text) => Ok(text),
+        Err(_) => Err(Status::NoMemory),
+    }
 }
 
 /// Puts the circuits of the cores of a net that these feed.
@@ -63,26 +57,36 @@ fn put_cores<F: Files, S: Sink>(
     sink: &mut S,
     request: &NetRequest<'_>,
     feeds: &[Option<u8>],
-) -> Status {
+) -> Status
+    requires { length feeds.now ≡ cores_in (length request.now.names.now) }
+    ensures { let U = stated unit_meaning units.now in
+        let names = map (λ w. string_bytes w) request.now.names.now in
+        ShowsCores U request.now.depths.now names feeds.now
+        (F.world files.old) (F.world files.new) (S.output sink.old) (S.output sink.new) result }
+{
     let count = (request.names.len() / 3) as u8;
     match core_files(alloc, units, files, request.names, count) {
         Ok(taken) => {
-            let made = text_of_net(alloc, units, feeds, count, request.depths, taken);
+            let made = text_of_cores(alloc, units, feeds, request.depths, count, taken);
             put_made(sink, made)
         }
         Err(status) => status,
     }
 }
 
-/// Puts the circuits of the cores of a net, whose files the words name from word 3 on, joined by the
-/// links of the file that word 2 names, where the words are counted from `net` on.
+/// Puts the circuits of the cores of a net, joined by the links of the file that word 2 names; word 3 and
+/// those after it name the cores' files, where the words are counted from `net` on.
 pub fn put_net<F: Files, S: Sink>(
     alloc: Global,
     units: &UnitSet,
     files: &mut F,
     sink: &mut S,
     request: &NetRequest<'_>,
-) -> Status {
+) -> Status
+    ensures { let names = map (λ w. string_bytes w) request.now.names.now in
+        ShowsNet (stated unit_meaning units.now) request.now.depths.now request.now.links.now names
+        (F.world files.old) (F.world files.new) (S.output sink.old) (S.output sink.new) result }
+{
     let count = (request.names.len() / 3) as u8;
     match links_file(alloc, files, request.links, count) {
         Ok(feeds) => put_cores(alloc, units, files, sink, request, feeds.as_slice()),

@@ -2,7 +2,8 @@
 
 ghost use Rattle.std.specs.Prelude.{◌≡◌, ◌∷◌, [], map, option_map};
 ghost use Rattle.std.specs.String.{string_bytes};
-ghost use Rattle.tta_designer.specs.Request.{asked, is_named, is_rtl, is_stages, is_view, pair_request};
+ghost use Rattle.tta_designer.specs.Request.{asked, asks_for_net, is_named, is_rtl, is_stages, is_view};
+ghost use Rattle.tta_designer.specs.Request.{net_request, pair_request};
 ghost use Rattle.tta_designer.specs.Request.{is_prompt, prompt_request, request_of, run_request};
 ghost use Rattle.tta_designer.specs.Request.{run_view_of, view_of};
 
@@ -16,7 +17,8 @@ use tta_network::is_net;
 
 /// What is asked for: a view of a machine, one of the code of an image for a machine, one of a run of
 /// such code or of a program, a session at a prompt over a run of code, the stages of a program for a
-/// machine, or the circuit of a machine with the code of an image or of a program.
+/// machine, the circuit of a machine with the code of an image or of a program, or the circuits of cores
+/// that are joined by queues.
 #[derive(Clone, Copy)]
 pub enum Request<'w> {
     Machine(MachineRequest<'w>),
@@ -187,28 +189,33 @@ fn of_pair<'w>(word: &str, machine: &'w str, second: &'w str) -> Option<Request<
     }))
 }
 
-/// The request for the circuits of cores that are joined by queues.
-fn of_net<'w>(
-    word: &str,
-    kind: &str,
-    depths: &'w str,
-    links: &'w str,
-    names: &'w [String],
-) -> Option<Request<'w>>
-    ensures { option_map asked result ≡ net_request word.now kind.now depths.now links.now
-        (map (λ w. string_bytes w) names.now) }
+/// Whether words ask for the circuits of cores, which so many names name.
+fn asks_for_net(word: &str, kind: &str, depths: &str, names: usize) -> bool
+    ensures { result ≡ asks_for_net word.now kind.now depths.now names }
 {
-    if !is_rtl(word) || kind != "net" || !is_net(names.len()) {
-        return None;
+    if !is_rtl(word) || kind != "net" || !is_net(names) {
+        return false;
     }
-    if !are_depths((names.len() / 3) as u8, depths) {
-        return None;
+    are_depths((names / 3) as u8, depths)
+}
+
+/// The request for the circuits of cores that are joined by queues.
+fn of_net<'w>(words: &'w [String]) -> Option<Request<'w>>
+    ensures { option_map asked result ≡ net_request (map (λ w. string_bytes w) words.now) }
+{
+    match words {
+        [word, kind, depths, links, names @ ..] => {
+            if !asks_for_net(word, kind, depths, names.len()) {
+                return None;
+            }
+            Some(Request::Net(NetRequest {
+                depths,
+                links,
+                names,
+            }))
+        }
+        _ => None,
     }
-    Some(Request::Net(NetRequest {
-        depths,
-        links,
-        names,
-    }))
 }
 
 impl<'w> Request<'w> {
@@ -230,8 +237,7 @@ impl<'w> Request<'w> {
             [word, machine, second, input, last, stream] => {
                 of_run(word, machine, second, input, last, Some(stream.as_str()))
             }
-            [word, kind, depths, links, names @ ..] => of_net(word, kind, depths, links, names),
-            _ => None,
+            rest => of_net(rest),
         }
     }
 }

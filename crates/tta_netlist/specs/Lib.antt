@@ -2,3 +2,4 @@ pub mod Queues
 pub mod Signals
 pub mod Top
 pub mod Net
+pub mod Laws
