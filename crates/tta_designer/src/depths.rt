@@ -1,8 +1,6 @@
 //! How many words queues have, as a word of the command line says it.
 
-ghost use Rattle.std.specs.Prelude.{◌≡◌, ◌≤◌, ◌<◌, ◌+◌, ◌^◌, ◌++◌, length, take, drop, replicate, true};
-ghost use Rattle.std.specs.Prelude.{IfOk, IfSome, OnOk};
-ghost use Rattle.std.specs.List.{AllByRecursion};
+ghost use Rattle.std.specs.Prelude.{◌≡◌, ◌<◌, ◌+◌, ◌++◌, take, drop, IfOk, OnOk};
 ghost use Rattle.tta_designer.specs.Depths as spec;
 
 use std::alloc::{AllocError, Global};
@@ -16,10 +14,10 @@ const WORDS: u64 = (1 << 16) + 1;
 const POWERS: u8 = 16;
 
 /// The first of so many exponents, from one on, of which a number is the power of two.
+#[tactic(auto, using(crate::proofs::Depths::exponent_more))]
 fn exponent_from(k: u8, left: u8, n: u64) -> Option<u8>
     requires { k + left < 64 }
-    ensures exponent { result ≡ spec.exponent_from k left n }
-    ensures small { IfSome result (λ e. e < k + left) }
+    ensures { result ≡ spec.exponent_from k left n }
 {
     if left == 0 {
         return None;
@@ -32,8 +30,7 @@ fn exponent_from(k: u8, left: u8, n: u64) -> Option<u8>
 
 /// The exponent that some digits say as a number of words.
 fn depth_of(digits: &[u8]) -> Option<u8>
-    ensures depth { result ≡ spec.depth_of digits.now }
-    ensures small { IfSome result (λ k. k ≤ 16) }
+    ensures { result ≡ spec.depth_of digits.now }
 {
     let words = digits_of(digits, 5, WORDS)?;
     exponent_from(1, POWERS, words)
@@ -75,6 +72,7 @@ fn rest_of(bytes: &[u8], at: usize) -> &[u8]
 }
 
 /// Whether bytes are so many numbers of words with commas between them.
+#[tactic(auto, using(crate::proofs::Depths::is_list_more))]
 fn is_list(count: u8, bytes: &[u8]) -> bool
     ensures { result ≡ spec.is_list count bytes.now }
 {
@@ -101,8 +99,7 @@ pub fn are_depths(count: u8, word: &str) -> bool
 
 /// The exponent that some digits say, and 0 where they say none.
 fn depth_or_zero(digits: &[u8]) -> u8
-    ensures depth { result ≡ spec.depth_or_zero digits.now }
-    ensures small { result ≤ 16 }
+    ensures { result ≡ spec.depth_or_zero digits.now }
 {
     match depth_of(digits) {
         Some(k) => k,
@@ -111,8 +108,9 @@ fn depth_or_zero(digits: &[u8]) -> u8
 }
 
 /// Adds the exponents that bytes say as so many numbers of words with commas between them.
+#[tactic(auto, using(crate::proofs::Depths::list_more))]
 fn add_list(found: &mut Vec<u8>, count: u8, bytes: &[u8]) -> Result<(), AllocError>
-    ensures list { OnOk result (found.new.items ≡ found.old.items ++ spec.list_in count bytes.now) }
+    ensures { OnOk result (found.new.items ≡ found.old.items ++ spec.list_in count bytes.now) }
 {
     if count == 0 {
         return Ok(());
@@ -124,7 +122,7 @@ fn add_list(found: &mut Vec<u8>, count: u8, bytes: &[u8]) -> Result<(), AllocErr
 
 /// The exponents that a word says for the queues of so many cores.
 pub fn depths_in(alloc: Global, count: u8, word: &str) -> Result<Vec<u8>, AllocError>
-    ensures list { IfOk result (λ v. v.items ≡ spec.depths_in count word.now) }
+    ensures { IfOk result (λ v. v.items ≡ spec.depths_in count word.now) }
 {
     let bytes = word.as_bytes();
     if let Some(k) = depth_of(bytes) {
