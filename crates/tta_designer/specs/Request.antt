@@ -69,15 +69,16 @@ pair_request word machine second =
     else if is_rtl word then Some (OfRtl machine second)
     else option_map (λ view. OfCode view machine second) (view_of word)
 
--- whether words ask for the circuits of cores: `rtl net`, how many words the queues have, and three names for each core
-abbrev pub asks_for_net : (word kind depths : List ℕ) → (names : ℕ) → Bool
-asks_for_net word kind depths names =
-    is_rtl word && (bytes_eq kind (codes "net") && (is_net names && are_depths (cores_in names) depths))
+-- whether words ask for the circuits of so many cores: `rtl net`, and how many words the queues have
+abbrev pub asks_for_net : (word kind depths : List ℕ) → (count : ℕ) → Bool
+asks_for_net word kind depths count = is_rtl word && (bytes_eq kind (codes "net") && are_depths count depths)
 
--- the request for the circuits of cores; the file of the links stands before their names
+-- the request for the circuits of cores: the file of the links, and three names for each core
 abbrev pub net_request : List (List ℕ) → Option Request
 net_request (word ∷ kind ∷ depths ∷ links ∷ names) =
-    if asks_for_net word kind depths (length names) then Some (OfNet depths links names) else None
+    if is_net (length names)
+    then (if asks_for_net word kind depths (cores_in (length names)) then Some (OfNet depths links names) else None)
+    else None
 net_request words = None
 
 -- the request of some words; none where they are no command

@@ -1,6 +1,6 @@
 //! The names of a request. A name is that of a file.
 
-ghost use Rattle.std.specs.Prelude.{◌≡◌, ◌<◌, ◌^◌, length, true};
+ghost use Rattle.std.specs.Prelude.{◌<◌, ◌^◌, length, IsTrue};
 ghost use Rattle.tta_network.specs.Request.{is_net};
 
 use crate::view::{RunView, View};
@@ -44,7 +44,7 @@ pub struct NetRequest<'w> {
     pub links: &'w str,
     /// Of each core the machine's name, that of the image, and that of the data words.
     pub names: &'w [String],
-    ghost count: { is_net (length names.now) ≡ true },
+    ghost count: { IsTrue (is_net (length names.now)) },
 }
 
 /// A view of a run that is asked for: the names of the run's files, that of the input where it has one,

@@ -189,14 +189,11 @@ fn of_pair<'w>(word: &str, machine: &'w str, second: &'w str) -> Option<Request<
     }))
 }
 
-/// Whether words ask for the circuits of cores, which so many names name.
-fn asks_for_net(word: &str, kind: &str, depths: &str, names: usize) -> bool
-    ensures { result ≡ asks_for_net word.now kind.now depths.now names }
+/// Whether words ask for the circuits of so many cores.
+fn asks_for_net(word: &str, kind: &str, depths: &str, count: u8) -> bool
+    ensures { result ≡ asks_for_net word.now kind.now depths.now count }
 {
-    if !is_rtl(word) || kind != "net" || !is_net(names) {
-        return false;
-    }
-    are_depths((names / 3) as u8, depths)
+    is_rtl(word) && kind == "net" && are_depths(count, depths)
 }
 
 /// The request for the circuits of cores that are joined by queues.
@@ -205,7 +202,11 @@ fn of_net<'w>(words: &'w [String]) -> Option<Request<'w>>
 {
     match words {
         [word, kind, depths, links, names @ ..] => {
-            if !asks_for_net(word, kind, depths, names.len()) {
+            if !is_net(names.len()) {
+                return None;
+            }
+            let count = (names.len() / 3) as u8;
+            if !asks_for_net(word, kind, depths, count) {
                 return None;
             }
             Some(Request::Net(NetRequest {

@@ -5,6 +5,7 @@ use Rattle.std.specs.Option.{option_map_or}
 use Rattle.std.proofs.lemmas.Option.{slice_get_within}
 use Rattle.tta_ops.specs.Units.{Units}
 use Rattle.tta_code.specs.Cycle.{State}
+use Rattle.tta_circuit.specs.Circuit.{Signal, Both}
 use Rattle.tta_circuit.specs.Meaning.{bit, is_set, value}
 use Rattle.tta_hardware.specs.Signals.{Signal as Named, HasHalted, IsOffered, IsReady, IsReset, Asks, Gives, Goes, Puts as CorePuts, PutWord}
 use Rattle.tta_hardware.specs.Stands.{Hardware}
@@ -16,7 +17,7 @@ use Rattle.tta_cores.specs.declared.cores.Core.{Core}
 use Rattle.tta_cores.specs.Network.{Network, feeder_of}
 use Rattle.tta_cores.specs.Cluster.{cycles}
 use Rattle.tta_board.specs.Board.{Board, Inputs, is_feeder, have_room, lines, pins_of, IsWiredCore, AreWired}
-use Rattle.tta_netlist.specs.Signals.{Joint, Reset, Outside, Cycle, Valid, Word, Asks as Wants, Room, HasWord, First, Rooms, Ready, Puts, Takes, Fed, Comes, NoStore, rooms_of}
+use Rattle.tta_netlist.specs.Signals.{Joint, Reset, Outside, Cycle, Valid, Word, Asks as Wants, Room, HasWord, First, Rooms, Ready, Puts, Takes, Fed, Comes, rooms_of}
 use Rattle.tta_netlist.specs.Laws.{AreLinked, AreNet, NetIsWired}
 
 -- ---- lists
@@ -46,24 +47,28 @@ lets goes false false rest is on = refl
 -- the room of all queues that a core feeds
 rooms_are : (u : Units) (signals : Joint → ℕ) (ready : ℕ → Bool) (feeder core : ℕ) (feeds : List (Option ℕ))
     → ((other : ℕ) → core ≤ other → other < core + length feeds → is_set (signals (Room other)) ≡ ready other)
-    → is_set (value u (λ (m : NoStore). []) signals (rooms_of feeder core feeds)) ≡ have_room ready feeder core feeds
+    → is_set (value u (λ (m : ⊥). []) signals (rooms_of feeder core feeds)) ≡ have_room ready feeder core feeds
 rooms_are u signals ready feeder core [] alike = refl
-rooms_are u signals ready feeder core (o ∷ feeds) alike = by (is_feeder feeder o) refl where
-  words : ℕ → ℕ
-  words n = value u (λ (m : NoStore). []) signals (rooms_of feeder n feeds)
+rooms_are u signals ready feeder core (o ∷ feeds) alike = of (is_feeder feeder o) where
+  rest_of : ℕ → ℕ
+  rest_of n = value u (λ (m : ⊥). []) signals (rooms_of feeder n feeds)
 
-  rest : is_set (words (core + 1)) ≡ have_room ready feeder (suc core) feeds
+  next : core + 1 ≡ suc core
+  next = omega arith
+
+  rest : is_set (rest_of (core + 1)) ≡ have_room ready feeder (suc core) feeds
   rest =
       rooms_are u signals ready feeder (core + 1) feeds (λ other more less. alike other (omega (arith, more)) (omega (arith, less)))
-      ∙ ap (λ (n : ℕ). have_room ready feeder n feeds) (omega arith)
+      ∙ ap (λ (n : ℕ). have_room ready feeder n feeds) next
 
-  by : (fed : Bool) → is_feeder feeder o ≡ fed
-      → is_set (value u (λ (m : NoStore). []) signals (rooms_of feeder core (o ∷ feeds))) ≡ have_room ready feeder core (o ∷ feeds)
-  by true is =
-      rw is (set_bit (is_set (signals (Room core)) && is_set (words (core + 1)))
-      ∙ ap (λ (b : Bool). b && is_set (words (core + 1))) (alike core (omega arith) (omega arith))
-      ∙ ap (λ (b : Bool). ready core && b) rest)
-  by false is = rw is rest
+  of : (fed : Bool)
+      → is_set (value u (λ (m : ⊥). []) signals (if fed then Both (Signal (Room core)) (rooms_of feeder (core + 1) feeds) else rooms_of feeder (core + 1) feeds))
+      ≡ ((not fed || ready core) && have_room ready feeder (suc core) feeds)
+  of true =
+      set_bit (is_set (signals (Room core)) && is_set (rest_of (core + 1)))
+      ∙ ap (λ (b : Bool). b && is_set (rest_of (core + 1))) (alike core (omega arith) (omega arith))
+      ∙ ap (λ (b : Bool). ready core && b) rest
+  of false = rest
 
 -- what a pin of a core shows: that all begins not anew, that the core has not halted, and a test
 shown : (x h g : Bool) → is_set (bit (is_set (bit (not x)) && is_set (bit (is_set (bit (not h)) && g)))) ≡ (not x && (not h && g))
@@ -107,8 +112,8 @@ module _ (u : Units) (cores : List Core) (feeds : List (Option ℕ)) (memories :
     -- it puts a word out
     pub puts : is_set (signals (Puts n)) ≡ is_set (env CorePuts)
     puts =
-        let joints = net.core n c there in
-        ap is_set (net.core_wires n within).1.1.0
+        let joints = net.of_core n c there in
+        ap is_set (net.wires_of_core n within).1.1.0
         ∙ set_bit (is_set (signals (Cycle n)) && is_set (signals (Valid n)))
         ∙ ap (λ (r : ℕ). is_set r && is_set (signals (Valid n))) (sym joints.1.1.0)
         ∙ ap (λ (r : ℕ). is_set (env Goes) && is_set r) (sym joints.1.1.1.0)
@@ -118,8 +123,8 @@ module _ (u : Units) (cores : List Core) (feeds : List (Option ℕ)) (memories :
     -- it takes one
     takes : is_set (signals (Takes n)) ≡ (is_set (env Goes) && is_set (env Asks))
     takes =
-        let joints = net.core n c there in
-        ap is_set (net.core_wires n within).1.1.1.0
+        let joints = net.of_core n c there in
+        ap is_set (net.wires_of_core n within).1.1.1.0
         ∙ set_bit (is_set (signals (Cycle n)) && is_set (signals (Wants n)))
         ∙ ap (λ (r : ℕ). is_set r && is_set (signals (Wants n))) (sym joints.1.1.0)
         ∙ ap (λ (r : ℕ). is_set (env Goes) && is_set r) (sym joints.1.1.1.1.1.1.1.1.0)
@@ -128,18 +133,18 @@ module _ (u : Units) (cores : List Core) (feeds : List (Option ℕ)) (memories :
     -- a word of it would be taken
     taken : is_set (signals (Ready n)) ≡ (i.outside n && have_room (λ other. is_set (pins_of u cores feeds memories k b i other queue.InReady)) n 0 feeds)
     taken =
-        ap is_set (net.core_wires n within).1.0
+        ap is_set (net.wires_of_core n within).1.0
         ∙ set_bit (is_set (signals (Outside n)) && is_set (signals (Rooms n)))
         ∙ ap (λ (r : Bool). r && is_set (signals (Rooms n))) (net.outside n within)
         ∙ ap (λ (r : Bool). i.outside n && r)
-        (ap is_set (net.core_wires n within).0
+        (ap is_set (net.wires_of_core n within).0
         ∙ rooms_are u signals (λ other. is_set (pins_of u cores feeds memories k b i other queue.InReady)) n 0 feeds
-        (λ other more less. ap is_set (sym (net.queue other (omega (arith, less, linked.count))).1.1.1.0)))
+        (λ other more less. ap is_set (sym (net.of_queue other (omega (arith, less, linked.count))).1.1.1.0)))
 
     wired : IsWiredCore u cores feeds memories k b i n c
     wired =
-        let joints = net.core n c there in
-        let before = net.queue n within in
+        let joints = net.of_core n c there in
+        let before = net.of_queue n within in
         record {
           offered = ap is_set (joints.1.1.1.1.1.1.0 ∙ sym before.1.1.1.1.0);
           offer = joints.1.1.1.1.1.1.1.0 ∙ sym before.1.1.1.1.1.0;
@@ -167,11 +172,11 @@ module _ (u : Units) (cores : List Core) (feeds : List (Option ℕ)) (memories :
       × (i.queues n queue.InData ≡ lines u cores feeds memories k b i feeder f PutWord)
   fed n feeder f is there =
       let at = fed_by n feeder is in
-      let before = net.queue n (there_is n (Some feeder) at) in
-      let wires = net.queue_wires n (Some feeder) at in
+      let before = net.of_queue n (there_is n (Some feeder) at) in
+      let wires = net.wires_of_queue n (Some feeder) at in
       (
         ap is_set (before.1.0 ∙ wires.0) ∙ puts feeder f there,
-        before.1.1.0 ∙ wires.1.0 ∙ sym (net.core feeder f there).1.1.1.1.0,
+        before.1.1.0 ∙ wires.1.0 ∙ sym (net.of_core feeder f there).1.1.1.1.0,
       )
 
   no_core : (n feeder : ℕ) → feeder_of among n ≡ Some feeder → slice_get cores feeder ≡ None → is_set (i.queues n queue.InValid) ≡ false
@@ -183,14 +188,14 @@ module _ (u : Units) (cores : List Core) (feeds : List (Option ℕ)) (memories :
   unfed n is = by (slice_get feeds n) refl is where
     by : (o : Option (Option ℕ)) → slice_get feeds n ≡ o → option_map_or (λ f. f) o None ≡ None → is_set (i.queues n queue.InValid) ≡ false
     by None at is = (net.none n (none_alike feeds cores n linked.count at)).0
-    by (Some None) at is = ap is_set ((net.queue n (there_is n None at)).1.0 ∙ (net.queue_wires n None at).0)
+    by (Some None) at is = ap is_set ((net.of_queue n (there_is n None at)).1.0 ∙ (net.wires_of_queue n None at).0)
     by (Some (Some f)) at is = absurd cc
 
   resets : (n : ℕ) → is_set (i.queues n queue.IsReset) ≡ i.reset
   resets n = by (slice_get cores n) refl where
     by : (o : Option Core) → slice_get cores n ≡ o → is_set (i.queues n queue.IsReset) ≡ i.reset
     by None at = (net.none n at).1.1
-    by (Some c) at = ap is_set (net.queue n (slice_get_within cores n c at)).0 ∙ net.reset
+    by (Some c) at = ap is_set (net.of_queue n (slice_get_within cores n c at)).0 ∙ net.reset
 
   pub are_wired : AreWired u cores feeds memories k b i
   are_wired = record {

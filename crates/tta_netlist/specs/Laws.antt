@@ -11,7 +11,7 @@ use Rattle.tta_queue.specs.Queue.{Pin}
 use Rattle.tta_queue.specs.Queue as queue
 use Rattle.tta_cores.specs.declared.cores.Core.{Core}
 use Rattle.tta_board.specs.Board.{Board, Inputs, lines, pins_of, AreWired}
-use Rattle.tta_netlist.specs.Signals.{Joint, NoStore, Reset, Outside, CorePort, ResetOf, HaltedOf, CycleOf, OutValid, OutData, OutReady, InValid, InData, InReady, core_wires, queue_wires, core_joints, queue_joints}
+use Rattle.tta_netlist.specs.Signals.{Joint, Reset, Outside, CorePort, ResetOf, HaltedOf, CycleOf, OutValid, OutData, OutReady, InValid, InData, InReady, core_wires, queue_wires, core_joints, queue_joints}
 
 -- The word of a port of a core's module: an input of its circuit, or what a signal of it shows. `shown_text` of tta_rtl says the same of
 -- the ports as a text.
@@ -42,7 +42,7 @@ abbrev pub AreJoined : (port : CorePort → ℕ) → (signals : Joint → ℕ) �
 AreJoined port signals joints = AllByRecursion (λ j. port j.0 ≡ signals j.1) joints
 
 -- wires have the words of their expressions
-abbrev pub HaveWords : Units → (signals : Joint → ℕ) → List (Wire Joint NoStore) → Type 0
+abbrev pub HaveWords : Units → (signals : Joint → ℕ) → List (Wire Joint ⊥) → Type 0
 HaveWords u signals wires = AllByRecursion (λ w. signals w.name ≡ value u (λ m. []) signals w.word) wires
 
 -- Links of cores: of each core they say which core feeds it, if one does, and that core is there.
@@ -54,11 +54,11 @@ module _ (u : Units) (cores : List Core) (feeds : List (Option ℕ)) (memories :
   -- At a clock the circuits of cores and of queues are joined as the text of their modules says, where these are the words of the signals
   -- of the module that joins them. Where there is no core, a queue is offered nothing and asked for nothing.
   pub record AreNet (b : Board) (i : Inputs) (signals : Joint → ℕ) : Type 0 where
-    pub core : (n : ℕ) (c : Core) → slice_get cores n ≡ Some c
+    pub of_core : (n : ℕ) (c : Core) → slice_get cores n ≡ Some c
         → AreJoined (core_port u (b.cores n) (lines u cores feeds memories k b i n c) (i.cores n)) signals (core_joints n)
-    pub queue : (n : ℕ) → n < length cores → AreJoined (queue_port (pins_of u cores feeds memories k b i n) (i.queues n)) signals (queue_joints n)
-    pub core_wires : (n : ℕ) → n < length cores → HaveWords u signals (core_wires feeds n)
-    pub queue_wires : (n : ℕ) (feeder : Option ℕ) → slice_get feeds n ≡ Some feeder → HaveWords u signals (queue_wires (n, feeder))
+    pub of_queue : (n : ℕ) → n < length cores → AreJoined (queue_port (pins_of u cores feeds memories k b i n) (i.queues n)) signals (queue_joints n)
+    pub wires_of_core : (n : ℕ) → n < length cores → HaveWords u signals (core_wires feeds n)
+    pub wires_of_queue : (n : ℕ) (feeder : Option ℕ) → slice_get feeds n ≡ Some feeder → HaveWords u signals (queue_wires (n, feeder))
     pub reset : is_set (signals Reset) ≡ i.reset
     pub outside : (n : ℕ) → n < length cores → is_set (signals (Outside n)) ≡ i.outside n
     pub none : (n : ℕ) → slice_get cores n ≡ None

@@ -29,9 +29,6 @@ pub data Joint : Type 0 where
   Fed : (core : ℕ) → Joint
   Comes : (core : ℕ) → Joint
 
--- it has no memory of its own
-pub data NoStore : Type 0 where
-
 -- what its signals are called
 abbrev pub joint_name : Joint → List ℕ
 joint_name Reset = codes "reset"
@@ -51,13 +48,14 @@ joint_name (Takes core) = numbered (codes "takes_") core
 joint_name (Fed core) = numbered (codes "fed_") core
 joint_name (Comes core) = numbered (codes "comes_") core
 
-abbrev pub joint_names : Names Joint NoStore
+-- all of them; it has no memories of its own
+abbrev pub joint_names : Names Joint ⊥
 joint_names = record { signal = joint_name; memory = λ m. []; is_constant = λ m. false; op = λ op. [] }
 
 -- ---- wires
 
 -- Whether each queue that a core feeds has room, of those from a number on (`have_room` of tta_board).
-abbrev pub rooms_of : (feeder core : ℕ) → (feeds : List (Option ℕ)) → Expr Joint NoStore
+abbrev pub rooms_of : (feeder core : ℕ) → (feeds : List (Option ℕ)) → Expr Joint ⊥
 rooms_of feeder core [] = Const 1 1
 rooms_of feeder core (o ∷ feeds) =
     if is_feeder feeder o then Both (Signal (Room core)) (rooms_of feeder (core + 1) feeds) else rooms_of feeder (core + 1) feeds
@@ -65,7 +63,7 @@ rooms_of feeder core (o ∷ feeds) =
 -- What a core's word and its wish for a word become, where this core feeds each: the word is taken where each queue that the core feeds
 -- has room and the outside takes it (`ready` of IsWiredCore), so that it goes to all of them at once or to none; and a word is put out or
 -- taken at a clock at which the core carries its instruction out (`Puts`; `asked`).
-abbrev pub core_wires : (feeds : List (Option ℕ)) → (core : ℕ) → List (Wire Joint NoStore)
+abbrev pub core_wires : (feeds : List (Option ℕ)) → (core : ℕ) → List (Wire Joint ⊥)
 core_wires feeds core =
     record { name = Rooms core; width = 1; word = rooms_of core 0 feeds }
     ∷ record { name = Ready core; width = 1; word = Both (Signal (Outside core)) (Signal (Rooms core)) }
@@ -73,7 +71,7 @@ core_wires feeds core =
     ∷ record { name = Takes core; width = 1; word = Both (Signal (Cycle core)) (Signal (Asks core)) } ∷ []
 
 -- What the queue before a core is offered: what the core's feeder puts out (`fed` of AreWired), and nothing where it has none (`unfed`).
-abbrev pub queue_wires : ℕ × Option ℕ → List (Wire Joint NoStore)
+abbrev pub queue_wires : ℕ × Option ℕ → List (Wire Joint ⊥)
 queue_wires q =
     record { name = Fed q.0; width = 1; word = option_map_or (λ f. Signal (Puts f)) q.1 (Const 1 0) }
     ∷ record { name = Comes q.0; width = 32; word = option_map_or (λ f. Signal (Word f)) q.1 (Const 32 0) } ∷ []
