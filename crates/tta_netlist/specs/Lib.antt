@@ -2,4 +2,3 @@ pub mod Queues
 pub mod Signals
 pub mod Top
 pub mod Net
-pub mod Laws

@@ -1,9 +1,8 @@
 -- The signals of the module that joins cores by queues, and its wires.
-use Rattle.std.specs.Prelude.{ℕ, ◌+◌, false, if◌then◌else◌, List, [], ◌∷◌, ◌++◌, Option, codes}
+use Rattle.std.specs.Prelude.{ℕ, ◌+◌, ◌==◌, Bool, false, if◌then◌else◌, List, [], ◌∷◌, ◌++◌, Option, codes}
 use Rattle.std.specs.Option.{option_map_or}
 use Rattle.tta_circuit.specs.Circuit.{Expr, Const, Signal, Both, Wire}
 use Rattle.tta_verilog.specs.Expressions.{Names}
-use Rattle.tta_board.specs.Board.{is_feeder}
 use Rattle.tta_netlist.specs.Queues.{numbered}
 
 -- Its signals, most of them one for each core. The input `Reset` says whether all begins anew, and `Outside` whether the outside would take
@@ -53,6 +52,10 @@ abbrev pub joint_names : Names Joint ⊥
 joint_names = record { signal = joint_name; memory = λ m. []; is_constant = λ m. false; op = λ op. [] }
 
 -- ---- wires
+
+-- whether a core is the feeder
+abbrev pub is_feeder : (feeder : ℕ) → Option ℕ → Bool
+is_feeder feeder o = option_map_or (λ f. f == feeder) o false
 
 -- Whether each queue that a core feeds has room, of those from a number on (`have_room` of tta_board).
 abbrev pub rooms_of : (feeder core : ℕ) → (feeds : List (Option ℕ)) → Expr Joint ⊥

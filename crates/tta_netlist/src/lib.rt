@@ -4,12 +4,10 @@
 
 mod cores;
 mod joining;
-mod laws;
 mod net;
 mod part;
 mod queue;
 mod top;
 mod wiring;
 
-pub use laws::net_is_wired;
 pub use net::{Net, write_net};

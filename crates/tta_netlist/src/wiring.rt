@@ -3,7 +3,6 @@
 ghost use Rattle.std.specs.Prelude.{◌≡◌, ◌≤◌, ◌+◌, ◌++◌, codes, length, OnOk};
 ghost use Rattle.std.specs.List.{flat_map, enumerate_from};
 ghost use Rattle.std.specs.Option.{option_map_or};
-ghost use Rattle.tta_board.specs.Board.{is_feeder};
 ghost use Rattle.tta_verilog.specs.Expressions as e;
 ghost use Rattle.tta_verilog.specs.Circuits as v;
 ghost use Rattle.tta_netlist.specs.Queues.{numbered};
@@ -16,7 +15,7 @@ use tta_verilog::{push_constant, push_range, push_text};
 
 /// Whether a core is the feeder.
 fn is_feeder(feeder: u8, feed: Option<u8>) -> bool
-    ensures { result ≡ is_feeder feeder feed }
+    ensures { result ≡ s.is_feeder feeder feed }
 {
     match feed {
         Some(core) => core == feeder,
