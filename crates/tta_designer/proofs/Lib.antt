@@ -2,3 +2,7 @@ mod ImageSizes
 mod Laying
 mod Prompted
 mod Made
+mod Lacking
+mod Circuits
+mod Depths
+mod Joined

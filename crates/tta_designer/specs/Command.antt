@@ -17,11 +17,12 @@ use Rattle.tta_given.specs.Ends.{IsUsage, TextEnds, Puts}
 use Rattle.tta_given.specs.Endings as endings
 use Rattle.tta_designer.specs.declared.view.View.{View}
 use Rattle.tta_designer.specs.Views.{machine_view, code_view}
-use Rattle.tta_designer.specs.Request.{Request, OfMachine, OfCode, OfRun, OfPrompt, OfStages, OfRtl}
+use Rattle.tta_designer.specs.Request.{Request, OfMachine, OfCode, OfRun, OfPrompt, OfStages, OfRtl, OfNet}
 use Rattle.tta_designer.specs.Runs.{ShowsRun}
 use Rattle.tta_designer.specs.Prompts.{OpensPrompt}
 use Rattle.tta_designer.specs.Stages.{ShowsStages}
-use Rattle.tta_rtl.specs.Module.{rtl_of}
+use Rattle.tta_designer.specs.Circuits.{ShowsCircuit}
+use Rattle.tta_designer.specs.Joining.{ShowsNet}
 
 -- the machine is refused, and nothing is output; or its view is
 abbrev pub ShowsMachine : Units → View → (M : List ℕ) → (before after : World) → (old new : Output) → Status → Type 0
@@ -34,15 +35,6 @@ ShowsMachine u view M before after old new s =
 abbrev pub IsShown : Units → View → MachineFile → Whole → (text : List ℕ) → Type 0
 IsShown u view file whole text = text ≡ code_view u view file whole
 
--- a text is that of the circuit of a machine with code and data, as a module
-abbrev pub IsCircuitText : Units → MachineFile → Whole → (text : List ℕ) → Type 0
-IsCircuitText u file whole text = text ≡ rtl_of u file.machine whole
-
--- The command for a circuit ends so: its text is output, or nothing is and there is a cause.
-abbrev pub ShowsCircuit : Units → (M IMG : List ℕ) → (before after : World) → (old new : Output) → Status → Type 0
-ShowsCircuit u M IMG before after old new s =
-    Puts u IsImageFor RefusesImage (IsCircuitText u) (λ file whole. no_memory) M IMG before after old new s
-
 -- How a request for a text ends. Either its text is output, or nothing is and there is a cause. Each ending but out of memory comes only where its
 -- cause holds.
 abbrev pub Ends : Units → Option Request → (before after : World) → (old new : Output) → Status → Type 0
@@ -53,7 +45,8 @@ Ends u (Some (OfCode view M IMG)) before after old new s =
 Ends u (Some (OfRun view M F IN STREAM bound)) before after old new s = ShowsRun u view M F IN STREAM bound before after old new s
 Ends u (Some (OfPrompt M IMG IN STREAM)) before after old new s = ⊥
 Ends u (Some (OfStages view M P)) before after old new s = ShowsStages u view M P before after old new s
-Ends u (Some (OfRtl M IMG)) before after old new s = ShowsCircuit u M IMG before after old new s
+Ends u (Some (OfRtl M F)) before after old new s = ShowsCircuit u M F before after old new s
+Ends u (Some (OfNet depths LINKS names)) before after old new s = ShowsNet u depths LINKS names before after old new s
 
 -- How a request ends. Lines come of a session at a prompt alone.
 abbrev pub Shows : Units → Option Request → (before after : World) → (came comes : Come) → (old new : Output) → Status → Type 0

@@ -3,6 +3,9 @@ pub mod Views
 pub mod Stages
 pub mod Subjects
 pub mod Runs
+pub mod Circuits
+pub mod Depths
+pub mod Joining
 pub mod Prompts
 pub mod Command
 pub mod Laws

@@ -4,6 +4,7 @@ ghost use Rattle.tta_designer.specs.Laws.{ImageSize};
 ghost use Rattle.tta_designer.specs.Prompts.{PromptByStatus};
 ghost use Rattle.tta_designer.specs.Runs.{RunByStatus};
 ghost use Rattle.tta_designer.specs.Stages.{StagesByStatus};
+ghost use Rattle.tta_designer.specs.Circuits.{CircuitByStatus};
 ghost use Rattle.tta_designer.specs.Command.{MachineByStatus, CodeByStatus};
 
 /// What holds where a view of a machine ends with a status, for each status.
@@ -34,4 +35,9 @@ pub fn prompt_by_status()
 /// What holds where `stages` ends with a status, for each status.
 pub fn stages_by_status()
     ensures { StagesByStatus }
+{}
+
+/// What holds where `rtl` ends with a status, for each status.
+pub fn circuit_by_status()
+    ensures { CircuitByStatus }
 {}

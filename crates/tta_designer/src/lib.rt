@@ -4,6 +4,8 @@
 
 mod command;
 mod compiled;
+mod depths;
+mod joining;
 mod laws;
 mod names;
 mod prompting;
@@ -16,7 +18,7 @@ mod writing;
 
 pub use command::show;
 pub use laws::{
-    code_by_status, image_size, machine_by_status, prompt_by_status, run_by_status,
+    circuit_by_status, code_by_status, image_size, machine_by_status, prompt_by_status, run_by_status,
     stages_by_status,
 };
 pub use request::is_named;

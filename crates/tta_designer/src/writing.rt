@@ -1,36 +1,84 @@
-//! The command `rtl`: the circuit of a machine with its code.
+//! The command `rtl`: the circuit of a machine with the code of an image, or with the code that is built
+//! of a program.
 
-ghost use Rattle.std.specs.Prelude.{◌≡◌, true};
+ghost use Rattle.std.specs.Prelude.{◌≡◌, None, true};
 ghost use Rattle.tta_ops.specs.Set.{stated};
-ghost use Rattle.tta_code.specs.Legal.{IsLegalCode};
-ghost use Rattle.tta_code.specs.Whole.{fits};
+ghost use Rattle.tta_arch.specs.Over as machines;
+ghost use Rattle.tta_program.specs.Over as programs;
+ghost use Rattle.tta_program.specs.Program.{first_outside};
+ghost use Rattle.tta_code.specs.Legal.{IsLegalWhole};
 ghost use Rattle.tta_given.specs.Held.{MadeEnds, no_memory};
-ghost use Rattle.tta_designer.specs.Command.{IsCircuitText, ShowsCircuit};
+ghost use Rattle.tta_designer.specs.Circuits.{IsBuiltCircuit, IsCircuitText, IsWholeCircuit};
+ghost use Rattle.tta_designer.specs.Circuits.{ShowsCircuit, Suits};
+ghost use Rattle.tta_designer.specs.Runs.{Lacks};
+ghost use Rattle.tta_designer.specs.Stages.{IsCauseOf};
 
 use crate::names::RtlRequest;
+use crate::staging::ending_of;
+use crate::subject::{Subject, SubjectPair, subject_pair};
 use std::alloc::Global;
-use tta_given::{CodePair, Status, image_pair, put_made};
+use tta_build::build;
+use tta_code::Whole;
+use tta_given::{MachineFile, Status, put_made};
 use tta_ops::UnitSet;
 use tta_ports::{Files, Sink};
+use tta_program::Program;
 use tta_rtl::write_rtl;
 
 /// The text of the circuit of a machine with code and data.
-fn text_of_circuit(alloc: Global, units: &UnitSet, pair: &CodePair) -> Result<Vec<u8>, Status>
-    requires legal { IsLegalCode pair.now.file.machine pair.now.whole.code }
-    requires inside { fits pair.now.file.machine.data_words pair.now.whole.init ≡ true }
+fn text_of_whole(
+    alloc: Global,
+    units: &UnitSet,
+    file: &MachineFile,
+    whole: &Whole,
+) -> Result<Vec<u8>, Status>
+    requires { IsLegalWhole file.now.machine whole.now }
     ensures { let U = stated unit_meaning units.now in
-        MadeEnds (IsCircuitText U pair.now.file pair.now.whole) no_memory
-        (λ v. v.items) result }
+        MadeEnds (IsWholeCircuit U file.now whole.now) no_memory (λ v. v.items) result }
 {
-    let file = &pair.file;
-    match write_rtl(alloc, &file.machine, units, &file.digest, &pair.whole) {
+    match write_rtl(alloc, &file.machine, units, &file.digest, whole) {
         Ok(text) => Ok(text),
         Err(_) => Err(Status::NoMemory),
     }
 }
 
-/// Puts the circuit of the machine of the file that word 1 names with the code and data of the image of
-/// the file that word 2 names.
+/// The text of the circuit of a machine with the code that is built of a program, and its data.
+fn text_of_built(
+    alloc: Global,
+    units: &UnitSet,
+    file: &MachineFile,
+    program: &Program,
+) -> Result<Vec<u8>, Status>
+    requires machine { machines.StandsOver (stated unit_meaning units.now) file.now.machine }
+    requires program { programs.StandsOver (stated unit_meaning units.now) program.now }
+    requires inside { first_outside file.now.machine.data_words program.now.init ≡ None }
+    ensures { let U = stated unit_meaning units.now in
+        MadeEnds (IsBuiltCircuit U file.now program.now) (IsCauseOf U file.now.machine program.now)
+        (λ v. v.items) result }
+{
+    match build(alloc, &file.machine, program, units) {
+        Ok(built) => text_of_whole(alloc, units, file, &built.whole),
+        Err(error) => Err(ending_of(error, units, &file.machine, program)),
+    }
+}
+
+/// The text of the circuit of a machine with what was read for it.
+fn text_of_circuit(alloc: Global, units: &UnitSet, pair: &SubjectPair) -> Result<Vec<u8>, Status>
+    requires machine { machines.StandsOver (stated unit_meaning units.now) pair.now.file.machine }
+    requires suits { Suits (stated unit_meaning units.now) pair.now.file.machine pair.now.subject }
+    ensures { let U = stated unit_meaning units.now in
+        MadeEnds (IsCircuitText U pair.now.file pair.now.subject)
+        (Lacks U pair.now.file pair.now.subject) (λ v. v.items) result }
+{
+    let file = &pair.file;
+    match &pair.subject {
+        Subject::Code(whole) => text_of_whole(alloc, units, file, whole),
+        Subject::Program(program) => text_of_built(alloc, units, file, program),
+    }
+}
+
+/// Puts the circuit of the machine of the file that word 1 names with the code of the image, or of the
+/// program, of the file that word 2 names.
 pub fn put_circuit<F: Files, S: Sink>(
     alloc: Global,
     units: &UnitSet,
@@ -38,10 +86,10 @@ pub fn put_circuit<F: Files, S: Sink>(
     sink: &mut S,
     names: &RtlRequest<'_>,
 ) -> Status
-    ensures { ShowsCircuit (stated unit_meaning units.now) names.now.machine.now names.now.image.now
+    ensures { ShowsCircuit (stated unit_meaning units.now) names.now.machine.now names.now.subject.now
         (F.world files.old) (F.world files.new) (S.output sink.old) (S.output sink.new) result }
 {
-    match image_pair(alloc, units, files, names.machine, names.image) {
+    match subject_pair(alloc, units, files, names.machine, names.subject) {
         Ok(pair) => {
             let made = text_of_circuit(alloc, units, &pair);
             put_made(sink, made)

@@ -9,4 +9,6 @@ mod report;
 mod request;
 
 pub use command::run_net;
+pub use cores::{Cores, core_files};
+pub use files::links_file;
 pub use request::{NetRequest, is_net, rounds_of};

@@ -30,8 +30,8 @@ use Rattle.tta_hardware.proofs.Imaged.{image_kept}
 use Rattle.tta_verilog.specs.Circuits.{first_line, store_text}
 use Rattle.tta_names.specs.Names.{names_of}
 use Rattle.tta_rtl.specs.Kept.{registers_of_file, registers_of_imm, underways, fixed}
-use Rattle.tta_rtl.specs.Memories.{words_in, stored}
-use Rattle.tta_rtl.specs.Module.{bytes_before, first_words, store_line, stores_text}
+use Rattle.tta_rtl.specs.Memories.{bytes_before, words_in, stored}
+use Rattle.tta_rtl.specs.Module.{first_words, store_line, stores_text}
 use Rattle.tta_rtl.specs.Texts.{registers_text, wires_text}
 use Rattle.tta_rtl.proofs.RegisterTexts.{registers_append}
 use Rattle.tta_rtl.proofs.Texts.{wires_append}

@@ -33,6 +33,10 @@ digits bytes at (suc w) = digit (bit_in bytes at) ++ digits bytes (at + 1) w
 abbrev pub words_in : Machine → (bytes : List ℕ) → (words : ℕ) → List ℕ
 words_in m bytes words = map (λ k. field (k * word_width m) (word_width m) (bits_in bytes)) (numbers words)
 
+-- how many bytes stand before the instructions of an image with so many data
+abbrev pub bytes_before : (count : ℕ) → ℕ
+bytes_before count = if count == 0 then 48 else 52 + 8 * count
+
 -- ---- the spaces
 
 -- the lines of a memory of words that is written

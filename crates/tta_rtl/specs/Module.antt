@@ -1,5 +1,5 @@
 -- The text of a machine with its code and data as a module.
-use Rattle.std.specs.Prelude.{ℕ, ◌+◌, ◌*◌, ◌==◌, Bool, nat_lt, if◌then◌else◌, List, [], ◌++◌, codes, length, replicate}
+use Rattle.std.specs.Prelude.{ℕ, Bool, nat_lt, if◌then◌else◌, List, [], ◌++◌, codes, length, replicate}
 use Rattle.std.specs.List.{flat_map}
 use Rattle.tta_list.specs.Laid.{over}
 use Rattle.tta_ops.specs.Units.{Units}
@@ -22,13 +22,13 @@ use Rattle.tta_rtl.specs.Functions.{functions_text}
 abbrev pub offers : Machine → Op → Bool
 offers m op = nat_lt 0 (length (all_ops m (same_op op)))
 
--- the first line, which names the ports: those of the output where words can be put out, and those of the input where words can be
--- taken
-abbrev pub head_text : (gives takes : Bool) → List ℕ
-head_text gives takes =
-    codes "module tta_core (clk, reset, halted, cycle, pc"
+-- the first line of a module of some name, which names the ports: those of the output where words can be put out, and those of the
+-- input where words can be taken
+abbrev pub head_text : (name : List ℕ) → (gives takes : Bool) → List ℕ
+head_text name gives takes =
+    codes "module " ++ (name ++ (codes " (clk, reset, halted, cycle, pc"
     ++ ((if gives then codes ", out_valid, out_data, out_ready" else [])
-    ++ ((if takes then codes ", in_valid, in_data, in_ready" else []) ++ codes ");\n"))
+    ++ ((if takes then codes ", in_valid, in_data, in_ready" else []) ++ codes ");\n"))))
 
 -- the ports of every machine
 abbrev pub common_ports : Machine → List ℕ
@@ -59,14 +59,10 @@ shown_text gives takes =
 
 -- ---- the module
 
--- how many bytes stand before the instructions of an image with so many data
-abbrev pub bytes_before : (count : ℕ) → ℕ
-bytes_before count = if count == 0 then 48 else 52 + 8 * count
-
 -- what stands before the parts of the circuit
-abbrev pub before_parts : Machine → (gives takes : Bool) → List ℕ
-before_parts m gives takes =
-    head_text gives takes ++ (common_ports m ++ (out_ports gives ++ (in_ports takes ++ codes "integer k;\n")))
+abbrev pub before_parts : Machine → (name : List ℕ) → (gives takes : Bool) → List ℕ
+before_parts m name gives takes =
+    head_text name gives takes ++ (common_ports m ++ (out_ports gives ++ (in_ports takes ++ codes "integer k;\n")))
 
 -- the memories of a circuit
 abbrev pub memories_text : Machine → Circuit Named Store → List ℕ
@@ -86,10 +82,13 @@ stores_text m =
 abbrev pub core_text : Units → Machine → Circuit Named Store → List ℕ
 core_text u m c = parts_text (names_of m) (functions_text u m) c
 
--- a circuit of a machine as a module
+-- a circuit of a machine as a module of this name with these ports
+abbrev pub module_of : Units → Machine → (name : List ℕ) → (gives takes : Bool) → Circuit Named Store → List ℕ
+module_of u m name gives takes c = before_parts m name gives takes ++ (core_text u m c ++ shown_text gives takes)
+
+-- a circuit of a machine as a module alone, which has the ports that the machine's operations ask for
 abbrev pub module_text : Units → Machine → Circuit Named Store → List ℕ
-module_text u m c =
-    before_parts m (offers m Out) (offers m Take) ++ (core_text u m c ++ shown_text (offers m Out) (offers m Take))
+module_text u m c = module_of u m (codes "tta_core") (offers m Out) (offers m Take) c
 
 -- the words that the data space begins with
 abbrev pub first_words : Machine → Whole → List ℕ

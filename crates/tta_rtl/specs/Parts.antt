@@ -6,16 +6,11 @@ use Rattle.tta_arch.specs.Machine.{Machine}
 use Rattle.tta_arch.specs.Joins.{has_bit}
 use Rattle.tta_hardware.specs.Signals.{Field, Fetched}
 use Rattle.tta_verilog.specs.Expressions.{constant, part, joined, choice}
-use Rattle.tta_verilog.specs.Circuits.{range}
 use Rattle.tta_rtl.specs.Texts.{wires_text}
 
 -- so many bits of the instruction's word, from one on
 abbrev pub part_text : (low width : ℕ) → List ℕ
 part_text low width = part (codes "n_word") low width
-
--- how a wire of so many bits begins, up to its word
-unfoldable pub wire_start : (name : List ℕ) → (width : ℕ) → List ℕ
-wire_start name width = codes "wire " ++ (range width ++ (name ++ codes " = "))
 
 -- the wires of some fields
 abbrev pub fields_text : Machine → List Field → List ℕ

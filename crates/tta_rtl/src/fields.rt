@@ -1,6 +1,6 @@
 //! The fields of an instruction as parts of its word.
 
-ghost use Rattle.std.specs.Prelude.{◌≡◌, ◌+◌, ◌<◌, ◌≤◌, ◌^◌, ◌++◌, [], ◌∷◌, map, length, OnOk};
+ghost use Rattle.std.specs.Prelude.{◌≡◌, ◌+◌, ◌<◌, ◌^◌, ◌++◌, [], ◌∷◌, map, length, OnOk};
 ghost use Rattle.std.specs.List.{flat_map, range_with_len, sum_by};
 ghost use Rattle.tta_arch.specs.Fields.{dest_width, numbers, template_width};
 ghost use Rattle.tta_arch.specs.Layout.{fields_of};
@@ -9,68 +9,20 @@ ghost use Rattle.tta_hardware.specs.Signals as s;
 ghost use Rattle.tta_hardware.specs.Hardware.{all_fields, bus_fields, with_bits};
 ghost use Rattle.tta_circuit.specs.Circuit as c;
 ghost use Rattle.tta_names.specs.Names.{bus_name, text_of};
-ghost use Rattle.tta_rtl.specs.Parts.{fields_text, high_text, part_text, short_text, wire_start};
+ghost use Rattle.tta_rtl.specs.Parts.{fields_text, part_text};
+ghost use Rattle.tta_rtl.specs.Texts.{wire_start};
 ghost use Rattle.tta_verilog.specs.Circuits.{wire_line};
 
 use crate::on::On;
+use crate::shorts::push_short_of;
 use crate::templates::{push_long_from, push_part, push_takes_from, push_template, width_of};
 use std::alloc::AllocError;
 use tta_arch::{BusFields, Machine};
 use tta_names::push_of_bus;
 use tta_verilog::{push_constant, push_range, push_text};
 
-/// Puts a short field, with these bits above it if there are any above it.
-#[tactic(auto, unfolding(tta_verilog::specs::Expressions::joined))]
-fn push_with_high(out: &mut Vec<u8>, low: u32, width: u32, high: u64) -> Result<(), AllocError>
-    requires { width ≤ 32 }
-    ensures { OnOk result (out.new.items ≡ out.old.items ++ high_text low width high) }
-{
-    if width == 32 {
-        return push_part(out, low, width);
-    }
-    push_text(out, b"{")?;
-    push_constant(out, 32 - width, high)?;
-    push_text(out, b",")?;
-    push_part(out, low, width)?;
-    push_text(out, b"}")
-}
-
-/// Puts the word of a short field of so many bits that stands so high.
-#[tactic(auto, unfolding(tta_verilog::specs::Expressions::choice))]
-fn push_short(out: &mut Vec<u8>, low: u32, width: u32, signed: bool) -> Result<(), AllocError>
-    requires some { 1 ≤ width }
-    requires few { width ≤ 32 }
-    requires room { low < 2 ^ 31 }
-    ensures { OnOk result (out.new.items ≡ out.old.items ++ short_text low width signed) }
-{
-    if !signed {
-        return push_with_high(out, low, width, 0);
-    }
-    push_text(out, b"(")?;
-    push_part(out, low + (width - 1), 1)?;
-    push_text(out, b")?(")?;
-    push_with_high(out, low, width, (1 << (32 - width)) - 1)?;
-    push_text(out, b"):")?;
-    push_with_high(out, low, width, 0)
-}
-
-/// Puts the word of the short field of a bus, which stands so high.
-#[tactic(auto, using(crate::proofs::Shares::short_is))]
-fn push_short_of(out: &mut Vec<u8>, m: &Machine, bus: usize, low: u32) -> Result<(), AllocError>
-    requires room { low < 2 ^ 31 }
-    requires low { low ≡ p.below_payload m.now bus }
-    ensures { let T = text_of m.now in
-        OnOk result (out.new.items ≡ out.old.items
-        ++ T (p.short_part m.now (c.Signal s.Whole) bus)) }
-{
-    match m.buses.as_slice().get(bus) {
-        Some(b) => push_short(out, low, u32::from(b.short), b.signed),
-        None => push_with_high(out, low, 0, 0),
-    }
-}
-
 /// Puts how the wire of a field of a bus begins.
-#[tactic(auto, unfolding(crate::specs::Parts::wire_start))]
+#[tactic(auto, unfolding(crate::specs::Texts::wire_start))]
 fn start_field(
     out: &mut Vec<u8>,
     m: &Machine,
@@ -88,7 +40,7 @@ fn start_field(
 }
 
 /// Puts the wire of a field of a bus that is a part of the instruction's word, from a bit on.
-#[tactic(auto, unfolding(crate::specs::Parts::wire_start, tta_verilog::specs::Circuits::wire_line))]
+#[tactic(auto, unfolding(crate::specs::Texts::wire_start, tta_verilog::specs::Circuits::wire_line))]
 fn push_part_wire(
     out: &mut Vec<u8>,
     m: &Machine,
@@ -125,7 +77,7 @@ fn push_guard(
 }
 
 /// Puts the word of the short field of a bus. So many bits stand below it.
-#[tactic(auto, unfolding(crate::specs::Parts::wire_start, tta_verilog::specs::Circuits::wire_line))]
+#[tactic(auto, unfolding(crate::specs::Texts::wire_start, tta_verilog::specs::Circuits::wire_line))]
 fn push_short_wire(out: &mut Vec<u8>, m: &Machine, bus: usize, below: u32) -> Result<(), AllocError>
     requires room { below < 2 ^ 31 }
     requires low { below ≡ p.below_payload m.now bus }
@@ -182,7 +134,7 @@ fn push_dest_word(
 }
 
 /// Puts the code of the destination of a bus, if it has one. So many bits stand below it.
-#[tactic(auto, unfolding(crate::specs::Parts::wire_start, tta_verilog::specs::Circuits::wire_line))]
+#[tactic(auto, unfolding(crate::specs::Texts::wire_start, tta_verilog::specs::Circuits::wire_line))]
 fn push_dest(
     out: &mut Vec<u8>,
     on: &On<'_>,

@@ -16,6 +16,7 @@ mod ports;
 mod reach;
 mod registers;
 mod results;
+mod shorts;
 mod spaces;
 mod starts;
 mod states;
@@ -24,4 +25,5 @@ mod unit_wires;
 mod units;
 mod whole;
 
-pub use whole::write_rtl;
+pub use spaces::push_empty_memory;
+pub use whole::{Module, offers, push_core, write_rtl};

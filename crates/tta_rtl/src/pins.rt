@@ -16,11 +16,18 @@ fn push_if(out: &mut Vec<u8>, test: bool, text: &[u8]) -> Result<(), AllocError>
     if test { push_text(out, text) } else { Ok(()) }
 }
 
-/// Puts the first line, which names the ports.
-pub fn push_head(out: &mut Vec<u8>, gives: bool, takes: bool) -> Result<(), AllocError>
-    ensures { OnOk result (out.new.items ≡ out.old.items ++ p.head_text gives takes) }
+/// Puts the first line of a module of some name, which names the ports.
+pub fn push_head(
+    out: &mut Vec<u8>,
+    name: &[u8],
+    gives: bool,
+    takes: bool,
+) -> Result<(), AllocError>
+    ensures { OnOk result (out.new.items ≡ out.old.items ++ p.head_text name.now gives takes) }
 {
-    push_text(out, b"module tta_core (clk, reset, halted, cycle, pc")?;
+    push_text(out, b"module ")?;
+    push_text(out, name)?;
+    push_text(out, b" (clk, reset, halted, cycle, pc")?;
     push_if(out, gives, b", out_valid, out_data, out_ready")?;
     push_if(out, takes, b", in_valid, in_data, in_ready")?;
     push_text(out, b");\n")

@@ -1,6 +1,6 @@
 //! The registers: those of files, of immediate units and of control.
 
-ghost use Rattle.std.specs.Prelude.{◌≡◌, ◌+◌, ◌<◌, ◌≤◌, ◌^◌, ◌==◌, ◌++◌, false, map, length, OnOk};
+ghost use Rattle.std.specs.Prelude.{◌≡◌, ◌+◌, ◌<◌, ◌≤◌, ◌^◌, ◌++◌, false, map, length, OnOk};
 ghost use Rattle.std.specs.List.{enumerate_from, flat_map, range_with_len};
 ghost use Rattle.tta_arch.specs.Effects.{KeptReg, width_of};
 ghost use Rattle.tta_arch.specs.Fields.{numbers};

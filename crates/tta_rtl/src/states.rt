@@ -1,6 +1,6 @@
 //! The registers of control.
 
-ghost use Rattle.std.specs.Prelude.{◌≡◌, ◌+◌, ◌++◌, [], ◌∷◌, true, false, codes, map, OnOk};
+ghost use Rattle.std.specs.Prelude.{◌≡◌, ◌+◌, ◌++◌, true, false, codes, OnOk};
 ghost use Rattle.std.specs.List.{flat_map, range_with_len};
 ghost use Rattle.tta_arch.specs.Effects.{KeptRa};
 ghost use Rattle.tta_hardware.specs.Signals as s;

@@ -1,18 +1,14 @@
 //! The module of a machine with its code.
 
-ghost use Rattle.std.specs.Prelude.{◌≡◌, ◌+◌, ◌*◌, ◌<◌, ◌≤◌, ◌^◌, ◌==◌, ◌++◌, [], ◌∷◌, if◌then◌else◌};
-ghost use Rattle.std.specs.Prelude.{Bool, true, false, not, nat_lt, codes, drop, length, map, IfOk, OnOk};
-ghost use Rattle.std.specs.List.{flat_map};
+ghost use Rattle.std.specs.Prelude.{◌≡◌, ◌*◌, ◌<◌, ◌≤◌, ◌^◌, ◌++◌, true, drop, length, IfOk, OnOk};
 ghost use Rattle.tta_arch.specs.Rules.{same_op};
 ghost use Rattle.tta_code.specs.Legal.{IsLegalCode};
 ghost use Rattle.tta_code.specs.Whole.{fits};
 ghost use Rattle.tta_hardware.specs.Hardware as h;
-ghost use Rattle.tta_names.specs.Names.{names_of};
 ghost use Rattle.tta_ops.specs.Set.{stated};
-ghost use Rattle.tta_rtl.specs.Memories.{words_in};
+ghost use Rattle.tta_rtl.specs.Memories.{bytes_before, words_in};
 ghost use Rattle.tta_rtl.specs.Module as p;
 ghost use Rattle.tta_rtl.specs.Texts.{registers_text, wires_text};
-ghost use Rattle.tta_verilog.specs.Circuits as v;
 
 use crate::buses::push_buses;
 use crate::control::push_control;
@@ -33,6 +29,21 @@ use tta_code::{Whole, lay};
 use tta_image::write_image;
 use tta_ops::UnitSet;
 use tta_verilog::push_text;
+
+/// A module that is to be made of a machine with its operations.
+#[derive(Clone, Copy)]
+pub struct Module<'a> {
+    pub m: &'a Machine,
+    pub units: &'a UnitSet,
+    pub name: &'a [u8],
+    /// Whether it has the ports of the output.
+    pub gives: bool,
+    /// Whether it has those of the input.
+    pub takes: bool,
+    /// The words that the data space begins with.
+    pub first: &'a [u32],
+    ghost sized: { length first.now ≡ m.now.data_words },
+}
 
 /// A machine with its operations, and what its memories begin with.
 #[derive(Clone, Copy)]
@@ -127,7 +138,7 @@ fn push_parts(alloc: Global, out: &mut Vec<u8>, core: &Core<'_>) -> Result<(), A
 }
 
 /// Whether some unit of the machine offers an operation.
-fn offers(alloc: Global, m: &Machine, op: Op) -> Result<bool, AllocError>
+pub fn offers(alloc: Global, m: &Machine, op: Op) -> Result<bool, AllocError>
     ensures { IfOk result (λ b. b ≡ p.offers m.now op) }
 {
     let places = all_ops(alloc, m, op)?;
@@ -135,27 +146,39 @@ fn offers(alloc: Global, m: &Machine, op: Op) -> Result<bool, AllocError>
 }
 
 /// Puts what stands before the parts of the circuit.
-fn push_before(out: &mut Vec<u8>, on: &On<'_>, gives: bool, takes: bool) -> Result<(), AllocError>
+fn push_before(
+    out: &mut Vec<u8>,
+    on: &On<'_>,
+    name: &[u8],
+    gives: bool,
+    takes: bool,
+) -> Result<(), AllocError>
     ensures { OnOk result
-        (out.new.items ≡ out.old.items ++ p.before_parts on.now.m.now gives takes) }
+        (out.new.items ≡ out.old.items ++ p.before_parts on.now.m.now name.now gives takes) }
 {
-    push_head(out, gives, takes)?;
+    push_head(out, name, gives, takes)?;
     push_common_ports(out, on)?;
     push_out_ports(out, gives)?;
     push_in_ports(out, takes)?;
     push_text(out, b"integer k;\n")
 }
 
-/// Puts the module.
-fn push_module(alloc: Global, out: &mut Vec<u8>, core: &Core<'_>) -> Result<(), AllocError>
+/// Puts the module of this name, with these ports.
+fn push_module(
+    alloc: Global,
+    out: &mut Vec<u8>,
+    core: &Core<'_>,
+    name: &[u8],
+    gives: bool,
+    takes: bool,
+) -> Result<(), AllocError>
     ensures { let M = core.now.on.now.m.now in
         let WORDS = words_in M core.now.body.now core.now.words in
-        OnOk result (out.new.items ≡ out.old.items ++ p.module_text
-        (stated unit_meaning core.now.units.now) M (h.circuit_with M WORDS core.now.first.now)) }
+        OnOk result (out.new.items ≡ out.old.items ++ p.module_of
+        (stated unit_meaning core.now.units.now) M name.now gives takes
+        (h.circuit_with M WORDS core.now.first.now)) }
 {
-    let gives = offers(alloc, core.on.m, Op::Out)?;
-    let takes = offers(alloc, core.on.m, Op::Take)?;
-    push_before(out, core.on, gives, takes)?;
+    push_before(out, core.on, name, gives, takes)?;
     push_parts(alloc, out, core)?;
     push_shown(out, gives, takes)
 }
@@ -172,7 +195,7 @@ fn first_words(alloc: Global, m: &Machine, whole: &Whole) -> Result<Vec<u32>, Al
 /// How many bytes stand before the instructions of an image with so many data.
 fn bytes_before(count: usize) -> usize
     requires { count < 2 ^ 32 }
-    ensures { result ≡ p.bytes_before count }
+    ensures { result ≡ bytes_before count }
 {
     if count == 0 { 48 } else { 52 + 8 * count }
 }
@@ -194,6 +217,42 @@ fn bits_of(layout: &Layout) -> u32
     layout.width
 }
 
+/// Puts the module of the circuit of a machine with code. The data beside the code say nothing here;
+/// what the data space begins with is the module's own.
+pub fn push_core(
+    alloc: Global,
+    out: &mut Vec<u8>,
+    wanted: &Module<'_>,
+    digest: &[u8; 32],
+    whole: &Whole,
+) -> Result<(), AllocError>
+    requires legal { IsLegalCode wanted.now.m.now whole.now.code }
+    requires data { fits wanted.now.m.now.data_words whole.now.init ≡ true }
+    ensures { let U = stated unit_meaning wanted.now.units.now in
+        let M = wanted.now.m.now in
+        OnOk result (out.new.items ≡ out.old.items
+        ++ p.module_of U M wanted.now.name.now wanted.now.gives wanted.now.takes
+        (h.circuit_of M whole.now.code wanted.now.first.now)) }
+{
+    let m = wanted.m;
+    let _rules = m.addresses();
+    let layout = Layout::of(alloc, m)?;
+    // Its bits are fewer than 2 to the 32, and so an image has fewer than 2 to the 64.
+    let _width = bits_of(&layout);
+    let image = write_image(alloc, whole, m, digest)?;
+    let before = bytes_before(whole.init.len());
+    let body = bytes_after(image.as_slice(), before);
+    let on = On { m, layout: &layout };
+    let core = Core {
+        on: &on,
+        units: wanted.units,
+        words: whole.code.words.len(),
+        body,
+        first: wanted.first,
+    };
+    push_module(alloc, out, &core, wanted.name, wanted.gives, wanted.takes)
+}
+
 /// The text of the circuit of a machine with the code and data of an image, as a module of Verilog.
 pub fn write_rtl(
     alloc: Global,
@@ -207,23 +266,18 @@ pub fn write_rtl(
     ensures { let U = stated unit_meaning units.now in
         IfOk result (λ v. v.items ≡ p.rtl_of U m.now whole.now) }
 {
-    let _rules = m.addresses();
-    let layout = Layout::of(alloc, m)?;
-    // Its bits are fewer than 2 to the 32, and so an image has fewer than 2 to the 64.
-    let _width = bits_of(&layout);
-    let image = write_image(alloc, whole, m, digest)?;
     let first = first_words(alloc, m, whole)?;
-    let before = bytes_before(whole.init.len());
-    let body = bytes_after(image.as_slice(), before);
-    let on = On { m, layout: &layout };
-    let core = Core {
-        on: &on,
+    let gives = offers(alloc, m, Op::Out)?;
+    let takes = offers(alloc, m, Op::Take)?;
+    let wanted = Module {
+        m,
         units,
-        words: whole.code.words.len(),
-        body,
+        name: b"tta_core",
+        gives,
+        takes,
         first: first.as_slice(),
     };
     let mut out = Vec::new(alloc);
-    push_module(alloc, &mut out, &core)?;
+    push_core(alloc, &mut out, &wanted, digest, whole)?;
     Ok(out)
 }

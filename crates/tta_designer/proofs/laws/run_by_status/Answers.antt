@@ -1,4 +1,4 @@
-use Rattle.std.proofs.Common.{◌≡◌, ◌↔◌, ℕ, List, Option, inl, inr}
+use Rattle.std.proofs.Common.{◌↔◌, ℕ, List, Option, inl, inr}
 use Rattle.tta_ports.specs.World.{World}
 use Rattle.tta_ports.specs.Output.{Output}
 use Rattle.tta_ops.specs.Units.{Units}
@@ -6,30 +6,12 @@ use Rattle.tta_given.specs.declared.status.Status.{Status}
 use Rattle.tta_given.specs.declared.status.Status.TheVariants as status
 use Rattle.tta_given.specs.Held.{ReadFailed, IsTooLong}
 use Rattle.tta_given.proofs.Stages.{none}
-use Rattle.tta_program.specs.Program.{Program}
-use Rattle.tta_given.specs.declared.machine.MachineFile.{MachineFile}
-use Rattle.tta_given.specs.Images.{RefusesImage}
-use Rattle.tta_given.specs.Programs.{RefusesProgramFor}
-use Rattle.tta_designer.specs.Stages.{IsCauseOf}
-use Rattle.tta_designer.specs.declared.subject.Subject.{Subject}
-use Rattle.tta_designer.specs.declared.subject.Subject.TheVariants.{Code as OfCode, Program as OfProgram}
 use Rattle.tta_designer.specs.Subjects.{IsSubject, RefusesSubject}
-use Rattle.tta_designer.specs.Runs.{Lacks, Tells, ShowsRun, RunEndings}
+use Rattle.tta_designer.specs.Runs.{Tells, ShowsRun, RunEndings}
 use Rattle.tta_designer.specs.declared.view.RunView.{RunView}
 use Rattle.tta_given.proofs.RunStages.{unnamed, unheld, apart, alone, stream_refused, run_at, RunStages, run_stages}
+use Rattle.tta_designer.proofs.Lacking.{never, refused_not}
 use Rattle.tta_designer.proofs.laws.run_by_status.Goals as goal
-
--- a status that says of nothing that it lacks
-never : {G : Type 0} (u : Units) (file : MachineFile) (subject : Subject) (s : Status) → (s ≡ status.NoMemory → ⊥) → ((p : Program) → IsCauseOf u file.machine p s → ⊥)
-    → Lacks u file subject s → G
-never u file (OfCode whole) s a b is = absurd (a is)
-never u file (OfProgram p) s a b is = absurd (b p is)
-
--- a status with which no bytes are refused
-refused_not : {G : Type 0} (u : Units) (file : MachineFile) (bytes : List ℕ) (s : Status) → (RefusesImage file bytes s → ⊥) → (RefusesProgramFor u file bytes s → ⊥)
-    → RefusesSubject u file bytes s → G
-refused_not u file bytes s a b (inl is) = absurd (a is.1)
-refused_not u file bytes s a b (inr is) = absurd (b is.1)
 
 module _ (u : Units) (view : RunView) (M F IN : List ℕ) (STREAM : Option (List ℕ)) (bound : ℕ) (before after : World) (old new : Output) where
   of : (s : Status) (G : Type 0) → RunStages u (IsSubject u) (RefusesSubject u) (Tells u view bound) M F IN STREAM before after old new s G

@@ -9,7 +9,12 @@ pub returns : goal.returns
 returns c =
     let gives = if c.args.gives then codes ", out_valid, out_data, out_ready" else [] in
     let takes = if c.args.takes then codes ", in_valid, in_data, in_ready" else [] in
-    onward c.push_text-2.result (λ last.
-    then_more _ _ _ (codes "module tta_core (clk, reset, halted, cycle, pc") (gives ++ (takes ++ codes ");\n")) c.in_ok-push_text.ensures
+    let common = codes " (clk, reset, halted, cycle, pc" in
+    let r2 = gives ++ (takes ++ codes ");\n") in
+    let r1 = common ++ r2 in
+    onward c.push_text-4.result (λ last.
+    then_more _ _ _ (codes "module ") (c.args.name.now ++ r1) c.in_ok-push_text.ensures
+    (then_more _ _ _ c.args.name.now r1 c.in_ok-push_text-2.ensures
+    (then_more _ _ _ common r2 c.in_ok-push_text-3.ensures
     (then_more _ _ _ gives (takes ++ codes ");\n") c.in_ok-push_if.ensures
-    (then_more _ _ _ takes (codes ");\n") c.in_ok-push_if-2.ensures last))) c.push_text-2.ensures
+    (then_more _ _ _ takes (codes ");\n") c.in_ok-push_if-2.ensures last))))) c.push_text-4.ensures

@@ -12,7 +12,7 @@ returns c =
     let r2 = out_ports c.args.gives ++ r3 in
     let r1 = common_ports c.args.on.now.m.now ++ r2 in
     onward c.push_text.result (λ last.
-    then_more _ _ _ (head_text c.args.gives c.args.takes) r1 c.in_ok-push_head.ensures
+    then_more _ _ _ (head_text c.args.name.now c.args.gives c.args.takes) r1 c.in_ok-push_head.ensures
     (then_more _ _ _ (common_ports c.args.on.now.m.now) r2 c.in_ok-push_common_ports.ensures
     (then_more _ _ _ (out_ports c.args.gives) r3 c.in_ok-push_out_ports.ensures
     (then_more _ _ _ (in_ports c.args.takes) last_line c.in_ok-push_in_ports.ensures last)))) c.push_text.ensures

@@ -1,63 +1,24 @@
-use Rattle.std.proofs.Common.{◌≡◌, ℕ, List, [], ◌++◌, ◌<◌, ◌^◌, length, drop, ap, ◌∙◌, arith}
+use Rattle.std.proofs.Common.{◌≡◌, ℕ, List, [], ◌++◌, Bool, length, ap, ◌∙◌}
+use Rattle.std.specs.Prelude.{codes}
 use Rattle.tta_ops.specs.Set.{stated}
-use Rattle.tta_arch.specs.declared.layout.Layout.{Layout}
-use Rattle.tta_code.specs.Whole.{Whole}
-use Rattle.tta_hardware.specs.Hardware.{circuit_with, code_words}
-use Rattle.tta_rtl.specs.Memories.{words_in}
-use Rattle.tta_rtl.specs.Module.{bytes_before, module_text}
-use Rattle.tta_rtl.proofs.Layouts.{layout_fits}
-use Rattle.tta_rtl.proofs.Modules.{few_body, first_count, has_body, inside_body}
+use Rattle.tta_arch.specs.declared.parts.Op.TheVariants.{Out, Take}
+use Rattle.tta_hardware.specs.Hardware.{circuit_of}
+use Rattle.tta_rtl.specs.Module.{module_of, offers}
+use Rattle.tta_rtl.proofs.Modules.{first_count}
 use Rattle.tta_rtl.proofs.whole.write_rtl.Goals as goal
 
-pub bytes_before-before-requires : goal.bytes_before-before-requires
-bytes_before-before-requires _ c =
-    let whole = c.args.whole.now in
-    let b = has_body c.args.m.now c.args.digest.now whole c.in_ok-image.image.items c.addresses-rules.ensures.rules c.told-digest c.in_ok-image.ensures in
-    let many : c.len.result ≡ length whole.init = c.len.ensures ∙ ap (λ (w : Whole). length w.init) c.whole.view_is in
-    let few = b.few in
-    omega (arith, many, few)
-
-pub invariant_of-on : goal.invariant_of-on
-invariant_of-on _ c = record {
-  layout_is = c.in_ok-layout.ensures;
-  fits = layout_fits c.args.m.now c.in_ok-layout.layout c.addresses-rules.ensures.rules c.in_ok-layout.ensures;
-}
-
-pub invariant_of-core : goal.invariant_of-core
-invariant_of-core _ c =
-    let m = c.args.m.now in
-    let whole = c.args.whole.now in
-    let items = c.in_ok-image.image.items in
-    let b = has_body m c.args.digest.now whole items c.addresses-rules.ensures.rules c.told-digest c.in_ok-image.ensures in
-    let data_count : c.len.result ≡ length whole.init = c.len.ensures ∙ ap (λ (w : Whole). length w.init) c.whole.view_is in
-    let body : c.bytes_after-body.result.now ≡ drop (bytes_before (length whole.init)) items =
-    c.bytes_after-body.ensures ∙ ap (λ (l : List ℕ). drop c.bytes_before-before.result l) c.as_slice.ensures.value
-    ∙ ap (λ (k : ℕ). drop k items) (c.bytes_before-before.ensures ∙ ap bytes_before data_count) in
-    let many : c.len-2.result ≡ length whole.code.words = c.len-2.ensures ∙ ap (λ (w : Whole). length w.code.words) c.whole.view_is in
-    let wide = ap (λ (l : Layout). l.width) c.in_ok-layout.ensures in
-    let narrow : c.in_ok-layout.layout.width < 2 ^ 32 = omega (arith, c.bits_of-width.ensures, c.bits_of-width.type_inv) in
-    record {
-      inside = inside_body m whole items b c.len-2.result c.in_ok-layout.layout.width c.bytes_after-body.result.now many wide body;
-      few = few_body m whole items b c.in_ok-layout.layout.width c.bytes_after-body.result.now wide narrow body;
-      sized = ap length (c.as_slice-2.ensures.value ∙ c.in_ok-first.ensures) ∙ first_count m whole;
-    }
+pub invariant_of-wanted : goal.invariant_of-wanted
+invariant_of-wanted _ c = record { sized = ap length (c.as_slice.ensures.value ∙ c.in_ok-first.ensures) ∙ first_count c.args.m.now c.args.whole.now }
 
 pub returns : goal.returns
 returns g c =
     let m = c.args.m.now in
     let whole = c.args.whole.now in
-    let items = c.in_ok-image.image.items in
     let U = stated (λ v. (goal.OpUnit-dyn g v).unit_meaning v.1) c.args.units.now in
-    let text : List ℕ → List ℕ → List ℕ = λ words first. module_text U m (circuit_with m words first) in
-    let b = has_body m c.args.digest.now whole items c.addresses-rules.ensures.rules c.told-digest c.in_ok-image.ensures in
-    let data_count : c.len.result ≡ length whole.init = c.len.ensures ∙ ap (λ (w : Whole). length w.init) c.whole.view_is in
-    let body : c.bytes_after-body.result.now ≡ drop (bytes_before (length whole.init)) items =
-    c.bytes_after-body.ensures ∙ ap (λ (l : List ℕ). drop c.bytes_before-before.result l) c.as_slice.ensures.value
-    ∙ ap (λ (k : ℕ). drop k items) (c.bytes_before-before.ensures ∙ ap bytes_before data_count) in
-    let many : c.len-2.result ≡ length whole.code.words = c.len-2.ensures ∙ ap (λ (w : Whole). length w.code.words) c.whole.view_is in
-    let words : words_in m c.bytes_after-body.result.now c.len-2.result ≡ code_words m whole.code =
-    ap (words_in m c.bytes_after-body.result.now) many ∙ ap (λ (l : List ℕ). words_in m l (length whole.code.words)) body ∙ b.words in
-    c.in_ok-push_module.ensures
-    ∙ ap (λ (o : List ℕ). o ++ text (words_in m c.bytes_after-body.result.now c.len-2.result) c.as_slice-2.result.now) c.new-out.ensures.items
-    ∙ ap (λ (ws : List ℕ). text ws c.as_slice-2.result.now) words
-    ∙ ap (text (code_words m whole.code)) (c.as_slice-2.ensures.value ∙ c.in_ok-first.ensures)
+    let text : Bool → Bool → List ℕ → List ℕ = λ gives takes first. module_of U m (codes "tta_core") gives takes (circuit_of m whole.code first) in
+    let first = c.as_slice.result.now in
+    c.in_ok-push_core.ensures
+    ∙ ap (λ (o : List ℕ). o ++ text c.in_ok-gives.gives c.in_ok-takes.takes first) c.new-out.ensures.items
+    ∙ ap (λ (b : Bool). text b c.in_ok-takes.takes first) c.in_ok-gives.ensures
+    ∙ ap (λ (b : Bool). text (offers m Out) b first) c.in_ok-takes.ensures
+    ∙ ap (text (offers m Out) (offers m Take)) (c.as_slice.ensures.value ∙ c.in_ok-first.ensures)
