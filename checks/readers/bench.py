@@ -1,7 +1,4 @@
 """Runs the circuit of a core as `run` runs an image: by the meaning of `circuit.py`, and what it gives are the lines of `run`."""
-from readers.circuit import Circuit
-
-
 class Pins:
     """What the outside shows to a core: the words of a stream, in order, and whether it takes a word. Where it pauses, both come at one
     clock in three; a word that is offered stays until it is taken."""
@@ -19,9 +16,10 @@ class Pins:
         self.taken, self.offers = self.taken + 1, False
 
 
-def ran(module, data, bound, stream, by, pauses):
+def ran(circuit, data, bound, stream, pauses):
     """The lines of a run of at most so many cycles, with these words in the data space and this input, and the number of clocks."""
-    circuit, pins, out, cycles, clocks = Circuit(module, by), Pins(stream, by, pauses), [], 0, 0
+    by, out, cycles, clocks = circuit.by, [], 0, 0
+    pins = Pins(stream, by, pauses)
     circuit.memories["data"][:len(data)] = data
     for _ in range(by.randrange(1, 4)):
         circuit.shows(pins.given(circuit, 1))[1]()

@@ -3,7 +3,7 @@ rules of IEEE 1364-2001 (5.4, 5.5) for its width and that of its place. What Ver
 registers when the power comes, and those behind the end of a memory."""
 import sys
 
-from readers.verilog_forms import Binary, Call, Constant, Function, Invert, Join, Name, Not, Part, Read, Refused, Repeat, Select, Table
+from readers.verilog_forms import Binary, Call, Constant, Function, Invert, Join, Name, Not, Outside, Part, Read, Refused, Repeat, Select, Table
 
 sys.setrecursionlimit(20_000)
 TESTS = {"==": "==", "!=": "!=", "<": "<", ">": ">"}
@@ -118,10 +118,8 @@ class Words:
         return code
 
     def called(self, e):
-        function = self.module.functions[e.function]
-        inputs = [function.input] if type(function) is Table else function.inputs
         given = []
-        for word, (width, name) in zip(e.given, inputs):
+        for word, (width, name) in zip(e.given, self.module.functions[e.function].inputs):
             if self.width(word) > width:
                 raise Refused(f"{e.function}: {name} has {width} bits and is given {self.width(word)}")
             given.append(self.code(word, width))
@@ -129,10 +127,10 @@ class Words:
 
 
 class Circuit:
-    """A module without instances, and the words that it holds."""
+    """A module without instances, and the words that it holds. `own` are the operations that other files make, by their names."""
 
-    def __init__(self, module, by):
-        self.module, self.by = module, by
+    def __init__(self, module, by, own=None):
+        self.module, self.by, self.own = module, by, own or {}
         self.inputs = [name for name, (kind, width) in module.ports.items() if kind == "input" and name != "clk"]
         self.words = {name: by.getrandbits(width) for name, width in module.registers.items()}
         self.memories = {name: [it.first.get(k, 0) for k in range(it.size)] for name, it in module.memories.items()}
@@ -150,13 +148,16 @@ class Circuit:
         if type(it) is Table:
             room[f"f_{name}"] = lambda at, words=it.words, default=it.default: words.get(at, default)
             return
+        if type(it) is Outside:
+            room[f"f_{name}"] = self.own[name[len("own_"):]]
+            return
         width, variable = it.variable
         words = Words({name: bits for bits, name in it.inputs}, self.module, False)
         if words.width(it.word) > width:
             raise Refused(f"{name}: {words.width(it.word)} bits are made, and {width} taken")
         names = ", ".join(f"v_{name}" for _, name in it.inputs)
-        low = Words({variable: width}, self.module, True).own(it.low)
-        exec(f"def f_{name}({names}):\n    v_{variable} = {words.code(it.word, width)}\n    return {low}\n", room)
+        part = Words({variable: width}, self.module, True).own(it.part)
+        exec(f"def f_{name}({names}):\n    v_{variable} = {words.code(it.word, width)}\n    return {part}\n", room)
 
     def made(self):
         """A function of the inputs: the words of all names before a clock, what registers take, and what is written into memories."""

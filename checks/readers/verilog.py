@@ -2,9 +2,9 @@
 from that grammar alone, and refuses whatever it does not name. `circuit.py` gives what is read a meaning."""
 import re
 
-from readers.verilog_forms import Binary, Call, Constant, Function, Instance, Invert, Join, Memory, Module, Name, Not, Part, Read, Refused, Repeat, Select, Table, Taken
+from readers.verilog_forms import Binary, Call, Constant, Function, Instance, Invert, Join, Memory, Module, Name, Not, Outside, Part, Read, Refused, Repeat, Select, Table, Taken
 
-TOKEN = re.compile(r"\s*(?:(//[^\n]*\n)|(`\w+)|(\d+'[db][0-9]+)|(\d+)|([A-Za-z_]\w*)|(<=|\+:|&&|\|\||==|!=|<<|>>|[][(){}?:;,.=<>+\-*/%&|^~!@#]))")
+TOKEN = re.compile(r"\s*(?:(//[^\n]*\n)|(`\w+)|(\d+'[db][0-9]+)|([\x22]\w+\.v[\x22])|(\d+)|([A-Za-z_]\w*)|(<=|\+:|&&|\|\||==|!=|<<|>>|[][(){}?:;,.=<>+\-*/%&|^~!@#]))")
 # Operators from the loosest to the tightest.
 LEVELS = (("||",), ("&&",), ("|",), ("^",), ("&",), ("==", "!="), ("<", ">"), ("<<", ">>"), ("+", "-"), ("*", "/", "%"))
 
@@ -159,7 +159,7 @@ class Reader:
 
     def declaration(self, module):
         kinds = {"input": self.port, "output": self.port, "wire": self.wire, "reg": self.register, "function": self.function,
-                 "always": self.clocked, "assign": self.assigned, "integer": self.counter}
+                 "always": self.clocked, "assign": self.assigned, "integer": self.counter, "`include": self.included}
         kind = self.next()
         if kind not in kinds:
             return self.instance(module)
@@ -215,6 +215,11 @@ class Reader:
         self.want("endfunction")
         self.declare(module, module.functions, name, made)
 
+    def included(self, module, kind):
+        """A file that holds the function of an operation of one's own, of two words."""
+        name = self.matching(r'"(\w+)\.v"', "a file")[1]
+        self.declare(module, module.functions, f"own_{name}", Outside(32, [(32, "a"), (32, "b")]))
+
     def table(self, name, width, inputs):
         self.want("(", inputs[0][1], ")")
         words = {}
@@ -226,17 +231,22 @@ class Reader:
         self.want(":", name, "=")
         default = self.constant().word
         self.want(";", "endcase")
-        return Table(width, inputs[0], words, default)
+        return Table(width, inputs, words, default)
 
     def made(self, name, width, inputs):
+        if self.takes(name):
+            self.want("=")
+            word = self.expression()
+            self.want(";")
+            return Function(width, inputs, (width, name), word, Name(name))
         self.want("reg")
         variable = self.range(), self.name()
         self.want(";", "begin", variable[1], "=")
         word = self.expression()
-        self.want(";", name, "=", variable[1])
-        low = self.part(variable[1]) if self.takes("[") else self.refuse("a part")
+        self.want(";", name, "=", variable[1], "[")
+        part = self.part(variable[1])
         self.want(";", "end")
-        return Function(width, inputs, variable, word, low)
+        return Function(width, inputs, variable, word, part)
 
     def clocked(self, module, kind):
         self.want("@", "(", "posedge", "clk", ")", "if", "(")

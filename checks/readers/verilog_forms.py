@@ -14,9 +14,10 @@ Invert = namedtuple("Invert", "word")
 Binary = namedtuple("Binary", "sign left right")
 Select = namedtuple("Select", "test on off")
 
-# Functions: a table of an address, and an expression over inputs, through a variable of more bits of which the low ones are the word.
-Table = namedtuple("Table", "width input words default")
-Function = namedtuple("Function", "width inputs variable word low")
+# Functions: a table of an address; an expression over inputs, through a variable, of which a part is the word; and one of another file.
+Table = namedtuple("Table", "width inputs words default")
+Function = namedtuple("Function", "width inputs variable word part")
+Outside = namedtuple("Outside", "width inputs")
 # A memory with the first words that are not 0, what is taken at a clock (`address` is None where it is a register), and an instance of
 # another module with the name that is joined to each of its ports.
 Memory = namedtuple("Memory", "width size first")
