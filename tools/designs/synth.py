@@ -1,5 +1,6 @@
 """What a core costs in hardware, by yosys, and by nextpnr-ice40 how fast its clock may be, where that is installed and the core has room on the
-FPGA. The core is that of `rtl`, with its code as it is. What was once measured is kept by the core's text, the flow and the tools."""
+FPGA. The core is that of `rtl`, with its code as it is. What was once measured is kept by the core's text, the flow, the tools, and the files of
+operations of one's own: those of the folder that TTA_OPERATIONS names, or else of examples/hardware/operations."""
 import os
 import re
 import shutil
@@ -12,6 +13,7 @@ from designs import kept, netlist
 # A flow is a script of yosys, FLOW.ys of the folder.
 FLOWS = ("ice40", "lut6")
 SCRIPTS = os.path.join(os.path.dirname(os.path.abspath(__file__)), "flows")
+OPERATIONS = os.path.join(os.path.dirname(os.path.abspath(__file__)), "..", "..", "examples", "hardware", "operations")
 TOP = "tta_core"
 PLACED = ["nextpnr-ice40", "--hx8k", "--package", "ct256", "--pcf-allow-unconstrained", "--timing-allow-fail", "--seed", "1", "--quiet"]
 CLOCK = re.compile(r"Max frequency for clock '[^']*': ([0-9.]+) MHz")
@@ -36,11 +38,18 @@ def version_of(tool):
     return ran.stdout + ran.stderr
 
 
+def operations():
+    """The files of operations of one's own."""
+    folder = os.environ.get("TTA_OPERATIONS") or OPERATIONS
+    return [os.path.join(folder, name) for name in sorted(os.listdir(folder)) if name.endswith(".v")]
+
+
 def script_of(flow):
     """The bytes of all that a flow is made of."""
     found = b""
-    for name in sorted([f"{flow}.ys", *(name for name in os.listdir(SCRIPTS) if not name.endswith(".ys"))]):
-        with open(os.path.join(SCRIPTS, name), "rb") as f:
+    names = sorted([f"{flow}.ys", *(name for name in os.listdir(SCRIPTS) if not name.endswith(".ys"))])
+    for path in [*(os.path.join(SCRIPTS, name) for name in names), *operations()]:
+        with open(path, "rb") as f:
             found += f.read()
     return found
 
@@ -72,8 +81,8 @@ class Synthesis:
     def measured(self, core):
         """The cost of a core, by the flow in a folder of its own."""
         with tempfile.TemporaryDirectory() as folder:
-            for name in os.listdir(SCRIPTS):
-                shutil.copy(os.path.join(SCRIPTS, name), folder)
+            for path in [*(os.path.join(SCRIPTS, name) for name in os.listdir(SCRIPTS)), *operations()]:
+                shutil.copy(path, folder)
             with open(os.path.join(folder, "core.v"), "wb") as f:
                 f.write(core)
             ran = self.runs.run(["yosys", "-qq", f"{self.flow}.ys"], folder)

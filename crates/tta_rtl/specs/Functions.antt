@@ -1,8 +1,10 @@
 -- The text of the operations of a machine, as functions of two words.
-use Rattle.std.specs.Prelude.{ℕ, ◌==◌, Bool, false, if◌then◌else◌, List, [], ◌∷◌, ◌++◌, codes, decimal}
+use Rattle.std.specs.Prelude.{ℕ, ◌==◌, Bool, false, if◌then◌else◌, List, [], ◌∷◌, ◌++◌, Option, None, Some, codes, decimal, length, slice_index_or}
 use Rattle.std.specs.List.{flat_map, list_any}
-use Rattle.std.specs.Option.{option_map_or}
-use Rattle.tta_ops.specs.Units.{Units, named}
+use Rattle.std.specs.Str.{bytes_eq}
+use Rattle.tta_ops.specs.Units.{Units}
+use Rattle.tta_arch.specs.Effects.{or_else}
+use Rattle.tta_arch.specs.Fields.{numbers}
 use Rattle.tta_arch.specs.declared.parts.Op.{Op}
 use Rattle.tta_arch.specs.declared.parts.Op.TheVariants.{Set}
 use Rattle.tta_arch.specs.declared.parts.Unit.{Unit as OpUnit}
@@ -19,12 +21,12 @@ pub record Made : Type 0 where
 abbrev pub by : (name made : List ℕ) → Made
 by name made = record { name = name; made = made }
 
--- sums, products and quotients
+-- sums, products and quotients; a quotient in braces has no more bits than its words
 abbrev pub arithmetic : List Made
 arithmetic =
     by (codes "add") (codes "a + b") ∷ by (codes "sub") (codes "a - b") ∷ by (codes "mul") (codes "a * b")
     ∷ by (codes "mulhu") (codes "({32'd0,a} * {32'd0,b}) >> 32") ∷ by (codes "neg") (codes "32'd0 - b")
-    ∷ by (codes "divu") (codes "(b == 32'd0) ? 32'd4294967295 : a / b") ∷ by (codes "remu") (codes "(b == 32'd0) ? a : a % b") ∷ []
+    ∷ by (codes "divu") (codes "(b == 32'd0) ? 32'd4294967295 : {a / b}") ∷ by (codes "remu") (codes "(b == 32'd0) ? a : {a % b}") ∷ []
 
 -- operations on bits; `shr` copies the top bit
 abbrev pub logic : List Made
@@ -40,6 +42,15 @@ comparisons =
     ∷ by (codes "lt") (codes "{31'd0,{~a[31],a[30:0]} < {~b[31],b[30:0]}}")
     ∷ by (codes "gt") (codes "{31'd0,{~b[31],b[30:0]} < {~a[31],a[30:0]}}")
     ∷ by (codes "ltu") (codes "{31'd0,a < b}") ∷ by (codes "gtu") (codes "{31'd0,b < a}") ∷ []
+
+-- what the first of these with a name makes
+abbrev pub made_in : List Made → (name : List ℕ) → Option (List ℕ)
+made_in [] name = None
+made_in (o ∷ ops) name = if bytes_eq name o.name then Some o.made else made_in ops name
+
+-- what the operation of a name makes of the words a and b, if it is a standard one
+abbrev pub made_of : (name : List ℕ) → Option (List ℕ)
+made_of name = or_else (made_in arithmetic name) (or_else (made_in logic name) (made_in comparisons name))
 
 -- ---- which of them a machine offers
 
@@ -57,32 +68,45 @@ is_offered op all = list_any (λ u. is_among op u.ops) all
 
 -- ---- their text
 
--- what stands between the name of an operation and its number, after its number, and at the end
+-- what stands between the name of an operation and its number, and after its number
 abbrev pub before_number : List ℕ
 before_number = codes "\nfunction [31:0] op_"
 
 abbrev pub after_number : List ℕ
-after_number = codes ";\ninput [31:0] a;\ninput [31:0] b;\nreg [63:0] t;\nbegin\nt = "
-
-abbrev pub at_end : List ℕ
-at_end = codes " = t[31:0];\nend\nendfunction\n"
+after_number = codes ";\ninput [31:0] a;\ninput [31:0] b;\n"
 
 -- the lines of a function before what it makes; it is called by the number of its operation
 unfoldable pub function_head : (op : ℕ) → (name : List ℕ) → List ℕ
 function_head op name = codes "// " ++ (name ++ (before_number ++ (decimal op ++ after_number)))
 
--- a function of two words
+-- what a standard operation makes of its two words: 64 bits, of which the low 32 are its word
+unfoldable pub made_text : (op : ℕ) → (made : List ℕ) → List ℕ
+made_text op made = codes "reg [63:0] t;\nbegin\nt = " ++ (made ++ (codes ";\nop_" ++ (decimal op ++ codes " = t[31:0];\nend\nendfunction\n")))
+
+-- the function of a standard operation
 unfoldable pub function_text : (op : ℕ) → (name made : List ℕ) → List ℕ
-function_text op name made = function_head op name ++ (made ++ (codes ";\nop_" ++ (decimal op ++ at_end)))
+function_text op name made = function_head op name ++ made_text op made
 
--- the function of an operation, if the units have its name and the machine offers it
-unfoldable pub operation_text : Units → Machine → Made → List ℕ
-operation_text u m o = option_map_or (λ op. if is_offered op m.units then function_text op o.name o.made else []) (named u o.name) []
+-- what an operation of one's own makes of its two words: what a function makes of them that a file holds
+unfoldable pub called_text : (op : ℕ) → (name : List ℕ) → List ℕ
+called_text op name = codes "op_" ++ (decimal op ++ (codes " = own_" ++ (name ++ codes "(a, b);\nendfunction\n")))
 
--- the functions of some operations
-abbrev pub listed : Units → Machine → List Made → List ℕ
-listed u m ops = flat_map (operation_text u m) ops
+-- The function of an operation of one's own. The designer writes the file NAME.v with the function own_NAME, which is to make of two
+-- words what the unit makes of them.
+unfoldable pub own_text : (op : ℕ) → (name : List ℕ) → List ℕ
+own_text op name = codes "`include \"" ++ (name ++ (codes ".v\"\n" ++ (function_head op name ++ called_text op name)))
 
--- the functions of all operations that the machine offers, in this order
+-- the function of the operation of a number and a name
+abbrev pub operation_text : (op : ℕ) → (name : List ℕ) → List ℕ
+operation_text op name = of (made_of name) where
+  of : Option (List ℕ) → List ℕ
+  of (Some made) = function_text op name made
+  of None = own_text op name
+
+-- the same, if the machine offers the operation
+abbrev pub offered_text : Units → Machine → (op : ℕ) → List ℕ
+offered_text u m op = if is_offered op m.units then operation_text op (slice_index_or u.names op []) else []
+
+-- the functions of all operations that the machine offers, by their numbers
 abbrev pub functions_text : Units → Machine → List ℕ
-functions_text u m = listed u m arithmetic ++ (listed u m logic ++ listed u m comparisons)
+functions_text u m = flat_map (offered_text u m) (numbers (length u.names))

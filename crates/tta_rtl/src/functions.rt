@@ -1,6 +1,7 @@
 //! The operations, as functions of two words.
 
-ghost use Rattle.std.specs.Prelude.{◌≡◌, ◌++◌, OnOk};
+ghost use Rattle.std.specs.Prelude.{◌≡◌, ◌<◌, ◌++◌, length, slice_index_or, OnOk};
+ghost use Rattle.std.specs.Option.{option_map};
 ghost use Rattle.tta_ops.specs.Set.{stated};
 ghost use Rattle.tta_rtl.specs.Functions as f;
 
@@ -39,6 +40,86 @@ fn is_offered(id: OpId, all: &[Unit]) -> bool
     }
 }
 
+/// What a sum, product or quotient makes of the words a and b, by its name.
+fn arithmetic(name: &[u8]) -> Option<&'static [u8]>
+    ensures { option_map (λ made. made.now) result ≡ f.made_in name.now f.arithmetic }
+{
+    Some(if name == b"add".as_slice() {
+        b"a + b".as_slice()
+    } else if name == b"sub".as_slice() {
+        b"a - b".as_slice()
+    } else if name == b"mul".as_slice() {
+        b"a * b".as_slice()
+    } else if name == b"mulhu".as_slice() {
+        b"({32'd0,a} * {32'd0,b}) >> 32".as_slice()
+    } else if name == b"neg".as_slice() {
+        b"32'd0 - b".as_slice()
+    } else if name == b"divu".as_slice() {
+        b"(b == 32'd0) ? 32'd4294967295 : {a / b}".as_slice()
+    } else if name == b"remu".as_slice() {
+        b"(b == 32'd0) ? a : {a % b}".as_slice()
+    } else {
+        return None;
+    })
+}
+
+/// What an operation on bits makes of the words a and b, by its name.
+fn logic(name: &[u8]) -> Option<&'static [u8]>
+    ensures { option_map (λ made. made.now) result ≡ f.made_in name.now f.logic }
+{
+    Some(if name == b"and".as_slice() {
+        b"a & b".as_slice()
+    } else if name == b"or".as_slice() {
+        b"a | b".as_slice()
+    } else if name == b"xor".as_slice() {
+        b"a ^ b".as_slice()
+    } else if name == b"not".as_slice() {
+        b"~b".as_slice()
+    } else if name == b"shl".as_slice() {
+        b"a << b[4:0]".as_slice()
+    } else if name == b"shr".as_slice() {
+        b"{{32{a[31]}},a} >> b[4:0]".as_slice()
+    } else if name == b"shru".as_slice() {
+        b"a >> b[4:0]".as_slice()
+    } else {
+        return None;
+    })
+}
+
+/// What a comparison makes of the words a and b, by its name. `lt` and `gt` turn the top bits.
+fn comparison(name: &[u8]) -> Option<&'static [u8]>
+    ensures { option_map (λ made. made.now) result ≡ f.made_in name.now f.comparisons }
+{
+    Some(if name == b"eq".as_slice() {
+        b"{31'd0,a == b}".as_slice()
+    } else if name == b"ne".as_slice() {
+        b"{31'd0,a != b}".as_slice()
+    } else if name == b"lt".as_slice() {
+        b"{31'd0,{~a[31],a[30:0]} < {~b[31],b[30:0]}}".as_slice()
+    } else if name == b"gt".as_slice() {
+        b"{31'd0,{~b[31],b[30:0]} < {~a[31],a[30:0]}}".as_slice()
+    } else if name == b"ltu".as_slice() {
+        b"{31'd0,a < b}".as_slice()
+    } else if name == b"gtu".as_slice() {
+        b"{31'd0,b < a}".as_slice()
+    } else {
+        return None;
+    })
+}
+
+/// What an operation makes of the words a and b, and `None` for one that is not a standard one.
+fn made_of(name: &[u8]) -> Option<&'static [u8]>
+    ensures { option_map (λ made. made.now) result ≡ f.made_of name.now }
+{
+    if let Some(made) = arithmetic(name) {
+        return Some(made);
+    }
+    if let Some(made) = logic(name) {
+        return Some(made);
+    }
+    comparison(name)
+}
+
 /// Puts the lines of a function before what it makes. Functions are called by the numbers of operations.
 #[tactic(auto, unfolding(crate::specs::Functions::function_head))]
 fn start_function(out: &mut Vec<u8>, id: OpId, name: &[u8]) -> Result<(), AllocError>
@@ -48,97 +129,72 @@ fn start_function(out: &mut Vec<u8>, id: OpId, name: &[u8]) -> Result<(), AllocE
     push_text(out, name)?;
     push_text(out, b"\nfunction [31:0] op_")?;
     push_number(out, u64::from(id.0))?;
-    push_text(
-        out,
-        b";\ninput [31:0] a;\ninput [31:0] b;\nreg [63:0] t;\nbegin\nt = ",
-    )
+    push_text(out, b";\ninput [31:0] a;\ninput [31:0] b;\n")
 }
 
-/// Puts the function of an operation: what it makes of the words a and b.
-#[tactic(auto, unfolding(crate::specs::Functions::function_text))]
-fn push_made(out: &mut Vec<u8>, id: OpId, name: &[u8], made: &[u8]) -> Result<(), AllocError>
-    ensures { OnOk result (out.new.items ≡ out.old.items
-        ++ f.function_text id.0 name.now made.now) }
+/// Puts what a standard operation makes of its two words.
+#[tactic(auto, unfolding(crate::specs::Functions::made_text))]
+fn push_made(out: &mut Vec<u8>, id: OpId, made: &[u8]) -> Result<(), AllocError>
+    ensures { OnOk result (out.new.items ≡ out.old.items ++ f.made_text id.0 made.now) }
 {
-    start_function(out, id, name)?;
+    push_text(out, b"reg [63:0] t;\nbegin\nt = ")?;
     push_text(out, made)?;
     push_text(out, b";\nop_")?;
     push_number(out, u64::from(id.0))?;
     push_text(out, b" = t[31:0];\nend\nendfunction\n")
 }
 
-/// Puts the function of an operation by its name and what it makes of the words a and b, if the machine offers
-/// it.
-#[tactic(auto, unfolding(crate::specs::Functions::operation_text))]
-fn push_function(
+/// Puts what an operation of one's own makes of its two words.
+#[tactic(auto, unfolding(crate::specs::Functions::called_text))]
+fn push_called(out: &mut Vec<u8>, id: OpId, name: &[u8]) -> Result<(), AllocError>
+    ensures { OnOk result (out.new.items ≡ out.old.items ++ f.called_text id.0 name.now) }
+{
+    push_text(out, b"op_")?;
+    push_number(out, u64::from(id.0))?;
+    push_text(out, b" = own_")?;
+    push_text(out, name)?;
+    push_text(out, b"(a, b);\nendfunction\n")
+}
+
+/// Puts the function of an operation of one's own, which calls that of a file.
+#[tactic(auto, unfolding(crate::specs::Functions::own_text))]
+fn push_own(out: &mut Vec<u8>, id: OpId, name: &[u8]) -> Result<(), AllocError>
+    ensures { OnOk result (out.new.items ≡ out.old.items ++ f.own_text id.0 name.now) }
+{
+    push_text(out, b"`include \"")?;
+    push_text(out, name)?;
+    push_text(out, b".v\"\n")?;
+    start_function(out, id, name)?;
+    push_called(out, id, name)
+}
+
+/// Puts the function of an operation by its name.
+#[tactic(auto, unfolding(crate::specs::Functions::function_text))]
+fn push_function(out: &mut Vec<u8>, id: OpId, name: &[u8]) -> Result<(), AllocError>
+    ensures { OnOk result (out.new.items ≡ out.old.items ++ f.operation_text id.0 name.now) }
+{
+    let Some(made) = made_of(name) else {
+        return push_own(out, id, name);
+    };
+    start_function(out, id, name)?;
+    push_made(out, id, made)
+}
+
+/// Puts the function of an operation, if the machine offers it.
+fn push_offered(
     out: &mut Vec<u8>,
     m: &Machine,
     units: &UnitSet,
-    name: &[u8],
-    made: &[u8],
+    id: OpId,
 ) -> Result<(), AllocError>
+    requires { id.0 < length (stated unit_meaning units.now).names }
     ensures { let U = stated unit_meaning units.now in
-        OnOk result (out.new.items ≡ out.old.items
-        ++ f.operation_text U m.now (f.by name.now made.now)) }
+        OnOk result (out.new.items ≡ out.old.items ++ f.offered_text U m.now id.0) }
 {
-    let Some(id) = units.find_bytes(name) else {
-        return Ok(());
-    };
     if !is_offered(id, m.units.as_slice()) {
         return Ok(());
     }
-    push_made(out, id, name, made)
-}
-
-/// Puts the functions of sums, products and quotients that the machine offers.
-fn push_arithmetic(out: &mut Vec<u8>, m: &Machine, units: &UnitSet) -> Result<(), AllocError>
-    ensures { let U = stated unit_meaning units.now in
-        OnOk result (out.new.items ≡ out.old.items ++ f.listed U m.now f.arithmetic) }
-{
-    let high = b"({32'd0,a} * {32'd0,b}) >> 32";
-    push_function(out, m, units, b"add", b"a + b")?;
-    push_function(out, m, units, b"sub", b"a - b")?;
-    push_function(out, m, units, b"mul", b"a * b")?;
-    push_function(out, m, units, b"mulhu", high)?;
-    push_function(out, m, units, b"neg", b"32'd0 - b")?;
-    push_function(
-        out,
-        m,
-        units,
-        b"divu",
-        b"(b == 32'd0) ? 32'd4294967295 : a / b",
-    )?;
-    push_function(out, m, units, b"remu", b"(b == 32'd0) ? a : a % b")
-}
-
-/// Puts the functions of the operations on bits that the machine offers.
-fn push_logic(out: &mut Vec<u8>, m: &Machine, units: &UnitSet) -> Result<(), AllocError>
-    ensures { let U = stated unit_meaning units.now in
-        OnOk result (out.new.items ≡ out.old.items ++ f.listed U m.now f.logic) }
-{
-    let right = b"{{32{a[31]}},a} >> b[4:0]";
-    push_function(out, m, units, b"and", b"a & b")?;
-    push_function(out, m, units, b"or", b"a | b")?;
-    push_function(out, m, units, b"xor", b"a ^ b")?;
-    push_function(out, m, units, b"not", b"~b")?;
-    push_function(out, m, units, b"shl", b"a << b[4:0]")?;
-    push_function(out, m, units, b"shr", right)?;
-    push_function(out, m, units, b"shru", b"a >> b[4:0]")
-}
-
-/// Puts the functions of comparisons that the machine offers. `lt` and `gt` turn the top bits.
-fn push_comparisons(out: &mut Vec<u8>, m: &Machine, units: &UnitSet) -> Result<(), AllocError>
-    ensures { let U = stated unit_meaning units.now in
-        OnOk result (out.new.items ≡ out.old.items ++ f.listed U m.now f.comparisons) }
-{
-    let less = b"{31'd0,{~a[31],a[30:0]} < {~b[31],b[30:0]}}";
-    let more = b"{31'd0,{~b[31],b[30:0]} < {~a[31],a[30:0]}}";
-    push_function(out, m, units, b"eq", b"{31'd0,a == b}")?;
-    push_function(out, m, units, b"ne", b"{31'd0,a != b}")?;
-    push_function(out, m, units, b"lt", less)?;
-    push_function(out, m, units, b"gt", more)?;
-    push_function(out, m, units, b"ltu", b"{31'd0,a < b}")?;
-    push_function(out, m, units, b"gtu", b"{31'd0,b < a}")
+    push_function(out, id, units.name(id).as_bytes())
 }
 
 /// Puts the functions of the operations that the machine offers.
@@ -146,7 +202,8 @@ pub fn push_functions(out: &mut Vec<u8>, m: &Machine, units: &UnitSet) -> Result
     ensures { let U = stated unit_meaning units.now in
         OnOk result (out.new.items ≡ out.old.items ++ f.functions_text U m.now) }
 {
-    push_arithmetic(out, m, units)?;
-    push_logic(out, m, units)?;
-    push_comparisons(out, m, units)
+    for op in 0..units.len() {
+        push_offered(out, m, units, OpId(op as u32))?;
+    }
+    Ok(())
 }

@@ -1,0 +1,293 @@
+"""A reader of the texts of circuits that `rtl` prints: the part of Verilog-2001 that docs/HARDWARE.md names, and no more. It is written
+from that grammar alone, and refuses whatever it does not name. `circuit.py` gives what is read a meaning."""
+import re
+
+from readers.verilog_forms import Binary, Call, Constant, Function, Instance, Invert, Join, Memory, Module, Name, Not, Outside, Part, Read, Refused, Repeat, Select, Table, Taken
+
+TOKEN = re.compile(r"\s*(?:(//[^\n]*\n)|(`\w+)|(\d+'[db][0-9]+)|([\x22]\w+\.v[\x22])|(\d+)|([A-Za-z_]\w*)|(<=|\+:|&&|\|\||==|!=|<<|>>|[][(){}?:;,.=<>+\-*/%&|^~!@#]))")
+# Operators from the loosest to the tightest.
+LEVELS = (("||",), ("&&",), ("|",), ("^",), ("&",), ("==", "!="), ("<", ">"), ("<<", ">>"), ("+", "-"), ("*", "/", "%"))
+
+
+class Reader:
+    """The tokens of a text, and where in them the reader is."""
+
+    def __init__(self, text):
+        self.text, self.at, self.tokens = text, 0, []
+        place = 0
+        while text[place:].strip():
+            found = TOKEN.match(text, place)
+            if not found:
+                raise Refused(f"line {text.count(chr(10), 0, place) + 1}: {text[place:place + 20]!r}")
+            if not found[1]:
+                self.tokens.append((found[0].strip(), found.start(found.lastindex)))
+            place = found.end()
+
+    def next(self):
+        return self.tokens[self.at][0] if self.at < len(self.tokens) else ""
+
+    def refuse(self, wanted):
+        place = self.tokens[self.at][1] if self.at < len(self.tokens) else len(self.text)
+        raise Refused(f"line {self.text.count(chr(10), 0, place) + 1}: {wanted} and not {self.next()!r}")
+
+    def takes(self, word):
+        """Whether the next token is this one, which is then passed."""
+        if self.next() != word:
+            return False
+        self.at += 1
+        return True
+
+    def want(self, *words):
+        for word in words:
+            if not self.takes(word):
+                self.refuse(repr(word))
+
+    def matching(self, pattern, what):
+        found = re.fullmatch(pattern, self.next())
+        if not found:
+            self.refuse(what)
+        self.at += 1
+        return found
+
+    def name(self):
+        return self.matching(r"[A-Za-z_]\w*", "a name")[0]
+
+    def number(self):
+        return int(self.matching(r"\d+", "a number")[0])
+
+    def constant(self):
+        found = self.matching(r"(\d+)'([db])(\d+)", "a constant")
+        width, word = int(found[1]), int(found[3], 10 if found[2] == "d" else 2)
+        if not width or word >> width:
+            raise Refused(f"{found[0]}: no word of so many bits")
+        return Constant(width, word)
+
+    def range(self):
+        """How many bits a range says."""
+        self.want("[")
+        high = self.number()
+        self.want(":", "0", "]")
+        return high + 1
+
+    # ---- expressions
+
+    def expression(self):
+        test = self.level(0)
+        if not self.takes("?"):
+            return test
+        on = self.expression()
+        self.want(":")
+        return Select(test, on, self.expression())
+
+    def level(self, k):
+        if k == len(LEVELS):
+            return self.operand()
+        left = self.level(k + 1)
+        while self.next() in LEVELS[k]:
+            sign = self.next()
+            self.at += 1
+            is_distance = sign in ("<<", ">>") and re.fullmatch(r"\d+", self.next())
+            left = Binary(sign, left, Constant(32, self.number()) if is_distance else self.level(k + 1))
+        return left
+
+    def operand(self):
+        if self.takes("!"):
+            return Not(self.operand())
+        if self.takes("~"):
+            return Invert(self.operand())
+        if self.takes("("):
+            inside = self.expression()
+            self.want(")")
+            return inside
+        if self.takes("{"):
+            return self.joined()
+        if "'" in self.next():
+            return self.constant()
+        name = self.name()
+        if self.takes("("):
+            given = [self.expression()]
+            while self.takes(","):
+                given.append(self.expression())
+            self.want(")")
+            return Call(name, given)
+        return self.part(name) if self.takes("[") else Name(name)
+
+    def joined(self):
+        """What stands in braces, of which the first is passed: words that are joined, or one that is repeated."""
+        if re.fullmatch(r"\d+", self.next()):
+            times = self.number()
+            self.want("{")
+            part = self.expression()
+            self.want("}", "}")
+            return Repeat(times, part)
+        parts = [self.expression()]
+        while self.takes(","):
+            parts.append(self.expression())
+        self.want("}")
+        return Join(parts)
+
+    def part(self, name):
+        """A part of what has a name, or the word of a memory at an address; the bracket is passed."""
+        first = self.number() if re.fullmatch(r"\d+", self.next()) else self.expression()
+        if self.takes("+:"):
+            part = Part(name, first, self.number())
+        elif self.takes(":"):
+            low = self.number()
+            part = Part(name, low, first - low + 1)
+        else:
+            part = Part(name, first, 1) if isinstance(first, int) else Read(name, first)
+        self.want("]")
+        if isinstance(part, Part) and not (isinstance(part.low, int) and part.width > 0):
+            self.refuse("a part from a number on, of one bit or more")
+        return part
+
+    # ---- declarations
+
+    def module(self):
+        self.want("module")
+        module, names = Module(self.name()), []
+        self.want("(")
+        while not self.takes(")"):
+            names.append(self.name())
+            self.takes(",")
+        self.want(";")
+        while not self.takes("endmodule"):
+            self.declaration(module)
+        if list(module.ports) != names:
+            raise Refused(f"{module.name}: the ports are declared as {list(module.ports)} and named as {names}")
+        return module
+
+    def declaration(self, module):
+        kinds = {"input": self.port, "output": self.port, "wire": self.wire, "reg": self.register, "function": self.function,
+                 "always": self.clocked, "assign": self.assigned, "integer": self.counter, "`include": self.included}
+        kind = self.next()
+        if kind not in kinds:
+            return self.instance(module)
+        self.at += 1
+        kinds[kind](module, kind)
+
+    def declare(self, module, place, name, what):
+        if any(name in it for it in (module.ports, module.wires, module.registers, module.memories, module.functions)):
+            raise Refused(f"{module.name}: {name} is declared twice")
+        place[name] = what
+
+    def port(self, module, kind):
+        width = self.range() if self.next() == "[" else 1
+        self.declare(module, module.ports, self.name(), (kind, width))
+        self.want(";")
+
+    def counter(self, module, kind):
+        self.want("k", ";")
+
+    def wire(self, module, kind):
+        width, name = self.range() if self.next() == "[" else 1, self.name()
+        word = self.expression() if self.takes("=") else None
+        self.declare(module, module.wires, name, (width, word))
+        self.want(";")
+
+    def register(self, module, kind):
+        width, name = self.range(), self.name()
+        if self.takes(";"):
+            return self.declare(module, module.registers, name, width)
+        self.want("[", "0", ":")
+        size = self.number() + 1
+        self.want("]", ";", "initial", "begin", "`ifndef", "SYNTHESIS", "for", "(", "k", "=", "0", ";", "k", "<")
+        # A space of no words stands as one that nothing reaches.
+        if self.number() not in ((size,) if size > 1 else (0, 1)):
+            raise Refused(f"{name}: not all of its words are set to 0")
+        self.want(";", "k", "=", "k", "+", "1", ")", name, "[", "k", "]", "=", f"{width}'d0", ";", "`endif")
+        first = {}
+        while not self.takes("end"):
+            self.want(name, "[")
+            address = self.number()
+            self.want("]", "=")
+            first[address] = self.constant().word
+            self.want(";")
+        self.declare(module, module.memories, name, Memory(width, size, first))
+
+    def function(self, module, kind):
+        width, name, inputs = self.range(), self.name(), []
+        self.want(";")
+        while self.takes("input"):
+            inputs.append((self.range(), self.name()))
+            self.want(";")
+        made = self.table(name, width, inputs) if self.takes("case") else self.made(name, width, inputs)
+        self.want("endfunction")
+        self.declare(module, module.functions, name, made)
+
+    def included(self, module, kind):
+        """A file that holds the function of an operation of one's own, of two words."""
+        name = self.matching(r'"(\w+)\.v"', "a file")[1]
+        self.declare(module, module.functions, f"own_{name}", Outside(32, [(32, "a"), (32, "b")]))
+
+    def table(self, name, width, inputs):
+        self.want("(", inputs[0][1], ")")
+        words = {}
+        while not self.takes("default"):
+            address = self.number()
+            self.want(":", name, "=")
+            words[address] = self.constant().word
+            self.want(";")
+        self.want(":", name, "=")
+        default = self.constant().word
+        self.want(";", "endcase")
+        return Table(width, inputs, words, default)
+
+    def made(self, name, width, inputs):
+        if self.takes(name):
+            self.want("=")
+            word = self.expression()
+            self.want(";")
+            return Function(width, inputs, (width, name), word, Name(name))
+        self.want("reg")
+        variable = self.range(), self.name()
+        self.want(";", "begin", variable[1], "=")
+        word = self.expression()
+        self.want(";", name, "=", variable[1], "[")
+        part = self.part(variable[1])
+        self.want(";", "end")
+        return Function(width, inputs, variable, word, part)
+
+    def clocked(self, module, kind):
+        self.want("@", "(", "posedge", "clk", ")", "if", "(")
+        enable = self.expression()
+        self.want(")")
+        name, address = self.name(), None
+        if self.takes("["):
+            address = self.expression()
+            self.want("]")
+        self.want("<=")
+        module.taken.append(Taken(enable, name, address, self.expression()))
+        self.want(";")
+
+    def assigned(self, module, kind):
+        name = self.name()
+        self.want("=")
+        if name in module.shown:
+            raise Refused(f"{module.name}: {name} is assigned twice")
+        module.shown[name] = self.expression()
+        self.want(";")
+
+    def instance(self, module):
+        of, name, joined = self.name(), self.name(), {}
+        self.want("(")
+        while not self.takes(")"):
+            self.want(".")
+            port = self.name()
+            self.want("(")
+            joined[port] = None if self.next() == ")" else self.expression()
+            self.want(")")
+            self.takes(",")
+        self.want(";")
+        module.instances.append(Instance(of, name, joined))
+
+
+def modules(text):
+    """The modules of a text, by their names."""
+    reader, found = Reader(text), {}
+    while reader.next():
+        module = reader.module()
+        if module.name in found:
+            raise Refused(f"the module {module.name} stands twice")
+        found[module.name] = module
+    return found
