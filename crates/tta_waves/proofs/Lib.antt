@@ -1,7 +1,6 @@
 mod Lists
 mod Binary
 mod Machines
-mod Wrote
 mod Told
 mod Going
 mod Rows
