@@ -9,7 +9,7 @@ use Rattle.tta_code.specs.declared.code.Code.{Code}
 use Rattle.tta_code.specs.Cycle.{State, next}
 use Rattle.tta_asm.specs.Canonical.{imm_name, place_text, instruction_text}
 use Rattle.tta_pages.specs.Pages.{run_page}
-use Rattle.tta_play.specs.States.{state_text, states_text}
+use Rattle.tta_play.specs.States.{whole_text, states_text}
 
 -- a part of a machine: what it is, and its name
 unfoldable pub name_text : (what name : List ℕ) → List ℕ
@@ -51,7 +51,7 @@ limited bound = if nat_lt bound 400 then bound else 400
 
 -- the data of a page: the machine, its code, and the state and those after each cycle, by the cycle's meaning
 unfoldable pub run_data : Units → Machine → Code → State → (n : ℕ) → List ℕ
-run_data u m code s n = code_part u m code.words ++ states_text (next u m code) (state_text u m code.words) (limited n) s
+run_data u m code s n = code_part u m code.words ++ states_text (next u m code) (whole_text u m code.words) (limited n) s
 
 -- The page that plays at most n cycles of code from a state, with what is told of the program that the code is built of: between the fixed text
 -- stand that text, which is empty where there is no program, and the data of the run.

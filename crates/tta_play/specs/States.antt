@@ -73,9 +73,13 @@ abbrev pub code_at_text : Units → Machine → List Instruction → (address : 
 code_at_text u m words address = option_map_or (code_text u m) (slice_get words address) []
 
 -- a state: where it is, its registers, its results, the word of the input and the instruction that come next
-unfoldable pub state_text : Units → Machine → List Instruction → State → List ℕ
-state_text u m words s =
-    where_text s ++ (files_text s m.files ++ (units_text s m.units ++ (input_text (slice_get s.rest 0) ++ code_at_text u m words s.pc)))
+unfoldable pub state_text : Units → Machine → List Instruction → (input : Option ℕ) → State → List ℕ
+state_text u m words input s =
+    where_text s ++ (files_text s m.files ++ (units_text s m.units ++ (input_text input ++ code_at_text u m words s.pc)))
+
+-- the same with the next word of the state's own input
+abbrev pub whole_text : Units → Machine → List Instruction → State → List ℕ
+whole_text u m words s = state_text u m words (slice_get s.rest 0) s
 
 -- ---- states
 

@@ -5,7 +5,7 @@ ghost use Rattle.tta_ops.specs.Set.{stated};
 ghost use Rattle.tta_list.specs.Input.{IsFed};
 ghost use Rattle.tta_code.specs.Cycle.{State, next as next_state};
 ghost use Rattle.tta_sim.specs.Held.{Stands, IsRunOf};
-ghost use Rattle.tta_play.specs.States.{out_text, state_text, states_text};
+ghost use Rattle.tta_play.specs.States.{out_text, states_text, whole_text};
 ghost use Rattle.tta_play.specs.Steps.{Goes, step_text};
 ghost use Rattle.tta_sim.specs.declared.cycle_step.CycleStep.TheVariants.{Fault};
 
@@ -78,7 +78,7 @@ pub fn push_states(
     requires loaded { IsRunOf basis.now.m.now basis.now.code.now sim.old }
     requires few { sim.old.cycle + bound < 2 ^ 62 }
     ensures { let on = basis.now in let U = stated unit_meaning on.units.now in
-        let told = state_text U on.m.now on.code.now.words in
+        let told = whole_text U on.m.now on.code.now.words in
         (s : State) → Stands sim.old s → s.rest ≡ input.now → OnOk result (out.new.items
         ≡ out.old.items ++ states_text (next_state U on.m.now on.code.now) told bound s) }
 {

@@ -2,10 +2,10 @@
 #![tactic(auto)]
 
 mod cycling;
-mod names;
+mod listing;
 mod memory;
+mod names;
 mod playing;
-mod rows;
 mod state;
 mod words;
 

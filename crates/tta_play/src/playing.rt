@@ -9,7 +9,7 @@ ghost use Rattle.tta_pages.specs.RunPieces.{run_middle_text};
 ghost use Rattle.tta_play.specs.Statement.{limited, page_of, run_data};
 
 use crate::cycling::push_states;
-use crate::rows::push_code_part;
+use crate::listing::push_code_part;
 use std::alloc::{AllocError, Global};
 use tta_pages::{push_run_head, push_run_middle, push_run_tail};
 use tta_profile::Basis;

@@ -150,8 +150,8 @@ pub fn push_state(
     requires loaded { IsRunOf basis.now.m.now basis.now.code.now sim.now }
     requires few { sim.now.cycle < 2 ^ 63 }
     ensures { let U = stated unit_meaning basis.now.units.now in
-        (s : State) → Stands sim.now s → slice_get s.rest 0 ≡ next → OnOk result (out.new.items
-        ≡ out.old.items ++ state_text U basis.now.m.now basis.now.code.now.words s) }
+        (s : State) → Stands sim.now s → OnOk result (out.new.items ≡ out.old.items
+        ++ state_text U basis.now.m.now basis.now.code.now.words next s) }
 {
     let m = basis.m;
     push_where(out, sim)?;

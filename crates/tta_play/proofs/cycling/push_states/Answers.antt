@@ -4,9 +4,10 @@ use Rattle.tta_list.specs.Input.{left as unread}
 use Rattle.tta_ops.specs.Set.{stated}
 use Rattle.tta_code.specs.Cycle.{State, next}
 use Rattle.tta_sim.specs.Held.{Stands}
-use Rattle.tta_play.specs.States.{state_text, outs_text, stores_text, cycle_text}
+use Rattle.tta_play.specs.States.{state_text, whole_text, outs_text, stores_text}
 use Rattle.tta_play.specs.Steps.{GoesBy, step_text}
 use Rattle.tta_list.proofs.Lists.{then_more}
+use Rattle.tta_list.proofs.Results.{onward}
 use Rattle.tta_play.proofs.Rows.{state_more, state_over, state_last}
 use Rattle.tta_play.proofs.cycling.push_states.Given as given
 use Rattle.tta_play.proofs.cycling.push_states.Goals.{After-went_on}
@@ -17,7 +18,7 @@ module _ (g : given.Over) (c : After-went_on g) where
   step = next (stated (λ v. (goal.OpUnit-dyn g v).unit_meaning v.1) c.args.basis.now.units.now) c.args.basis.now.m.now c.args.basis.now.code.now
 
   abbrev told : State → List ℕ
-  told = state_text (stated (λ v. (goal.OpUnit-dyn g v).unit_meaning v.1) c.args.basis.now.units.now) c.args.basis.now.m.now c.args.basis.now.code.now.words
+  told = whole_text (stated (λ v. (goal.OpUnit-dyn g v).unit_meaning v.1) c.args.basis.now.units.now) c.args.basis.now.m.now c.args.basis.now.code.now.words
 
   -- with this cycle there is one less
   one_less : c.cycles.left ≡ suc (c.cycles.left - 1)
@@ -26,6 +27,12 @@ module _ (g : given.Over) (c : After-went_on g) where
   -- the word of the input that comes next is that of the state that the run stood for
   fed : (t : State) → t.rest ≡ c.cycles.rest.now → slice_get t.rest 0 ≡ c.first_of-next.result
   fed t rest = ap (λ l. slice_get l 0) rest ∙ sym c.first_of-next.ensures
+
+  -- so the state that was put is that one
+  put : (t : State) → Stands c.cycles.sim t → t.rest ≡ c.cycles.rest.now
+      → c.push_state.new.out.items ≡ c.cycles.out.items ++ state_text (stated (λ v. (goal.OpUnit-dyn g v).unit_meaning v.1) c.args.basis.now.units.now) c.args.basis.now.m.now c.args.basis.now.code.now.words c.first_of-next.result t
+      → c.push_state.new.out.items ≡ c.cycles.out.items ++ told t
+  put t stands rest is = is ∙ ap (λ o. c.cycles.out.items ++ state_text (stated (λ v. (goal.OpUnit-dyn g v).unit_meaning v.1) c.args.basis.now.units.now) c.args.basis.now.m.now c.args.basis.now.code.now.words o t) (sym (fed t rest))
 
   -- what became of the cycle of the state that the run stood for
   went : (t : State) → Stands c.cycles.sim t → t.rest ≡ c.cycles.rest.now → GoesBy step (Stands c.cycle_once-step.new.sim) t (step_text c.cycle_once-step.result) c.went_on.result
@@ -41,7 +48,7 @@ returns-in_default g c = λ s stands given.
     let t = now.0 in
     let over = subst (λ o. GoesBy (step g at) (Stands c.cycle_once-step.new.sim) t (step_text c.cycle_once-step.result) o) (c.in_default.is)
     (went g at t now.1 now.2) in
-    state_over (step g at) (told g at) t _ _ _ _ _ _ (one_less g at) over.made (c.in_ok-push_state.ensures t now.1 (fed g at t now.2))
+    state_over (step g at) (told g at) t _ _ _ _ _ _ (one_less g at) over.made (put g at t now.1 now.2 (c.in_ok-push_state.ensures t now.1))
     (c.in_ok-push_step.ensures ∙ ap (λ l. c.push_state.new.out.items ++ l) over.tells) now.3
 
 pub cycles-preserved : goal.cycles-preserved
@@ -53,19 +60,19 @@ cycles-preserved g c =
     record {
       loaded = c.cycle_once-step.ensures.loaded;
       few = omega arith;
-      remembers = c.in_ok-push_changed.ensures.keeps ∙ c.memory-sim.ensures;
+      remembers = c.in_ok-push_changed.ensures.keeps ∙ c.memory-in-cycles.ensures;
       put = λ s stands given.
           let now = c.cycles.invariant.put s stands given in
           let t = now.0 in
           let on = subst (λ o. GoesBy (step g at) (Stands c.cycle_once-step.new.sim) t (step_text c.cycle_once-step.result) o) (c.in-Some.is)
           (went g at t now.1 now.2) in
           let changed = c.in_ok-push_changed.ensures.stores
-          ∙ ap (λ l. c.push_step.new.out.items ++ stores_text l c.memory-sim.result.now) (c.cycles.invariant.remembers ∙ now.1.memory)
-          ∙ ap (λ l. c.push_step.new.out.items ++ stores_text t.memory l) (c.memory-sim.ensures ∙ on.stands.memory) in (
+          ∙ ap (λ l. c.push_step.new.out.items ++ stores_text l c.memory-in-cycles.result.now) (c.cycles.invariant.remembers ∙ now.1.memory)
+          ∙ ap (λ l. c.push_step.new.out.items ++ stores_text t.memory l) (c.memory-in-cycles.ensures ∙ on.stands.memory) in (
             step g at t,
             on.stands,
             on.rest ∙ ap (unread c.in-Some.took) now.2 ∙ sym c.left_of-rest.ensures,
-            state_more (step g at) (told g at) t _ _ _ _ _ _ (one_less g at) on.made (c.in_ok-push_state.ensures t now.1 (fed g at t now.2))
+            state_more (step g at) (told g at) t _ _ _ _ _ _ (one_less g at) on.made (put g at t now.1 now.2 (c.in_ok-push_state.ensures t now.1))
                 (then_more c.push_state.new.out.items c.push_step.new.out.items c.push_changed.new.out.items (outs_text t (step g at t)) (stores_text t.memory (step g at t).memory)
                 (c.in_ok-push_step.ensures ∙ ap (λ l. c.push_state.new.out.items ++ l) on.tells) changed) now.3,
           );
@@ -76,6 +83,10 @@ returns g c = λ s stands given.
     let on = c.args.basis.now in
     let U = stated (λ v. (goal.OpUnit-dyn g v).unit_meaning v.1) on.units.now in
     let now = c.cycles.invariant.put s stands given in
-    let none : c.cycles.left ≡ 0 = let t = c.cycles-test.false in omega arith in
-    state_last (next U on.m.now on.code.now) (state_text U on.m.now on.code.now.words) now.0 _ _ _ _ none
-    (c.push_state-2.ensures now.0 now.1 (ap (λ l. slice_get l 0) now.2 ∙ sym c.first_of.ensures)) now.3
+    let t = now.0 in
+    let none : c.cycles.left ≡ 0 = let test = c.cycles-test.false in omega (arith, test) in
+    let fed : slice_get t.rest 0 ≡ c.first_of.result = ap (λ l. slice_get l 0) now.2 ∙ sym c.first_of.ensures in
+    onward c.push_state-2.result
+    (λ is. state_last (next U on.m.now on.code.now) (whole_text U on.m.now on.code.now.words) t _ _ _ _ none
+    (is ∙ ap (λ o. c.cycles.out.items ++ state_text U on.m.now on.code.now.words o t) (sym fed)) now.3)
+    (c.push_state-2.ensures t now.1)

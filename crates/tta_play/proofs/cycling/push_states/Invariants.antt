@@ -2,7 +2,7 @@ use Rattle.std.proofs.Common.{◌≡◌, ◌+◌, ◌<◌, ◌^◌, ◌++◌}
 use Rattle.tta_ops.specs.Set.{stated}
 use Rattle.tta_code.specs.Cycle.{State, next}
 use Rattle.tta_sim.specs.Held.{Stands, IsRunOf}
-use Rattle.tta_play.specs.States.{state_text, states_text}
+use Rattle.tta_play.specs.States.{whole_text, states_text}
 use Rattle.tta_play.proofs.cycling.push_states.Given as goal
 
 abbrev pub decreases-cycles : goal.decreases-cycles
@@ -12,7 +12,7 @@ abbrev pub invariant-cycles : goal.invariant-cycles
 invariant-cycles g l =
     let U = stated (λ v. (goal.OpUnit-dyn g v).unit_meaning v.1) l.basis.units.now in
     let step = next U l.basis.m.now l.basis.code.now in
-    let told = state_text U l.basis.m.now l.basis.code.now.words in
+    let told = whole_text U l.basis.m.now l.basis.code.now.words in
     record {
       loaded : IsRunOf l.basis.m.now l.basis.code.now l.sim;
       few : l.sim.cycle + l.left < 2 ^ 62;

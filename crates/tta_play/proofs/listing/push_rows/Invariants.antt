@@ -2,7 +2,7 @@ use Rattle.std.proofs.Common.{◌≡◌, ◌++◌, drop}
 use Rattle.std.specs.List.{flat_map, enumerate_from}
 use Rattle.tta_ops.specs.Set.{stated}
 use Rattle.tta_play.specs.Statement.{row_text}
-use Rattle.tta_play.proofs.rows.push_rows.Given as goal
+use Rattle.tta_play.proofs.listing.push_rows.Given as goal
 
 abbrev pub invariant-loop-address : goal.invariant-loop-address
 invariant-loop-address g l =
