@@ -1,4 +1,1 @@
-pub mod Queues
-pub mod Signals
-pub mod Top
 pub mod Net

@@ -7,8 +7,8 @@ use Rattle.tta_code.specs.Legal.{IsLegalCode}
 use Rattle.tta_cores.specs.declared.cores.Core.{Core}
 use Rattle.tta_hardware.specs.Hardware.{circuit_of}
 use Rattle.tta_rtl.specs.Module.{module_of, offers}
-use Rattle.tta_netlist.specs.Queues.{numbered, queue_text}
-use Rattle.tta_netlist.specs.Top.{top_text}
+use Rattle.tta_wiring.specs.Queues.{numbered, queue_text}
+use Rattle.tta_wiring.specs.Top.{top_text}
 
 -- The circuit of a core whose data space begins with these words, as a module with the ports of the output and of the input.
 unfoldable pub core_module : Units → (k : ℕ) → Core → (memory : List ℕ) → List ℕ

@@ -4,7 +4,6 @@ ghost use Rattle.std.specs.Prelude.{◌≡◌, ◌≤◌, ◌+◌, ◌++◌, len
 ghost use Rattle.tta_ops.specs.Set.{stated};
 ghost use Rattle.tta_netlist.specs.Net.{AreSound, IsSound, core_module, core_modules, gives_of};
 
-use crate::queue::push_numbered;
 use std::alloc::{AllocError, Global};
 use tta_arch::Op;
 use tta_code::Whole;
@@ -12,6 +11,7 @@ use tta_cores::Core;
 use tta_list::Items;
 use tta_ops::UnitSet;
 use tta_rtl::{Module, offers, push_core};
+use tta_wiring::push_numbered;
 
 /// Puts the circuit of a core whose data space begins with these words, as a module. Of an image of its
 /// code the text takes no more than the bits of the code, so that it needs no digest and no data.

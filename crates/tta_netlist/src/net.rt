@@ -6,11 +6,10 @@ ghost use Rattle.tta_ops.specs.Set.{stated};
 ghost use Rattle.tta_netlist.specs.Net.{AreSound, net_text};
 
 use crate::cores::{gives_of, push_modules};
-use crate::queue::push_queues;
-use crate::top::push_top;
 use std::alloc::{AllocError, Global};
 use tta_cores::Core;
 use tta_ops::UnitSet;
+use tta_wiring::{push_queues, push_top};
 
 /// How cores are joined.
 #[derive(Clone, Copy)]

@@ -17,7 +17,7 @@ use Rattle.tta_cores.specs.declared.cores.Core.{Core}
 use Rattle.tta_cores.specs.Network.{Network, feeder_of}
 use Rattle.tta_cores.specs.Cluster.{cycles}
 use Rattle.tta_board.specs.Board.{Board, Inputs, have_room, lines, pins_of, IsWiredCore, AreWired}
-use Rattle.tta_netlist.specs.Signals.{Joint, Reset, Outside, Cycle, Valid, Word, Asks as Wants, Room, HasWord, First, Rooms, Ready, Puts, Takes, Fed, Comes, is_feeder, rooms_of}
+use Rattle.tta_wiring.specs.Signals.{Joint, Reset, Outside, Cycle, Valid, Word, Asks as Wants, Room, HasWord, First, Rooms, Ready, Puts, Takes, Fed, Comes, is_feeder, rooms_of}
 use Rattle.tta_wiring.specs.Laws.{AreLinked, AreNet, NetIsWired}
 
 -- ---- lists

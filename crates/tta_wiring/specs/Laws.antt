@@ -11,7 +11,7 @@ use Rattle.tta_queue.specs.Queue.{Pin}
 use Rattle.tta_queue.specs.Queue as queue
 use Rattle.tta_cores.specs.declared.cores.Core.{Core}
 use Rattle.tta_board.specs.Board.{Board, Inputs, lines, pins_of, AreWired}
-use Rattle.tta_netlist.specs.Signals.{Joint, Reset, Outside, CorePort, ResetOf, HaltedOf, CycleOf, OutValid, OutData, OutReady, InValid, InData, InReady, core_wires, queue_wires, core_joints, queue_joints}
+use Rattle.tta_wiring.specs.Signals.{Joint, Reset, Outside, CorePort, ResetOf, HaltedOf, CycleOf, OutValid, OutData, OutReady, InValid, InData, InReady, core_wires, queue_wires, core_joints, queue_joints}
 
 -- The word of a port of a core's module: an input of its circuit, or what a signal of it shows. `shown_text` of tta_rtl says the same of
 -- the ports as a text.

@@ -5,9 +5,9 @@ ghost use Rattle.std.specs.List.{flat_map, enumerate_from};
 ghost use Rattle.std.specs.Option.{option_map_or};
 ghost use Rattle.tta_verilog.specs.Expressions as e;
 ghost use Rattle.tta_verilog.specs.Circuits as v;
-ghost use Rattle.tta_netlist.specs.Queues.{numbered};
-ghost use Rattle.tta_netlist.specs.Signals as s;
-ghost use Rattle.tta_netlist.specs.Top as p;
+ghost use Rattle.tta_wiring.specs.Queues.{numbered};
+ghost use Rattle.tta_wiring.specs.Signals as s;
+ghost use Rattle.tta_wiring.specs.Top as p;
 
 use crate::queue::push_numbered;
 use std::alloc::AllocError;

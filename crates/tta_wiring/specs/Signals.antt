@@ -3,7 +3,7 @@ use Rattle.std.specs.Prelude.{ℕ, ◌+◌, ◌==◌, Bool, false, if◌then◌e
 use Rattle.std.specs.Option.{option_map_or}
 use Rattle.tta_circuit.specs.Circuit.{Expr, Const, Signal, Both, Wire}
 use Rattle.tta_verilog.specs.Expressions.{Names}
-use Rattle.tta_netlist.specs.Queues.{numbered}
+use Rattle.tta_wiring.specs.Queues.{numbered}
 
 -- Its signals, most of them one for each core. The input `Reset` says whether all begins anew, and `Outside` whether the outside would take
 -- a word of a core. A core shows whether it has halted, whether it carries an instruction out, whether it has a word to put out, that word,

@@ -6,12 +6,11 @@ ghost use Rattle.tta_circuit.specs.Circuit as c;
 ghost use Rattle.tta_queue.specs.Queue as q;
 ghost use Rattle.tta_verilog.specs.Expressions as e;
 ghost use Rattle.tta_verilog.specs.Circuits as v;
-ghost use Rattle.tta_netlist.specs.Queues.{numbered, pin_names, queue_parts, queue_ports};
-ghost use Rattle.tta_netlist.specs.Queues.{queue_shown, queue_text};
+ghost use Rattle.tta_wiring.specs.Queues.{numbered, pin_names, queue_parts, queue_ports};
+ghost use Rattle.tta_wiring.specs.Queues.{queue_shown, queue_text};
 
 use std::alloc::AllocError;
 use tta_list::power_of_two;
-use tta_rtl::push_empty_memory;
 use tta_verilog::{push_constant, push_number, push_range, push_text};
 
 /// Puts what is called by a number, too.
@@ -164,13 +163,35 @@ fn push_wires(out: &mut Vec<u8>, k: u8) -> Result<(), AllocError>
 
 // ---- memory
 
+/// Puts that a simulator sets all words to 0; where the text is synthesized they begin so.
+#[tactic(auto, unfolding(tta_verilog::specs::Circuits::array_zeros))]
+fn push_zeros(out: &mut Vec<u8>, size: u64) -> Result<(), AllocError>
+    ensures { OnOk result (out.new.items ≡ out.old.items ++ v.array_zeros (codes "words") 32 size) }
+{
+    push_text(
+        out,
+        b"];\ninitial begin\n`ifndef SYNTHESIS\nfor (k = 0; k < ",
+    )?;
+    push_number(out, size)?;
+    push_text(out, b"; k = k + 1) words[k] = ")?;
+    push_constant(out, 32, 0)?;
+    push_text(out, b";\n`endif\n")
+}
+
 /// Puts the memory, whose words are 0 at first.
+#[tactic(auto, using(crate::proofs::Memory::memory_is), unfolding(tta_verilog::specs::Circuits::array_start))]
 fn push_memories(out: &mut Vec<u8>, k: u8) -> Result<(), AllocError>
     requires { k ≤ 16 }
     ensures { OnOk result (out.new.items ≡ out.old.items
         ++ flat_map (v.memory_text pin_names) (q.queue_of k 32).memories) }
 {
-    push_empty_memory(out, b"words", power_of_two(u32::from(k)) as u32)
+    let size = power_of_two(u32::from(k));
+    push_text(out, b"reg ")?;
+    push_range(out, 32)?;
+    push_text(out, b"words [0:")?;
+    push_number(out, size - 1)?;
+    push_zeros(out, size)?;
+    push_text(out, b"end\n")
 }
 
 /// Puts where it is written: the word that is taken goes to the place behind the last.

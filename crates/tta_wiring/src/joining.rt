@@ -2,9 +2,9 @@
 
 ghost use Rattle.std.specs.Prelude.{◌≡◌, ◌++◌, OnOk};
 ghost use Rattle.std.specs.List.{flat_map};
-ghost use Rattle.tta_netlist.specs.Queues.{numbered};
-ghost use Rattle.tta_netlist.specs.Signals as s;
-ghost use Rattle.tta_netlist.specs.Top as p;
+ghost use Rattle.tta_wiring.specs.Queues.{numbered};
+ghost use Rattle.tta_wiring.specs.Signals as s;
+ghost use Rattle.tta_wiring.specs.Top as p;
 
 use crate::queue::push_numbered;
 use std::alloc::AllocError;

@@ -2,7 +2,7 @@
 
 ghost use Rattle.std.specs.Prelude.{◌≡◌, ◌≤◌, ◌+◌, ◌++◌, length, OnOk};
 ghost use Rattle.std.specs.List.{flat_map, enumerate_from};
-ghost use Rattle.tta_netlist.specs.Top as p;
+ghost use Rattle.tta_wiring.specs.Top as p;
 
 use crate::joining::{push_core, push_queue};
 use crate::part::Part;
