@@ -42,7 +42,7 @@ fn is_offered(id: OpId, all: &[Unit]) -> bool
 
 /// What a sum, product or quotient makes of the words a and b, by its name.
 fn arithmetic(name: &[u8]) -> Option<&'static [u8]>
-    ensures { option_map (λ made. made.now) result ≡ f.made_in name.now f.arithmetic }
+    ensures { option_map (λ made. made.now) result ≡ f.made_in f.arithmetic name.now }
 {
     Some(if name == b"add".as_slice() {
         b"a + b".as_slice()
@@ -65,7 +65,7 @@ fn arithmetic(name: &[u8]) -> Option<&'static [u8]>
 
 /// What an operation on bits makes of the words a and b, by its name.
 fn logic(name: &[u8]) -> Option<&'static [u8]>
-    ensures { option_map (λ made. made.now) result ≡ f.made_in name.now f.logic }
+    ensures { option_map (λ made. made.now) result ≡ f.made_in f.logic name.now }
 {
     Some(if name == b"and".as_slice() {
         b"a & b".as_slice()
@@ -88,7 +88,7 @@ fn logic(name: &[u8]) -> Option<&'static [u8]>
 
 /// What a comparison makes of the words a and b, by its name. `lt` and `gt` turn the top bits.
 fn comparison(name: &[u8]) -> Option<&'static [u8]>
-    ensures { option_map (λ made. made.now) result ≡ f.made_in name.now f.comparisons }
+    ensures { option_map (λ made. made.now) result ≡ f.made_in f.comparisons name.now }
 {
     Some(if name == b"eq".as_slice() {
         b"{31'd0,a == b}".as_slice()
