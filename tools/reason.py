@@ -242,16 +242,9 @@ def of_fault(said):
     return lines + codes("fault", said.number("code")) or of_status(said)
 
 
-def of_memory(said):
-    """There is no memory; or a program with units of its own does not start, for their names."""
-    if os.environ.get("TTA_CRATE", "tta").startswith("tta_with_"):
-        return ["there is no memory; or units share a name, or have a reserved one, in a way that the script did not see in their sources"]
-    return of_status(said)
-
-
 OTHERS = {
     "usage": of_usage, "not covered": of_coverage, "frame full": of_frame, "code full": of_code, "image": of_image, "core file": of_core,
-    "read fault": of_reading, "too long": of_reading, "write fault": of_writing, "machine fault": of_fault, "unsafe": of_fault, "no memory": of_memory,
+    "read fault": of_reading, "too long": of_reading, "write fault": of_writing, "machine fault": of_fault, "unsafe": of_fault,
 }
 
 

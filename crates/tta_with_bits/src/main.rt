@@ -12,7 +12,7 @@ use tta_bits::Bits;
 use tta_designer::{is_named, show};
 use tta_given::Status;
 use tta_lines::{Lines, RealLines};
-use tta_ops::{Arith, Compare, Divide, Logic, OpUnit, Shift, UnitSet};
+use tta_ops::{Arith, Compare, Divide, Logic, OpUnit, OpsError, Shift, UnitSet};
 use tta_ports::{Files, RealFiles, RealSink, Sink};
 use tta_tool::tool;
 
@@ -49,14 +49,8 @@ fn carry_out<F: Files, L: Lines, S: Sink>(
     }
 }
 
-/// Carries out the words over the five standard units and that of `tta_bits`.
-fn run<F: Files, L: Lines, S: Sink>(
-    alloc: Global,
-    words: &Vec<String>,
-    files: &mut F,
-    lines: &mut L,
-    sink: &mut S,
-) -> Result<Status, AllocError> {
+/// The five standard units and that of `tta_bits`.
+fn all_units(alloc: Global) -> Result<Vec<Box<dyn OpUnit>>, AllocError> {
     let arith: Box<dyn OpUnit> = Box::new(alloc, Arith)?;
     let logic: Box<dyn OpUnit> = Box::new(alloc, Logic)?;
     let shift: Box<dyn OpUnit> = Box::new(alloc, Shift)?;
@@ -64,25 +58,64 @@ fn run<F: Files, L: Lines, S: Sink>(
     let divide: Box<dyn OpUnit> = Box::new(alloc, Divide)?;
     let bits: Box<dyn OpUnit> = Box::new(alloc, Bits)?;
     let boxes = vec![in alloc; arith, logic, shift, compare, divide, bits]?;
+    Ok(boxes)
+}
+
+/// Carries out the words over all units, or tells why these are refused.
+fn run<F: Files, L: Lines, S: Sink>(
+    alloc: Global,
+    words: &Vec<String>,
+    files: &mut F,
+    lines: &mut L,
+    sink: &mut S,
+) -> Result<Status, OpsError> {
+    let boxes = match all_units(alloc) {
+        Ok(boxes) => boxes,
+        Err(_) => return Err(OpsError::NoMemory),
+    };
     if !UnitSet::fits(boxes.as_slice()) {
-        return Ok(Status::NoMemory);
+        return Err(OpsError::NoMemory);
     }
     match UnitSet::new(alloc, boxes) {
         Ok(units) => Ok(carry_out(alloc, words, &units, files, lines, sink)),
-        Err(_) => Ok(Status::NoMemory),
+        Err(error) => Err(error),
     }
 }
 
-/// Carries out the command that the words name, and ends with its status as a number.
+/// The operation that a refusal is about: its unit, and its number there.
+fn refused(error: OpsError) -> Option<(usize, usize)> {
+    match error {
+        OpsError::Twice { unit, index } | OpsError::Reserved { unit, index } => Some((unit, index)),
+        OpsError::NoMemory => None,
+    }
+}
+
+/// How a program ends whose units may not stand together, as `./tta` does where it cannot build one.
+const NO_UNITS: u8 = 70;
+
+/// Carries out the command that the words name, and ends with its status as a number. Where the units
+/// are refused for a name, it says which and ends with a number of its own.
 fn main(rt: HostRuntime) -> ExitCode {
     let mut files = RealFiles::new(&rt);
     let mut lines = RealLines::new(&rt);
     let mut sink = RealSink::new(&rt);
-    let status = match words_of(&rt) {
-        Ok(words) => run(rt.alloc(), &words, &mut files, &mut lines, &mut sink).unwrap_or(
-            Status::NoMemory,
-        ),
-        Err(status) => status,
+    let ended = match words_of(&rt) {
+        Ok(words) => run(rt.alloc(), &words, &mut files, &mut lines, &mut sink),
+        Err(status) => Ok(status),
+    };
+    let status = match ended {
+        Ok(status) => status,
+        Err(error) => {
+            if let Some((unit, index)) = refused(error) {
+                if let Ok(boxes) = all_units(rt.alloc()) {
+                    if let Some(named) = boxes.as_slice().get(unit) {
+                        let _ = eprintln!(rt; "tta: units: {}: {error}", named.name(index));
+                    }
+                }
+                return ExitCode::from(NO_UNITS);
+            }
+            Status::NoMemory
+        }
     };
     if status != Status::Ok {
         let _ = eprintln!(rt; "tta: {status}");
