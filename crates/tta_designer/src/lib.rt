@@ -18,8 +18,8 @@ mod writing;
 
 pub use command::show;
 pub use laws::{
-    circuit_by_status, code_by_status, image_size, machine_by_status, prompt_by_status, run_by_status,
-    stages_by_status,
+    circuit_by_status, code_by_status, image_size, machine_by_status, prompt_by_status,
+    run_by_status, stages_by_status,
 };
 pub use request::is_named;
 pub use view::{RunView, StagesView, View};

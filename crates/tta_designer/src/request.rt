@@ -163,12 +163,7 @@ fn of_page<'w>(machine: &'w str, program: &'w str, mark: &str) -> Option<Request
 }
 
 /// The request of four words: a page of stages, or a session at a prompt.
-fn of_four<'w>(
-    word: &str,
-    machine: &'w str,
-    second: &'w str,
-    input: &'w str,
-) -> Option<Request<'w>>
+fn of_four<'w>(word: &str, machine: &'w str, second: &'w str, input: &'w str) -> Option<Request<'w>>
     ensures { option_map asked result
         ≡ three_request word.now machine.now second.now input.now }
 {

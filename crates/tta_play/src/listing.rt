@@ -40,11 +40,7 @@ fn push_template(out: &mut Vec<u8>, m: &Machine, t: &Template) -> Result<(), All
 }
 
 /// Puts templates.
-fn push_templates(
-    out: &mut Vec<u8>,
-    m: &Machine,
-    templates: &[Template],
-) -> Result<(), AllocError>
+fn push_templates(out: &mut Vec<u8>, m: &Machine, templates: &[Template]) -> Result<(), AllocError>
     ensures { OnOk result (out.new.items
         ≡ out.old.items ++ templates_text m.now templates.now) }
 {

@@ -72,11 +72,7 @@ fn push_stores(out: &mut Vec<u8>, before: &[u32], now: &[u32]) -> Result<(), All
 }
 
 /// Puts the data words that are others than those that were kept, and keeps them.
-pub fn push_changed(
-    out: &mut Vec<u8>,
-    memory: &mut Vec<u32>,
-    now: &[u32],
-) -> Result<(), AllocError>
+pub fn push_changed(out: &mut Vec<u8>, memory: &mut Vec<u32>, now: &[u32]) -> Result<(), AllocError>
     ensures stores { OnOk result
         (out.new.items ≡ out.old.items ++ stores_text memory.old.items now.now) }
     ensures keeps { OnOk result (memory.new.items ≡ now.now) }

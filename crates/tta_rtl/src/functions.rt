@@ -181,12 +181,7 @@ fn push_function(out: &mut Vec<u8>, id: OpId, name: &[u8]) -> Result<(), AllocEr
 }
 
 /// Puts the function of an operation, if the machine offers it.
-fn push_offered(
-    out: &mut Vec<u8>,
-    m: &Machine,
-    units: &UnitSet,
-    id: OpId,
-) -> Result<(), AllocError>
+fn push_offered(out: &mut Vec<u8>, m: &Machine, units: &UnitSet, id: OpId) -> Result<(), AllocError>
     requires { id.0 < length (stated unit_meaning units.now).names }
     ensures { let U = stated unit_meaning units.now in
         OnOk result (out.new.items ≡ out.old.items ++ f.offered_text U m.now id.0) }

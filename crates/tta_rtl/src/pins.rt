@@ -17,12 +17,7 @@ fn push_if(out: &mut Vec<u8>, test: bool, text: &[u8]) -> Result<(), AllocError>
 }
 
 /// Puts the first line of a module of some name, which names the ports.
-pub fn push_head(
-    out: &mut Vec<u8>,
-    name: &[u8],
-    gives: bool,
-    takes: bool,
-) -> Result<(), AllocError>
+pub fn push_head(out: &mut Vec<u8>, name: &[u8], gives: bool, takes: bool) -> Result<(), AllocError>
     ensures { OnOk result (out.new.items ≡ out.old.items ++ p.head_text name.now gives takes) }
 {
     push_text(out, b"module ")?;

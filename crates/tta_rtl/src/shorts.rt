@@ -49,12 +49,7 @@ fn push_short(out: &mut Vec<u8>, low: u32, width: u32, signed: bool) -> Result<(
 
 /// Puts the word of the short field of a bus, which stands so high.
 #[tactic(auto, using(crate::proofs::Shares::short_is))]
-pub fn push_short_of(
-    out: &mut Vec<u8>,
-    m: &Machine,
-    bus: usize,
-    low: u32,
-) -> Result<(), AllocError>
+pub fn push_short_of(out: &mut Vec<u8>, m: &Machine, bus: usize, low: u32) -> Result<(), AllocError>
     requires room { low < 2 ^ 31 }
     requires low { low ≡ p.below_payload m.now bus }
     ensures { let T = text_of m.now in

@@ -173,8 +173,7 @@ module _ (u : Units) (cores : List Core) (feeds : List (Option ℕ)) (memories :
   fed n feeder f is there =
       let at = fed_by n feeder is in
       let before = net.of_queue n (there_is n (Some feeder) at) in
-      let wires = net.wires_of_queue n (Some feeder) at in
-      (
+      let wires = net.wires_of_queue n (Some feeder) at in (
         ap is_set (before.1.0 ∙ wires.0) ∙ puts feeder f there,
         before.1.1.0 ∙ wires.1.0 ∙ sym (net.of_core feeder f there).1.1.1.1.0,
       )

@@ -58,10 +58,7 @@ fn push_head(out: &mut Vec<u8>, k: u8) -> Result<(), AllocError>
     ensures { OnOk result (out.new.items ≡ out.old.items
         ++ v.next_text pin_names (q.counter k q.Head q.Gives)) }
 {
-    push_text(
-        out,
-        b"always @(posedge clk) if ((reset)||(gives)) head <= ",
-    )?;
+    push_text(out, b"always @(posedge clk) if ((reset)||(gives)) head <= ")?;
     push_next(out, k, b"head")?;
     push_text(out, b";\n")
 }
@@ -72,10 +69,7 @@ fn push_tail(out: &mut Vec<u8>, k: u8) -> Result<(), AllocError>
     ensures { OnOk result (out.new.items ≡ out.old.items
         ++ v.next_text pin_names (q.counter k q.Tail q.Takes)) }
 {
-    push_text(
-        out,
-        b"always @(posedge clk) if ((reset)||(takes)) tail <= ",
-    )?;
+    push_text(out, b"always @(posedge clk) if ((reset)||(takes)) tail <= ")?;
     push_next(out, k, b"tail")?;
     push_text(out, b";\n")
 }
