@@ -1,2 +1,3 @@
 mod Memory
+mod Pieces
 mod Wired

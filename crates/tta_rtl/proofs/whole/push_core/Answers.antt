@@ -59,4 +59,4 @@ returns g c =
     let many : c.len-2.result ≡ length whole.code.words = c.len-2.ensures ∙ ap (λ (w : Whole). length w.code.words) c.whole.view_is in
     let words : words_in m c.bytes_after-body.result.now c.len-2.result ≡ code_words m whole.code =
     ap (words_in m c.bytes_after-body.result.now) many ∙ ap (λ (l : List ℕ). words_in m l (length whole.code.words)) body ∙ b.words in
-    onward c.push_wanted.result (λ put. put ∙ ap (λ (ws : List ℕ). c.args.out.now.items ++ text ws) words) c.push_wanted.ensures
+    onward c.push_module.result (λ put. put ∙ ap (λ (ws : List ℕ). c.args.out.now.items ++ text ws) words) c.push_module.ensures
