@@ -12,6 +12,7 @@ PROGRAMS = os.path.join(HERE, "c_programs")
 TOOL = os.path.join(TOP, "tools", "c")
 sys.path[:0] = [TOOL]
 import clang
+import llvm
 import translate
 from ir import Refused
 from machine import Machine
@@ -31,8 +32,8 @@ class Wrong(Exception):
 
 def lacking():
     """Why no program can be tried, or nothing."""
-    if clang.missing():
-        return f"{', '.join(clang.missing())} not on the path (tools/setup installs clang and llvm)"
+    if llvm.missing():
+        return llvm.missing()
     return None if any(map(shutil.which, ("gcc", "clang"))) else "neither gcc nor clang on the path"
 
 

@@ -2,20 +2,21 @@
 
 clang compiles each file without passes, for riscv32 with words of 32 bits; `llvm-link` joins them; `opt` makes `main` the only function that
 is seen from outside, so that what is not used goes, and runs the passes of a level. Vectors are left out. The functions of the library
-that steps will call (64-bit division, floating point) are known only then: if any are needed, the passes run again with them kept."""
+that steps will call (64-bit division, floating point) are known only then: if any are needed, the passes run again with them kept.
+
+The three programs are of one version of LLVM (llvm.py)."""
 import os
 import re
-import shutil
 import subprocess
 import sys
 import tempfile
 
 import floats
+import llvm
 from frames import RUN_TIME
 from lacking import LIBRARY
 
 HERE = os.path.dirname(os.path.abspath(__file__))
-TOOLS = ("clang", "llvm-link", "opt")
 CLANG = ["--target=riscv32-unknown-elf", "-march=rv32im", "-mabi=ilp32", "-ffreestanding", "-fno-vectorize", "-fno-slp-vectorize",
          "-ffp-contract=off", "-fno-math-errno", "-gline-tables-only", "-Xclang", "-disable-llvm-passes", "-S", "-emit-llvm", "-D__TTA__"]
 # What LLVM leaves as one step and what is a function of library.c.
@@ -25,11 +26,6 @@ UNROLL = ",function(loop-simplify,lcssa,loop-unroll<O3;partial;runtime;upperboun
 
 class BadSource(Exception):
     """clang or LLVM refuses the source; what it says is the text."""
-
-
-def missing():
-    """Which of the programs are not on the path."""
-    return [t for t in TOOLS if not shutil.which(t)]
 
 
 def run(words):
@@ -43,25 +39,25 @@ class Compiler:
     """The files of a program as one module, of which texts at several limits can be asked."""
 
     def __init__(self, files, level, flags, folder, lacks=(), heap=None):
-        self.level, self.folder = level, folder
+        self.level, self.folder, self.llvm = level, folder, llvm.found()
         made = []
         self.clang_level = clang_level = "-O1" if level == "-O0" else level
         for k, f in enumerate([*files, os.path.join(HERE, "library.c")]):
             made.append(os.path.join(folder, f"{k}.ll"))
             own = flags if k < len(files) else [f"-DTTA_HEAP={heap}"] if heap is not None else []
-            run(["clang", clang_level, *CLANG, "-I", os.path.join(HERE, "include"), "-I", os.path.join(HERE, "headers"), *own, f, "-o", made[-1]])
+            run([self.llvm.clang, clang_level, *CLANG, "-I", os.path.join(HERE, "include"), "-I", os.path.join(HERE, "headers"), *own, f, "-o", made[-1]])
         # `lacks` has the operations that the machine lacks, for some of which there are functions.
         self.made, self.linked, self.kept = made, os.path.join(folder, "linked.ll"), [RUN_TIME[1:] + LIBRARY[op] for op in sorted(lacks) if op in LIBRARY]
         self.link()
 
     def link(self):
-        run(["llvm-link", "-S", *self.made, "-o", self.linked])
+        run([self.llvm.link, "-S", *self.made, "-o", self.linked])
 
     def add_library(self, name):
         """Compiles another file of the library, and links it with the others."""
         out = os.path.join(self.folder, name + ".ll")
         if out not in self.made:
-            run(["clang", self.clang_level, *CLANG, os.path.join(HERE, name), "-o", out])
+            run([self.llvm.clang, self.clang_level, *CLANG, os.path.join(HERE, name), "-o", out])
             self.made.append(out)
             self.link()
 
@@ -83,7 +79,7 @@ class Compiler:
         if unroll:
             limits += [f"-unroll-threshold={max(unroll, 150)}", f"-unroll-partial-threshold={unroll}", "-unroll-runtime", "-unroll-allow-partial"]
         public = ",".join(["main", *self.kept])
-        run(["opt", "-S", f"-passes={passes}", "-vectorize-loops=false", "-vectorize-slp=false",
+        run([self.llvm.opt, "-S", f"-passes={passes}", "-vectorize-loops=false", "-vectorize-slp=false",
              f"-internalize-public-api-list={public}", *limits, self.linked, "-o", out])
         with open(out, encoding="latin1") as f:
             return f.read()
