@@ -92,12 +92,12 @@ class Host:
         return next((line for line in answer([program], timeout)[2].split("\n") if "runtime error" in line), None)
 
 
-def texts(source, level, flags, cells, folder, machine=None):
+def texts(source, level, flags, cells, folder, machine=None, version=None):
     """The program's text at a level of LLVM, for each number of bytes that words are to hold (nothing: as the tool chooses)."""
     flags = ["-w", *flags]
     unroll, machine = 60 if level == "-O3" else 0, Machine(machine)
     try:
-        text = clang.Compiler([source], level, flags, folder, machine.lacks).text(1000, unroll)
+        text = clang.Compiler([source], level, flags, folder, machine.lacks, version=version).text(1000, unroll)
         for cell in cells:
             path = os.path.join(folder, f"text{cell or 0}")
             program, _ = translate.Program(text, machine, cell=cell).text()

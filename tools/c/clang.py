@@ -38,8 +38,8 @@ def run(words):
 class Compiler:
     """The files of a program as one module, of which texts at several limits can be asked."""
 
-    def __init__(self, files, level, flags, folder, lacks=(), heap=None):
-        self.level, self.folder, self.llvm = level, folder, llvm.found()
+    def __init__(self, files, level, flags, folder, lacks=(), heap=None, version=None):
+        self.level, self.folder, self.llvm = level, folder, version or llvm.found()
         made = []
         self.clang_level = clang_level = "-O1" if level == "-O0" else level
         for k, f in enumerate([*files, os.path.join(HERE, "library.c")]):

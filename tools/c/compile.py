@@ -50,7 +50,7 @@ def program_of(o, machine, folder):
         if o.keep:
             write(o.keep, text)
         try:
-            made = translate.Program(text, machine, base=o.base, cell=o.cell, stack=o.stack)
+            made = translate.Program(text, machine, base=o.base, cell=o.cell, stack=o.stack, stack_checked=o.stack_checked)
             program, places = made.text()
         except translate.TooLong as e:
             too_long = len(text), e

@@ -33,8 +33,8 @@ class TooLong(Refused):
 class Program:
     """A program on its way. `machine` says which operations there are and how much room, as far as it is known (machine.py)."""
 
-    def __init__(self, text, machine, base=16, cell=None, stack=None):
-        self.machine, self.extra, self.stack_words = machine, machine.extra, stack
+    def __init__(self, text, machine, base=16, cell=None, stack=None, stack_checked=True):
+        self.machine, self.extra, self.stack_words, self.stack_checked = machine, machine.extra, stack, stack_checked
         self.module = Module(text)
         if "@main" not in self.module.functions:
             raise Refused("there is no function main")
@@ -167,6 +167,8 @@ class Program:
             counts = "words" if c.unit == c.cell else "bytes"
             sign = ", with their sign" if c.signed and c.cell < 4 else ""
             yield f"bytes a word {c.cell}{sign}, pointers count {counts}: {named}"
+        for group, (at, words) in self.layout.stacks.items():
+            yield f"a stack of {words} words: {', '.join(f[1:] for f in group)} at {at}"
 
     def begin(self, x):
         """Where an object begins: data, or an array of a function, those of the stack last."""
