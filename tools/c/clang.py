@@ -10,6 +10,7 @@ import re
 import subprocess
 import sys
 import tempfile
+from concurrent.futures import ThreadPoolExecutor
 
 import floats
 import llvm
@@ -28,8 +29,16 @@ class BadSource(Exception):
     """clang or LLVM refuses the source; what it says is the text."""
 
 
+def ask(words):
+    return subprocess.run(words, capture_output=True, text=True, stdin=subprocess.DEVNULL)
+
+
 def run(words):
-    done = subprocess.run(words, capture_output=True, text=True, stdin=subprocess.DEVNULL)
+    check(ask(words))
+
+
+def check(done):
+    """Hands on what a program of LLVM has said, where it has not refused the source."""
     if done.returncode:
         raise BadSource(done.stderr)
     sys.stderr.write(done.stderr)
@@ -40,18 +49,29 @@ class Compiler:
 
     def __init__(self, files, level, flags, folder, lacks=(), heap=None, version=None):
         self.level, self.folder, self.llvm = level, folder, version or llvm.found()
-        made = []
         self.clang_level = clang_level = "-O1" if level == "-O0" else level
-        for k, f in enumerate([*files, os.path.join(HERE, "library.c")]):
-            made.append(os.path.join(folder, f"{k}.ll"))
+        sources = [*files, os.path.join(HERE, "library.c")]
+        made = [os.path.join(folder, f"{k}.ll") for k in range(len(sources))]
+        include = ["-I", os.path.join(HERE, "include"), "-I", os.path.join(HERE, "headers")]
+
+        def compile_one(k):
             own = flags if k < len(files) else [f"-DTTA_HEAP={heap}"] if heap is not None else []
-            run([self.llvm.clang, clang_level, *CLANG, "-I", os.path.join(HERE, "include"), "-I", os.path.join(HERE, "headers"), *own, f, "-o", made[-1]])
+            return ask([self.llvm.clang, clang_level, *CLANG, *include, *own, sources[k], "-o", made[k]])
+        with ThreadPoolExecutor(os.cpu_count() or 1) as workers:
+            for done in list(workers.map(compile_one, range(len(sources)))):
+                check(done)
         # `lacks` has the operations that the machine lacks, for some of which there are functions.
         self.made, self.linked, self.kept = made, os.path.join(folder, "linked.ll"), [RUN_TIME[1:] + LIBRARY[op] for op in sorted(lacks) if op in LIBRARY]
         self.link()
+        self.foresee()
 
     def link(self):
         run([self.llvm.link, "-S", *self.made, "-o", self.linked])
+
+    def foresee(self):
+        """Keeps what the text calls before the passes: mostly it is needed after them too, and they need not run again for it."""
+        with open(self.linked, encoding="latin1") as f:
+            self.keep(sorted(set(needed(f.read())) - set(self.kept)))
 
     def add_library(self, name):
         """Compiles another file of the library, and links it with the others."""
@@ -68,9 +88,13 @@ class Compiler:
             need = sorted(set(needed(text)) - set(self.kept))
             if not need:
                 return text
-            if any(re.search("_f(32|64)$", name) for name in need):
-                self.add_library("float.c")
-            self.kept += need
+            self.keep(need)
+
+    def keep(self, need):
+        """Keeps functions of the library, for which another file of it may have to be compiled."""
+        if any(re.search("_f(32|64)$", name) for name in need):
+            self.add_library("float.c")
+        self.kept += need
 
     def passes(self, inline, unroll):
         out = os.path.join(self.folder, "made.ll")

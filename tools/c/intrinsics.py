@@ -21,8 +21,10 @@ def lower(l, i, name):
     ty = i.args[0][0] if i.args else None
     args = [v for _, v, _ in i.args]
     if kind in ("expect", "launder", "ptrmask", "is", "objectsize") and kind != "expect":
-        if kind == "is":
+        if name.startswith("is.constant"):
             return [0]
+        if name.startswith("is.fpclass") and args[1][0] == "int":
+            return [l.float_class(args[1][1], l.form(ty), l.value(args[0], ty))]
         if kind == "objectsize":
             return [0 if args[1] == ("int", 1) else M] * l.pieces(i.ty)
         l.refuse(f"the function {name} of LLVM")
@@ -31,6 +33,8 @@ def lower(l, i, name):
     if ty and l.m.real(ty)[0] == "float":
         return l.float_function(i, kind, args, ty)
     n = l.bits(ty) if ty and l.m.real(ty)[0] in ("int", "ptr") else 0
+    if kind in ("scmp", "ucmp") and 0 < n <= 64:
+        return three_way(l, kind, args, ty, n, l.pieces(i.ty))
     made = WIDE.get(kind) if n > 32 else WORDS.get(kind)
     if made is None or n == 0 or n > 64:
         l.refuse(f"the function {name} of LLVM")
@@ -49,6 +53,19 @@ def extremes(l, kind, args, ty, n):
     if isinstance(a, int):
         a, b = b, a
     return [l.o.select(rel, a, b, a, b)]
+
+
+def three_way(l, kind, args, ty, n, pieces):
+    """1, 0 or -1, as the first of two numbers is greater, equal or less; the result may have another width than they."""
+    o, rel = l.o, "ltu" if kind[0] == "u" else "lt"
+    if n <= 32:
+        form = l.plain if kind[0] == "u" else l.with_sign
+        a, b = form(args[0], ty), form(args[1], ty)
+        found = o.op("sub", o.truth(rel, b, a), o.truth(rel, a, b))
+    else:
+        a, b = (l.wide_plain(l.value(v, ty), n) if kind[0] == "u" else l.wide_sign(l.value(v, ty), n) for v in args)
+        found = o.op("sub", wide.truth(o, rel, b, a), wide.truth(o, rel, a, b))
+    return [found] + [o.op("shr", found, 31)] * (pieces - 1)
 
 
 def absolute(l, kind, args, ty, n):

@@ -7,9 +7,9 @@ import order
 
 def run(o, room):
     """Names variables anew so that there are at most `room`, if it can be done; those that wait least are shared first."""
-    spans = intervals(o)
-    if len(spans) <= room:
+    if count(o) <= room:
         return
+    spans = intervals(o)
     gaps = pairs(spans)
     need = len(spans) - room
     follow = {}
@@ -25,6 +25,11 @@ def run(o, room):
             if s.dst:
                 s.dst = get(s.dst)
             s.args = [get(w) for w in s.args]
+
+
+def count(o):
+    """How many variables a procedure has."""
+    return len({w for b in o.blocks for s in b.steps for w in (*s.args, s.dst) if isinstance(w, str)}.union(o.params))
 
 
 def intervals(o):

@@ -132,14 +132,14 @@ class Program:
 
     def fit(self, made):
         """Lets values share variables until the frame has room for all."""
-        counts = [len(share.intervals(o)) for o in made]
+        counts = [share.count(o) for o in made]
         room = None if self.machine.frame is None else self.machine.frame - KEPT * (len(made) - 1)
         cap = MOST_VARIABLES
         while room is not None and cap > 8 and sum(min(n, cap) for n in counts) > room:
             cap -= max(1, cap // 16)
         for o in made:
             share.run(o, cap)
-        counts = [len(share.intervals(o)) for o in made]
+        counts = [share.count(o) for o in made]
         self.frame = sum(counts) + KEPT * (len(made) - 1)
         if self.machine.frame is not None and self.frame > self.machine.frame:
             raise Refused(f"the frame needs {self.frame} words, and the machine has {self.machine.frame}")
