@@ -16,7 +16,7 @@ def run(o, room):
     for gap, a, b in sorted(gaps)[:need]:
         follow[b] = a
     name = {}
-    for v in sorted(spans, key=lambda v: spans[v][0]):
+    for v in sorted(spans, key=lambda v: (spans[v][0], v)):
         name[v] = name[follow[v]] if v in follow else v
     get = lambda w: name.get(w, w) if isinstance(w, str) else w
     o.params = [get(p) for p in o.params]
@@ -63,8 +63,8 @@ def intervals(o):
 
 def pairs(spans):
     """Which value may follow which in one variable: each value the one that ended last before it."""
-    by_start = sorted(spans, key=lambda v: spans[v][0])
-    ends = sorted(spans, key=lambda v: spans[v][1])
+    by_start = sorted(spans, key=lambda v: (spans[v][0], v))
+    ends = sorted(spans, key=lambda v: (spans[v][1], v))
     free, k, found = [], 0, []
     for v in by_start:
         while k < len(ends) and spans[ends[k]][1] < spans[v][0]:
