@@ -61,6 +61,11 @@ def words_of_32_bits():
         return ["-m32"] if made and answer([os.path.join(folder, "s")])[0] == 0 else []
 
 
+def several(source):
+    """A file, or a list of files, as a list."""
+    return source if isinstance(source, list) else [source]
+
+
 class Host:
     """The compiler of the host, which is not the one that is tried where there is gcc."""
 
@@ -73,7 +78,7 @@ class Host:
         """The words that a program outputs on the host."""
         program = os.path.join(folder, "host")
         own = ["-I", os.path.join(TOOL, "include"), "-w", "-fwrapv", "-fno-strict-aliasing", "-ffp-contract=off", *self.narrow, *flags]
-        status, _, error = answer([self.compiler, optimize, *own, source, "-o", program, "-lm"])
+        status, _, error = answer([self.compiler, optimize, *own, *several(source), "-o", program, "-lm"])
         if status:
             raise Wrong(f"the host's compiler refuses it: {error.splitlines()[0]}")
         with open(stream or os.devnull) as given:
@@ -97,7 +102,7 @@ def texts(source, level, flags, cells, folder, machine=None, version=None):
     flags = ["-w", *flags]
     unroll, machine = 60 if level == "-O3" else 0, Machine(machine)
     try:
-        text = clang.Compiler([source], level, flags, folder, machine.lacks, version=version).text(1000, unroll)
+        text = clang.Compiler(several(source), level, flags, folder, machine.lacks, version=version).text(1000, unroll)
         for cell in cells:
             path = os.path.join(folder, f"text{cell or 0}")
             program, _ = translate.Program(text, machine, cell=cell).text()
