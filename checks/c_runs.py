@@ -115,9 +115,9 @@ def texts(source, level, flags, cells, folder, machine=None, version=None):
         raise Wrong(f"refused: {e.where}: {e.text}")
 
 
-def stepped(text, stream, program=PROGRAM):
+def stepped(text, stream, program=PROGRAM, machine=MACHINES[-1]):
     """What `exec` prints."""
-    status, printed, error = answer([program, "exec", MACHINES[-1], text, os.devnull, BOUND, *([stream] if stream else [])])
+    status, printed, error = answer([program, "exec", machine, text, os.devnull, BOUND, *([stream] if stream else [])])
     if status not in (0, 19):
         raise Wrong(f"exec ends with {status}: {error.strip()}")
     return printed.split("\n")

@@ -138,10 +138,14 @@ def funnel(l, kind, args, ty, n):
     o = l.o
     k = l.word(args[2], ty)
     if n != 32:
-        if not isinstance(k, int):
-            l.refuse(f"a rotation of {n} bits by a number that is no constant")
-        k %= n
         a, b = l.plain(args[0], ty), l.plain(args[1], ty)
+        if not isinstance(k, int):
+            if n not in (8, 16):
+                l.refuse(f"a rotation of {n} bits by a number that is no constant")
+            k = o.op("and", l.plain(args[2], ty), n - 1)
+            both = o.op("or", o.op("shl", a, n), b)
+            return [o.op("shru", o.op("shl", both, k), n) if kind == "fshl" else o.op("shru", both, k)]
+        k %= n
         if k == 0:
             return [a if kind == "fshl" else b]
         left = k if kind == "fshl" else n - k
@@ -294,8 +298,11 @@ def wide_checked(l, kind, args, ty, n):
     o = l.o
     name = kind.split(".")[0]
     a, b = (l.value(v, ty) for v in args)
-    if n != 64 or name not in ("uadd", "usub"):
+    if n != 64 or name[1:] == "mul":
         l.refuse(f"the function {kind} of LLVM for {n} bits")
+    if name[0] == "s":
+        r = (wide.add if name == "sadd" else wide.sub)(o, a, b)
+        return r + [o.truth("lt", overflow(o, name, a[1], b[1], r[1]), 0)]
     if name == "usub":
         return wide.sub(o, a, b) + [wide.truth(o, "ltu", a, b)]
     r = wide.add(o, a, b)

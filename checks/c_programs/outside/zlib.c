@@ -3,7 +3,7 @@
 #include <string.h>
 #include "zlib.h"
 
-enum { SIZE = 3000, HEAP = 20000 };
+enum { SIZE = 3000, HEAP = 7000 };
 static unsigned char text[SIZE], packed[SIZE + 200], again[SIZE];
 /* Memory that is given by zlib's own functions, and taken back whole. */
 static unsigned long heap[HEAP];
