@@ -11,9 +11,9 @@ import share
 from ssa import Step
 
 # The registers that the compiler keeps for itself, and the homes that are left to it in any case.
-KEPT, SPARE = 3, 1
+KEPT, SPARE = 3, 2
 # A constant is worth a variable from this many uses on, each counted by the loops that it stands in.
-WORTH = 8
+WORTH = 4
 
 
 def homes_of(machine):
