@@ -16,7 +16,7 @@ def run(o, room):
     for gap, a, b in sorted(gaps)[:need]:
         follow[b] = a
     name = {}
-    for v in sorted(spans, key=lambda v: (spans[v][0], v)):
+    for v in sorted(spans, key=lambda v: spans[v][0]):
         name[v] = name[follow[v]] if v in follow else v
     get = lambda w: name.get(w, w) if isinstance(w, str) else w
     o.params = [get(p) for p in o.params]
@@ -45,8 +45,11 @@ def intervals(o):
         seen(p, 0)
     for b in o.blocks:
         at += 1
-        for w in into[b.name]:
+        # What is seen first at one place is in one order, whatever order a set has.
+        for w in sorted(into[b.name] - first.keys()):
             seen(w, at)
+        for w in into[b.name]:
+            last[w] = max(last[w], at)
         for s in b.steps:
             at += 1
             for w in s.args:
@@ -63,8 +66,8 @@ def intervals(o):
 
 def pairs(spans):
     """Which value may follow which in one variable: each value the one that ended last before it."""
-    by_start = sorted(spans, key=lambda v: (spans[v][0], v))
-    ends = sorted(spans, key=lambda v: (spans[v][1], v))
+    by_start = sorted(spans, key=lambda v: spans[v][0])
+    ends = sorted(spans, key=lambda v: spans[v][1])
     free, k, found = [], 0, []
     for v in by_start:
         while k < len(ends) and spans[ends[k]][1] < spans[v][0]:
