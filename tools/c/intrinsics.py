@@ -217,7 +217,8 @@ def checked(l, kind, args, ty, n):
         hi = o.op("mulhu", a, b)
         hi = o.op("sub", hi, o.op("and", o.op("shr", a, 31), b))
         hi = o.op("sub", hi, o.op("and", o.op("shr", b, 31), a))
-        return [r, o.truth("ne", hi, o.op("shr", r, 31))]
+        over = o.truth("ne", hi, o.op("shr", r, 31))
+        return [r, over if n == 32 else o.op("or", over, o.truth("ne", r, l.extend(r, n)))]
     r = o.op(name[1:], a, b)
     if n < 32:
         return [r, o.truth("ne", r, l.extend(r, n))]
