@@ -1,15 +1,14 @@
 """Which clang and LLVM are used: the newest version that is there and is taken, or the one that TTA_LLVM asks for.
 
 Debian names the programs of a version with its number (clang-16); programs without a number are asked for theirs, where no numbered ones
-are there. The versions from OLDEST to NEWEST are taken: `checks/c` is right with each of TRIED. An older version writes text that the
-reader does not know, and so may a newer one."""
+are there. The versions from OLDEST to NEWEST are taken; `checks/c --versions` tries each of them that is there (14, 15, 16, 19 and 22 of Debian were).
+Others are refused, since their text may have what the reader does not know."""
 import os
 import re
 import shutil
 import subprocess
 
 OLDEST, NEWEST = 14, 22
-TRIED = (14, 15, 16, 19, 22)
 NEEDED = ("clang", "llvm-link", "opt")
 HOW = "`tools/setup`, or `apt-get install clang llvm`"
 
