@@ -23,6 +23,8 @@ MACHINES = [os.path.join(PROGRAMS, "one_bus.machine"), os.path.join(PROGRAMS, "t
 FEW, BITS = (os.path.join(PROGRAMS, name + ".machine") for name in ("few_operations", "bits"))
 WITH_BITS = paths_of("build", options=["--with", "bits"])[0]
 BOUND = "200000000"
+# The words of the frame space of each of the machines, which a text that is made for none has to do with.
+FRAME = 4096
 TIMEOUT = 200
 
 
@@ -101,6 +103,7 @@ def texts(source, level, flags, cells, folder, machine=None, version=None):
     """The program's text at a level of LLVM, for each number of bytes that words are to hold (nothing: as the tool chooses)."""
     flags = ["-w", *flags]
     unroll, machine = 60 if level == "-O3" else 0, Machine(machine)
+    machine.frame = FRAME if machine.path is None else machine.frame
     try:
         text = clang.Compiler(several(source), level, flags, folder, machine.lacks, version=version).text(1000, unroll)
         for cell in cells:
