@@ -12,6 +12,7 @@ PROGRAMS = os.path.join(HERE, "c_programs")
 TOOL = os.path.join(TOP, "tools", "c")
 sys.path[:0] = [TOOL]
 import clang
+import llvm
 import translate
 from ir import Refused
 from machine import Machine
@@ -22,6 +23,8 @@ MACHINES = [os.path.join(PROGRAMS, "one_bus.machine"), os.path.join(PROGRAMS, "t
 FEW, BITS = (os.path.join(PROGRAMS, name + ".machine") for name in ("few_operations", "bits"))
 WITH_BITS = paths_of("build", options=["--with", "bits"])[0]
 BOUND = "200000000"
+# The words of the frame space of each of the machines, which a text that is made for none has to do with.
+FRAME = 4096
 TIMEOUT = 200
 
 
@@ -31,8 +34,8 @@ class Wrong(Exception):
 
 def lacking():
     """Why no program can be tried, or nothing."""
-    if clang.missing():
-        return f"{', '.join(clang.missing())} not on the path (tools/setup installs clang and llvm)"
+    if llvm.missing():
+        return llvm.missing()
     return None if any(map(shutil.which, ("gcc", "clang"))) else "neither gcc nor clang on the path"
 
 
@@ -60,6 +63,11 @@ def words_of_32_bits():
         return ["-m32"] if made and answer([os.path.join(folder, "s")])[0] == 0 else []
 
 
+def several(source):
+    """A file, or a list of files, as a list."""
+    return source if isinstance(source, list) else [source]
+
+
 class Host:
     """The compiler of the host, which is not the one that is tried where there is gcc."""
 
@@ -72,7 +80,7 @@ class Host:
         """The words that a program outputs on the host."""
         program = os.path.join(folder, "host")
         own = ["-I", os.path.join(TOOL, "include"), "-w", "-fwrapv", "-fno-strict-aliasing", "-ffp-contract=off", *self.narrow, *flags]
-        status, _, error = answer([self.compiler, optimize, *own, source, "-o", program, "-lm"])
+        status, _, error = answer([self.compiler, optimize, *own, *several(source), "-o", program, "-lm"])
         if status:
             raise Wrong(f"the host's compiler refuses it: {error.splitlines()[0]}")
         with open(stream or os.devnull) as given:
@@ -91,12 +99,13 @@ class Host:
         return next((line for line in answer([program], timeout)[2].split("\n") if "runtime error" in line), None)
 
 
-def texts(source, level, flags, cells, folder, machine=None):
+def texts(source, level, flags, cells, folder, machine=None, version=None):
     """The program's text at a level of LLVM, for each number of bytes that words are to hold (nothing: as the tool chooses)."""
     flags = ["-w", *flags]
     unroll, machine = 60 if level == "-O3" else 0, Machine(machine)
+    machine.frame = FRAME if machine.path is None else machine.frame
     try:
-        text = clang.Compiler([source], level, flags, folder, machine.lacks).text(1000, unroll)
+        text = clang.Compiler(several(source), level, flags, folder, machine.lacks, version=version).text(1000, unroll)
         for cell in cells:
             path = os.path.join(folder, f"text{cell or 0}")
             program, _ = translate.Program(text, machine, cell=cell).text()
@@ -109,9 +118,9 @@ def texts(source, level, flags, cells, folder, machine=None):
         raise Wrong(f"refused: {e.where}: {e.text}")
 
 
-def stepped(text, stream, program=PROGRAM):
+def stepped(text, stream, program=PROGRAM, machine=MACHINES[-1]):
     """What `exec` prints."""
-    status, printed, error = answer([program, "exec", MACHINES[-1], text, os.devnull, BOUND, *([stream] if stream else [])])
+    status, printed, error = answer([program, "exec", machine, text, os.devnull, BOUND, *([stream] if stream else [])])
     if status not in (0, 19):
         raise Wrong(f"exec ends with {status}: {error.strip()}")
     return printed.split("\n")

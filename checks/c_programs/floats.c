@@ -22,3 +22,18 @@ int main(void) { for (int k = 0; k < 8; k++) { struct p q = turn(t[k & 3], v[(tt
 static const uint32_t words[] = {0, 0x80000000, 0x3f800000, 0xbf800000, 0x7f800000, 0xff800000, 0x7fc00000, 1};
 static float of(uint32_t w) { float f; __builtin_memcpy(&f, &w, 4); return f; }
 int main(void) { for (int i = 0; i < 8; i++) for (int j = 0; j < 8; j++) { float a = of(words[(i + tta_in() * 8) & 7]), b = of(words[j]); double c = a, d = b; OUT((a < b) | (a <= b) << 1 | (a == b) << 2 | (a != b) << 3 | (a > b) << 4 | (a >= b) << 5 | !(a < b) << 6 | !(a > b) << 7 | !(a <= b) << 8 | __builtin_isless(a, b) << 9 | __builtin_islessgreater(a, b) << 10 | __builtin_isunordered(a, b) << 11 | (c < d) << 12 | (c == d) << 13 | !(c >= d) << 14 | !__builtin_islessgreater(c, d) << 15); } }
+//// classes of numbers: none, infinite, normal, subnormal and zero, with their signs
+#include <math.h>
+static __attribute__((noinline)) uint32_t classes(double x, float y) {
+  uint32_t r = 0; r = r * 2 + !!__builtin_isnan(x); r = r * 2 + !!__builtin_isinf(x); r = r * 2 + !!__builtin_isfinite(x); r = r * 2 + !!__builtin_isnormal(x);
+  r = r * 2 + !!__builtin_isnan(y); r = r * 2 + !!__builtin_isinf(y); r = r * 2 + !!__builtin_isfinite(y); r = r * 2 + !!__builtin_isnormal(y); r = r * 2 + !!__builtin_signbit(x); r = r * 2 + !!__builtin_signbitf(y);
+  return r * 8 + __builtin_fpclassify(0, 1, 2, 3, 4, x); }
+int main(void) {
+  static const uint32_t tops[] = {0, 1, 0x00080000, 0x000fffff, 0x00100000, 0x3ff00000, 0x7fefffff, 0x7ff00000, 0x7ff00001, 0x7ff80000, 0x7fffffff};
+  static const uint32_t lows[] = {0, 1, 0xffffffff};
+  static const uint32_t singles[] = {0, 1, 0x007fffff, 0x00800000, 0x3f800000, 0x7f7fffff, 0x7f800000, 0x7fc00000, 0x7fffffff};
+  for (int s = 0; s < 2; s++) for (int k = 0; k < 11; k++) for (int l = 0; l < 3; l++) {
+    union { double d; uint64_t w; } u; union { float f; uint32_t w; } v;
+    u.w = (uint64_t)(tops[k] | (uint32_t)s << 31) << 32 | lows[l]; v.w = singles[(k + l) % 9] | (uint32_t)s << 31;
+    tta_out(classes(u.d, v.f)); }
+  return 0; }

@@ -111,3 +111,39 @@ int main(void) {
         uint32_t p = 1, q = a | 1, e = tta_in() & 255; while (e) { if (e & 1) p *= q; q *= q; e >>= 1; } OUT(p);
     }
 }
+//// compared three ways, rotated and saturated in all widths, sums that overflow, cases of 64 bits
+#include <string.h>
+static __attribute__((noinline)) int three(int a, int b) { return a < b ? -1 : a > b; }
+static __attribute__((noinline)) int threeu(uint64_t a, uint64_t b) { return (a > b) - (a < b); }
+static __attribute__((noinline)) int8_t three8(int8_t a, int8_t b) { return (a > b) - (a < b); }
+static __attribute__((noinline)) int64_t threes(int64_t a, int64_t b) { return (a > b) - (a < b); }
+static __attribute__((noinline)) uint8_t rot8(uint8_t x, unsigned k) { return x << (k & 7) | x >> (-k & 7); }
+static __attribute__((noinline)) uint16_t rot16(uint16_t x, unsigned k) { k &= 15; return x << k | x >> ((16 - k) & 15); }
+static __attribute__((noinline)) uint64_t rot64(uint64_t x, unsigned k) { return x << (k & 63) | x >> (-k & 63); }
+static __attribute__((noinline)) uint8_t sat8(uint8_t a, uint8_t b) { unsigned s = a + b; return s > 255 ? 255 : s; }
+static __attribute__((noinline)) int16_t sat16(int16_t a, int16_t b) { int s = a + b; return s > 32767 ? 32767 : s < -32768 ? -32768 : s; }
+static __attribute__((noinline)) int8_t sats8(int8_t a, int8_t b) { int s = a - b; return s > 127 ? 127 : s < -128 ? -128 : s; }
+static __attribute__((noinline)) uint32_t avg(uint32_t a, uint32_t b) { return ((uint64_t)a + b) >> 1; }
+static __attribute__((noinline)) int clamp(int x) { return x < 0 ? 0 : x > 255 ? 255 : x; }
+static __attribute__((noinline)) unsigned parity(uint32_t x) { return __builtin_parity(x) + __builtin_popcountll((uint64_t)x << 20 ^ x); }
+static __attribute__((noinline)) unsigned zs(uint64_t x) { return x ? __builtin_clzll(x) * 100 + __builtin_ctzll(x) : 7; }
+static __attribute__((noinline)) int ovf(int a, int b, int *r) { return __builtin_mul_overflow(a, b, r) + __builtin_add_overflow(a, b, r) * 2 + __builtin_sub_overflow(*r, a, r) * 4; }
+static __attribute__((noinline)) int ovf8(int8_t a, uint8_t b) { int8_t r; int x = __builtin_add_overflow(a, b, &r); return x * 256 + (uint8_t)r; }
+static __attribute__((noinline)) int ovf64(int64_t a, int64_t b) { int64_t r; int x = __builtin_add_overflow(a, b, &r); return x + (uint32_t)(r >> 32); }
+static __attribute__((noinline)) uint64_t mix(uint64_t a, uint32_t k) { return k < 64 ? (a >> k) ^ (a << (63 - k)) ^ (uint64_t)((int64_t)a >> k) : 0; }
+static __attribute__((noinline)) int sw(int64_t x) { switch (x) { case 0: return 1; case 1: return 2; case 0x100000000LL: return 3; case -1: return 4; case 5 ... 9: return 5; case 0x7fffffffffffffffLL: return 6; default: return 0; } }
+static __attribute__((noinline)) int sw8(int8_t x) { switch (x) { case -128 ... -100: return 1; case -1: return 2; case 0: return 3; case 100 ... 127: return 4; default: return 5; } }
+int main(void) {
+  uint32_t v[6]; for (int k = 0; k < 6; k++) v[k] = tta_in();
+  v[4] = 0; v[5] = 0x80000000u;
+  for (int a = 0; a < 6; a++) for (int b = 0; b < 6; b++) {
+    uint64_t x = (uint64_t)v[a] << 32 | v[b], y = (uint64_t)v[b] << 32 | v[a];
+    tta_out(three(v[a], v[b])); tta_out(threeu(x, y)); tta_out(three8(v[a], v[b])); tta_out(threes(x, y)); tta_out(threes(x, y) >> 32);
+    tta_out(rot8(v[a], v[b])); tta_out(rot16(v[a], v[b])); tta_out(rot64(x, v[b])); tta_out(rot64(x, v[b]) >> 32);
+    tta_out(sat8(v[a], v[b])); tta_out(sat16(v[a], v[b])); tta_out(sats8(v[a], v[b])); tta_out(avg(v[a], v[b])); tta_out(clamp((int)v[a] >> 20));
+    tta_out(parity(v[a])); tta_out(zs(x)); int r; tta_out(ovf(v[a], v[b], &r)); tta_out(r); tta_out(ovf8(v[a], v[b])); tta_out(ovf64(x, y));
+    tta_out(mix(x, v[b] & 127)); tta_out(mix(x, v[b] & 127) >> 32);
+  }
+  static const int64_t xs[] = {0, 1, 2, 0x100000000LL, -1, 5, 7, 9, 10, 0x7fffffffffffffffLL, 0x100000001LL}; for (int k = 0; k < 11; k++) tta_out(sw(xs[(k + v[4]) % 11]));
+  for (int k = -128; k < 128; k += 9) tta_out(sw8(k + v[4]));
+  return 0; }

@@ -118,3 +118,96 @@ typedef __SIZE_TYPE__ size; static int calls;
 #endif
 void *MINE(memcpy)(void *to, const void *from, size n) { char *a = to; const char *b = from; calls++; while (n--) *a++ = *b++; return to; } size MINE(strlen)(const char *s) { calls += 10; size n = 0; while (*s++) n++; return n; } void *MINE(malloc)(size n) { static uint32_t room[8]; calls += 100; return n < 32 ? room : 0; }
 int main(void) { char t[9], *p = MINE(malloc)(12); MINE(memcpy)(t, "whatever", 9); MINE(memcpy)(p, t + (tta_in() & 3), 5); p[5] = 0; OUT(MINE(strlen)(p)); for (int k = 0; k < 5; k++) OUT(p[k]); OUT(calls); OUT(MINE(malloc)(99) == 0); }
+//// places rounded to words, copies that begin within words, unions of places and numbers
+#include <string.h>
+union u { uint32_t w; uint8_t *p; uint16_t h[2]; uint8_t b[4]; };
+static uint8_t buf[64]; static uint32_t tab[16];
+static __attribute__((noinline)) uint32_t low(const void *p) { return (uint32_t)(uintptr_t)p & 3; }
+static __attribute__((noinline)) uint8_t *align(uint8_t *p) { return (uint8_t *)(((uintptr_t)p + 3) & ~(uintptr_t)3); }
+struct q { uint8_t tag; uint32_t v[3]; uint16_t h; };
+int main(void) {
+  uint32_t n = tta_in() & 15;
+  for (int k = 0; k < 64; k++) buf[k] = k * 7 + n;
+  uint8_t *p = align(buf + (n & 7) + 1);
+  tta_out(p - buf); tta_out(*p);
+  tta_out(low(p)); tta_out(low(tab + n));
+  union u u; u.p = buf + n; union u w; memcpy(&w, &u, sizeof u); tta_out(*w.p);
+  w.w += 2; tta_out(*w.p);
+  uint32_t x; memcpy(&x, buf + n, 4); tta_out(x);
+  memcpy((uint8_t *)tab + n, buf + 3, 13); for (int k = 0; k < 8; k++) tta_out(tab[k]);
+  struct q a[3]; memset(a, n, sizeof a); a[n % 3].v[1] = 77; a[1].h = 99; struct q b = a[n % 3]; tta_out(b.tag); tta_out(b.v[1]); tta_out(b.v[2]); tta_out(b.h);
+  uint8_t *r = (uint8_t *)&a[1]; uint32_t s = 0; for (unsigned k = 0; k < sizeof(struct q); k++) if (k == 0 || k >= 4 && k < 18) s = s * 31 + r[k]; tta_out(s);
+  memmove(buf + 1, buf, 40); memmove(buf + 20, buf + 21, 30); s = 0; for (int k = 0; k < 64; k++) s = s * 31 + buf[k]; tta_out(s);
+  uint16_t *hp = (uint16_t *)(buf + 2 * (n & 3)); hp[1] = 0x1234; hp[2] += hp[0]; for (int k = 0; k < 12; k++) tta_out(buf[k]);
+  return 0; }
+//// narrow data with signs, places counted backwards and after the end, packed records
+#include <string.h>
+static int8_t c[40]; static int16_t h[40]; static int64_t d[6]; static uint32_t w[40];
+static __attribute__((noinline)) int find(const int16_t *lo, const int16_t *hi, int x) { const int16_t *p = hi; while (p-- != lo) if (*p == x) return p - lo; return -1; }
+static __attribute__((noinline)) long diff(const int8_t *a, const int8_t *b) { return a - b; }
+static __attribute__((noinline)) void back(uint32_t *e, int n) { for (int k = -1; k >= -n; k--) e[k] = k * 3; }
+static __attribute__((noinline)) int cmp(const void *a, const void *b) { return a < b ? -1 : a > b; }
+struct bf { signed a : 3; unsigned b : 7; signed c : 22; } ; struct __attribute__((packed)) pk { uint8_t t; uint32_t v; int16_t s; uint64_t q; };
+static struct pk pks[5];
+int main(void) {
+  uint32_t n = tta_in() & 15;
+  for (int k = 0; k < 40; k++) { c[k] = k * 37 - 100; h[k] = k * 3001 - 9000; }
+  tta_out(find(h, h + 40, h[n])); tta_out(find(h, h + 40, 12345)); tta_out(diff(c + n, c + 30)); tta_out(diff(c + 30, c + n));
+  back(w + 40, 30 + (n & 7)); uint32_t s = 0; for (int k = 0; k < 40; k++) s = s * 31 + w[k]; tta_out(s);
+  tta_out(cmp(w + n, w + 5)); tta_out(cmp(c + n, c + 39));
+  struct bf f = {n, n * 9, -(int)n * 1001}; f.a--; f.c *= 3; f.b += 100; tta_out(f.a); tta_out(f.b); tta_out(f.c);
+  for (int k = 0; k < 5; k++) { pks[k].t = k + n; pks[k].v = k * 0x01010101u + n; pks[k].s = -k * 1000; pks[k].q = (uint64_t)k * 0x123456789abULL; }
+  for (int k = 0; k < 5; k++) { struct pk *p = &pks[(k + n) % 5]; tta_out(p->t + p->v); tta_out(p->s); tta_out(p->q); tta_out(p->q >> 32); }
+  d[n % 6] = -(int64_t)n << 33; d[1] ^= d[n % 6] >> 7; tta_out(d[1]); tta_out(d[1] >> 32); int32_t *half = (int32_t *)&d[2]; memset(d, 0x81, 24); s = 0; for (int k = -4; k < 2; k++) s = s * 7 + half[k]; tta_out(s);
+  int8_t *q = c + 39; int t = 0; do { t = t * 5 + *q; } while (q-- > c + n); tta_out(t);
+  for (int k = 0; k < 40; k++) if (c[k] < h[k] / 100) t += k; tta_out(t);
+  const int8_t *e = memchr(c, c[n + 7], 40); tta_out(e - c);
+  return 0; }
+//// records in a pool of bytes, links that are exclusive ors of places, records exchanged byte by byte
+#include <string.h>
+struct n { struct n *next; uint16_t k; uint8_t v; }; static _Alignas(8) uint8_t pool[400]; static unsigned used;
+static void *take(unsigned s) { void *p = pool + used; used += (s + 7) & ~7u; return p; }
+static struct n *tab[8];
+static unsigned hash(uint16_t k) { return (k * 40503u >> 13) & 7; }
+static void put(uint16_t k, uint8_t v) { struct n *n = take(sizeof *n); n->next = tab[hash(k)]; n->k = k; n->v = v; tab[hash(k)] = n; }
+static int get(uint16_t k) { for (struct n *n = tab[hash(k)]; n; n = n->next) if (n->k == k) return n->v; return -1; }
+static uint32_t words[6]; static uintptr_t links[6];
+typedef uint32_t (*op)(uint32_t, uint32_t); static uint32_t f(uint32_t a, uint32_t b) { return a * 3 + b; } static uint32_t g(uint32_t a, uint32_t b) { return a ^ b << 2; } static uint32_t e(uint32_t a, uint32_t b) { return a - b; }
+struct t { uint8_t tag; op o; void *arg; }; static struct t ts[3];
+static void swap(void *a, void *b, unsigned n) { uint8_t *x = a, *y = b; while (n--) { uint8_t t = *x; *x++ = *y; *y++ = t; } }
+int main(void) {
+  uint32_t n = tta_in() & 15;
+  for (unsigned k = 0; k < 20; k++) put(k * 77 + n, k * 5);
+  for (unsigned k = 0; k < 25; k++) tta_out(get(k * 77 + n));
+  for (unsigned k = 0; k < 6; k++) { words[k] = k * k + n; links[k] = (uintptr_t)&words[(k + 1) % 6] ^ (uintptr_t)&words[(k + 5) % 6]; }
+  uintptr_t prev = (uintptr_t)&words[5], at = (uintptr_t)&words[0]; for (unsigned k = 0; k < 9; k++) { tta_out(*(uint32_t *)at); uintptr_t next = prev ^ links[(uint32_t *)at - words]; prev = at; at = next; }
+  ts[0] = (struct t){1, f, &words[1]}; ts[1] = (struct t){2, g, &words[2]}; ts[2] = (struct t){3, e, &words[3]};
+  swap(&ts[0], &ts[2], sizeof ts[0]); swap(&ts[n % 3], &ts[1], sizeof ts[0]); for (int k = 0; k < 3; k++) tta_out(ts[k].o(*(uint32_t *)ts[k].arg, ts[k].tag + n));
+  uint32_t *ps[4] = {words, words + 2, words + 4, words + 1}; uint32_t **a = ps + (n & 1), **b = ps + 2; swap(a, b, sizeof *a); for (int k = 0; k < 4; k++) tta_out(*ps[k]);
+  uint8_t bytes[sizeof(void *) * 2]; memcpy(bytes + 1, &ps[1], sizeof(void *)); uint32_t *back; memcpy(&back, bytes + 1, sizeof back); tta_out(*back);
+  return 0; }
+//// rows of records, fills and moves of a length that the run tells, indices of eight and 64 bits
+#include <string.h>
+typedef struct { uint8_t r, g, b; } px; static px img[4][5]; static uint16_t m[3][7]; static volatile uint8_t port; static _Bool flags[9];
+static __attribute__((noinline)) void blit(px *d, const px *s, int n) { while (n--) *d++ = *s++; }
+static __attribute__((noinline)) uint32_t sum16(const uint16_t *p, uint8_t from, uint8_t to) { uint32_t s = 0; for (uint8_t k = from; k != to; k++) s = s * 3 + p[k]; return s; }
+static __attribute__((noinline)) int idx(const int8_t *p, int8_t k) { return p[k]; }
+static __attribute__((noinline)) uint32_t at64(const uint32_t *p, int64_t k) { return p[k]; }
+static __attribute__((noinline)) uint32_t wrap(const uint32_t *p, uint32_t k) { return p[k * 4 + 3]; }
+static __attribute__((noinline)) void fill(void *p, int v, unsigned n) { memset(p, v, n); }
+static __attribute__((noinline)) void move(void *d, const void *s, unsigned n) { memmove(d, s, n); }
+struct big { uint32_t a[9]; uint8_t t; }; static struct big bigs[3];
+static __attribute__((noinline)) struct big twist(struct big x, int k) { x.a[k % 9] ^= x.a[(k + 1) % 9]; x.t += k; return x; }
+int main(void) {
+  uint32_t n = tta_in() & 15; int8_t s8[256]; for (int k = 0; k < 256; k++) s8[k] = k * 5;
+  for (int y = 0; y < 4; y++) for (int x = 0; x < 5; x++) img[y][x] = (px){y * 5 + x, n + x, y ^ x};
+  blit(img[1], img[2] + 1, 4); blit(&img[0][n % 3], img[3], 2); for (int k = 0; k < 20; k++) { px *p = &img[0][0] + k; tta_out(p->r | p->g << 8 | p->b << 16); }
+  for (int k = 0; k < 21; k++) m[0][k] = k * 3001; tta_out(sum16(m[0], n, n + 5)); tta_out(sum16(m[1], 250 + n - 250, 3 + n));
+  tta_out(idx(s8 + 128, -(int)n - 100)); tta_out(idx(s8 + 128, n)); uint32_t w[40]; for (int k = 0; k < 40; k++) w[k] = k * k; tta_out(at64(w + 20, -(int64_t)n)); tta_out(at64(w, n)); tta_out(wrap(w, n & 7));
+  fill(img, n, 7 + n); move((uint8_t *)img + 3, (uint8_t *)img + 1, 20 + n); move((uint8_t *)img, (uint8_t *)img + 5 + n, 30); uint32_t s = 0; for (int k = 0; k < 60; k++) s = s * 31 + ((uint8_t *)img)[k]; tta_out(s);
+  fill(w + 1, 0x5a, 4 * n); fill((uint8_t *)w + 70, n, n); s = 0; for (int k = 0; k < 40; k++) s = s * 31 + w[k]; tta_out(s);
+  for (int k = 0; k < 3; k++) { for (int j = 0; j < 9; j++) bigs[k].a[j] = j * k + n; bigs[k].t = k; } bigs[1] = twist(bigs[n % 3], n); bigs[0] = bigs[1]; bigs[0].a[3]++; for (int j = 0; j < 9; j++) tta_out(bigs[0].a[j] + bigs[1].a[j]); tta_out(bigs[0].t);
+  for (int k = 0; k < 9; k++) flags[k] = (n + k) & 2; for (int k = 0; k < 9; k++) tta_out(flags[k] + flags[(k + n) % 9] * 2);
+  port = n; port += 250; tta_out(port); uint8_t c = 200; c += n * 9; c >>= 1; tta_out(c); int8_t i = c; i <<= 3; tta_out(i); i = -i / 3; tta_out(i); tta_out(i % 7); tta_out((uint16_t)(i * 300) / 7u);
+  
+  return 0; }

@@ -99,3 +99,7 @@ int main(void) { }
 // 3 r.c:4: [--machine MACHINES/teaching.machine] the operation rotl, which the machine lacks
 unsigned tta_op_rotl(unsigned, unsigned);
 int main(void) { tta_out(tta_op_rotl(3, 4)); }
+//// a stack without room for a first call
+// 3 r.c: [--stack 3] the stack has 3 words, and a first call of sum needs 
+static uint32_t sum(uint32_t n) { uint32_t a[3] = {n, n + 1, n * 3}; return n ? sum(n - 1) + a[n % 3] : 0; }
+int main(void) { tta_out(sum(tta_in())); }

@@ -197,7 +197,7 @@ class Access:
         for ty, v, scale in more:
             w = self.with_sign(v, ty) if self.bits(ty) <= 32 else self.value(v, ty)[0]
             d = self.memory.defs.get((self.f.name, v[1])) if v[0] == "local" else None
-            exact = d is not None and d.op == "bin" and d.kind == "shl" and "nsw" in d.marks
+            exact = d.b[1] if d is not None and d.op == "bin" and d.kind == "shl" and "nsw" in d.marks and d.b[0] == "int" else None
             base = o.op("add", base, self.scaled(w, scale, c, exact))
         off += const
         self.places[i.name] = (base, off, c)
@@ -208,15 +208,15 @@ class Access:
         return None
 
     def scaled(self, w, scale, c, exact):
-        """An index times bytes, in what pointers of the class count. Where the index is a shift to the left that has lost no bit (`exact`, or
-        by its bounds), the shift is taken back."""
+        """An index times bytes, in what pointers of the class count. Where the index is a shift to the left that has lost no bit, the shift is taken
+        back: by its bounds, or as LLVM promises for a shift by `exact` bits, which is no promise of an earlier one that this one was joined with."""
         o = self.o
         if scale % c.unit == 0:
             return o.op("mul", w, scale // c.unit)
         if isinstance(w, int):
             return (signed(w) * scale // c.unit) & M
         made = o.made.get(w) if isinstance(w, str) else None
-        if made and made[0] == "shl" and isinstance(made[2], int) and (scale << made[2]) % c.unit == 0 and (exact or o.fits(made[1], made[2])):
+        if made and made[0] == "shl" and isinstance(made[2], int) and (scale << made[2]) % c.unit == 0 and (exact == made[2] or o.fits(made[1], made[2])):
             return o.op("mul", made[1], (scale << made[2]) // c.unit)
         return o.op("shr", o.op("mul", w, scale), c.unit.bit_length() - 1)
 

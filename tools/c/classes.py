@@ -31,9 +31,13 @@ class Class:
         self.signed = self.loose = self.wild = False
 
     def top(self):
+        top = self
+        while top.up:
+            top = top.up
+        # All on the way lead there at once from now on.
         while self.up:
-            self = self.up
-        return self
+            self.up, self = top, self.up
+        return top
 
     def inside(self):
         """The class of what is kept in the data of this one."""

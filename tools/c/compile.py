@@ -11,6 +11,7 @@ import tempfile
 
 sys.dont_write_bytecode = True
 import clang
+import llvm
 import options
 import translate
 from ir import Refused
@@ -49,7 +50,7 @@ def program_of(o, machine, folder):
         if o.keep:
             write(o.keep, text)
         try:
-            made = translate.Program(text, machine, base=o.base, cell=o.cell, stack=o.stack)
+            made = translate.Program(text, machine, base=o.base, cell=o.cell, stack=o.stack, stack_checked=o.stack_checked)
             program, places = made.text()
         except translate.TooLong as e:
             too_long = len(text), e
@@ -86,9 +87,9 @@ def options_of(words):
         o = options.Options(words)
     except options.Faulty as e:
         stop(USAGE, e)
-    missing = clang.missing()
+    missing = llvm.missing()
     if missing:
-        stop(USAGE, f"{', '.join(missing)} not found: C needs clang and LLVM, of version 14 or later (`tools/setup`, or `apt-get install clang llvm`)")
+        stop(USAGE, missing)
     return o
 
 

@@ -51,7 +51,7 @@ class Constants:
             words = [self.number(f, x, 1 if v[2] == "select" and p == 0 else k) for p, (_, x) in enumerate(v[4])]
             return self.computed(v[2], v[3], words, k) & (1 << n) - 1
         base, off, c = self.place(f, v)
-        return base + (off // c.unit if c else off) & M
+        return base + (off // c.unit if c else off) & M & (1 << n) - 1
 
     def computed(self, op, rel, words, n):
         """What an operation makes of constants of n bits."""
@@ -93,8 +93,8 @@ class Constants:
                 if v[2] in ("bitcast", "addrspacecast"):
                     return self.place(f, v[4])
                 base, off, c = self.place(f, v[4])
-                if v[2] == "ptrtoint" and c:
-                    return base * c.unit + off, 0, None
+                if v[2] == "ptrtoint":
+                    return base * (c.unit if c else 1) + off, 0, None
                 if v[2] == "inttoptr":
                     k = self.memory.of(f, v[4])
                     return (base + off) // (k.unit if k else 1), 0, k

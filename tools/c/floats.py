@@ -16,7 +16,7 @@ RELATIONS = {"oeq": ("eq", 0, 0), "une": ("eq", 0, 1), "olt": ("lt", 0, 0), "ogt
 TYPE = r"(float|double)"
 BETWEEN = re.compile(rf" (fadd|fsub|fmul|fdiv|frem) (?:[a-z]+ )*{TYPE} ")
 COMPARED = re.compile(rf" fcmp (?:(?:fast|nnan|ninf|nsz|arcp|contract|afn|reassoc) )*([a-z]+) {TYPE} ")
-CAST = re.compile(r" (fptrunc|fpext|fptoui|fptosi|uitofp|sitofp) (\w+) .*? to (\w+)")
+CAST = re.compile(r" (fptrunc|fpext|fptoui|fptosi|uitofp|sitofp) (?:(?:nneg|fast|nnan|ninf|nsz|arcp|contract|afn|reassoc) )*(\w+) .*? to (\w+)")
 CALLED = re.compile(r"@llvm\.(\w+)\.(f32|f64)\(")
 
 
@@ -85,6 +85,29 @@ class Floats:
     def truth_of(self, name, words):
         [found] = self.run_time(name, words, 1)
         self.o.range[found] = 0, 1
+        return found
+
+    def float_class(self, mask, form, words):
+        """1 where a number is of one of the classes of a mask: from bit 0 on no number (two kinds), then below zero from the infinite to zero,
+        and above zero from zero to the infinite; else 0."""
+        o, (*low, top), found = self.o, words, 0
+        normal, infinite, quiet = (0x00800000, 0x7F800000, 0x7FC00000) if form == "f32" else (0x00100000, 0x7FF00000, 0x7FF80000)
+        size = o.op("and", top, M >> 1)
+        rest = low[0] if low else 0
+        both = lambda *x: x[0] if len(x) == 1 else o.op("and", x[0], both(*x[1:]))
+        some = o.truth("ne", rest, 0)
+        is_zero, is_infinite = o.truth("eq", o.op("or", size, rest), 0), both(o.truth("eq", size, infinite), o.op("xor", some, 1))
+        is_none = both(o.truth("geu", size, infinite), o.op("xor", is_infinite, 1))
+        is_quiet = o.truth("geu", size, quiet)
+        tests = [(1 << 0, 1 << 0, both(is_none, o.op("xor", is_quiet, 1))), (1 << 1, 1 << 1, is_quiet), (1 << 2, 1 << 9, is_infinite),
+                 (1 << 3, 1 << 8, both(o.truth("geu", size, normal), o.truth("ltu", size, infinite))),
+                 (1 << 4, 1 << 7, both(o.truth("ltu", size, normal), o.op("xor", is_zero, 1))), (1 << 5, 1 << 6, is_zero)]
+        sign = o.op("shru", top, 31)
+        for below, above, test in tests:
+            if mask & below and mask & above:
+                found = o.op("or", found, test)
+            elif mask & (below | above):
+                found = o.op("or", found, both(test, sign if mask & below else o.op("xor", sign, 1)))
         return found
 
     def float_cast(self, i):

@@ -21,8 +21,10 @@ def lower(l, i, name):
     ty = i.args[0][0] if i.args else None
     args = [v for _, v, _ in i.args]
     if kind in ("expect", "launder", "ptrmask", "is", "objectsize") and kind != "expect":
-        if kind == "is":
+        if name.startswith("is.constant"):
             return [0]
+        if name.startswith("is.fpclass") and args[1][0] == "int":
+            return [l.float_class(args[1][1], l.form(ty), l.value(args[0], ty))]
         if kind == "objectsize":
             return [0 if args[1] == ("int", 1) else M] * l.pieces(i.ty)
         l.refuse(f"the function {name} of LLVM")
@@ -31,6 +33,8 @@ def lower(l, i, name):
     if ty and l.m.real(ty)[0] == "float":
         return l.float_function(i, kind, args, ty)
     n = l.bits(ty) if ty and l.m.real(ty)[0] in ("int", "ptr") else 0
+    if kind in ("scmp", "ucmp") and 0 < n <= 64:
+        return three_way(l, kind, args, ty, n, l.pieces(i.ty))
     made = WIDE.get(kind) if n > 32 else WORDS.get(kind)
     if made is None or n == 0 or n > 64:
         l.refuse(f"the function {name} of LLVM")
@@ -49,6 +53,19 @@ def extremes(l, kind, args, ty, n):
     if isinstance(a, int):
         a, b = b, a
     return [l.o.select(rel, a, b, a, b)]
+
+
+def three_way(l, kind, args, ty, n, pieces):
+    """1, 0 or -1, as the first of two numbers is greater, equal or less; the result may have another width than they."""
+    o, rel = l.o, "ltu" if kind[0] == "u" else "lt"
+    if n <= 32:
+        form = l.plain if kind[0] == "u" else l.with_sign
+        a, b = form(args[0], ty), form(args[1], ty)
+        found = o.op("sub", o.truth(rel, b, a), o.truth(rel, a, b))
+    else:
+        a, b = (l.wide_plain(l.value(v, ty), n) if kind[0] == "u" else l.wide_sign(l.value(v, ty), n) for v in args)
+        found = o.op("sub", wide.truth(o, rel, b, a), wide.truth(o, rel, a, b))
+    return [found] + [o.op("shr", found, 31)] * (pieces - 1)
 
 
 def absolute(l, kind, args, ty, n):
@@ -121,10 +138,14 @@ def funnel(l, kind, args, ty, n):
     o = l.o
     k = l.word(args[2], ty)
     if n != 32:
-        if not isinstance(k, int):
-            l.refuse(f"a rotation of {n} bits by a number that is no constant")
-        k %= n
         a, b = l.plain(args[0], ty), l.plain(args[1], ty)
+        if not isinstance(k, int):
+            if n not in (8, 16):
+                l.refuse(f"a rotation of {n} bits by a number that is no constant")
+            k = o.op("and", l.plain(args[2], ty), n - 1)
+            both = o.op("or", o.op("shl", a, n), b)
+            return [o.op("shru", o.op("shl", both, k), n) if kind == "fshl" else o.op("shru", both, k)]
+        k %= n
         if k == 0:
             return [a if kind == "fshl" else b]
         left = k if kind == "fshl" else n - k
@@ -196,7 +217,8 @@ def checked(l, kind, args, ty, n):
         hi = o.op("mulhu", a, b)
         hi = o.op("sub", hi, o.op("and", o.op("shr", a, 31), b))
         hi = o.op("sub", hi, o.op("and", o.op("shr", b, 31), a))
-        return [r, o.truth("ne", hi, o.op("shr", r, 31))]
+        over = o.truth("ne", hi, o.op("shr", r, 31))
+        return [r, over if n == 32 else o.op("or", over, o.truth("ne", r, l.extend(r, n)))]
     r = o.op(name[1:], a, b)
     if n < 32:
         return [r, o.truth("ne", r, l.extend(r, n))]
@@ -277,8 +299,11 @@ def wide_checked(l, kind, args, ty, n):
     o = l.o
     name = kind.split(".")[0]
     a, b = (l.value(v, ty) for v in args)
-    if n != 64 or name not in ("uadd", "usub"):
+    if n != 64 or name[1:] == "mul":
         l.refuse(f"the function {kind} of LLVM for {n} bits")
+    if name[0] == "s":
+        r = (wide.add if name == "sadd" else wide.sub)(o, a, b)
+        return r + [o.truth("lt", overflow(o, name, a[1], b[1], r[1]), 0)]
     if name == "usub":
         return wide.sub(o, a, b) + [wide.truth(o, "ltu", a, b)]
     r = wide.add(o, a, b)

@@ -127,5 +127,5 @@ class Layout(Constants, Frames):
         """The first word of the stack of a group of functions, which is made when it is asked for: after all other data."""
         if tuple(one) not in self.stacks:
             self.next = up(self.next, EVEN)
-            self.stacks[tuple(one)] = self.take(words)
-        return self.stacks[tuple(one)]
+            self.stacks[tuple(one)] = self.take(words), words
+        return self.stacks[tuple(one)][0]

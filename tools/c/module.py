@@ -11,8 +11,8 @@ class Module:
 
     def __init__(self, text):
         self.types, self.data, self.functions, self.declared, self.meta, self.aliases = {}, {}, {}, {}, {}, {}
-        # Sizes of types, as they are asked for (sizes.py).
-        self.sizes = {}
+        # Sizes of types, and where the fields of structures stand, as they are asked for (sizes.py).
+        self.sizes, self.fields = {}, {}
         lines = text.split("\n")
         at = 0
         while at < len(lines):

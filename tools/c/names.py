@@ -59,18 +59,24 @@ def liveness(o, by):
                 d.add(s.dst)
         use[b.name], made[b.name] = u, d
     into = {b.name: set() for b in o.blocks}
-    out = {b.name: set() for b in o.blocks}
-    on = True
-    while on:
-        on = False
-        for b in reversed(o.blocks):
-            end = set()
-            for t in b.targets():
-                end |= into[t]
-                end |= {e[1][b.name] for e in by[t].phis if isinstance(e[1].get(b.name), str)}
-            new = use[b.name] | (end - made[b.name])
-            if end != out[b.name] or new != into[b.name]:
-                out[b.name], into[b.name], on = end, new, True
+    ways = {b.name: b.targets() for b in o.blocks}
+    # What phis of the blocks after it take from a block.
+    out = {n: {e[1][n] for t in ways[n] for e in by[t].phis if isinstance(e[1].get(n), str)} for n in ways}
+    before = flow.predecessors(list(ways), lambda n: ways[n])
+    work = list(ways)
+    waiting = set(work)
+    while work:
+        n = work.pop()
+        waiting.discard(n)
+        end = out[n]
+        for t in ways[n]:
+            end |= into[t]
+        new = use[n] | (end - made[n])
+        if new != into[n]:
+            into[n] = new
+            more = [p for p in before[n] if p not in waiting]
+            work += more
+            waiting.update(more)
     o.into = into
     return out
 

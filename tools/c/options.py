@@ -7,6 +7,7 @@
   --frame N             at most N words of the frame space: values share variables until that holds
   --stack N             the words of a stack, which functions that call one another in a circle have; 1024 where nothing is said, or what the
                         machine's data space has left
+  --unchecked-stack     leaves out the check at each such call that the stack has room for it
   --heap N              the bytes that malloc gives in all, 65536 where nothing is said
   --base N              the first word of the data space that data may take, 16 where nothing is said
   --inline N            how large a function may be that is put in the place of a call, in LLVM's measure; 1000 where nothing is said, or what
@@ -33,7 +34,7 @@ class Options:
         # No level is -O2, and less where a machine's addresses do not hold that.
         self.level, self.flags, self.files, self.out, self.lines = None, [], [], None, None
         self.machine, self.frame, self.base, self.inline, self.cell, self.stack, self.heap = None, None, 16, None, None, None, None
-        self.layout, self.keep, self.unroll, self.run = False, None, None, None
+        self.layout, self.keep, self.unroll, self.run, self.stack_checked = False, None, None, None, True
         words = list(words)
         try:
             while words:
@@ -65,6 +66,8 @@ class Options:
             setattr(self, a[2:], number(a, words.pop(0)))
         elif a == "--layout":
             self.layout = True
+        elif a == "--unchecked-stack":
+            self.stack_checked = False
         elif a == "--run":
             self.run = []
             while words and len(self.run) < 3 and not words[0].startswith("-") and not is_source(words[0]) and (len(self.run) != 1 or words[0].isdecimal()):

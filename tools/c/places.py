@@ -30,22 +30,21 @@ class Numbers:
 
     def join_flows(self):
         """Joins what a number is made of with what it leads to; whether any were apart."""
-        flows = [(s, t) for s, t in self.flows if self.of(*s) and self.is_number(*s)]
-        key = lambda x: id(self.of(*x))
-        holds = lambda x: bool(self.of(*x).objects or self.of(*x).functions)
-        leads_on = lambda x: bool(self.of(*x).accesses or self.of(*x).moves)
-        carries, leads = set(), set()
+        flows = [(s, t, self.of(*s), self.of(*t)) for s, t in self.flows if self.is_number(*s)]
+        flows = [x for x in flows if x[2]]
+        carries = {id(c) for _, _, c, _ in flows if c.objects or c.functions}
+        leads = {id(c) for _, _, _, c in flows if c.accesses or c.moves}
         on = True
         while on:
             on = False
-            for s, t in flows:
-                if (holds(s) or key(s) in carries) and key(t) not in carries:
-                    carries.add(key(t))
+            for _, _, c, d in flows:
+                if id(c) in carries and id(d) not in carries:
+                    carries.add(id(d))
                     on = True
-                if (leads_on(t) or key(t) in leads) and key(s) not in leads:
-                    leads.add(key(s))
+                if id(d) in leads and id(c) not in leads:
+                    leads.add(id(c))
                     on = True
-        joined = [(s, t) for s, t in flows if (holds(s) or key(s) in carries) and (leads_on(t) or key(t) in leads) and key(s) != key(t)]
+        joined = [(s, t) for s, t, c, d in flows if id(c) in carries and id(d) in leads and c is not d]
         for s, t in joined:
             self.join(self.of(*s), self.of(*t))
             self.of(*s).bytes = True

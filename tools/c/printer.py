@@ -3,6 +3,9 @@ from ssa import OPPOSITE
 
 RESERVED = set("ldw stw ldf stf jump proc end if goto when load store out call return halt data in main eq ne lt ge ltu geu gt gtu".split())
 
+# The label to which a step leads that finds a stack full; all other labels have a number.
+FULL = "full"
+
 
 def word(w):
     if isinstance(w, str):
@@ -26,6 +29,8 @@ def step(s):
         return f"out {a[0]}"
     if s.kind == "in":
         return f"{s.dst} = in"
+    if s.kind == "check":
+        return f"if {s.op} {a[0]} {a[1]} goto {FULL}"
     if s.kind == "when":
         return f"when {s.op} {a[0]} {a[1]} {s.dst} = {a[2]}"
     if s.kind == "call":
@@ -49,8 +54,8 @@ def procedure(o):
         targets.update(used)
         body.append((b.name, text + [(line, end.at) for line in last]))
     made = [(" ".join(["proc", o.name, *o.params]), None)]
-    for name, text in body:
-        made += ([(f"{name}:", None)] if name in targets else []) + text
+    for name, text in body + ([(FULL, [(step(s), None) for s in o.full])] if o.full else []):
+        made += ([(f"{name}:", None)] if name in targets or name == FULL else []) + text
     return made + [("end", None)]
 
 

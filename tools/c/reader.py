@@ -6,7 +6,7 @@ import re
 
 from ir import Refused
 
-TOKEN = re.compile(r'''\s+|;[^\n]*|(?P<t>c?"[^"]*"|[%@!$](?:"[^"]*"|[-a-zA-Z$._0-9]+)|\#\d+|0x[0-9A-FKMLH]*|-?\d+\.\d+(?:e[-+]?\d+)?|-?\d+|\.\.\.|[-a-zA-Z$._][-a-zA-Z$._0-9]*:?|[()\[\]{}<>,=*!|:]|"[^"]*")''')
+TOKEN = re.compile(r'''\s+|;[^\n]*|(c?"[^"]*"|[%@!$](?:"[^"]*"|[-a-zA-Z$._0-9]+)|\#\d+|0x[0-9A-FKMLH]*|-?\d+\.\d+(?:e[-+]?\d+)?|-?\d+|\.\.\.|[-a-zA-Z$._][-a-zA-Z$._0-9]*:?|[()\[\]{}<>,=*!|:]|"[^"]*")''')
 BINARY = {"add", "sub", "mul", "udiv", "sdiv", "urem", "srem", "shl", "lshr", "ashr", "and", "or", "xor"}
 CASTS = {"trunc", "zext", "sext", "ptrtoint", "inttoptr", "bitcast", "addrspacecast", "fptrunc", "fpext", "fptoui", "fptosi", "uitofp",
          "sitofp"}
@@ -29,7 +29,7 @@ class Reader:
 
     def __init__(self, module, text):
         self.m, self.text = module, text
-        self.t = [x.group("t") for x in TOKEN.finditer(text) if x.group("t")]
+        self.t = [t for t in TOKEN.findall(text) if t]
         self.i = 0
 
     def peek(self, k=0):
@@ -148,7 +148,7 @@ class Reader:
         while True:
             t = self.peek()
             if t in ("noundef", "nocapture", "readonly", "readnone", "writeonly", "signext", "zeroext", "inreg", "noalias", "nonnull",
-                     "returned", "nofree", "nest", "immarg", "swiftself", "noreturn", "writable", "dead_on_unwind"):
+                     "returned", "nofree", "nest", "immarg", "swiftself", "noreturn", "writable", "dead_on_unwind", "dead_on_return"):
                 found.add(self.next())
             elif t == "align":
                 self.i += 1

@@ -8,13 +8,19 @@
  3. A return reads the number, and jumps to the place that it says; there `stack` is what it was before the call, and what was kept is
     read again. So `stack` is the same from a function's begin to its end, as lower.py takes it.
  4. The steps of a group are made of variables, not of values: a variable that is needed after a call is kept whatever it is assigned in
-    between."""
+    between.
+ 5. No word above the stack is written: what a call from outside needs has room (else the program is refused), and a call within the group looks
+    first whether all that it puts above `stack` ends within the stack. If not, the run outputs FULL, stores it in the stack's first word, and
+    halts. This is left out where the program is made without the check."""
 import names
 import order
+from ir import Refused
 from ssa import M, STACK, Block, Builder, Step
 
 # The words of a stack where nothing else is said, and the fewest that it has where a machine has little room.
 WORDS, FEWEST = 1024, 32
+# The last word that a run outputs whose stack is full.
+FULL = 0xDEADBEEF
 
 
 def run(program, made):
@@ -43,7 +49,7 @@ class Group:
         self.program, self.layout, self.group, self.made = program, program.layout, group, made
         self.o = Builder(program.group_name(group), program.extra)
         self.grain = self.layout.grain[tuple(group)]
-        self.base = self.layout.stack(group, words)
+        self.base, self.words = self.layout.stack(group, words), words
         # Of each function: the blocks to which it returns, each with its number; 0 is outside.
         self.back = {f: [] for f in made}
         self.count = 0
@@ -97,6 +103,8 @@ class Group:
             pairs = self.differing(self.made[f].params, o.params[len(entered) > 1:])
             here.steps += names.parallel(o, pairs)
             number, top = self.place_of(self.base, f, 0)
+            if top > self.base + self.words and self.program.stack_checked:
+                raise Refused(f"the stack has {self.words} words, and a first call of {f[1:]} needs {top - self.base} (--stack N gives it more)")
             here.steps += [Step("store", None, None, [number, 0]), Step("copy", STACK, None, [top]), Step("goto", to=[self.made[f].blocks[0].name])]
 
     def differing(self, params, words):
@@ -140,7 +148,18 @@ class Group:
         if s.dst:
             get.append(Step("copy", s.dst, None, ["result"], at=s.at))
         after.steps = get + b.steps[k + 1:]
-        b.steps[k:] = put
+        b.steps[k:] = self.check(top, s) + put
+
+    def check(self, more, s):
+        """A step that leads to the end of the run where so many words more have no room. It is no end of a block: the order of the blocks, and what
+        lives where, is that of a program without it."""
+        if not self.program.stack_checked:
+            return []
+        if not self.o.full:
+            self.o.full = [Step("out", args=[FULL])] if self.program.machine_has("out") else []
+            self.o.full += [Step("store", None, None, [self.base, FULL]), Step("halt")]
+        rel = "geu" if self.program.machine_has("ltu") else "ge"
+        return [Step("check", None, rel, [STACK, max(0, self.base + self.words - more + 1)], at=s.at)]
 
     def at_stack(self, n, s):
         return [Step("op", o_place(self.o, n), "add", [STACK, n], at=s.at)] if n else []

@@ -7,9 +7,9 @@ import order
 
 def run(o, room):
     """Names variables anew so that there are at most `room`, if it can be done; those that wait least are shared first."""
-    spans = intervals(o)
-    if len(spans) <= room:
+    if count(o) <= room:
         return
+    spans = intervals(o)
     gaps = pairs(spans)
     need = len(spans) - room
     follow = {}
@@ -27,6 +27,11 @@ def run(o, room):
             s.args = [get(w) for w in s.args]
 
 
+def count(o):
+    """How many variables a procedure has."""
+    return len({w for b in o.blocks for s in b.steps for w in (*s.args, s.dst) if isinstance(w, str)}.union(o.params))
+
+
 def intervals(o):
     """The first and the last place of each variable, a place for each step and one for the begin and the end of each block."""
     into = order.liveness(o)
@@ -40,8 +45,11 @@ def intervals(o):
         seen(p, 0)
     for b in o.blocks:
         at += 1
-        for w in into[b.name]:
+        # What is seen first at one place is in one order, whatever order a set has.
+        for w in sorted(into[b.name] - first.keys()):
             seen(w, at)
+        for w in into[b.name]:
+            last[w] = max(last[w], at)
         for s in b.steps:
             at += 1
             for w in s.args:

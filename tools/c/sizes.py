@@ -48,14 +48,17 @@ def sum_of(m, ty):
 
 def field_at(m, ty, k):
     """The offset of field k of a structure."""
-    at = 0
-    for n, x in enumerate(ty[1]):
-        if not ty[2]:
-            at = -(-at // align_of(m, x)) * align_of(m, x)
-        if n == k:
-            return at
-        at += size_of(m, x)
-    raise Refused("a field that is not there")
+    if ty not in m.fields:
+        at, found = 0, []
+        for x in ty[1]:
+            if not ty[2]:
+                at = -(-at // align_of(m, x)) * align_of(m, x)
+            found.append(at)
+            at += size_of(m, x)
+        m.fields[ty] = found
+    if not 0 <= k < len(ty[1]):
+        raise Refused("a field that is not there")
+    return m.fields[ty][k]
 
 
 def offset(m, base, index):

@@ -9,7 +9,7 @@ register is free there (steady.py says when), the loop has a variable of its own
 import flow
 import order
 from ssa import Block, Step
-from steady import homes_of, pressure
+from steady import Places, homes_of
 
 # How many uses, each counted by its loops, a variable needs: what goes in and out costs an access of the frame each.
 WORTH = 16
@@ -23,7 +23,7 @@ def run(o, machine):
     succ = lambda n: by[n].targets()
     loops = flow.loops(flow.order(names[0], succ), succ)
     depth = {n: sum(n in body for body in loops.values()) for n in names}
-    done = set()
+    done, over, into, places = set(), crossing(o), order.liveness(o), Places(o)
     for head, body in sorted(loops.items(), key=lambda x: -len(x[1])):
         if head in done or head == names[0] or any(s.kind == "call" for n in body for s in by[n].steps):
             continue
@@ -34,10 +34,12 @@ def run(o, machine):
                 for w in [*s.args, s.dst]:
                     if isinstance(w, str):
                         uses[w] = uses.get(w, 0) + 8 ** (depth[n] - 1)
-        over = crossing(o)
-        for v in sorted(uses, key=lambda v: (-uses[v], v)):
-            if v in over and uses[v] >= WORTH and pressure(o, body) < homes_of(machine):
-                Split(o, head, body, v).run()
+        worth = [v for v in sorted(uses, key=lambda v: (-uses[v], v)) if uses[v] >= WORTH and v in over]
+        free = homes_of(machine) - places.pressure(body) if worth else 0
+        for v in worth[:max(0, free)]:
+            one = Split(o, head, body, v, into)
+            one.run()
+            places.add(one.own, head, body, one.at_end)
 
 
 def crossing(o):
@@ -57,14 +59,15 @@ def crossing(o):
 
 
 class Split:
-    """One variable, in one loop."""
+    """One variable, in one loop. `into` has what is live at the begin of each block before all of this: of a variable that is not split it stays true."""
 
-    def __init__(self, o, head, body, v):
-        self.o, self.head, self.body, self.v, self.own = o, head, body, v, o.fresh() + "h"
+    def __init__(self, o, head, body, v, into):
+        self.o, self.head, self.body, self.v, self.own, self.into = o, head, body, v, o.fresh() + "h", into
+        # Whether a block has been added at the end of the text that uses the loop's variable.
+        self.at_end = False
 
     def run(self):
-        o, v, own = self.o, self.v, self.own
-        into = order.liveness(o)
+        o, v, own, into = self.o, self.v, self.own, self.into
         inside = [b for b in o.blocks if b.name in self.body]
         assigned = any(s.dst == v for b in inside for s in b.steps)
         for b in inside:
@@ -90,5 +93,6 @@ class Split:
         between = Block(self.o.fresh() + "e")
         between.steps = [back, Step("goto", to=[t.name], at=t.steps[0].at)]
         self.o.blocks.append(between)
+        self.into[between.name], self.at_end = self.into[t.name], True
         for b in before:
             b.steps[-1].to = [between.name if n == t.name else n for n in b.steps[-1].to]

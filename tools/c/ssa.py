@@ -2,7 +2,8 @@
 
 An operand is a number below 2^32 or the name of a value. A step has a kind: `op` (op, args), `copy`, `load`, `store`, `out`, `in`, `call`
 (op is the procedure), `inner` (the call of a function of the same group), `sel` (op a relation; the third argument where it holds between
-the first two, else the fourth). The last step of a block is `goto`, `if` (op a relation, two ways), `ret` or `halt`.
+the first two, else the fourth), `check` (op a relation; a run ends where it holds: recursion.py). The last step of a block is `goto`, `if`
+(op a relation, two ways), `ret` or `halt`.
 
 The builder finds equal operations within a block alone (`seen`), since what an earlier block has made need not have been made here. A
 folded operation has the words of the operation itself for all words, by the meaning of the program's text: shifts take their number
@@ -54,6 +55,8 @@ class Builder(Bounds, Lacking, Simple):
         self.range, self.made, self.extra = {}, {}, set(extra)
         # The block that is written, what it has made so far, and the mark of the place in the source.
         self.block, self.seen, self.at, self.params = None, {}, None, []
+        # The steps with which a run ends whose stack is full (recursion.py): steps of the kind `check` lead there.
+        self.full = []
 
     def fresh(self, most=FULL):
         self.count += 1

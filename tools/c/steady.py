@@ -4,14 +4,16 @@ Such a constant is a long immediate at each use, which takes the place of moves;
 loop calls nothing (what lives across calls stands in the frame) and a register is free for it: where, at each place of the loop, fewer
 variables live than the machine has homes. So it is done last, on blocks in the order of the text, and only for a machine that is known. The
 variable is assigned on each way into the loop and nowhere else; so wherever the loop uses it, it is the constant."""
+import bisect
+
 import flow
 import share
 from ssa import Step
 
 # The registers that the compiler keeps for itself, and the homes that are left to it in any case.
-KEPT, SPARE = 3, 1
+KEPT, SPARE = 3, 2
 # A constant is worth a variable from this many uses on, each counted by the loops that it stands in.
-WORTH = 8
+WORTH = 4
 
 
 def homes_of(machine):
@@ -28,6 +30,7 @@ def run(o, machine):
     names = [b.name for b in o.blocks]
     loops = flow.loops(flow.order(names[0], lambda n: by[n].targets()), lambda n: by[n].targets())
     depth = {n: sum(n in body for body in loops.values()) for n in names}
+    places = Places(o)
     for head, body in sorted(loops.items(), key=lambda x: -len(x[1])):
         if any(s.kind == "call" for n in body for s in by[n].steps) or head == names[0]:
             continue
@@ -37,12 +40,13 @@ def run(o, machine):
                 for w in s.args:
                     if isinstance(w, int) and not machine.holds(w):
                         uses[w] = uses.get(w, 0) + 8 ** (depth[n] - 1)
-        for w in sorted(uses, key=lambda w: (-uses[w], w)):
-            if uses[w] >= WORTH and pressure(o, body) < homes:
-                hold(o, by, head, body, w)
+        worth = [w for w in sorted(uses, key=lambda w: (-uses[w], w)) if uses[w] >= WORTH]
+        for w in worth[:max(0, homes - places.pressure(body))] if worth else []:
+            places.add(hold(o, by, head, body, w), head, body)
 
 
 def hold(o, by, head, body, w):
+    """Gives the loop a variable for a constant."""
     v = o.fresh() + "c"
     for b in o.blocks:
         if b.name in body:
@@ -50,29 +54,44 @@ def hold(o, by, head, body, w):
                 s.args = [v if x == w and isinstance(x, int) else x for x in s.args]
         elif head in b.targets():
             b.steps.insert(len(b.steps) - 1, Step("copy", v, None, [w], at=b.steps[-1].at))
+    return v
 
 
-def pressure(o, body):
-    """The greatest number of variables that live at one place between the first block of a loop and its last, but for those that stand in
-    the frame."""
-    spans, at, calls, places = share.intervals(o), 0, [], []
-    for b in o.blocks:
-        first = at
-        at += 1
-        for s in b.steps:
+class Places:
+    """Where variables live, by the order of the text: each from its first place to its last."""
+
+    def __init__(self, o):
+        self.o, self.spans, self.calls, self.blocks, at = o, share.intervals(o), [], {}, 0
+        for b in o.blocks:
+            first = at
             at += 1
-            if s.kind == "call":
-                calls.append(at)
-        at += 1
-        if b.name in body:
-            places.append((first, at))
-    low, high = min(p for p, _ in places), max(q for _, q in places)
-    events = []
-    for a, z in spans.values():
-        if z >= low and a <= high and not any(a < c < z for c in calls):
-            events += [(max(a, low), 1), (min(z, high) + 0.1, -1)]
-    most = now = 0
-    for _, change in sorted(events):
-        now += change
-        most = max(most, now)
-    return most
+            for s in b.steps:
+                at += 1
+                if s.kind == "call":
+                    self.calls.append(at)
+            at += 1
+            self.blocks[b.name] = first, at
+
+    def pressure(self, body):
+        """The greatest number of variables that live at one place between the first block of a loop and its last, but for those that stand in
+        the frame."""
+        low, high = min(self.blocks[n][0] for n in body), max(self.blocks[n][1] for n in body)
+        events = []
+        for a, z in self.spans.values():
+            if z >= low and a <= high:
+                k = bisect.bisect_right(self.calls, a)
+                if k == len(self.calls) or self.calls[k] >= z:
+                    events += [(max(a, low), 1), (min(z, high) + 0.1, -1)]
+        most = now = 0
+        for _, change in sorted(events):
+            now += change
+            most = max(most, now)
+        return most
+
+    def add(self, v, head, body, at_end=False):
+        """Takes up a variable that is made on each way into a loop and lives throughout it, or up to a block at the end of the text; all other
+        places stay what they are, since only their order counts."""
+        last = max(q for _, q in self.blocks.values())
+        ends = [self.blocks[n] for n in body]
+        ways = [self.blocks.get(b.name, (last, last))[1] - 1.5 for b in self.o.blocks if b.name not in body and head in b.targets()]
+        self.spans[v] = min([p for p, _ in ends] + ways), max([q for _, q in ends] + ways + [last] * at_end)

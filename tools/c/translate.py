@@ -33,8 +33,8 @@ class TooLong(Refused):
 class Program:
     """A program on its way. `machine` says which operations there are and how much room, as far as it is known (machine.py)."""
 
-    def __init__(self, text, machine, base=16, cell=None, stack=None):
-        self.machine, self.extra, self.stack_words = machine, machine.extra, stack
+    def __init__(self, text, machine, base=16, cell=None, stack=None, stack_checked=True):
+        self.machine, self.extra, self.stack_words, self.stack_checked = machine, machine.extra, stack, stack_checked
         self.module = Module(text)
         if "@main" not in self.module.functions:
             raise Refused("there is no function main")
@@ -132,14 +132,14 @@ class Program:
 
     def fit(self, made):
         """Lets values share variables until the frame has room for all."""
-        counts = [len(share.intervals(o)) for o in made]
+        counts = [share.count(o) for o in made]
         room = None if self.machine.frame is None else self.machine.frame - KEPT * (len(made) - 1)
         cap = MOST_VARIABLES
         while room is not None and cap > 8 and sum(min(n, cap) for n in counts) > room:
             cap -= max(1, cap // 16)
         for o in made:
             share.run(o, cap)
-        counts = [len(share.intervals(o)) for o in made]
+        counts = [share.count(o) for o in made]
         self.frame = sum(counts) + KEPT * (len(made) - 1)
         if self.machine.frame is not None and self.frame > self.machine.frame:
             raise Refused(f"the frame needs {self.frame} words, and the machine has {self.machine.frame}")
@@ -167,6 +167,8 @@ class Program:
             counts = "words" if c.unit == c.cell else "bytes"
             sign = ", with their sign" if c.signed and c.cell < 4 else ""
             yield f"bytes a word {c.cell}{sign}, pointers count {counts}: {named}"
+        for group, (at, words) in self.layout.stacks.items():
+            yield f"a stack of {words} words: {', '.join(f[1:] for f in group)} at {at}"
 
     def begin(self, x):
         """Where an object begins: data, or an array of a function, those of the stack last."""
