@@ -14,7 +14,7 @@ const WORDS: u64 = (1 << 16) + 1;
 const POWERS: u8 = 16;
 
 /// The first of so many exponents, from one on, of which a number is the power of two.
-#[tactic(auto, using(crate::proofs::Depths::exponent_more))]
+#[tactic(auto, using(crate::proofs::Powers::exponent_more))]
 fn exponent_from(k: u8, left: u8, n: u64) -> Option<u8>
     requires { k + left < 64 }
     ensures { result ≡ spec.exponent_from k left n }
@@ -72,7 +72,7 @@ fn rest_of(bytes: &[u8], at: usize) -> &[u8]
 }
 
 /// Whether bytes are so many numbers of words with commas between them.
-#[tactic(auto, using(crate::proofs::Depths::is_list_more))]
+#[tactic(auto, using(crate::proofs::Powers::is_list_more))]
 fn is_list(count: u8, bytes: &[u8]) -> bool
     ensures { result ≡ spec.is_list count bytes.now }
 {
@@ -108,7 +108,7 @@ fn depth_or_zero(digits: &[u8]) -> u8
 }
 
 /// Adds the exponents that bytes say as so many numbers of words with commas between them.
-#[tactic(auto, using(crate::proofs::Depths::list_more))]
+#[tactic(auto, using(crate::proofs::Powers::list_more))]
 fn add_list(found: &mut Vec<u8>, count: u8, bytes: &[u8]) -> Result<(), AllocError>
     ensures { OnOk result (found.new.items ≡ found.old.items ++ spec.list_in count bytes.now) }
 {
