@@ -4,5 +4,3 @@ mod Prompted
 mod Made
 mod Lacking
 mod Circuits
-mod Depths
-mod Joined

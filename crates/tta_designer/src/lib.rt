@@ -4,8 +4,6 @@
 
 mod command;
 mod compiled;
-mod depths;
-mod joining;
 mod laws;
 mod names;
 mod prompting;

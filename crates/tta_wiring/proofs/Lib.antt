@@ -1,3 +1,0 @@
-mod Memory
-mod Pieces
-mod Wired

@@ -1,4 +1,0 @@
-pub mod Queues
-pub mod Signals
-pub mod Top
-pub mod Laws
