@@ -3,12 +3,10 @@
 #![tactic(auto)]
 
 mod joining;
-mod laws;
 mod part;
 mod queue;
 mod top;
 mod wiring;
 
-pub use laws::net_is_wired;
 pub use queue::{push_numbered, push_queues};
 pub use top::push_top;
