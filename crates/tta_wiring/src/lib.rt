@@ -1,5 +1,4 @@
-//! The text of what joins cores: the queue before each, and the module that joins them, whose wires are
-//! those that the theorem of such cores asks for.
+//! The text of what joins cores: the queue before each, and the module that joins them.
 #![tactic(auto)]
 
 mod joining;
