@@ -1,4 +1,4 @@
-use Rattle.std.proofs.Common.{List, ℕ, ◌++◌, true, false}
+use Rattle.std.proofs.Common.{◌++◌, true, false}
 use Rattle.std.specs.List.{flat_map}
 use Rattle.tta_list.proofs.Lists.{then_more}
 use Rattle.tta_list.proofs.Results.{onward}
