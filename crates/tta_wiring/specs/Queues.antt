@@ -1,6 +1,5 @@
 -- The text of a queue as a module.
-use Rattle.std.specs.Prelude.{ℕ, ◌+◌, false, List, [], ◌∷◌, ◌++◌, codes, decimal}
-use Rattle.tta_circuit.specs.Circuit.{Wire}
+use Rattle.std.specs.Prelude.{ℕ, false, List, [], ◌++◌, codes, decimal}
 use Rattle.tta_queue.specs.Queue.{Pin, InValid, InData, OutReady, IsReset, Head, Tail, Fill, InReady, OutValid, OutData, Takes, Gives, Store, queue_of}
 use Rattle.tta_verilog.specs.Expressions.{Names}
 use Rattle.tta_verilog.specs.Circuits.{parts_text}

@@ -1,5 +1,5 @@
 -- The signals of the module that joins cores by queues, and its wires.
-use Rattle.std.specs.Prelude.{ℕ, ◌+◌, ◌==◌, Bool, false, if◌then◌else◌, List, [], ◌∷◌, ◌++◌, Option, codes}
+use Rattle.std.specs.Prelude.{ℕ, ◌+◌, ◌==◌, Bool, false, if◌then◌else◌, List, [], ◌∷◌, Option, codes}
 use Rattle.std.specs.Option.{option_map_or}
 use Rattle.tta_circuit.specs.Circuit.{Expr, Const, Signal, Both, Wire}
 use Rattle.tta_verilog.specs.Expressions.{Names}
