@@ -1,0 +1,3 @@
+mod Memory
+mod Pieces
+mod Wired

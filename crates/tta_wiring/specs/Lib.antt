@@ -1,0 +1,4 @@
+pub mod Queues
+pub mod Signals
+pub mod Top
+pub mod Laws
