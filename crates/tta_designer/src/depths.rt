@@ -1,6 +1,6 @@
 //! How many words queues have, as a word of the command line says it.
 
-ghost use Rattle.std.specs.Prelude.{◌≡◌, ◌<◌, ◌+◌, ◌++◌, take, drop, IfOk, OnOk};
+ghost use Rattle.std.specs.Prelude.{◌≡◌, ◌<◌, ◌≤◌, ◌+◌, ◌++◌, length, take, drop, IfOk, OnOk};
 ghost use Rattle.tta_designer.specs.Depths as spec;
 
 use std::alloc::{AllocError, Global};
@@ -38,7 +38,8 @@ fn depth_of(digits: &[u8]) -> Option<u8>
 
 /// How many bytes stand before the first comma, or all of them where there is none.
 fn comma_at(bytes: &[u8]) -> usize
-    ensures { result ≡ spec.comma_at bytes.now }
+    ensures at { result ≡ spec.comma_at bytes.now }
+    ensures within { result ≤ length bytes.now }
 {
     match bytes {
         [] => 0,
@@ -108,7 +109,6 @@ fn depth_or_zero(digits: &[u8]) -> u8
 }
 
 /// Adds the exponents that bytes say as so many numbers of words with commas between them.
-#[tactic(auto, using(crate::proofs::Powers::list_more))]
 fn add_list(found: &mut Vec<u8>, count: u8, bytes: &[u8]) -> Result<(), AllocError>
     ensures { OnOk result (found.new.items ≡ found.old.items ++ spec.list_in count bytes.now) }
 {
