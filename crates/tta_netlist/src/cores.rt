@@ -1,6 +1,7 @@
 //! The modules of the cores.
 
-ghost use Rattle.std.specs.Prelude.{◌≡◌, ◌≤◌, ◌+◌, ◌++◌, length, map, IfOk, OnOk};
+ghost use Rattle.std.specs.Prelude.{◌≡◌, ◌≤◌, ◌+◌, [], ◌∷◌, ◌++◌, length, map, IfOk, OnOk};
+ghost use Rattle.std.specs.Option.{option_map_or};
 ghost use Rattle.tta_ops.specs.Set.{stated};
 ghost use Rattle.tta_netlist.specs.Net.{AreSound, IsSound, core_module, core_modules, gives_of};
 
@@ -15,6 +16,7 @@ use tta_wiring::push_numbered;
 
 /// Puts the circuit of a core whose data space begins with these words, as a module. Of an image of its
 /// code the text takes no more than the bits of the code, so that it needs no digest and no data.
+#[tactic(auto, unfolding(crate::specs::Net::core_module))]
 fn push_module(
     alloc: Global,
     out: &mut Vec<u8>,
@@ -43,6 +45,19 @@ fn push_module(
     push_core(alloc, out, &wanted, &[0; 32], &whole)
 }
 
+/// The first of some cores, with the others.
+#[tactic(auto, using(crate::proofs::Firsts::first_is))]
+fn first_of(cores: Vec<Core>) -> Option<(Core, Vec<Core>)>
+    ensures { cores.items ≡ option_map_or (λ p. p.0 ∷ p.1.items) result [] }
+{
+    let mut rest = cores;
+    if rest.is_empty() {
+        return None;
+    }
+    let core = rest.remove(0);
+    Some((core, rest))
+}
+
 /// Puts the circuits of the cores from one on, whose data spaces begin with these words.
 pub fn push_modules(
     alloc: Global,
@@ -58,11 +73,9 @@ pub fn push_modules(
         OnOk result (out.new.items ≡ out.old.items
         ++ core_modules U k cores.items (map (λ v. v.items) memories.now)) }
 {
-    let mut rest = cores;
-    if rest.is_empty() {
+    let Some((core, rest)) = first_of(cores) else {
         return Ok(());
-    }
-    let core = rest.remove(0);
+    };
     match memories {
         [] => Ok(()),
         [first, others @ ..] => {
@@ -72,14 +85,25 @@ pub fn push_modules(
     }
 }
 
+/// Puts which cores can put words out.
+fn push_gives(alloc: Global, gives: &mut Vec<bool>, cores: &[Core]) -> Result<(), AllocError>
+    ensures { OnOk result (gives.new.items ≡ gives.old.items ++ gives_of cores.now) }
+{
+    match cores {
+        [] => Ok(()),
+        [core, rest @ ..] => {
+            let out = offers(alloc, &core.machine, Op::Out)?;
+            gives.push(out)?;
+            push_gives(alloc, gives, rest)
+        }
+    }
+}
+
 /// Which cores can put words out.
 pub fn gives_of(alloc: Global, cores: &[Core]) -> Result<Vec<bool>, AllocError>
     ensures { IfOk result (λ v. v.items ≡ gives_of cores.now) }
 {
     let mut gives = Vec::new(alloc);
-    for core in cores {
-        let out = offers(alloc, &core.machine, Op::Out)?;
-        gives.push(out)?;
-    }
+    push_gives(alloc, &mut gives, cores)?;
     Ok(gives)
 }

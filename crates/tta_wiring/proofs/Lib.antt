@@ -1,3 +1,2 @@
 mod Memory
 mod Pieces
-mod Wired

@@ -1,4 +1,3 @@
 pub mod Queues
 pub mod Signals
 pub mod Top
-pub mod Laws

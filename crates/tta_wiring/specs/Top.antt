@@ -11,28 +11,37 @@ use Rattle.tta_wiring.specs.Signals.{Joint, Valid, Rooms, CorePort, joint_name, 
 
 -- ---- its ports
 
--- those of a core in the first line: whether it has halted, and where it can put words out, those of the words
+-- those of the words of a core in the first line
+unfoldable pub word_names : (core : ℕ) → List ℕ
+word_names core = numbered (codes ", out_valid_") core ++ (numbered (codes ", out_data_") core ++ numbered (codes ", out_ready_") core)
+
+-- those of a core there: whether it has halted, and where it can put words out, those of the words
 unfoldable pub port_names : ℕ × Bool → List ℕ
-port_names c =
-    numbered (codes ", halted_") c.0
-    ++ (if c.1 then numbered (codes ", out_valid_") c.0 ++ (numbered (codes ", out_data_") c.0 ++ numbered (codes ", out_ready_") c.0) else [])
+port_names c = numbered (codes ", halted_") c.0 ++ (if c.1 then word_names c.0 else [])
 
--- the same as they are declared; nobody takes words of a core that puts none out
+-- the ports of the words of a core, as they are declared
+unfoldable pub word_ports : (core : ℕ) → List ℕ
+word_ports core =
+    numbered (codes ";\noutput [0:0] out_valid_") core ++ (numbered (codes ";\noutput [31:0] out_data_") core
+    ++ (numbered (codes ";\ninput [0:0] out_ready_") core ++ codes ";\n"))
+
+-- nobody takes words of a core that puts none out
+unfoldable pub no_ports : (core : ℕ) → List ℕ
+no_ports core = numbered (codes ";\nwire [0:0] out_ready_") core ++ codes " = 1'd0;\n"
+
+-- the ports of a core, as they are declared
 unfoldable pub ports_text : ℕ × Bool → List ℕ
-ports_text c =
-    numbered (codes "output [0:0] halted_") c.0
-    ++ (if c.1
-    then numbered (codes ";\noutput [0:0] out_valid_") c.0 ++ (numbered (codes ";\noutput [31:0] out_data_") c.0
-    ++ (numbered (codes ";\ninput [0:0] out_ready_") c.0 ++ codes ";\n"))
-    else numbered (codes ";\nwire [0:0] out_ready_") c.0 ++ codes " = 1'd0;\n")
+ports_text c = numbered (codes "output [0:0] halted_") c.0 ++ (if c.1 then word_ports c.0 else no_ports c.0)
 
--- what they show: a word stands there for the outside where it can go to all queues that the core feeds
-unfoldable pub shown_text : ℕ × Bool → List ℕ
-shown_text c =
-    if c.1
-    then numbered (codes "assign out_valid_") c.0 ++ (codes " = " ++ (expression joint_names (Both (Signal (Valid c.0)) (Signal (Rooms c.0)))
-    ++ (numbered (codes ";\nassign out_data_") c.0 ++ (numbered (codes " = word_") c.0 ++ codes ";\n"))))
-    else []
+-- what the ports of words show: a word stands there for the outside where it can go to all queues that the core feeds
+unfoldable pub word_shown : (core : ℕ) → List ℕ
+word_shown core =
+    numbered (codes "assign out_valid_") core ++ (codes " = " ++ (expression joint_names (Both (Signal (Valid core)) (Signal (Rooms core)))
+    ++ (numbered (codes ";\nassign out_data_") core ++ (numbered (codes " = word_") core ++ codes ";\n"))))
+
+-- what the ports of a core show
+abbrev pub shown_text : ℕ × Bool → List ℕ
+shown_text c = if c.1 then word_shown c.0 else []
 
 -- ---- its wires
 

@@ -1,6 +1,6 @@
 //! The module that joins cores by queues.
 
-ghost use Rattle.std.specs.Prelude.{◌≡◌, ◌≤◌, ◌+◌, ◌++◌, length, OnOk};
+ghost use Rattle.std.specs.Prelude.{◌≡◌, ◌≤◌, ◌+◌, [], ◌++◌, if◌then◌else◌, length, OnOk};
 ghost use Rattle.std.specs.List.{flat_map, enumerate_from};
 ghost use Rattle.tta_wiring.specs.Top as p;
 
@@ -11,18 +11,67 @@ use crate::wiring::{push_all_queue_wires, push_both, push_core_wires};
 use std::alloc::AllocError;
 use tta_verilog::push_text;
 
+/// Puts the names of the ports of the words of a core.
+#[tactic(auto, unfolding(crate::specs::Top::word_names))]
+fn push_word_names(out: &mut Vec<u8>, core: u8) -> Result<(), AllocError>
+    ensures { OnOk result (out.new.items ≡ out.old.items ++ p.word_names core) }
+{
+    push_numbered(out, b", out_valid_", core)?;
+    push_numbered(out, b", out_data_", core)?;
+    push_numbered(out, b", out_ready_", core)
+}
+
+/// Puts them where a core can put words out.
+fn push_given_names(out: &mut Vec<u8>, core: u8, gives: bool) -> Result<(), AllocError>
+    ensures { OnOk result (out.new.items ≡ out.old.items
+        ++ (if gives then p.word_names core else [])) }
+{
+    if gives {
+        push_word_names(out, core)
+    } else {
+        Ok(())
+    }
+}
+
 /// Puts the names of the ports of a core, which can put words out or not.
 #[tactic(auto, unfolding(crate::specs::Top::port_names))]
 fn push_port_names(out: &mut Vec<u8>, core: u8, gives: bool) -> Result<(), AllocError>
     ensures { OnOk result (out.new.items ≡ out.old.items ++ p.port_names (core, gives)) }
 {
     push_numbered(out, b", halted_", core)?;
-    if !gives {
-        return Ok(());
+    push_given_names(out, core, gives)
+}
+
+/// Puts the ports of the words of a core, as they are declared.
+#[tactic(auto, unfolding(crate::specs::Top::word_ports))]
+fn push_word_ports(out: &mut Vec<u8>, core: u8) -> Result<(), AllocError>
+    ensures { OnOk result (out.new.items ≡ out.old.items ++ p.word_ports core) }
+{
+    push_numbered(out, b";\noutput [0:0] out_valid_", core)?;
+    push_numbered(out, b";\noutput [31:0] out_data_", core)?;
+    push_numbered(out, b";\ninput [0:0] out_ready_", core)?;
+    push_text(out, b";\n")
+}
+
+/// Puts that nobody takes words of a core.
+#[tactic(auto, unfolding(crate::specs::Top::no_ports))]
+fn push_no_ports(out: &mut Vec<u8>, core: u8) -> Result<(), AllocError>
+    ensures { OnOk result (out.new.items ≡ out.old.items ++ p.no_ports core) }
+{
+    push_numbered(out, b";\nwire [0:0] out_ready_", core)?;
+    push_text(out, b" = 1'd0;\n")
+}
+
+/// Puts the one or the other, as a core can put words out or not.
+fn push_given_ports(out: &mut Vec<u8>, core: u8, gives: bool) -> Result<(), AllocError>
+    ensures { OnOk result (out.new.items ≡ out.old.items
+        ++ (if gives then p.word_ports core else p.no_ports core)) }
+{
+    if gives {
+        push_word_ports(out, core)
+    } else {
+        push_no_ports(out, core)
     }
-    push_numbered(out, b", out_valid_", core)?;
-    push_numbered(out, b", out_data_", core)?;
-    push_numbered(out, b", out_ready_", core)
 }
 
 /// Puts the ports of a core, as they are declared.
@@ -31,30 +80,31 @@ fn push_ports(out: &mut Vec<u8>, core: u8, gives: bool) -> Result<(), AllocError
     ensures { OnOk result (out.new.items ≡ out.old.items ++ p.ports_text (core, gives)) }
 {
     push_numbered(out, b"output [0:0] halted_", core)?;
-    if !gives {
-        push_numbered(out, b";\nwire [0:0] out_ready_", core)?;
-        return push_text(out, b" = 1'd0;\n");
-    }
-    push_numbered(out, b";\noutput [0:0] out_valid_", core)?;
-    push_numbered(out, b";\noutput [31:0] out_data_", core)?;
-    push_numbered(out, b";\ninput [0:0] out_ready_", core)?;
-    push_text(out, b";\n")
+    push_given_ports(out, core, gives)
 }
 
-/// Puts what the ports of a core show, where it can put words out.
-#[tactic(auto, unfolding(crate::specs::Top::shown_text))]
-fn push_shown(out: &mut Vec<u8>, core: u8, gives: bool) -> Result<(), AllocError>
-    ensures { OnOk result (out.new.items ≡ out.old.items ++ p.shown_text (core, gives)) }
+/// Puts what the ports of the words of a core show.
+#[tactic(auto, unfolding(crate::specs::Top::word_shown))]
+fn push_word_shown(out: &mut Vec<u8>, core: u8) -> Result<(), AllocError>
+    ensures { OnOk result (out.new.items ≡ out.old.items ++ p.word_shown core) }
 {
-    if !gives {
-        return Ok(());
-    }
     push_numbered(out, b"assign out_valid_", core)?;
     push_text(out, b" = ")?;
     push_both(out, b"valid_", b"rooms_", core)?;
     push_numbered(out, b";\nassign out_data_", core)?;
     push_numbered(out, b" = word_", core)?;
     push_text(out, b";\n")
+}
+
+/// Puts what the ports of a core show, where it can put words out.
+fn push_shown(out: &mut Vec<u8>, core: u8, gives: bool) -> Result<(), AllocError>
+    ensures { OnOk result (out.new.items ≡ out.old.items ++ p.shown_text (core, gives)) }
+{
+    if gives {
+        push_word_shown(out, core)
+    } else {
+        Ok(())
+    }
 }
 
 /// Puts the wires that the module of a core and that of the queue before it drive.

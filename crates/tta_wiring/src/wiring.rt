@@ -133,17 +133,32 @@ fn push_source(
     }
 }
 
+/// Puts a wire of the queue before a core, with that word.
+#[tactic(auto, unfolding(crate::specs::Top::wire_start, tta_verilog::specs::Circuits::wire_line))]
+fn push_source_wire(
+    out: &mut Vec<u8>,
+    name: &[u8],
+    core: u8,
+    what: &[u8],
+    width: u32,
+    feed: Option<u8>,
+) -> Result<(), AllocError>
+    ensures { OnOk result (out.new.items ≡ out.old.items
+        ++ v.wire_line (numbered name.now core) width
+        (option_map_or (λ f. numbered what.now f) feed (e.constant width 0))) }
+{
+    start_wire(out, name, core, width)?;
+    push_source(out, what, width, feed)?;
+    push_text(out, b";\n")
+}
+
 /// Puts the wires of the queue before a core: whether it is offered a word, and that word.
-#[tactic(auto, unfolding(crate::specs::Top::queue_wires_text, crate::specs::Top::wire_start, tta_verilog::specs::Circuits::wire_line))]
+#[tactic(auto, unfolding(crate::specs::Top::queue_wires_text))]
 fn push_queue_wires(out: &mut Vec<u8>, core: u8, feed: Option<u8>) -> Result<(), AllocError>
     ensures { OnOk result (out.new.items ≡ out.old.items ++ p.queue_wires_text (core, feed)) }
 {
-    start_wire(out, b"fed_", core, 1)?;
-    push_source(out, b"puts_", 1, feed)?;
-    push_text(out, b";\n")?;
-    start_wire(out, b"comes_", core, 32)?;
-    push_source(out, b"word_", 32, feed)?;
-    push_text(out, b";\n")
+    push_source_wire(out, b"fed_", core, b"puts_", 1, feed)?;
+    push_source_wire(out, b"comes_", core, b"word_", 32, feed)
 }
 
 /// Puts the wires of the queues before the cores from one on, where this core feeds each.

@@ -3,4 +3,4 @@ use Rattle.tta_netlist.proofs.cores.+push_modules.Given as goal
 
 -- the rest of the list is shorter
 abbrev pub decreases-push_modules : goal.decreases-push_modules
-decreases-push_modules l = length l.cores.items
+decreases-push_modules g l = length l.cores.items

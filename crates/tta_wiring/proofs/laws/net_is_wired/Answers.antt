@@ -1,5 +1,0 @@
-use Rattle.tta_wiring.proofs.Wired.{net_is_wired}
-use Rattle.tta_wiring.proofs.laws.net_is_wired.Goals as goal
-
-pub returns : goal.returns
-returns c = net_is_wired
