@@ -4,5 +4,5 @@ mod Prompted
 mod Made
 mod Lacking
 mod Circuits
-mod Depths
+mod Powers
 mod Joined

@@ -1,6 +1,6 @@
 //! How many words queues have, as a word of the command line says it.
 
-ghost use Rattle.std.specs.Prelude.{◌≡◌, ◌<◌, ◌+◌, ◌++◌, take, drop, IfOk, OnOk};
+ghost use Rattle.std.specs.Prelude.{◌≡◌, ◌<◌, ◌≤◌, ◌+◌, ◌++◌, length, take, drop, IfOk, OnOk};
 ghost use Rattle.tta_designer.specs.Depths as spec;
 
 use std::alloc::{AllocError, Global};
@@ -14,7 +14,7 @@ const WORDS: u64 = (1 << 16) + 1;
 const POWERS: u8 = 16;
 
 /// The first of so many exponents, from one on, of which a number is the power of two.
-#[tactic(auto, using(crate::proofs::Depths::exponent_more))]
+#[tactic(auto, using(crate::proofs::Powers::exponent_more))]
 fn exponent_from(k: u8, left: u8, n: u64) -> Option<u8>
     requires { k + left < 64 }
     ensures { result ≡ spec.exponent_from k left n }
@@ -38,7 +38,8 @@ fn depth_of(digits: &[u8]) -> Option<u8>
 
 /// How many bytes stand before the first comma, or all of them where there is none.
 fn comma_at(bytes: &[u8]) -> usize
-    ensures { result ≡ spec.comma_at bytes.now }
+    ensures at { result ≡ spec.comma_at bytes.now }
+    ensures within { result ≤ length bytes.now }
 {
     match bytes {
         [] => 0,
@@ -72,7 +73,7 @@ fn rest_of(bytes: &[u8], at: usize) -> &[u8]
 }
 
 /// Whether bytes are so many numbers of words with commas between them.
-#[tactic(auto, using(crate::proofs::Depths::is_list_more))]
+#[tactic(auto, using(crate::proofs::Powers::is_list_more))]
 fn is_list(count: u8, bytes: &[u8]) -> bool
     ensures { result ≡ spec.is_list count bytes.now }
 {
@@ -108,7 +109,6 @@ fn depth_or_zero(digits: &[u8]) -> u8
 }
 
 /// Adds the exponents that bytes say as so many numbers of words with commas between them.
-#[tactic(auto, using(crate::proofs::Depths::list_more))]
 fn add_list(found: &mut Vec<u8>, count: u8, bytes: &[u8]) -> Result<(), AllocError>
     ensures { OnOk result (found.new.items ≡ found.old.items ++ spec.list_in count bytes.now) }
 {

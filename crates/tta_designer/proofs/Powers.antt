@@ -1,5 +1,5 @@
 -- Numbers of words that a word of the command line says.
-use Rattle.std.proofs.Common.{◌≡◌, ℕ, zero, suc, ◌+◌, ◌-◌, ◌^◌, ◌<◌, ◌≤◌, Bool, true, false, ◌&&◌, if◌then◌else◌, List, [], ◌∷◌, length, take, drop, replicate, Option, Some, None, refl, sym, ap, ◌∙◌, arith}
+use Rattle.std.proofs.Common.{◌≡◌, ℕ, zero, suc, ◌+◌, ◌-◌, ◌^◌, ◌<◌, ◌≤◌, Bool, true, false, ◌&&◌, if◌then◌else◌, List, [], ◌∷◌, ◌++◌, length, take, drop, replicate, Option, Some, None, refl, sym, ap, ◌∙◌, append_assoc, arith}
 use Rattle.std.specs.Prelude.{◌==◌, is_some, option_and_then}
 use Rattle.std.specs.List.{AllByRecursion}
 use Rattle.std.specs.Option.{option_map_or}
@@ -32,14 +32,27 @@ list_more (suc n) bytes some =
     let e : suc n - 1 ≡ n = omega arith in
     sym (ap (λ (l : ℕ). depth_or_zero (take (comma_at bytes) bytes) ∷ list_in l (drop (comma_at bytes + 1) bytes)) e)
 
+-- a number that was added, and those after it
+pub list_added : (count : ℕ) (bytes first rest old now new : List ℕ) (at k : ℕ) → 0 < count → at ≡ comma_at bytes → first ≡ take at bytes
+    → k ≡ depth_or_zero first → now ≡ old ++ k ∷ [] → rest ≡ drop (at + 1) bytes → new ≡ now ++ list_in (count - 1) rest
+    → new ≡ old ++ list_in count bytes
+list_added count bytes first rest old now new at k some where_at is_first is_k is_now is_rest is =
+    let number : k ≡ depth_or_zero (take (comma_at bytes) bytes) = is_k ∙ ap depth_or_zero (is_first ∙ ap (λ (n : ℕ). take n bytes) where_at) in
+    let others : rest ≡ drop (comma_at bytes + 1) bytes = is_rest ∙ ap (λ (n : ℕ). drop (n + 1) bytes) where_at in
+    is ∙ ap (λ (l : List ℕ). l ++ list_in (count - 1) rest) is_now ∙ append_assoc old (k ∷ []) (list_in (count - 1) rest)
+    ∙ ap (λ (n : ℕ). old ++ n ∷ list_in (count - 1) rest) number
+    ∙ ap (λ (l : List ℕ). old ++ depth_or_zero (take (comma_at bytes) bytes) ∷ list_in (count - 1) l) others
+    ∙ ap (λ (l : List ℕ). old ++ l) (sym (list_more count bytes some))
+
 -- ---- how many they are, and how great
 
 exponent_small : (k left n e : ℕ) → exponent_from k left n ≡ Some e → e < k + left
 exponent_small k zero n e is = absurd cc
-exponent_small k (suc left) n e is = by (2 ^ k == n) is where
-  by : (b : Bool) → (if b then Some k else exponent_from (k + 1) left n) ≡ Some e → e < k + suc left
-  by true is = let same : k ≡ e = cc in omega (arith, same)
-  by false is = let less = exponent_small (k + 1) left n e is in omega (arith, less)
+exponent_small k (suc left) n e is = by (2 ^ k == n) (exponent_small (k + 1) left n e) is where
+  by : (b : Bool) → (exponent_from (k + 1) left n ≡ Some e → e < k + 1 + left) → (if b then Some k else exponent_from (k + 1) left n) ≡ Some e
+      → e < k + suc left
+  by true rest is = let same : k ≡ e = cc in omega (arith, same)
+  by false rest is = let less = rest is in omega (arith, less)
 
 pub depth_small : (digits : List ℕ) (k : ℕ) → depth_of digits ≡ Some k → k ≤ 16
 depth_small digits k is = by (digits_of 10 5 (2 ^ 16 + 1) digits) is where
