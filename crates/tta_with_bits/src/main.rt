@@ -49,8 +49,21 @@ fn carry_out<F: Files, L: Lines, S: Sink>(
     }
 }
 
-/// The five standard units and that of `tta_bits`.
-fn all_units(alloc: Global) -> Result<Vec<Box<dyn OpUnit>>, AllocError> {
+/// How a run ends: with a status, or with the operation for whose name the units are refused.
+#[derive(Clone, Copy)]
+enum Ended {
+    With(Status),
+    Refused(OpsError),
+}
+
+/// Carries out the words over the five standard units and that of `tta_bits`.
+fn run<F: Files, L: Lines, S: Sink>(
+    alloc: Global,
+    words: &Vec<String>,
+    files: &mut F,
+    lines: &mut L,
+    sink: &mut S,
+) -> Result<Ended, AllocError> {
     let arith: Box<dyn OpUnit> = Box::new(alloc, Arith)?;
     let logic: Box<dyn OpUnit> = Box::new(alloc, Logic)?;
     let shift: Box<dyn OpUnit> = Box::new(alloc, Shift)?;
@@ -58,35 +71,13 @@ fn all_units(alloc: Global) -> Result<Vec<Box<dyn OpUnit>>, AllocError> {
     let divide: Box<dyn OpUnit> = Box::new(alloc, Divide)?;
     let bits: Box<dyn OpUnit> = Box::new(alloc, Bits)?;
     let boxes = vec![in alloc; arith, logic, shift, compare, divide, bits]?;
-    Ok(boxes)
-}
-
-/// Carries out the words over all units, or tells why these are refused.
-fn run<F: Files, L: Lines, S: Sink>(
-    alloc: Global,
-    words: &Vec<String>,
-    files: &mut F,
-    lines: &mut L,
-    sink: &mut S,
-) -> Result<Status, OpsError> {
-    let boxes = match all_units(alloc) {
-        Ok(boxes) => boxes,
-        Err(_) => return Err(OpsError::NoMemory),
-    };
     if !UnitSet::fits(boxes.as_slice()) {
-        return Err(OpsError::NoMemory);
+        return Ok(Ended::With(Status::NoMemory));
     }
     match UnitSet::new(alloc, boxes) {
-        Ok(units) => Ok(carry_out(alloc, words, &units, files, lines, sink)),
-        Err(error) => Err(error),
-    }
-}
-
-/// The operation that a refusal is about: its unit, and its number there.
-fn refused(error: OpsError) -> Option<(usize, usize)> {
-    match error {
-        OpsError::Twice { unit, index } | OpsError::Reserved { unit, index } => Some((unit, index)),
-        OpsError::NoMemory => None,
+        Ok(units) => Ok(Ended::With(carry_out(alloc, words, &units, files, lines, sink))),
+        Err(OpsError::NoMemory) => Ok(Ended::With(Status::NoMemory)),
+        Err(error) => Ok(Ended::Refused(error)),
     }
 }
 
@@ -94,31 +85,27 @@ fn refused(error: OpsError) -> Option<(usize, usize)> {
 const NO_UNITS: u8 = 70;
 
 /// Carries out the command that the words name, and ends with its status as a number. Where the units
-/// are refused for a name, it says which and ends with a number of its own.
+/// are refused for the name of an operation, it says of which, and ends with a number of its own.
 fn main(rt: HostRuntime) -> ExitCode {
     let mut files = RealFiles::new(&rt);
     let mut lines = RealLines::new(&rt);
     let mut sink = RealSink::new(&rt);
     let ended = match words_of(&rt) {
-        Ok(words) => run(rt.alloc(), &words, &mut files, &mut lines, &mut sink),
-        Err(status) => Ok(status),
+        Ok(words) => run(rt.alloc(), &words, &mut files, &mut lines, &mut sink).unwrap_or(
+            Ended::With(Status::NoMemory),
+        ),
+        Err(status) => Ended::With(status),
     };
-    let status = match ended {
-        Ok(status) => status,
-        Err(error) => {
-            if let Some((unit, index)) = refused(error) {
-                if let Ok(boxes) = all_units(rt.alloc()) {
-                    if let Some(named) = boxes.as_slice().get(unit) {
-                        let _ = eprintln!(rt; "tta: units: {}: {error}", named.name(index));
-                    }
-                }
-                return ExitCode::from(NO_UNITS);
+    match ended {
+        Ended::With(status) => {
+            if status != Status::Ok {
+                let _ = eprintln!(rt; "tta: {status}");
             }
-            Status::NoMemory
+            ExitCode::from(status.number())
         }
-    };
-    if status != Status::Ok {
-        let _ = eprintln!(rt; "tta: {status}");
+        Ended::Refused(error) => {
+            let _ = eprintln!(rt; "tta: units: {error}");
+            ExitCode::from(NO_UNITS)
+        }
     }
-    ExitCode::from(status.number())
 }
