@@ -12,7 +12,8 @@ Commands, as words after ./tta:
 BETWEEN = """
 M, P, A, IMG, IN, SCRIPT, STREAM and LINKS name files that are read: the texts of a machine, a program and an assembly, an image, words
 of eight hexadecimal digits, a line each, commands of the debugger, and which core feeds which. OUT is written. N is the greatest number
-of steps, cycles or rounds. SEED and LINES say which sample program is made, and how long it is.
+of steps, cycles or rounds. SEED and LINES say which sample program is made, and how long it is; DEPTHS says how many words queues
+have.
 
 Commands of the script, and what may stand before a command:
 """

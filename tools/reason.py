@@ -25,6 +25,7 @@ LONG_NAME = re.compile("`([^` ]{64})[^` ]+`")
 # How a word that is a number has to be.
 RANGES = {"N": "a number of steps, cycles or rounds of at most 15 digits, below 2^48", "SEED": "a number below 2^32", "LINES": "a number from 1 to 20000"}
 ROUNDS = "a number of rounds of at most 7 digits, at most 1048576"
+DEPTHS = "one power of two from 2 to 65536 for all queues, or one for each core with commas between them"
 
 
 class Said:
@@ -32,6 +33,7 @@ class Said:
 
     def __init__(self, status, line, words):
         self.status, self.line, self.words = status, line, words
+        self.counted = command_words.counted(words)
         self.kind = line.split(":")[0]
 
     def number(self, word):
@@ -107,7 +109,7 @@ def stream_cause(said):
 
 
 def links_cause(said):
-    return input_words.links(said.lines("LINKS"), said.number("line"), said.number("code"), (len(said.words) - 3) // 3)
+    return input_words.links(said.lines("LINKS"), said.number("line"), said.number("code"), (len(said.counted) - 3) // 3)
 
 
 def step_at(said):
@@ -178,10 +180,10 @@ def of_image(said, image_path=None, machine_path=None, code=None):
 def of_core(said):
     """A file of a core: a machine, an image for it, or the words of its data space."""
     at, code = said.number("word"), said.number("code")
-    path, core, what = said.words[at], (at - 3) // 3, (at - 3) % 3
+    path, core, what = said.counted[at], (at - 3) // 3, (at - 3) % 3
     head = f"word {at} is {path!r}, the {('machine', 'image', 'data words')[what]} of core {core}"
     if what == 1:
-        return [head, *of_image(said, path, said.words[at - 1], code)]
+        return [head, *of_image(said, path, said.counted[at - 1], code)]
     if what == 0:
         return [head, *codes("machine", code), f"`./tta info {path}` says where"]
     return [head, *codes("links", code)]
@@ -195,9 +197,9 @@ def named(at, words):
 def of_reading(said):
     at = said.number("word")
     if said.kind == "too long":
-        return [f"{named(at, said.words)} has more than 16 MiB"]
-    why = files.why_not_read(said.words[at]) if at else None
-    return [f"{named(at, said.words)} cannot be read{f': {why}' if why else ''}"]
+        return [f"{named(at, said.counted)} has more than 16 MiB"]
+    why = files.why_not_read(said.counted[at]) if at else None
+    return [f"{named(at, said.counted)} cannot be read{f': {why}' if why else ''}"]
 
 
 def of_writing(said):
@@ -214,6 +216,9 @@ def of_usage(said):
     forms = [form for form, _ in formats.commands() if words and form[0] == words[0]]
     lines = []
     for form in (command_words.whole(form, words) for form in forms):
+        at = form.index("DEPTHS") if "DEPTHS" in form and len(form) == len(words) else None
+        if at and not command_words.are_depths(words[at], form.count("IMG")):
+            lines = [f"{words[at][:LONGEST]!r} stands where DEPTHS has to be {DEPTHS}"]
         wrong = [(name, word) for name, word in zip(form, words) if name in RANGES and not command_words.takes([form[0], name], [form[0], word])]
         if len(form) == len(words) and wrong:
             name, word = wrong[0]

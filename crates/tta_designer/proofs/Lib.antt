@@ -4,3 +4,5 @@ mod Prompted
 mod Made
 mod Lacking
 mod Circuits
+mod Powers
+mod Joined

@@ -17,11 +17,12 @@ use Rattle.tta_given.specs.Ends.{IsUsage, TextEnds, Puts}
 use Rattle.tta_given.specs.Endings as endings
 use Rattle.tta_designer.specs.declared.view.View.{View}
 use Rattle.tta_designer.specs.Views.{machine_view, code_view}
-use Rattle.tta_designer.specs.Request.{Request, OfMachine, OfCode, OfRun, OfPrompt, OfStages, OfRtl}
+use Rattle.tta_designer.specs.Request.{Request, OfMachine, OfCode, OfRun, OfPrompt, OfStages, OfRtl, OfNet}
 use Rattle.tta_designer.specs.Runs.{ShowsRun}
 use Rattle.tta_designer.specs.Prompts.{OpensPrompt}
 use Rattle.tta_designer.specs.Stages.{ShowsStages}
 use Rattle.tta_designer.specs.Circuits.{ShowsCircuit}
+use Rattle.tta_designer.specs.Joining.{ShowsNet}
 
 -- the machine is refused, and nothing is output; or its view is
 abbrev pub ShowsMachine : Units → View → (M : List ℕ) → (before after : World) → (old new : Output) → Status → Type 0
@@ -45,6 +46,7 @@ Ends u (Some (OfRun view M F IN STREAM bound)) before after old new s = ShowsRun
 Ends u (Some (OfPrompt M IMG IN STREAM)) before after old new s = ⊥
 Ends u (Some (OfStages view M P)) before after old new s = ShowsStages u view M P before after old new s
 Ends u (Some (OfRtl M F)) before after old new s = ShowsCircuit u M F before after old new s
+Ends u (Some (OfNet depths LINKS names)) before after old new s = ShowsNet u depths LINKS names before after old new s
 
 -- How a request ends. Lines come of a session at a prompt alone.
 abbrev pub Shows : Units → Option Request → (before after : World) → (came comes : Come) → (old new : Output) → Status → Type 0

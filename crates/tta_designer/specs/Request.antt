@@ -1,7 +1,11 @@
 -- What the words of the command line ask for.
-use Rattle.std.specs.Prelude.{ℕ, List, [], ◌∷◌, Bool, false, ◌||◌, Option, Some, None, codes, if◌then◌else◌, is_some, option_map, option_and_then}
+use Rattle.std.specs.Prelude.{ℕ, List, [], ◌∷◌, length, map, Bool, false, ◌&&◌, ◌||◌, Option, Some, None, codes, if◌then◌else◌, is_some, option_map, option_and_then}
 use Rattle.std.specs.Str.{bytes_eq}
+use Rattle.std.specs.String.{string_bytes}
 use Rattle.tta_given.specs.Runs.{bound_of}
+use Rattle.tta_network.specs.CoreFiles.{cores_in}
+use Rattle.tta_network.specs.Request.{is_net}
+use Rattle.tta_designer.specs.Depths.{are_depths}
 use Rattle.tta_designer.specs.declared.view.View.{View}
 use Rattle.tta_designer.specs.declared.view.View.TheVariants.{Picture, Info}
 use Rattle.tta_designer.specs.declared.view.RunView.{RunView}
@@ -12,8 +16,8 @@ use Rattle.tta_designer.specs.declared.request.Request.{Request as Asked}
 use Rattle.tta_designer.specs.declared.request.Request.TheVariants as for
 
 -- what can be asked for: a view of a machine, one of the code of an image for a machine, one of a run of such code or of a program,
--- a session at a prompt over a run of code, a view of the stages of a program for a machine, or the circuit of a machine with the code
--- of an image or of a program
+-- a session at a prompt over a run of code, a view of the stages of a program for a machine, the circuit of a machine with the code of
+-- an image or of a program, or the circuits of cores that are joined by queues
 pub data Request : Type 0 where
   OfMachine : (view : View) (machine : List ℕ) → Request
   OfCode : (view : View) (machine image : List ℕ) → Request
@@ -21,6 +25,7 @@ pub data Request : Type 0 where
   OfPrompt : (machine image input : List ℕ) (stream : Option (List ℕ)) → Request
   OfStages : (view : StagesView) (machine program : List ℕ) → Request
   OfRtl : (machine subject : List ℕ) → Request
+  OfNet : (depths links : List ℕ) (names : List (List ℕ)) → Request
 
 -- the view that a word names
 abbrev pub view_of : (word : List ℕ) → Option View
@@ -75,6 +80,18 @@ abbrev pub three_request : (word machine second input : List ℕ) → Option Req
 three_request word machine second input =
     if is_stages word then page_request machine second input else prompt_request word machine second input None
 
+-- whether words ask for the circuits of so many cores: `rtl net`, and how many words the queues have
+abbrev pub asks_for_net : (word kind depths : List ℕ) → (count : ℕ) → Bool
+asks_for_net word kind depths count = is_rtl word && (bytes_eq kind (codes "net") && are_depths count depths)
+
+-- the request for the circuits of cores: the file of the links, and three names for each core
+abbrev pub net_request : List (List ℕ) → Option Request
+net_request (word ∷ kind ∷ depths ∷ links ∷ names) =
+    if is_net (length names)
+    then (if asks_for_net word kind depths (cores_in (length names)) then Some (OfNet depths links names) else None)
+    else None
+net_request words = None
+
 -- the request of some words; none where they are no command
 abbrev pub request_of : List (List ℕ) → Option Request
 request_of (word ∷ machine ∷ []) = option_map (λ view. OfMachine view machine) (view_of word)
@@ -83,7 +100,7 @@ request_of (word ∷ machine ∷ second ∷ input ∷ []) = three_request word m
 request_of (word ∷ machine ∷ second ∷ input ∷ last ∷ []) =
     if is_prompt word then prompt_request word machine second input (Some last) else run_request word machine second input last None
 request_of (word ∷ machine ∷ second ∷ input ∷ last ∷ stream ∷ []) = run_request word machine second input last (Some stream)
-request_of words = None
+request_of words = net_request words
 
 -- whether a command line begins with the name of a command that is carried out here
 abbrev pub is_named : List (List ℕ) → Bool
@@ -98,3 +115,4 @@ asked (for.Run run) = OfRun run.view run.machine.now run.subject.now run.input.n
 asked (for.Prompt names) = OfPrompt names.machine.now names.image.now names.input.now (option_map (λ s. s.now) names.stream)
 asked (for.Stages names) = OfStages names.view names.machine.now names.program.now
 asked (for.Rtl names) = OfRtl names.machine.now names.subject.now
+asked (for.Net net) = OfNet net.depths.now net.links.now (map (λ w. string_bytes w) net.names.now)

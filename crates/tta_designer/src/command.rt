@@ -10,6 +10,7 @@ ghost use Rattle.tta_designer.specs.Request.{OfMachine, OfCode, asked, request_o
 ghost use Rattle.tta_designer.specs.Views.{machine_view, code_view};
 ghost use Rattle.tta_designer.specs.Command.{Ends, Shows};
 
+use crate::joining::put_net;
 use crate::names::{CodeRequest, MachineRequest};
 use crate::prompting::prompt_image;
 use crate::request::Request;
@@ -130,6 +131,7 @@ fn carry_out<F: Files, L: Lines, S: Sink>(
         Request::Prompt(names) => prompt_image(alloc, units, files, lines, sink, names),
         Request::Stages(names) => put_stages(alloc, units, files, sink, names),
         Request::Rtl(names) => put_circuit(alloc, units, files, sink, names),
+        Request::Net(request) => put_net(alloc, units, files, sink, request),
     }
 }
 
@@ -156,6 +158,8 @@ fn carry_out<F: Files, L: Lines, S: Sink>(
 ///
 /// `rtl M IMG` outputs the circuit of that machine with the code and data of that image, as a module of
 /// Verilog; and `rtl M P` that with the code that `build` makes of that program, and its data.
+/// `rtl net DEPTHS LINKS M IMG IN ..` outputs the circuits of cores, three files for each, that are joined
+/// by queues as the links of the file LINKS say, with as many words in each queue as DEPTHS says.
 ///
 /// The output takes a text in one piece, and nothing where there is none. No file changes.
 ///

@@ -4,6 +4,8 @@
 
 mod command;
 mod compiled;
+mod depths;
+mod joining;
 mod laws;
 mod names;
 mod prompting;

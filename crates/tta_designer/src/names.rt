@@ -1,6 +1,7 @@
 //! The names of a request. A name is that of a file.
 
-ghost use Rattle.std.specs.Prelude.{◌<◌, ◌^◌};
+ghost use Rattle.std.specs.Prelude.{◌<◌, ◌^◌, length, IsTrue};
+ghost use Rattle.tta_network.specs.Request.{is_net};
 
 use crate::view::{RunView, StagesView, View};
 
@@ -34,6 +35,17 @@ pub struct StagesRequest<'w> {
 pub struct RtlRequest<'w> {
     pub machine: &'w str,
     pub subject: &'w str,
+}
+
+/// The circuits of cores that are joined by queues that are asked for: the word that says how many words
+/// the queues have, the file of the links, and three files for each core.
+#[derive(Clone, Copy)]
+pub struct NetRequest<'w> {
+    pub depths: &'w str,
+    pub links: &'w str,
+    /// Of each core the machine's name, that of the image, and that of the data words.
+    pub names: &'w [String],
+    ghost count: { IsTrue (is_net (length names.now)) },
 }
 
 /// A view of a run that is asked for: the names of the run's files, that of the input where it has one,

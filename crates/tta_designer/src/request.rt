@@ -2,20 +2,23 @@
 
 ghost use Rattle.std.specs.Prelude.{◌≡◌, ◌∷◌, [], map, option_map};
 ghost use Rattle.std.specs.String.{string_bytes};
-ghost use Rattle.tta_designer.specs.Request.{asked, is_named, is_rtl, is_stages, is_view};
-ghost use Rattle.tta_designer.specs.Request.{page_request, pair_request};
+ghost use Rattle.tta_designer.specs.Request.{asked, asks_for_net, is_named, is_rtl, is_stages, is_view};
+ghost use Rattle.tta_designer.specs.Request.{net_request, page_request, pair_request};
 ghost use Rattle.tta_designer.specs.Request.{is_prompt, prompt_request, request_of, run_request};
 ghost use Rattle.tta_designer.specs.Request.{run_view_of, three_request, view_of};
 
+use crate::depths::are_depths;
 use crate::names::{
-    CodeRequest, MachineRequest, PromptRequest, RtlRequest, RunRequest, StagesRequest,
+    CodeRequest, MachineRequest, NetRequest, PromptRequest, RtlRequest, RunRequest, StagesRequest,
 };
 use crate::view::{RunView, StagesView, View};
 use tta_given::bound_of;
+use tta_network::is_net;
 
 /// What is asked for: a view of a machine, one of the code of an image for a machine, one of a run of
 /// such code or of a program, a session at a prompt over a run of code, a view of the stages of a program
-/// for a machine, or the circuit of a machine with the code of an image or of a program.
+/// for a machine, the circuit of a machine with the code of an image or of a program, or the circuits of
+/// cores that are joined by queues.
 #[derive(Clone, Copy)]
 pub enum Request<'w> {
     Machine(MachineRequest<'w>),
@@ -24,6 +27,7 @@ pub enum Request<'w> {
     Prompt(PromptRequest<'w>),
     Stages(StagesRequest<'w>),
     Rtl(RtlRequest<'w>),
+    Net(NetRequest<'w>),
 }
 
 /// The view that a word names.
@@ -211,6 +215,36 @@ fn of_pair<'w>(word: &str, machine: &'w str, second: &'w str) -> Option<Request<
     }))
 }
 
+/// Whether words ask for the circuits of so many cores.
+fn asks_for_net(word: &str, kind: &str, depths: &str, count: u8) -> bool
+    ensures { result ≡ asks_for_net word.now kind.now depths.now count }
+{
+    is_rtl(word) && kind == "net" && are_depths(count, depths)
+}
+
+/// The request for the circuits of cores that are joined by queues.
+fn of_net<'w>(words: &'w [String]) -> Option<Request<'w>>
+    ensures { option_map asked result ≡ net_request (map (λ w. string_bytes w) words.now) }
+{
+    match words {
+        [word, kind, depths, links, names @ ..] => {
+            if !is_net(names.len()) {
+                return None;
+            }
+            let count = (names.len() / 3) as u8;
+            if !asks_for_net(word, kind, depths, count) {
+                return None;
+            }
+            Some(Request::Net(NetRequest {
+                depths,
+                links,
+                names,
+            }))
+        }
+        _ => None,
+    }
+}
+
 impl<'w> Request<'w> {
     /// What the words ask for, the first of them the command's name. `None` where they are no
     /// command.
@@ -230,7 +264,7 @@ impl<'w> Request<'w> {
             [word, machine, second, input, last, stream] => {
                 of_run(word, machine, second, input, last, Some(stream.as_str()))
             }
-            _ => None,
+            rest => of_net(rest),
         }
     }
 }

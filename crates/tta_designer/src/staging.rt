@@ -88,8 +88,8 @@ fn text_of_stages(
     }
 }
 
-/// Puts the view that is asked for of the stages of the program of the file that word 2 names on the way to code for the machine of
-/// the file that word 1 names.
+/// Puts the view that is asked for of the stages of the program of the file that word 2 names, on the
+/// way to code for the machine of the file that word 1 names.
 pub fn put_stages<F: Files, S: Sink>(
     alloc: Global,
     units: &UnitSet,

@@ -1,0 +1,119 @@
+-- The text of the module that joins cores by queues.
+use Rattle.std.specs.Prelude.{ℕ, Bool, if◌then◌else◌, List, [], ◌++◌, Option, codes}
+use Rattle.std.specs.List.{flat_map, enumerate_from}
+use Rattle.tta_circuit.specs.Circuit.{Signal, Both}
+use Rattle.tta_verilog.specs.Expressions.{expression}
+use Rattle.tta_verilog.specs.Circuits.{range, wire_text}
+use Rattle.tta_wiring.specs.declared.part.Part.{Part}
+use Rattle.tta_wiring.specs.declared.part.Part.TheVariants as part
+use Rattle.tta_wiring.specs.Queues.{numbered}
+use Rattle.tta_wiring.specs.Signals.{Joint, Valid, Rooms, CorePort, joint_name, joint_names, core_wires, queue_wires, port_name, core_joints, queue_joints}
+
+-- ---- its ports
+
+-- those of the words of a core in the first line
+unfoldable pub word_names : (core : ℕ) → List ℕ
+word_names core = numbered (codes ", out_valid_") core ++ (numbered (codes ", out_data_") core ++ numbered (codes ", out_ready_") core)
+
+-- those of a core there: whether it has halted, and where it can put words out, those of the words
+unfoldable pub port_names : ℕ × Bool → List ℕ
+port_names c = numbered (codes ", halted_") c.0 ++ (if c.1 then word_names c.0 else [])
+
+-- the ports of the words of a core, as they are declared
+unfoldable pub word_ports : (core : ℕ) → List ℕ
+word_ports core =
+    numbered (codes ";\noutput [0:0] out_valid_") core ++ (numbered (codes ";\noutput [31:0] out_data_") core
+    ++ (numbered (codes ";\ninput [0:0] out_ready_") core ++ codes ";\n"))
+
+-- nobody takes words of a core that puts none out
+unfoldable pub no_ports : (core : ℕ) → List ℕ
+no_ports core = numbered (codes ";\nwire [0:0] out_ready_") core ++ codes " = 1'd0;\n"
+
+-- the ports of a core, as they are declared
+unfoldable pub ports_text : ℕ × Bool → List ℕ
+ports_text c = numbered (codes "output [0:0] halted_") c.0 ++ (if c.1 then word_ports c.0 else no_ports c.0)
+
+-- what the ports of words show: a word stands there for the outside where it can go to all queues that the core feeds
+unfoldable pub word_shown : (core : ℕ) → List ℕ
+word_shown core =
+    numbered (codes "assign out_valid_") core ++ (codes " = " ++ (expression joint_names (Both (Signal (Valid core)) (Signal (Rooms core)))
+    ++ (numbered (codes ";\nassign out_data_") core ++ (numbered (codes " = word_") core ++ codes ";\n"))))
+
+-- what the ports of a core show
+abbrev pub shown_text : ℕ × Bool → List ℕ
+shown_text c = if c.1 then word_shown c.0 else []
+
+-- ---- its wires
+
+-- how the line of a wire begins, up to its word
+unfoldable pub wire_start : (name : List ℕ) → (width : ℕ) → List ℕ
+wire_start name width = codes "wire " ++ (range width ++ (name ++ codes " = "))
+
+-- the wires that the module of a core and that of the queue before it drive
+unfoldable pub driven_text : ℕ → List ℕ
+driven_text core =
+    numbered (codes "wire [0:0] cycle_") core ++ (numbered (codes ";\nwire [0:0] valid_") core ++ (numbered (codes ";\nwire [31:0] word_") core
+    ++ (numbered (codes ";\nwire [0:0] asks_") core ++ (numbered (codes ";\nwire [0:0] room_") core
+    ++ (numbered (codes ";\nwire [0:0] has_word_") core ++ (numbered (codes ";\nwire [31:0] first_") core ++ codes ";\n"))))))
+
+-- the other wires of a core, where this core feeds each, and of the queue before it
+unfoldable pub core_wires_text : (feeds : List (Option ℕ)) → (core : ℕ) → List ℕ
+core_wires_text feeds core = flat_map (wire_text joint_names) (core_wires feeds core)
+
+unfoldable pub queue_wires_text : ℕ × Option ℕ → List ℕ
+queue_wires_text q = flat_map (wire_text joint_names) (queue_wires q)
+
+-- ---- the modules below it
+
+-- a port that is joined to a signal, by the names of both
+unfoldable pub bound : (port signal : List ℕ) → List ℕ
+bound port signal = codes ", ." ++ (port ++ (codes "(" ++ (signal ++ codes ")")))
+
+abbrev pub joint_text : CorePort × Joint → List ℕ
+joint_text j = bound (port_name j.0) (joint_name j.1)
+
+-- the module of a core, and that of the queue before it
+unfoldable pub core_text : (core : ℕ) → List ℕ
+core_text core =
+    numbered (codes "tta_core_") core ++ (numbered (codes " core_") core
+    ++ (codes " (.clk(clk), .pc()" ++ (flat_map joint_text (core_joints core) ++ codes ");\n")))
+
+unfoldable pub queue_text : (core : ℕ) → List ℕ
+queue_text core =
+    numbered (codes "tta_queue_") core ++ (numbered (codes " queue_") core
+    ++ (codes " (.clk(clk)" ++ (flat_map joint_text (queue_joints core) ++ codes ");\n")))
+
+-- ---- the module
+
+-- what a part says of a core, where this core feeds each
+abbrev pub part_text : Part → (feeds : List (Option ℕ)) → ℕ × Bool → List ℕ
+part_text part.Names feeds c = port_names c
+part_text part.Ports feeds c = ports_text c
+part_text part.Driven feeds c = driven_text c.0
+part_text part.Wires feeds c = core_wires_text feeds c.0
+part_text part.Shown feeds c = shown_text c
+part_text part.Core feeds c = core_text c.0
+part_text part.Queue feeds c = queue_text c.0
+
+-- what a part says of all cores, of which some can put words out
+abbrev pub each_text : Part → (gives : List Bool) → (feeds : List (Option ℕ)) → List ℕ
+each_text what gives feeds = flat_map (part_text what feeds) (enumerate_from 0 gives)
+
+-- the ports
+abbrev pub head_text : (gives : List Bool) → (feeds : List (Option ℕ)) → List ℕ
+head_text gives feeds =
+    codes "module tta_net (clk, reset" ++ (each_text part.Names gives feeds
+    ++ (codes ");\ninput clk;\ninput [0:0] reset;\n" ++ each_text part.Ports gives feeds))
+
+-- the wires: first those that modules drive, and then all others
+abbrev pub wires_text : (gives : List Bool) → (feeds : List (Option ℕ)) → List ℕ
+wires_text gives feeds =
+    each_text part.Driven gives feeds
+    ++ (each_text part.Wires gives feeds ++ flat_map queue_wires_text (enumerate_from 0 feeds))
+
+-- The module of cores, of which some can put words out, where this core feeds each: ports, wires, what the ports show, and the modules
+-- of the cores and of the queues before them.
+abbrev pub top_text : (gives : List Bool) → (feeds : List (Option ℕ)) → List ℕ
+top_text gives feeds =
+    head_text gives feeds ++ (wires_text gives feeds ++ (each_text part.Shown gives feeds
+    ++ (each_text part.Core gives feeds ++ (each_text part.Queue gives feeds ++ codes "endmodule\n"))))

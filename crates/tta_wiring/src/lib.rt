@@ -1,0 +1,11 @@
+//! The text of what joins cores: the queue before each, and the module that joins them.
+#![tactic(auto)]
+
+mod joining;
+mod part;
+mod queue;
+mod top;
+mod wiring;
+
+pub use queue::{push_numbered, push_queues};
+pub use top::push_top;
