@@ -43,7 +43,8 @@ OPTIONS = [
      "The variable TTA_PROGRAM, which is proved or plain, stands for either"),
     (["--with NAME COMMAND"], "carries out the command by the program of the crate tta_with_NAME, which has operations of its own: bits, and those that you add"),
     (["--build"], "builds the programs as fast code, in a minute or two, and prints where they stand; with --proved before it proves them. Plain "
-     "programs stand below the checkout, and where that cannot be written, in the user's cache; the variable TTA_BUILD names another folder"),
+     "programs stand below the checkout, and where that cannot be written, in the user's cache; the variable TTA_BUILD names another folder. "
+     "Where a plain program is used again, its fast code is built beside that call; the variable TTA_FAST, which is no, leaves that out"),
     (["--which COMMAND .."], "prints where the program of each command stands, which is built first if it is not there"),
     (["--version"], "the version, the prover that it is proved with, and which program a command would run"),
 ]

@@ -18,11 +18,12 @@ members = ["*"]
 exclude = ["target"]
 
 [profile.release]
-opt-level = 3
+opt-level = 1
 panic = "abort"
 
 [profile.fast]
 inherits = "release"
+opt-level = 3
 lto = "fat"
 codegen-units = 1
 """
