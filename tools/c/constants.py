@@ -9,6 +9,12 @@ from sizes import offset
 from ssa import M
 
 
+def quotient(a, b):
+    """A signed quotient, rounded towards zero as C asks; that by 0, which C leaves open, is 0."""
+    whole = abs(a) // abs(b) if b else 0
+    return whole if (a < 0) == (b < 0) else -whole
+
+
 class Constants:
     """The part of Layout that works constants out."""
 
@@ -64,7 +70,8 @@ class Constants:
             return int({"eq": x == y, "ne": x != y, "lt": x < y, "le": x <= y, "gt": x > y, "ge": x >= y}[rel if rel in ("eq", "ne") else rel[1:]])
         made = {"add": lambda: a + b, "sub": lambda: a - b, "mul": lambda: a * b, "and": lambda: a & b, "or": lambda: a | b,
                 "xor": lambda: a ^ b, "shl": lambda: a << b % n, "lshr": lambda: a >> b % n, "ashr": lambda: sa >> b % n,
-                "udiv": lambda: a // b if b else 0, "urem": lambda: a % b if b else 0}.get(op)
+                "udiv": lambda: a // b if b else 0, "urem": lambda: a % b if b else 0,
+                "sdiv": lambda: quotient(sa, sb), "srem": lambda: sa - sb * quotient(sa, sb) if b else 0}.get(op)
         if made is None:
             raise Refused(f"the constant expression {op} of LLVM")
         return made()
