@@ -1,5 +1,6 @@
 """`./tta suggest M P`: what holds the program of P back on the machine of M, most first. Each is tried: the machine is changed, the program is built
-and run on it, and its output is compared. What gains is printed with its change of the machine's text and the cycles before and after."""
+and run on it, and its output is compared. What gains is printed with its change of the machine's text and the cycles before and after. Pairs of
+operations are tried as operations of one's own, in a program that has these in their place."""
 import difflib
 import os
 import tempfile
@@ -8,7 +9,7 @@ import ending
 import explore
 import words as command_words
 from causes import near
-from designs import area, hot, model, pairs, progress, proposals, trial
+from designs import area, fused, hot, model, pairs, progress, proposals, trial
 from texts import machine as machine_reader
 from texts import program as program_reader
 from texts.tokens import lines_of
@@ -86,16 +87,60 @@ def print_gain(machine, first, proposal, tried):
         print(f"  {line}")
 
 
-def print_pairs(program, seen):
-    """The pairs that may be an operation of one's own."""
-    found = pairs.of(program_reader.read(lines_of(program.text)), seen.blocks)
-    if found:
-        print("operations of your own that may be worth a try (docs/OPERATIONS.md); a cycle less each time at most:")
-    for pair in found:
-        print(f"  {pair.text}: carried out {pair.times} times, as at line {pair.line} of the program")
+def kept_folder(tta):
+    """Where plain programs are built."""
+    plain = explore.built([*tta, "--plain"], ["build"])
+    if isinstance(plain, int):
+        raise fused.Untried("there is no plain program")
+    return os.path.dirname(os.path.dirname(os.path.dirname(plain[0])))
 
 
-def told(trier, path):
+def tried_pairs(trier, tta, machine, found):
+    """What pairs come to as operations of one's own, each with its line of the machine."""
+    if len(tta) > 1:
+        raise fused.Untried("a program with units of its own takes no more of them")
+    taken = trier.operations() | {operation for unit in machine.units.values() for operation in unit.ops}
+    owns = fused.owns_of(found, taken)
+    if not owns:
+        return []
+    program = fused.built(owns, kept_folder(tta), os.path.join(trier.folder, "own"))
+    return fused.tried(owns, machine, lines_of(trier.programs[0].text), trier, program)
+
+
+def print_pair(pair):
+    """A pair, with where it is carried out."""
+    print(f"  {pairs.text_of(pair.form)}: carried out {near.count(pair.times, 'time')}, as at line {pair.places[0].first} of the program")
+
+
+def print_own(first, own, line, tried):
+    """An operation of one's own with what it gives."""
+    before, after = first.cycles[0], tried.cycles[0]
+    print(f"{before - after} cycles less: {before} before, {after} after, with an operation of your own (docs/OPERATIONS.md)")
+    print_pair(own.pair)
+    print(f"  + {line}")
+    print(f"  its value: {fused.value_of(own)}")
+
+
+def print_others(found, gained, why):
+    """The pairs that are not shown with what they give."""
+    others = [pair for pair in found if not any(own.pair is pair for own, _, _ in gained)]
+    if others:
+        print(f"pairs of operations that were not tried as one, since {why}:" if why else "pairs of operations that save nothing as one:")
+    for pair in others:
+        print_pair(pair)
+
+
+def of_pairs(trier, tta, machine, seen, first):
+    """The pairs that may be an operation of one's own, those of them that save cycles, and why none was tried, if so."""
+    found = pairs.of(program_reader.read(lines_of(trier.programs[0].text)), seen.blocks)
+    try:
+        came = tried_pairs(trier, tta, machine, found) if found else []
+    except fused.Untried as error:
+        return found, [], error
+    return found, [one for one in came if one[2] and one[2].cycles[0] < first.cycles[0]], None
+
+
+def told(trier, tta, path):
     """Prints all that is found, and gives the status."""
     machine = machine_reader.read(lines_of(path))
     first = trier.one(machine, 0)
@@ -104,16 +149,19 @@ def told(trier, path):
     seen = profiled(trier, path)
     found = proposals.of(machine, seen, first.words[0])
     came = tried_of(trier, found)
+    is_whole = len(came) == len(found)
     better, count = gains(found, came, first)
-    for proposal, tried in better[:MOST]:
-        print_gain(machine, first, proposal, tried)
+    candidates, owns, why = of_pairs(trier, tta, machine, seen, first) if is_whole else ([], [], None)
+    shown = [(tried.cycles, print_gain, machine, first, proposal, tried) for proposal, tried in better[:MOST]]
+    shown += [(tried.cycles, print_own, first, own, line, tried) for own, line, tried in owns]
+    for _, show, *what in sorted(shown, key=lambda one: one[0]):
+        show(*what)
     more = f"; {len(better) - MOST} more gain less" if len(better) > MOST else ""
     print(f"{near.count(len(came), 'change')} tried, {count} of them with fewer cycles{more}")
-    print_pairs(trier.programs[0], seen)
-    if len(came) < len(found):
+    print_others(candidates, owns, why)
+    if not is_whole:
         ending.say(f"stopped; {len(came)} of {len(found)} changes were tried")
-        return ending.STOPPED
-    return 0
+    return 0 if is_whole else ending.STOPPED
 
 
 def suggest(tta, words):
@@ -130,7 +178,7 @@ def suggest(tta, words):
         trier = trial.Trier(tta, programs, folder, bound)
         try:
             trier.take(machine, [program])
-            return told(trier, machine)
+            return told(trier, tta, machine)
         except trial.Refused as error:
             ending.say(f"suggest: {error}")
             return REFUSED

@@ -6,6 +6,7 @@ import os
 import re
 import shutil
 import subprocess
+from collections import namedtuple
 
 from strip import plain_files
 
@@ -33,15 +34,17 @@ QUICKLY, FOR_SPEED = "release", "fast"
 OLDEST = (1, 85)
 # The crates that meet the host, each with the file that does so in a plain program.
 HOSTS = {"tta_ports": "host.rs", "tta_lines": "lines.rs"}
+# A crate that is none of the repository's: its name, the folder of its source, and the crates that it stands on.
+Added = namedtuple("Added", "name source stands_on")
 
 
 class CannotBuild(Exception):
     """Why a plain program cannot be built, in one line or with what the compiler says."""
 
 
-def crates_of(program):
-    """The crates that a program is made of, each with those of the repository that it stands on."""
-    stands_on, found, left = {}, {}, [program]
+def crates_of(program, added=()):
+    """The crates that a program is made of, each with those of the repository, or of the ones that are added, that it stands on."""
+    stands_on, found, left = {crate.name: crate.stands_on for crate in added}, {}, [program]
     with open(os.path.join(TOP, "crates.txt"), encoding="utf-8") as lines:
         for line in lines:
             name, _, others = line.split("#")[0].partition(":")
@@ -73,9 +76,9 @@ def package(name, target, others):
     return text + "".join(f'{other} = {{ path = "../{other}" }}\n' for other in others)
 
 
-def write_crate(folder, name, others):
+def write_crate(folder, name, source, others):
     """Writes a crate in plain Rust."""
-    source, target = os.path.join(TOP, "crates", name, "src"), os.path.join(folder, name, "src")
+    target = os.path.join(folder, name, "src")
     is_program = os.path.exists(os.path.join(source, "main.rt"))
     kind = f"[[bin]]\nname = '{name}'\npath = 'src/main.rs'" if is_program else "[lib]\npath = 'src/lib.rs'"
     write(os.path.join(folder, name, "Cargo.toml"), package(name, kind, ["kit", *others]))
@@ -140,22 +143,32 @@ def run_cargo(words, folder):
         raise CannotBuild(f"the plain program cannot be built:\n{said}")
 
 
-def build(program, folder=KEPT, profile=QUICKLY, waiting=lambda: None):
+def write_all(crates, folder, added):
+    """Writes all packages that cargo builds."""
+    write(os.path.join(folder, "Cargo.toml"), WORKSPACE)
+    write(os.path.join(folder, "kit", "Cargo.toml"), package("kit", "[lib]\npath = 'lib.rs'", []))
+    for name in os.listdir(os.path.join(HERE, "kit")):
+        with open(os.path.join(HERE, "kit", name), encoding="utf-8") as f:
+            write(os.path.join(folder, "kit", name), f.read())
+    sources = {crate.name: crate.source for crate in added}
+    for name, others in crates.items():
+        write_crate(folder, name, sources.get(name) or os.path.join(TOP, "crates", name, "src"), others)
+
+
+def build(program, folder=KEPT, profile=QUICKLY, waiting=lambda: None, added=(), to=None):
     """Builds a program in a folder, and gives its path. Its time is that of the begin, so that it is newer than each source of which it
-    was made."""
+    was made. A program of crates that are added is copied to another place, and nothing of these crates stays."""
     cargo = usable_cargo()
-    crates = crates_of(program)
+    crates = crates_of(program, added)
     with alone(folder, waiting) as begun:
-        write(os.path.join(folder, "Cargo.toml"), WORKSPACE)
-        write(os.path.join(folder, "kit", "Cargo.toml"), package("kit", "[lib]\npath = 'lib.rs'", []))
-        for name in os.listdir(os.path.join(HERE, "kit")):
-            with open(os.path.join(HERE, "kit", name), encoding="utf-8") as f:
-                write(os.path.join(folder, "kit", name), f.read())
-        for name, others in crates.items():
-            write_crate(folder, name, others)
-        run_cargo([cargo, "build", "--profile", profile, "--offline", "--quiet", "--package", program, "--target-dir", "target"], folder)
-        path = os.path.join(folder, "target", profile, program)
-        if not os.path.exists(path):
-            raise CannotBuild(f"the plain program cannot be built: cargo left none at {path}")
-        os.utime(path, ns=(begun, begun))
-    return path
+        try:
+            write_all(crates, folder, added)
+            run_cargo([cargo, "build", "--profile", profile, "--offline", "--quiet", "--package", program, "--target-dir", "target"], folder)
+            path = os.path.join(folder, "target", profile, program)
+            if not os.path.exists(path):
+                raise CannotBuild(f"the plain program cannot be built: cargo left none at {path}")
+            os.utime(path, ns=(begun, begun))
+            return shutil.copy(path, to) if to else path
+        finally:
+            for crate in added:
+                shutil.rmtree(os.path.join(folder, crate.name), ignore_errors=True)
