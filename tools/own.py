@@ -22,7 +22,7 @@ OWN = [
         "chooses the chances; --latencies lets latencies and delay slots change too; --synth, --bound and --csv are as above"),
     Own("designs.suggest.suggest", ["suggest M P"],
         "what holds the program of P, which may be in C, back on the machine of M: changes of the machine's text that save cycles, most first. "
-        "Each was built and run. --bound N runs at most N steps and cycles"),
+        "Each was built and run. Pairs of operations are tried as one of your own. --bound N runs at most N steps and cycles"),
     Own("from_c.compile_c", ["c FILE.c .. OUT"],
         "writes the text of a program in C to OUT; docs/C.md says what it takes, and its options"),
     Own("source.front.prompt", ["prompt M P IN", "prompt M P IN STREAM"],
