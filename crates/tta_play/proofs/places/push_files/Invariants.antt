@@ -3,7 +3,7 @@ use Rattle.std.specs.List.{flat_map, enumerate_from}
 use Rattle.tta_code.specs.Cycle.{State}
 use Rattle.tta_sim.specs.Held.{Stands}
 use Rattle.tta_play.specs.States.{file_text}
-use Rattle.tta_play.proofs.state.push_files.Given as goal
+use Rattle.tta_play.proofs.places.push_files.Given as goal
 
 abbrev pub invariant-loop-file : goal.invariant-loop-file
 invariant-loop-file l = (s : State) → Stands l.sim s
