@@ -60,7 +60,7 @@ fn text_of_code(
         (λ v. v.items) result }
 {
     let text = match view {
-        View::Picture => draw_code(alloc, &pair.file.machine, units, &pair.whole.code),
+        View::Picture => draw_code(alloc, &pair.file.machine, units, &pair.whole.code, &[]),
         View::Info => tell_image(alloc, &pair.file.machine, &pair.file.digest, &pair.whole),
     };
     match text {
