@@ -13,10 +13,10 @@ WHEN_STOPPED = {
 }
 
 
-def say(line):
-    """A line of the script on standard error. Where that fails there is nobody to tell."""
+def say(line, more=""):
+    """A line of the script on standard error, and what is told below it. Where that fails there is nobody to tell."""
     try:
-        print(f"tta: {line}", file=sys.stderr, flush=True)
+        print(f"tta: {line}{more}", file=sys.stderr, flush=True)
     except OSError:
         pass
 
@@ -56,8 +56,7 @@ def start(name, words):
     except OSError as error:
         # An error that names no file is one of standard output.
         if error.filename is None:
-            say("write fault")
-            print(f"  standard output: {error.strerror}", file=sys.stderr)
+            say("write fault", f"\n  standard output: {error.strerror}")
             status = WRITE_FAULT
         else:
             say(f"{os.fsdecode(error.filename)}: {error.strerror}")

@@ -7,11 +7,16 @@ import sys
 
 TOP = os.path.realpath(os.path.join(os.path.dirname(os.path.abspath(__file__)), ".."))
 FOLDER = os.path.join(TOP, "crates", "tta_pages")
-# A module with its title, and the files whose pieces are in it.
+# A module: its name, what the names of its pieces begin with, its title, and the files whose pieces are in it.
 MODULES = [
-    ("common", "what pages share", ["common.css", "fit.js", "common.js"]),
-    ("stages", "a page of the stages of a program", ["stages.html", "stages.js"]),
-    ("run", "a page that plays a run", ["run.html", "run.js"]),
+    ("common", "", "what pages share", ["common.css", "fit.js", "common.js"]),
+    ("joins", "", "the script that joins lines, register code, moves and cycles", ["joins.js"]),
+    ("stages", "stages_", "a page of the stages of a program", ["stages.html", "stages.js"]),
+    ("run", "run_", "a page that plays a run", ["run.html"]),
+    ("run_states", "run_", "the script that reads the states of a run", ["run_states.js"]),
+    ("run_code", "run_", "the script that shows the code and the program of a run", ["run_code.js"]),
+    ("run_picture", "run_", "the script that draws the machine of a run", ["run_picture.js"]),
+    ("run_show", "run_", "the script that shows the states of a run", ["run_show.js"]),
 ]
 # How many lines and letters a piece has at most.
 LINES, LETTERS = 30, 1000
@@ -68,8 +73,8 @@ def imports(module, names):
 def files():
     """The text of each file that is written, by its name."""
     texts = {}
-    for name, title, parts in MODULES:
-        module, prefix = name.capitalize() + "Pieces", "" if name == "common" else name + "_"
+    for name, prefix, title, parts in MODULES:
+        module = "".join(word.capitalize() for word in name.split("_")) + "Pieces"
         all_pieces = [p for part in parts for p in pieces(part, prefix)]
         texts[f"specs/{module}.antt"] = (
             f"-- The pieces of the fixed text of {title}.\nuse Rattle.std.specs.Prelude.{{ℕ, List, codes}}\n\n"

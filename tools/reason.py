@@ -23,7 +23,7 @@ UNCERTAIN = 80
 # A token that is longer than any name may be.
 LONG_NAME = re.compile("`([^` ]{64})[^` ]+`")
 # How a word that is a number has to be.
-RANGES = {"N": "a number of steps, cycles or rounds of at most 15 digits, below 2^48", "SEED": "a number below 2^32", "LINES": "a number from 1 to 20000"}
+RANGES = {"N": "a number of steps, cycles or rounds of at most 15 digits, below 2^48", "K": "a number of cycles of at most 15 digits, below 2^48", "SEED": "a number below 2^32", "LINES": "a number from 1 to 20000"}
 ROUNDS = "a number of rounds of at most 7 digits, at most 1048576"
 DEPTHS = "one power of two from 2 to 65536 for all queues, or one for each core with commas between them"
 

@@ -37,7 +37,7 @@ def takes(form, words):
     for name, word in zip(form, words):
         if name == "DEPTHS" and not are_depths(word, form.count("IMG")):
             return False
-        limits = NUMBERS.get(name) or (name == "N" and (ROUNDS if form[0] == "net" else BOUND))
+        limits = NUMBERS.get(name) or (name == "N" and form[0] == "net" and ROUNDS) or (name in ("N", "K") and BOUND)
         if limits and not is_number(word, limits) or not name.isupper() and name != word:
             return False
     return True

@@ -4,6 +4,7 @@ use Rattle.tta_arch.specs.Machine.{Machine}
 use Rattle.tta_code.specs.Cycle.{start}
 use Rattle.tta_sim.specs.Held.{Held, Stands}
 
--- code that was loaded has made no cycle, so a bound leaves room
-pub few_cycles : (h : Held) (m : Machine) (memory : List ℕ) (bound : ℕ) → Stands h (start m memory []) → bound < 2 ^ 48 → h.cycle + bound < 2 ^ 62
-few_cycles h m memory bound at few = let none : h.cycle ≡ 0 = at.cycle in omega arith
+-- code that was loaded has made no cycle, so the cycles before those that are shown, and a bound, leave room
+pub few_cycles : (h : Held) (m : Machine) (memory : List ℕ) (first bound : ℕ) → Stands h (start m memory []) → first < 2 ^ 48 → bound < 2 ^ 48
+    → h.cycle + first + bound < 2 ^ 62
+few_cycles h m memory first bound at early few = let none : h.cycle ≡ 0 = at.cycle in omega arith

@@ -9,7 +9,7 @@ use Rattle.tta_designer.specs.Depths.{are_depths}
 use Rattle.tta_designer.specs.declared.view.View.{View}
 use Rattle.tta_designer.specs.declared.view.View.TheVariants.{Picture, Info}
 use Rattle.tta_designer.specs.declared.view.RunView.{RunView}
-use Rattle.tta_designer.specs.declared.view.RunView.TheVariants.{Profile, Play, Waves}
+use Rattle.tta_designer.specs.declared.view.RunView.TheVariants.{Profile, Play, PlayAfter, Waves}
 use Rattle.tta_designer.specs.declared.view.StagesView.{StagesView}
 use Rattle.tta_designer.specs.declared.view.StagesView.TheVariants.{Lines, Page}
 use Rattle.tta_designer.specs.declared.request.Request.{Request as Asked}
@@ -43,6 +43,11 @@ run_view_of word =
 abbrev pub run_request : (word machine subject input last : List ℕ) → (stream : Option (List ℕ)) → Option Request
 run_request word machine subject input last stream =
     option_and_then (λ view. option_map (λ bound. OfRun view machine subject input stream bound) (bound_of last)) (run_view_of word)
+
+-- the request to play a run from a cycle on: its bound, and how many cycles are made before
+abbrev pub played_request : (machine subject input : List ℕ) → (stream : Option (List ℕ)) → (last first : List ℕ) → Option Request
+played_request machine subject input stream last first =
+    option_and_then (λ k. option_map (λ bound. OfRun (PlayAfter k) machine subject input stream bound) (bound_of last)) (bound_of first)
 
 -- whether a word is the name of the command that is a session at a prompt
 abbrev pub is_prompt : (word : List ℕ) → Bool
@@ -92,6 +97,29 @@ net_request (word ∷ kind ∷ depths ∷ links ∷ names) =
     else None
 net_request words = None
 
+-- the request to play a run from a cycle on, by what follows its bound: the file of an input may be named, then comes `from`, and how many cycles
+-- are made before
+abbrev pub tail_request : (machine subject input last : List ℕ) → List (List ℕ) → Option Request
+tail_request machine subject input last (mark ∷ first ∷ []) =
+    if bytes_eq mark (codes "from") then played_request machine subject input None last first else None
+tail_request machine subject input last (stream ∷ mark ∷ first ∷ []) =
+    if bytes_eq mark (codes "from") then played_request machine subject input (Some stream) last first else None
+tail_request machine subject input last rest = None
+
+-- the same by all its words
+abbrev pub from_request : List (List ℕ) → Option Request
+from_request (word ∷ machine ∷ subject ∷ input ∷ last ∷ rest) = tail_request machine subject input last rest
+from_request words = None
+
+-- whether words begin with the name of the command that plays a run
+abbrev pub plays : List (List ℕ) → Bool
+plays [] = false
+plays (word ∷ words) = bytes_eq word (codes "play")
+
+-- the request of more than six words: to play a run from a cycle on, or for the circuits of cores
+unfoldable pub more_request : List (List ℕ) → Option Request
+more_request words = if plays words then from_request words else net_request words
+
 -- the request of some words; none where they are no command
 abbrev pub request_of : List (List ℕ) → Option Request
 request_of (word ∷ machine ∷ []) = option_map (λ view. OfMachine view machine) (view_of word)
@@ -100,7 +128,7 @@ request_of (word ∷ machine ∷ second ∷ input ∷ []) = three_request word m
 request_of (word ∷ machine ∷ second ∷ input ∷ last ∷ []) =
     if is_prompt word then prompt_request word machine second input (Some last) else run_request word machine second input last None
 request_of (word ∷ machine ∷ second ∷ input ∷ last ∷ stream ∷ []) = run_request word machine second input last (Some stream)
-request_of words = net_request words
+request_of words = more_request words
 
 -- whether a command line begins with the name of a command that is carried out here
 abbrev pub is_named : List (List ℕ) → Bool

@@ -16,7 +16,7 @@ use Rattle.tta_stages.specs.Stages.{AreStages}
 use Rattle.tta_stages.specs.Text.{stages_text}
 use Rattle.tta_profile.specs.Statement.{IsProfile}
 use Rattle.tta_blocks.specs.Statement.{IsBlockProfile}
-use Rattle.tta_play.specs.Statement.{page_of}
+use Rattle.tta_play.specs.Statement.{page_after, page_of}
 use Rattle.tta_waves.specs.Statement.{waves_of}
 use Rattle.tta_given.specs.declared.machine.MachineFile.{MachineFile}
 use Rattle.tta_given.specs.declared.status.Status.{Status}
@@ -31,12 +31,13 @@ use Rattle.tta_designer.specs.declared.subject.Subject.TheVariants.{Code as OfCo
 use Rattle.tta_designer.specs.Subjects.{IsSubject, RefusesSubject}
 use Rattle.tta_designer.specs.Stages.{IsCauseOf}
 use Rattle.tta_designer.specs.declared.view.RunView.{RunView}
-use Rattle.tta_designer.specs.declared.view.RunView.TheVariants.{Profile, Play, Waves}
+use Rattle.tta_designer.specs.declared.view.RunView.TheVariants.{Profile, Play, PlayAfter, Waves}
 
--- a text is what is shown of at most so many cycles of code from a state: a page tells of no program
+-- a text is what is shown of at most so many cycles of code from a state, or of so many after others: a page tells of no program
 abbrev pub IsRunShown : Units → RunView → Machine → Code → State → (bound : ℕ) → (text : List ℕ) → Type 0
 IsRunShown u Profile m code s bound text = IsProfile u m code s bound text
 IsRunShown u Play m code s bound text = text ≡ page_of u m code [] s bound
+IsRunShown u (PlayAfter first) m code s bound text = text ≡ page_after u m code [] s first bound
 IsRunShown u Waves m code s bound text = text ≡ waves_of u m code s bound
 
 -- the same from these data words, the code's own data laid over them, with this input
@@ -51,6 +52,7 @@ IsViewOf u view bound file whole memory words text =
 abbrev pub IsCompiledShown : Units → RunView → Machine → Program → Stages → State → (bound : ℕ) → (text : List ℕ) → Type 0
 IsCompiledShown u Profile m p stages s bound text = IsBlockProfile u m p stages s bound text
 IsCompiledShown u Play m p stages s bound text = text ≡ page_of u m stages.code (stages_text u m p stages) s bound
+IsCompiledShown u (PlayAfter first) m p stages s bound text = text ≡ page_after u m stages.code (stages_text u m p stages) s first bound
 IsCompiledShown u Waves m p stages s bound text = text ≡ waves_of u m stages.code s bound
 
 -- The program has stages on the way to code for the machine, and a text is what is shown of their code from these data words,

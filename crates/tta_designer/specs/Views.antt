@@ -1,5 +1,5 @@
 -- What is shown of a machine, and of code with data for it.
-use Rattle.std.specs.Prelude.{ℕ, List}
+use Rattle.std.specs.Prelude.{ℕ, List, []}
 use Rattle.tta_ops.specs.Units.{Units}
 use Rattle.tta_code.specs.Whole.{Whole}
 use Rattle.tta_draw.specs.MachinePicture.{picture_of_machine}
@@ -17,5 +17,5 @@ machine_view u Info file = info_of_machine file.machine
 
 -- the text of a view of code with data
 abbrev pub code_view : Units → View → MachineFile → Whole → List ℕ
-code_view u Picture file whole = picture_of_code u file.machine whole.code
+code_view u Picture file whole = picture_of_code u file.machine whole.code []
 code_view u Info file whole = info_of_image file.machine file.digest whole

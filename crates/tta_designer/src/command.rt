@@ -60,7 +60,7 @@ fn text_of_code(
         (λ v. v.items) result }
 {
     let text = match view {
-        View::Picture => draw_code(alloc, &pair.file.machine, units, &pair.whole.code),
+        View::Picture => draw_code(alloc, &pair.file.machine, units, &pair.whole.code, &[]),
         View::Info => tell_image(alloc, &pair.file.machine, &pair.file.digest, &pair.whole),
     };
     match text {
@@ -147,11 +147,12 @@ fn carry_out<F: Files, L: Lines, S: Sink>(
 /// `profile M IMG IN N` runs the code of that image for at most N cycles, from the words of the file IN
 /// in the machine's data space, and outputs where the cycles go: how many moves each bus carried, how
 /// many operations each unit started, and the instructions that were carried out, the hottest first.
-/// `play M IMG IN N` outputs a page of HTML that plays the first N cycles, or 400 where N is more.
+/// `play M IMG IN N` outputs a page of HTML that plays the first N cycles, or 400 where N is more; with
+/// `from K` behind it plays those after the first K.
 /// `waves M IMG IN N` outputs a value change dump of the machine's signals over the first N cycles, or
-/// 65,536 where N is more. All three may have one more word, the file of the input. They take a program P in
-/// the place of the image: its code is built as `build` does and run, and `profile` tells of its blocks in
-/// the place of instructions, the costliest first.
+/// 65,536 where N is more. All three may have one more word behind N, the file of the input. They take a
+/// program P in the place of the image: its code is built as `build` does and run, and `profile` tells of
+/// its blocks in the place of instructions, the costliest first.
 ///
 /// `stages M P` outputs what `build` does on the way from the program of the file P to code for the
 /// machine of the file M: blocks, homes, register code, the lists of each block, and the code.

@@ -10,8 +10,9 @@ ghost use Rattle.tta_code.specs.Cycle.{State, start};
 ghost use Rattle.tta_sim.specs.Held.{Stands, IsRunOf};
 ghost use Rattle.tta_stages.specs.Stages.{AreStages};
 ghost use Rattle.tta_stages.specs.Text.{stages_text};
-ghost use Rattle.tta_play.specs.Statement.{page_of};
+ghost use Rattle.tta_play.specs.Statement.{page_after};
 ghost use Rattle.tta_given.specs.Held.{MadeEnds, no_memory};
+ghost use Rattle.tta_designer.specs.Spans.{first_of};
 ghost use Rattle.tta_designer.specs.Stages.{IsCauseOf};
 ghost use Rattle.tta_designer.specs.Runs.{IsCompiledShown, IsProgramShown};
 
@@ -22,7 +23,7 @@ use std::alloc::{AllocError, Global};
 use tta_blocks::{Compiled, profile_blocks};
 use tta_given::{Given, MachineFile, Status};
 use tta_ops::UnitSet;
-use tta_play::play;
+use tta_play::{Span, play_after};
 use tta_profile::Basis;
 use tta_program::{Program, lay_lines};
 use tta_sim::Sim;
@@ -49,17 +50,17 @@ fn play_program(
     on: &Compiled<'_>,
     sim: &mut Sim,
     words: &[u32],
-    bound: u64,
+    span: Span,
 ) -> Result<Vec<u8>, AllocError>
     requires loaded { IsRunOf on.now.m.now on.now.stages.now.code sim.old }
-    requires few { sim.old.cycle + bound < 2 ^ 62 }
+    requires few { sim.old.cycle + span.first + span.bound < 2 ^ 62 }
     requires stages { AreStages (stated unit_meaning on.now.units.now) on.now.m.now on.now.p.now
         on.now.stages.now }
     requires program { programs.StandsOver (stated unit_meaning on.now.units.now) on.now.p.now }
     ensures { let U = stated unit_meaning on.now.units.now in
         let told = stages_text U on.now.m.now on.now.p.now on.now.stages.now in
         (s : State) → Stands sim.old s → s.rest ≡ words.now → IfOk result
-        (λ v. v.items ≡ page_of U on.now.m.now on.now.stages.now.code told s bound) }
+        (λ v. v.items ≡ page_after U on.now.m.now on.now.stages.now.code told s span.first span.bound) }
 {
     let basis = Basis {
         m: on.m,
@@ -67,7 +68,7 @@ fn play_program(
         units: on.units,
     };
     let told = tell_stages(alloc, on.m, on.p, on.units, on.stages)?;
-    play(alloc, &basis, told.as_slice(), sim, words, bound)
+    play_after(alloc, &basis, told.as_slice(), sim, words, span)
 }
 
 /// The view of a run of the code of a program.
@@ -80,7 +81,7 @@ fn text_of_blocks(
     bound: u64,
 ) -> Result<Vec<u8>, Status>
     requires loaded { IsRunOf on.now.m.now on.now.stages.now.code sim.old }
-    requires few { sim.old.cycle + bound < 2 ^ 62 }
+    requires few { sim.old.cycle + first_of view + bound < 2 ^ 62 }
     requires stages { AreStages (stated unit_meaning on.now.units.now) on.now.m.now on.now.p.now
         on.now.stages.now }
     requires program { programs.StandsOver (stated unit_meaning on.now.units.now) on.now.p.now }
@@ -96,7 +97,8 @@ fn text_of_blocks(
     };
     let text = match view {
         RunView::Profile => profile_blocks(alloc, on, sim, words, bound),
-        RunView::Play => play_program(alloc, on, sim, words, bound),
+        RunView::Play => play_program(alloc, on, sim, words, Span { first: 0, bound }),
+        RunView::PlayAfter(first) => play_program(alloc, on, sim, words, Span { first, bound }),
         RunView::Waves => waves(alloc, &basis, sim, words, bound),
     };
     match text {
@@ -113,6 +115,7 @@ fn text_of_compiled(
     request: &RunRequest<'_>,
 ) -> Result<Vec<u8>, Status>
     requires bound { request.now.bound < 2 ^ 48 }
+    requires early { first_of request.now.view < 2 ^ 48 }
     requires size { length given.memory.items ≡ on.now.m.now.data_words }
     requires stages { AreStages (stated unit_meaning on.now.units.now) on.now.m.now on.now.p.now
         on.now.stages.now }
@@ -142,6 +145,7 @@ pub fn text_of_program(
     request: &RunRequest<'_>,
 ) -> Result<Vec<u8>, Status>
     requires bound { request.now.bound < 2 ^ 48 }
+    requires early { first_of request.now.view < 2 ^ 48 }
     requires size { length given.memory.items ≡ file.now.machine.data_words }
     requires machine { machines.StandsOver (stated unit_meaning units.now) file.now.machine }
     requires program { programs.StandsOver (stated unit_meaning units.now) program.now }

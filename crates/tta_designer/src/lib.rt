@@ -7,6 +7,7 @@ mod compiled;
 mod depths;
 mod joining;
 mod laws;
+mod more;
 mod names;
 mod prompting;
 mod request;

@@ -2,6 +2,7 @@
 
 ghost use Rattle.std.specs.Prelude.{◌<◌, ◌^◌, length, IsTrue};
 ghost use Rattle.tta_network.specs.Request.{is_net};
+ghost use Rattle.tta_designer.specs.Spans.{first_of};
 
 use crate::view::{RunView, StagesView, View};
 
@@ -59,6 +60,7 @@ pub struct RunRequest<'w> {
     pub stream: Option<&'w str>,
     pub bound: u64,
     ghost few: { bound < 2 ^ 48 },
+    ghost early: { first_of view < 2 ^ 48 },
 }
 
 /// A session at a prompt that is asked for: the names of its run's files, and that of the input where it

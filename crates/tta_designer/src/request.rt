@@ -2,18 +2,16 @@
 
 ghost use Rattle.std.specs.Prelude.{◌≡◌, ◌∷◌, [], map, option_map};
 ghost use Rattle.std.specs.String.{string_bytes};
-ghost use Rattle.tta_designer.specs.Request.{asked, asks_for_net, is_named, is_rtl, is_stages, is_view};
-ghost use Rattle.tta_designer.specs.Request.{net_request, page_request, pair_request};
-ghost use Rattle.tta_designer.specs.Request.{is_prompt, prompt_request, request_of, run_request};
-ghost use Rattle.tta_designer.specs.Request.{run_view_of, three_request, view_of};
+ghost use Rattle.tta_designer.specs.Request.{asked, is_named, is_prompt, is_rtl, is_stages, is_view};
+ghost use Rattle.tta_designer.specs.Request.{page_request, pair_request, prompt_request, request_of};
+ghost use Rattle.tta_designer.specs.Request.{run_request, run_view_of, three_request, view_of};
 
-use crate::depths::are_depths;
+use crate::more::of_more;
 use crate::names::{
     CodeRequest, MachineRequest, NetRequest, PromptRequest, RtlRequest, RunRequest, StagesRequest,
 };
 use crate::view::{RunView, StagesView, View};
 use tta_given::bound_of;
-use tta_network::is_net;
 
 /// What is asked for: a view of a machine, one of the code of an image for a machine, one of a run of
 /// such code or of a program, a session at a prompt over a run of code, a view of the stages of a program
@@ -74,7 +72,7 @@ fn is_stages(word: &str) -> bool
 }
 
 /// Whether a word is the name of the command that shows a circuit.
-fn is_rtl(word: &str) -> bool
+pub fn is_rtl(word: &str) -> bool
     ensures { result ≡ is_rtl word.now }
 {
     word == "rtl"
@@ -215,36 +213,6 @@ fn of_pair<'w>(word: &str, machine: &'w str, second: &'w str) -> Option<Request<
     }))
 }
 
-/// Whether words ask for the circuits of so many cores.
-fn asks_for_net(word: &str, kind: &str, depths: &str, count: u8) -> bool
-    ensures { result ≡ asks_for_net word.now kind.now depths.now count }
-{
-    is_rtl(word) && kind == "net" && are_depths(count, depths)
-}
-
-/// The request for the circuits of cores that are joined by queues.
-fn of_net<'w>(words: &'w [String]) -> Option<Request<'w>>
-    ensures { option_map asked result ≡ net_request (map (λ w. string_bytes w) words.now) }
-{
-    match words {
-        [word, kind, depths, links, names @ ..] => {
-            if !is_net(names.len()) {
-                return None;
-            }
-            let count = (names.len() / 3) as u8;
-            if !asks_for_net(word, kind, depths, count) {
-                return None;
-            }
-            Some(Request::Net(NetRequest {
-                depths,
-                links,
-                names,
-            }))
-        }
-        _ => None,
-    }
-}
-
 impl<'w> Request<'w> {
     /// What the words ask for, the first of them the command's name. `None` where they are no
     /// command.
@@ -264,7 +232,7 @@ impl<'w> Request<'w> {
             [word, machine, second, input, last, stream] => {
                 of_run(word, machine, second, input, last, Some(stream.as_str()))
             }
-            rest => of_net(rest),
+            rest => of_more(rest),
         }
     }
 }

@@ -11,6 +11,7 @@ ghost use Rattle.tta_code.specs.Whole.{data_in};
 ghost use Rattle.tta_sim.specs.Held.{Stands, IsRunOf};
 ghost use Rattle.tta_given.specs.Held.{MadeEnds, no_memory};
 ghost use Rattle.tta_given.specs.Runs.{GivenRuns};
+ghost use Rattle.tta_designer.specs.Spans.{first_of};
 ghost use Rattle.tta_designer.specs.Subjects.{Suits};
 ghost use Rattle.tta_designer.specs.Runs.{IsRunShown, IsViewOf, IsShown, Lacks, ShowsRun, Tells};
 
@@ -23,7 +24,7 @@ use tta_arch::Machine;
 use tta_code::{Whole, lay};
 use tta_given::{Given, MachineFile, Status, data_words, given_files, put_made};
 use tta_ops::UnitSet;
-use tta_play::play;
+use tta_play::{Span, play, play_after};
 use tta_ports::{Files, Sink};
 use tta_profile::{Basis, profile};
 use tta_sim::Sim;
@@ -57,7 +58,7 @@ fn text_of_basis(
     bound: u64,
 ) -> Result<Vec<u8>, Status>
     requires loaded { IsRunOf basis.now.m.now basis.now.code.now sim.old }
-    requires few { sim.old.cycle + bound < 2 ^ 62 }
+    requires few { sim.old.cycle + first_of view + bound < 2 ^ 62 }
     ensures { let on = basis.now in let U = stated unit_meaning on.units.now in
         (s : State) → Stands sim.old s → s.written ≡ [] → s.rest ≡ words.now
         → MadeEnds (IsRunShown U view on.m.now on.code.now s bound) no_memory
@@ -66,6 +67,14 @@ fn text_of_basis(
     let text = match view {
         RunView::Profile => profile(alloc, basis, sim, words, bound),
         RunView::Play => play(alloc, basis, &[], sim, words, bound),
+        RunView::PlayAfter(first) => play_after(
+            alloc,
+            basis,
+            &[],
+            sim,
+            words,
+            Span { first, bound },
+        ),
         RunView::Waves => waves(alloc, basis, sim, words, bound),
     };
     match text {
@@ -91,7 +100,7 @@ fn text_of_sim<'x>(
     request: &RunRequest<'_>,
 ) -> Result<Vec<u8>, Status>
     requires loaded { IsRunOf on.now.file.now.machine on.now.whole.now.code sim.old }
-    requires few { sim.old.cycle + request.now.bound < 2 ^ 62 }
+    requires few { sim.old.cycle + first_of request.now.view + request.now.bound < 2 ^ 62 }
     ensures { let U = stated unit_meaning units.now in
         (s : State) → Stands sim.old s → s.written ≡ [] → s.rest ≡ words.now
         → MadeEnds (IsRunShown U request.now.view on.now.file.now.machine on.now.whole.now.code s
@@ -115,6 +124,7 @@ fn text_of_run<'x>(
     request: &RunRequest<'_>,
 ) -> Result<Vec<u8>, Status>
     requires bound { request.now.bound < 2 ^ 48 }
+    requires early { first_of request.now.view < 2 ^ 48 }
     requires size { length given.memory.items ≡ on.now.file.now.machine.data_words }
     requires legal { IsLegalCode on.now.file.now.machine on.now.whole.now.code }
     ensures { let U = stated unit_meaning units.now in
@@ -138,6 +148,7 @@ fn text_of_subject(
     request: &RunRequest<'_>,
 ) -> Result<Vec<u8>, Status>
     requires bound { request.now.bound < 2 ^ 48 }
+    requires early { first_of request.now.view < 2 ^ 48 }
     requires size { length given.memory.items ≡ pair.now.file.machine.data_words }
     requires machine { machines.StandsOver (stated unit_meaning units.now) pair.now.file.machine }
     requires suits { Suits (stated unit_meaning units.now) pair.now.file.machine pair.now.subject }

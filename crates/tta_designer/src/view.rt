@@ -23,8 +23,10 @@ pub enum StagesView {
 pub enum RunView {
     /// Where its cycles go, a line each.
     Profile,
-    /// A page that plays it, as HTML.
+    /// A page that plays its first cycles, as HTML.
     Play,
+    /// A page that plays those after so many.
+    PlayAfter(u64),
     /// A dump of its signals, cycle by cycle.
     Waves,
 }

@@ -9,8 +9,8 @@ use Rattle.tta_arch.specs.Machine.{Machine}
 use Rattle.tta_arch.specs.Fields.{numbers}
 use Rattle.tta_code.specs.declared.code.Instruction.{Instruction}
 use Rattle.tta_code.specs.Legal.{is_legal}
-use Rattle.tta_draw.specs.declared.targets.Jump.{Jump}
-use Rattle.tta_draw.specs.Arrows.{has_label}
+use Rattle.tta_draw.specs.declared.span.Span.{Span}
+use Rattle.tta_draw.specs.Lanes.{has_label}
 use Rattle.tta_draw.specs.CodePicture.{label_row_text, labels_text}
 use Rattle.tta_code.proofs.LegalParts.{legal_parts}
 
@@ -21,13 +21,13 @@ range_same f g a (suc n) same =
     rw (same a (omega arith), range_same f g (a + 1) n (λ k h. same k (omega (arith, h)))) refl
 
 -- the labels of rows, by tests that are those of the rows
-pub labels-same : (labels : List Bool) (jumps : List Jump) (rows : ℕ) → length labels ≡ rows
-    → ((row : ℕ) → row < rows → slice_index_or labels row false ≡ has_label jumps row)
-    → flat_map (λ row. if slice_index_or labels row false then label_row_text row else []) (numbers (length labels)) ≡ labels_text jumps rows
-labels-same labels jumps rows size same =
+pub labels-same : (labels : List Bool) (spans : List Span) (rows : ℕ) → length labels ≡ rows
+    → ((row : ℕ) → row < rows → slice_index_or labels row false ≡ has_label spans row)
+    → flat_map (λ row. if slice_index_or labels row false then label_row_text row else []) (numbers (length labels)) ≡ labels_text spans rows
+labels-same labels spans rows size same =
     let test : (Bool → ℕ → List ℕ) = λ b row. if b then label_row_text row else [] in
     ap (λ (n : ℕ). flat_map (λ row. test (slice_index_or labels row false) row) (numbers n)) size
-    ∙ range_same (λ row. test (slice_index_or labels row false) row) (λ row. test (has_label jumps row) row) 0 rows
+    ∙ range_same (λ row. test (slice_index_or labels row false) row) (λ row. test (has_label spans row) row) 0 rows
     (λ k h. ap (λ b. test b k) (same k (omega (arith, h))))
 
 -- an instruction that a machine can carry out has a slot for each bus, so at most 16

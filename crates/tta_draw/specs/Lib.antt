@@ -1,10 +1,16 @@
 pub mod Svg
 pub mod Written
+pub mod Widths
+pub mod Legends
+pub mod MachineWidths
 pub mod MachinePlaces
 pub mod MachinePicture
 pub mod Targets
 pub mod Known
-pub mod Arrows
+pub mod DelaySlots
+pub mod Results
+pub mod Lanes
+pub mod CodeWidths
 pub mod CodePlaces
 pub mod CodePicture
 pub mod Laws

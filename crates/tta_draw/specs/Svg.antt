@@ -1,6 +1,7 @@
 -- The text of the elements that a picture is made of.
 use Rattle.std.specs.Prelude.{ℕ, List, ◌++◌, codes, decimal}
 use Rattle.tta_draw.specs.declared.frame.Frame.{Frame}
+use Rattle.tta_draw.specs.declared.frame.Spot.{Spot}
 
 -- an attribute: its name with the marks around it, and its number
 unfoldable pub attribute : (name : List ℕ) → ℕ → List ℕ
@@ -30,21 +31,29 @@ circle_text class = codes "<circle class=\"" ++ (class ++ codes "\"")
 unfoldable pub dot_text : (class : List ℕ) → (x y : ℕ) → List ℕ
 dot_text class x y = circle_text class ++ (centre_text x y ++ codes " r=\"4\"/>\n")
 
+-- the attributes of a spot
+unfoldable pub spot_text : Spot → List ℕ
+spot_text p = attribute (codes " x=\"") p.x ++ attribute (codes " y=\"") p.y
+
 -- what stands before the text of a label
-unfoldable pub label_start : (class : List ℕ) → Frame → List ℕ
-label_start class f = codes "<svg" ++ (frame_text f ++ (codes "><text class=\"" ++ (class ++ codes "\" x=\"4\" y=\"15\">")))
+unfoldable pub label_start : (class : List ℕ) → Spot → List ℕ
+label_start class p = codes "<text class=\"" ++ (class ++ (codes "\"" ++ (spot_text p ++ codes ">")))
 
 -- what stands after it
 abbrev pub label_end : List ℕ
-label_end = codes "</text></svg>\n"
+label_end = codes "</text>\n"
 
--- a label of a class: a text in a frame, at whose edge it is cut off
-abbrev pub label_text : (class : List ℕ) → Frame → (text : List ℕ) → List ℕ
-label_text class f text = label_start class f ++ (text ++ label_end)
+-- a label of a class: a text that begins at a spot. Nothing cuts it off.
+abbrev pub label_text : (class : List ℕ) → Spot → (text : List ℕ) → List ℕ
+label_text class p text = label_start class p ++ (text ++ label_end)
 
 -- a label of a name and a number
-abbrev pub count_text : (class : List ℕ) → Frame → (name : List ℕ) → ℕ → List ℕ
-count_text class f name n = label_text class f (name ++ decimal n)
+abbrev pub count_text : (class : List ℕ) → Spot → (name : List ℕ) → ℕ → List ℕ
+count_text class p name n = label_text class p (name ++ decimal n)
+
+-- a spot by how far to the right and how low it is
+abbrev pub spot : (x y : ℕ) → Spot
+spot x y = record { x = x; y = y }
 
 -- a frame by its left upper corner and its size
 abbrev pub frame : (x y width height : ℕ) → Frame
@@ -69,7 +78,7 @@ view_text width height = size_text width height ++ measures_text width height
 -- the look of each class
 unfoldable pub style_text : List ℕ
 style_text =
-    codes "<style>\n.ground{fill:#fff}text{font:11px monospace;fill:#1f2933}.title{font-weight:bold}.note{fill:#616e7c}\n.bus{fill:#3e4c59}.part{fill:#f5f7fa;stroke:#9aa5b1}.in{fill:#2b6cb0}.out{fill:#c05621}.takes{fill:#7b8794}\n.row{fill:#000;opacity:.1}.move{fill:#f5f7fa}.control{fill:#fde2e2}.taken{fill:#e4e7eb}.long{fill:#e4e7eb}.arrow{fill:#7b8794}\n.u0{fill:#dbeafe}.u1{fill:#fef3c7}.u2{fill:#d1fae5}.u3{fill:#fce7f3}.u4{fill:#e9d8fd}.u5{fill:#ffe4cc}\n.b0{fill:#3b82f6}.b1{fill:#d69e2e}.b2{fill:#38a169}.b3{fill:#d53f8c}.b4{fill:#805ad5}.b5{fill:#dd6b20}</style>\n"
+    codes "<style>\n.ground{fill:#fff}text{font:11px monospace;fill:#1f2933}.title{font-weight:bold}.note{fill:#616e7c}.port{fill:#616e7c;text-anchor:middle}.remark{fill:#2c5282}\n.bus{fill:#3e4c59}.part{fill:#f5f7fa;stroke:#9aa5b1}.in{fill:#2b6cb0}.out{fill:#c05621}.takes{fill:#7b8794}\n.row{fill:#000;opacity:.1}.slot{fill:#fff0ed}.move{fill:#edf1f5}.control{fill:#fbc4bb}.taken{fill:#d9dfe6}.long{fill:#d9dfe6}.arrow{fill:#7b8794}\n.u0{fill:#dbeafe}.u1{fill:#fef3c7}.u2{fill:#d1fae5}.u3{fill:#fce7f3}.u4{fill:#e9d8fd}.u5{fill:#ffe4cc}\n.b0{fill:#3b82f6}.b1{fill:#d69e2e}.b2{fill:#38a169}.b3{fill:#d53f8c}.b4{fill:#805ad5}.b5{fill:#dd6b20}</style>\n"
 
 -- how a picture of some size begins: its frame, the look of each class, and a white ground
 unfoldable pub head_text : (width height : ℕ) → List ℕ

@@ -1,5 +1,5 @@
 -- Where the jumps and calls of code lead, as far as its text shows it.
-use Rattle.std.specs.Prelude.{ℕ, ◌==◌, Bool, true, false, ◌&&◌, nat_lt, if◌then◌else◌, List, [], ◌∷◌, length, take, fold, Option, Some, None, slice_get, option_and_then}
+use Rattle.std.specs.Prelude.{ℕ, ◌+◌, ◌==◌, Bool, true, false, ◌&&◌, nat_lt, if◌then◌else◌, List, [], ◌∷◌, length, take, fold, Option, Some, None, slice_get, option_and_then}
 use Rattle.std.specs.Option.{option_map_or}
 use Rattle.std.specs.List.{flat_map, enumerate_from}
 use Rattle.tta_arch.specs.declared.ends.Source.{Source}
@@ -10,7 +10,7 @@ use Rattle.tta_arch.specs.Machine.{Machine}
 use Rattle.tta_arch.specs.Effects.{first_some, or_else}
 use Rattle.tta_code.specs.declared.code.Instruction.{Instruction}
 use Rattle.tta_code.specs.declared.code.Move.{Move}
-use Rattle.tta_draw.specs.declared.targets.Jump.{Jump}
+use Rattle.tta_draw.specs.declared.span.Span.{Span}
 
 -- whether a move into this destination jumps or calls
 abbrev pub leads : Dest → Bool
@@ -47,14 +47,16 @@ source_word held source.Ra = None
 abbrev pub target_of : (held : (unit index : ℕ) → Option ℕ) → Instruction → Option ℕ
 target_of held i = option_and_then (λ v. source_word held v.src) (first_some leading i.moves)
 
--- the jump from a row to a row that there is
-abbrev pub jump_to : (rows from : ℕ) → Option ℕ → List Jump
-jump_to rows from target = option_map_or (λ to. if nat_lt to rows then record { from = from; to = to } ∷ [] else []) target []
+-- the arrow from a row to a row, if there are both
+abbrev pub arrow_to : (rows from : ℕ) → Option ℕ → List Span
+arrow_to rows from target =
+    option_map_or (λ to. if nat_lt from rows && nat_lt to rows then record { from = from; to = to } ∷ [] else []) target []
 
--- the jump of a row, whose long immediates stand above it
-abbrev pub jump_at : Machine → List Instruction → (from : ℕ) → Instruction → List Jump
-jump_at m words from i = jump_to (length words) from (target_of (nearest_word m (take from words)) i)
+-- The arrow of the jump of a row, whose long immediates stand above it. It leads from the last delay slot: the row after whose cycle the
+-- jump takes effect.
+abbrev pub arrow_at : Machine → List Instruction → (row : ℕ) → Instruction → List Span
+arrow_at m words row i = arrow_to (length words) (row + m.control.delay) (target_of (nearest_word m (take row words)) i)
 
--- the jumps and calls of code whose targets are known and stand in the code
-abbrev pub jumps_of : Machine → List Instruction → List Jump
-jumps_of m words = flat_map (λ i. jump_at m words i.0 i.1) (enumerate_from 0 words)
+-- the arrows of the jumps and calls of code whose targets are known and stand in the code
+abbrev pub arrows_of : Machine → List Instruction → List Span
+arrows_of m words = flat_map (λ i. arrow_at m words i.0 i.1) (enumerate_from 0 words)

@@ -1,187 +1,190 @@
 //! Where the moves of code stand in its picture. All measures are pixels.
 
 ghost use Rattle.std.specs.Prelude.{◌≡◌, ◌≤◌};
-ghost use Rattle.tta_draw.specs.CodePlaces.{row_y, column_x, cell_frame, long_x, long_frame};
-ghost use Rattle.tta_draw.specs.CodePlaces.{unit_x, bar_x, bar_frame, note_frame, name_frame};
+ghost use Rattle.tta_draw.specs.CodePlaces.{row_y, row_spot, column_x, cell_frame, long_x, long_frame};
+ghost use Rattle.tta_draw.specs.CodePlaces.{columns_x, bar_x, bar_frame, due_y, name_spot};
 ghost use Rattle.tta_draw.specs.CodePlaces.{colour_frame, code_width, code_height, rule_frame};
-ghost use Rattle.tta_draw.specs.CodePlaces.{address_frame, label_frame, lane_x, tail_y, tip_y};
-ghost use Rattle.tta_draw.specs.CodePlaces.{level_frame, upright_frame};
+ghost use Rattle.tta_draw.specs.CodePlaces.{slot_frame, lane_x, tail_y, tip_y, level_frame};
+ghost use Rattle.tta_draw.specs.CodePlaces.{upright_frame};
 
-use crate::frame::Frame;
+use crate::frame::{Frame, Spot};
+use crate::sizes::{Sizes, after_columns};
+use crate::span::Span;
 use tta_arch::Machine;
 
 /// How low a row begins, by the address of its instruction.
-pub fn row_y(word: usize) -> u64
-    requires { word ≤ 100000 }
-    ensures { result ≡ row_y word }
+pub fn row_y(row: u32) -> u64
+    ensures all { result ≡ row_y row }
+    ensures few { result ≤ 110000000000 }
 {
-    98 + 24 * word as u64
+    208 + 24 * u64::from(row)
+}
+
+/// Where a text begins that stands in a row.
+pub fn row_spot(x: u64, row: u32) -> Spot
+    ensures { result ≡ row_spot x row }
+{
+    Spot {
+        x,
+        y: row_y(row) + 17,
+    }
 }
 
 /// How far to the right the column of a bus begins.
-pub fn column_x(bus: usize) -> u64
+pub fn column_x(s: Sizes, bus: usize) -> u64
     requires { bus ≤ 16 }
-    ensures { result ≡ column_x bus }
+    ensures all { result ≡ column_x s bus }
+    ensures wide { 170 ≤ result }
+    ensures few { result ≤ 80000000000 }
 {
-    170 + 184 * bus as u64
+    170 + u64::from(s.remarks) + (u64::from(s.bus) + 4) * bus as u64
 }
 
 /// The cell of a bus in a row.
-pub fn cell_frame(word: usize, bus: usize) -> Frame
-    requires word { word ≤ 100000 }
-    requires bus { bus ≤ 16 }
-    ensures { result ≡ cell_frame word bus }
+pub fn cell_frame(s: Sizes, row: u32, bus: usize) -> Frame
+    requires { bus ≤ 16 }
+    ensures all { result ≡ cell_frame s row bus }
+    ensures x { result.x ≤ 1000000000000 }
+    ensures y { result.y ≤ 1000000000000 }
 {
     Frame {
-        x: column_x(bus),
-        y: row_y(word) + 2,
-        width: 180,
+        x: column_x(s, bus),
+        y: row_y(row) + 2,
+        width: u64::from(s.bus),
         height: 20,
     }
 }
 
 /// The column of long immediates.
-pub fn long_x(m: &Machine) -> u64
-    ensures all { result ≡ long_x m.now }
-    ensures few { result ≤ 4000 }
+pub fn long_x(m: &Machine, s: Sizes) -> u64
+    ensures all { result ≡ long_x m.now s }
+    ensures wide { 170 ≤ result }
+    ensures few { result ≤ 80000000000 }
 {
-    column_x(m.buses.len())
+    column_x(s, m.buses.len())
 }
 
 /// Its cell in a row.
-pub fn long_frame(m: &Machine, word: usize) -> Frame
-    requires { word ≤ 100000 }
-    ensures { result ≡ long_frame m.now word }
+pub fn long_frame(m: &Machine, s: Sizes, row: u32) -> Frame
+    ensures all { result ≡ long_frame m.now s row }
+    ensures x { result.x ≤ 1000000000000 }
+    ensures y { result.y ≤ 1000000000000 }
 {
     Frame {
-        x: long_x(m),
-        y: row_y(word) + 2,
-        width: 140,
+        x: long_x(m, s),
+        y: row_y(row) + 2,
+        width: u64::from(s.long),
         height: 20,
     }
 }
 
-/// The column of a unit.
-pub fn unit_x(m: &Machine, unit: usize) -> u64
-    requires { unit ≤ 256 }
-    ensures all { result ≡ unit_x m.now unit }
-    ensures few { result ≤ 30000 }
+/// The column of the first unit.
+pub fn columns_x(m: &Machine, s: Sizes) -> u64
+    ensures all { result ≡ columns_x m.now s }
+    ensures few { result ≤ 90000000000 }
 {
-    long_x(m) + 152 + 92 * unit as u64
+    long_x(m, s) + u64::from(s.long) + 12
 }
 
-/// The bar of a result.
-pub fn bar_frame(m: &Machine, word: usize, unit: u8, latency: u8) -> Frame
-    requires { word ≤ 100000 }
-    ensures { result ≡ bar_frame m.now word unit latency }
+/// How far to the right a lane of the column of a unit stands.
+pub fn bar_x(left: u64, lane: u8) -> u64
+    requires { left ≤ 1000000000000 }
+    ensures all { result ≡ bar_x left lane }
+    ensures few { result ≤ 2000000000000 }
+{
+    left + 4 + 8 * u64::from(lane)
+}
+
+/// The bar of a result in a lane.
+pub fn bar_frame(left: u64, lane: u8, s: Span) -> Frame
+    requires { left ≤ 1000000000000 }
+    ensures { result ≡ bar_frame left lane s }
 {
     Frame {
-        x: bar_x(m, word, unit),
-        y: row_y(word) + 12,
+        x: bar_x(left, lane),
+        y: row_y(s.from) + 16,
         width: 4,
-        height: 24 * u64::from(latency),
+        height: 24 * u64::from(s.to.saturating_sub(s.from)) + 16,
     }
 }
 
-/// The lane of a result, which is started in a row.
-pub fn bar_x(m: &Machine, word: usize, unit: u8) -> u64
-    ensures all { result ≡ bar_x m.now word unit }
-    ensures few { result ≤ 40000 }
+/// How low the dot is at the end of the bar.
+pub fn due_y(s: Span) -> u64
+    ensures { result ≡ due_y s }
 {
-    unit_x(m, usize::from(unit)) + 4 + 5 * (word % 16) as u64
-}
-
-/// A line of notes.
-pub fn note_frame(line: u64) -> Frame
-    requires { line ≤ 2 }
-    ensures { result ≡ note_frame line }
-{
-    Frame {
-        x: 4,
-        y: 4 + 18 * line,
-        width: 544,
-        height: 20,
-    }
+    row_y(s.to) + 32
 }
 
 /// The name of a column.
-pub fn name_frame(x: u64, width: u64) -> Frame
-    ensures { result ≡ name_frame x width }
+pub fn name_spot(x: u64) -> Spot
+    requires { x ≤ 1000000000000 }
+    ensures { result ≡ name_spot x }
 {
-    Frame {
-        x,
-        y: 64,
-        width,
-        height: 20,
-    }
+    Spot { x: x + 4, y: 190 }
 }
 
 /// The colour of a unit, under its name.
-pub fn colour_frame(m: &Machine, unit: usize) -> Frame
-    requires { unit ≤ 256 }
-    ensures { result ≡ colour_frame m.now unit }
+pub fn colour_frame(left: u64, width: u64) -> Frame
+    requires left { left ≤ 1000000000000 }
+    requires width { 8 ≤ width }
+    ensures { result ≡ colour_frame left width }
 {
     Frame {
-        x: unit_x(m, unit) + 4,
-        y: 86,
-        width: 76,
+        x: left + 4,
+        y: 196,
+        width: width - 8,
         height: 4,
     }
 }
 
 /// The width of the picture.
-pub fn code_width(m: &Machine) -> u64
-    ensures { result ≡ code_width m.now }
+pub fn code_width(m: &Machine, s: Sizes) -> u64
+    ensures all { result ≡ code_width m.now s }
+    ensures wide { 920 ≤ result }
 {
-    unit_x(m, m.units.len())
+    920_u64.max(after_columns(columns_x(m, s), m.units.as_slice()))
 }
 
 /// The height of the picture of so many instructions.
-pub fn code_height(words: usize) -> u64
-    requires { words ≤ 65536 }
-    ensures { result ≡ code_height words }
+pub fn code_height(rows: usize) -> u64
+    requires { rows ≤ 65536 }
+    ensures { result ≡ code_height rows }
 {
-    row_y(words) + 16
+    row_y(rows as u32) + 16
 }
 
 /// The line over a row.
-pub fn rule_frame(m: &Machine, word: usize) -> Frame
-    requires { word ≤ 100000 }
-    ensures { result ≡ rule_frame m.now word }
+pub fn rule_frame(m: &Machine, s: Sizes, row: u32) -> Frame
+    ensures { result ≡ rule_frame m.now s row }
 {
     Frame {
         x: 4,
-        y: row_y(word),
-        width: code_width(m),
+        y: row_y(row),
+        width: code_width(m, s) - 8,
         height: 1,
     }
 }
 
-/// The address of a row.
-pub fn address_frame(word: usize) -> Frame
-    requires { word ≤ 100000 }
-    ensures { result ≡ address_frame word }
+/// The ground of a delay slot, from its address to the last bus.
+pub fn slot_frame(m: &Machine, s: Sizes, row: u32) -> Frame
+    ensures { result ≡ slot_frame m.now s row }
 {
     Frame {
-        x: 126,
-        y: row_y(word) + 2,
-        width: 44,
-        height: 20,
+        x: 122,
+        y: row_y(row) + 1,
+        width: long_x(m, s) - 124,
+        height: 23,
     }
 }
 
-/// The label of a row.
-pub fn label_frame(word: usize) -> Frame
-    requires { word ≤ 100000 }
-    ensures { result ≡ label_frame word }
-{
-    Frame {
-        x: 78,
-        y: row_y(word) + 2,
-        width: 48,
-        height: 20,
-    }
-}
+/// How far to the right the labels of rows stand.
+pub const LABEL_X: u64 = 82;
+
+/// How far to the right the addresses of rows stand.
+pub const ADDRESS_X: u64 = 130;
+
+/// How far to the right the remarks on rows stand.
+pub const REMARK_X: u64 = 174;
 
 /// How far to the right a lane of arrows stands.
 fn lane_x(lane: u8) -> u64
@@ -192,19 +195,19 @@ fn lane_x(lane: u8) -> u64
 }
 
 /// How low in its row an arrow begins.
-pub fn tail_y(from: u16) -> u64
+pub fn tail_y(from: u32) -> u64
     ensures is { result ≡ tail_y from }
-    ensures few { result ≤ 2000000 }
+    ensures few { result ≤ 200000000000 }
 {
-    row_y(usize::from(from)) + 16
+    row_y(from) + 16
 }
 
 /// How low in its row an arrow ends.
-pub fn tip_y(to: u16) -> u64
+pub fn tip_y(to: u32) -> u64
     ensures is { result ≡ tip_y to }
-    ensures few { result ≤ 2000000 }
+    ensures few { result ≤ 200000000000 }
 {
-    row_y(usize::from(to)) + 8
+    row_y(to) + 8
 }
 
 /// A level line of an arrow, between its lane and the labels.
@@ -222,7 +225,7 @@ pub fn level_frame(lane: u8, y: u64) -> Frame
 /// The upright line of an arrow in its lane, from its upper end to its lower.
 pub fn upright_frame(lane: u8, upper: u64, lower: u64) -> Frame
     requires lower { upper ≤ lower }
-    requires few { lower ≤ 2000000 }
+    requires few { lower ≤ 200000000000 }
     ensures { result ≡ upright_frame lane upper lower }
 {
     Frame {

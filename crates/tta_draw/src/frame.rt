@@ -8,3 +8,10 @@ pub struct Frame {
     pub width: u64,
     pub height: u64,
 }
+
+/// Where a text begins: at the left end of its base line.
+#[derive(Clone, Copy, Debug, PartialEq, Eq)]
+pub struct Spot {
+    pub x: u64,
+    pub y: u64,
+}

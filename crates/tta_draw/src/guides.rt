@@ -4,26 +4,25 @@ ghost use Rattle.std.specs.Prelude.{◌≡◌, ◌≤◌, ◌++◌, [], if◌the
 ghost use Rattle.std.specs.Prelude.{OnOk};
 ghost use Rattle.std.specs.List.{flat_map};
 ghost use Rattle.tta_arch.specs.Fields.{numbers};
-ghost use Rattle.tta_draw.specs.Targets.{jumps_of};
-ghost use Rattle.tta_draw.specs.Arrows.{arrows_of, has_label};
+ghost use Rattle.tta_draw.specs.Targets.{arrows_of};
 ghost use Rattle.tta_draw.specs.CodePicture.{label_row_text, labels_text, upright_text, arrow_text};
 ghost use Rattle.tta_draw.specs.CodePicture.{arrows_text, guides_text};
 
-use crate::code_places::{label_frame, level_frame, tail_y, tip_y, upright_frame};
-use crate::lanes::{Arrow, arrows_of, labels_of};
+use crate::code_places::{LABEL_X, level_frame, row_spot, tail_y, tip_y, upright_frame};
+use crate::lanes::{labels_of, laid_in};
+use crate::span::{Laid, Span};
 use crate::svg::{push_box, push_count, push_tip};
-use crate::targets::{Jump, jumps_of};
+use crate::targets::arrows_of;
 use std::alloc::{AllocError, Global};
 use tta_arch::Machine;
 use tta_code::Instruction;
 
 /// Puts the label of a row.
 #[tactic(auto, unfolding(crate::specs::CodePicture::label_row_text))]
-fn push_row_label(out: &mut Vec<u8>, row: usize) -> Result<(), AllocError>
-    requires { row ≤ 65536 }
+fn push_row_label(out: &mut Vec<u8>, row: u32) -> Result<(), AllocError>
     ensures { OnOk result (out.new.items ≡ out.old.items ++ label_row_text row) }
 {
-    push_count(out, b"title", label_frame(row), b"L", row as u64)
+    push_count(out, b"title", row_spot(LABEL_X, row), b"L", u64::from(row))
 }
 
 /// Puts the label of a row, if it has one.
@@ -33,7 +32,7 @@ fn push_label_if(out: &mut Vec<u8>, row: usize, has_label: bool) -> Result<(), A
         ++ (if has_label then label_row_text row else [])) }
 {
     if has_label {
-        return push_row_label(out, row);
+        return push_row_label(out, row as u32);
     }
     Ok(())
 }
@@ -55,24 +54,24 @@ fn push_all_labels(out: &mut Vec<u8>, labels: &[bool]) -> Result<(), AllocError>
 fn push_labels(
     out: &mut Vec<u8>,
     alloc: Global,
-    jumps: &[Jump],
+    spans: &[Span],
     rows: usize,
 ) -> Result<(), AllocError>
     requires { rows ≤ 65536 }
-    ensures { OnOk result (out.new.items ≡ out.old.items ++ labels_text jumps.now rows) }
+    ensures { OnOk result (out.new.items ≡ out.old.items ++ labels_text spans.now rows) }
 {
-    let labels = labels_of(alloc, rows, jumps)?;
+    let labels = labels_of(alloc, rows, spans)?;
     push_all_labels(out, labels.as_slice())
 }
 
 /// Puts the upright line of an arrow.
-fn push_upright(out: &mut Vec<u8>, a: Arrow) -> Result<(), AllocError>
+fn push_upright(out: &mut Vec<u8>, a: Laid) -> Result<(), AllocError>
     ensures { OnOk result (out.new.items ≡ out.old.items
-        ++ upright_text a.lane a.jump.from a.jump.to) }
+        ++ upright_text a.lane a.span.from a.span.to) }
 {
-    let tail = tail_y(a.jump.from);
-    let tip = tip_y(a.jump.to);
-    if a.jump.to <= a.jump.from {
+    let tail = tail_y(a.span.from);
+    let tip = tip_y(a.span.to);
+    if a.span.to <= a.span.from {
         return push_box(out, b"arrow", upright_frame(a.lane, tip, tail));
     }
     push_box(out, b"arrow", upright_frame(a.lane, tail, tip))
@@ -80,20 +79,20 @@ fn push_upright(out: &mut Vec<u8>, a: Arrow) -> Result<(), AllocError>
 
 /// Puts an arrow.
 #[tactic(auto, unfolding(crate::specs::CodePicture::arrow_text))]
-fn push_arrow(out: &mut Vec<u8>, a: Arrow) -> Result<(), AllocError>
+fn push_arrow(out: &mut Vec<u8>, a: Laid) -> Result<(), AllocError>
     ensures { OnOk result (out.new.items ≡ out.old.items ++ arrow_text a) }
 {
-    let tail = level_frame(a.lane, tail_y(a.jump.from));
+    let tail = level_frame(a.lane, tail_y(a.span.from));
     push_box(out, b"arrow", tail)?;
     push_upright(out, a)?;
-    let tip = tip_y(a.jump.to);
+    let tip = tip_y(a.span.to);
     push_box(out, b"arrow", level_frame(a.lane, tip))?;
     push_tip(out, b"arrow", 76, tip + 1)
 }
 
 /// Puts arrows.
-fn push_all_arrows(out: &mut Vec<u8>, arrows: &[Arrow]) -> Result<(), AllocError>
-    ensures { OnOk result (out.new.items ≡ out.old.items ++ arrows_text arrows.now) }
+fn push_all_arrows(out: &mut Vec<u8>, arrows: &[Laid]) -> Result<(), AllocError>
+    ensures { OnOk result (out.new.items ≡ out.old.items ++ flat_map arrow_text arrows.now) }
 {
     for arrow in arrows {
         push_arrow(out, *arrow)?;
@@ -101,11 +100,11 @@ fn push_all_arrows(out: &mut Vec<u8>, arrows: &[Arrow]) -> Result<(), AllocError
     Ok(())
 }
 
-/// Puts the arrows of jumps.
-fn push_arrows(out: &mut Vec<u8>, alloc: Global, jumps: &[Jump]) -> Result<(), AllocError>
-    ensures { OnOk result (out.new.items ≡ out.old.items ++ arrows_text (arrows_of jumps.now)) }
+/// Puts arrows in eight lanes.
+fn push_arrows(out: &mut Vec<u8>, alloc: Global, spans: &[Span]) -> Result<(), AllocError>
+    ensures { OnOk result (out.new.items ≡ out.old.items ++ arrows_text spans.now) }
 {
-    let arrows = arrows_of(alloc, jumps)?;
+    let arrows = laid_in(alloc, 8, spans)?;
     push_all_arrows(out, arrows.as_slice())
 }
 
@@ -118,9 +117,9 @@ pub fn push_guides(
 ) -> Result<(), AllocError>
     requires { length words.now ≤ 65536 }
     ensures { OnOk result (out.new.items ≡ out.old.items
-        ++ guides_text (jumps_of m.now words.now) (length words.now)) }
+        ++ guides_text (arrows_of m.now words.now) (length words.now)) }
 {
-    let jumps = jumps_of(alloc, m, words)?;
-    push_labels(out, alloc, jumps.as_slice(), words.len())?;
-    push_arrows(out, alloc, jumps.as_slice())
+    let spans = arrows_of(alloc, m, words)?;
+    push_labels(out, alloc, spans.as_slice(), words.len())?;
+    push_arrows(out, alloc, spans.as_slice())
 }

@@ -1,15 +1,13 @@
 //! What joins a part to the buses.
 
-ghost use Rattle.std.specs.Prelude.{◌≡◌, ◌≤◌, ◌++◌, [], if◌then◌else◌, slice_get, OnOk};
-ghost use Rattle.std.specs.Option.{option_map_or};
-ghost use Rattle.std.specs.List.{flat_map};
+ghost use Rattle.std.specs.Prelude.{◌≡◌, ◌≤◌, ◌++◌, [], if◌then◌else◌, OnOk};
 ghost use Rattle.tta_arch.specs.Joins.{has_bit};
 ghost use Rattle.tta_draw.specs.Svg.{dot_text};
-ghost use Rattle.tta_draw.specs.MachinePlaces.{bus_y, port_x};
-ghost use Rattle.tta_draw.specs.MachinePicture.{stem_text, socket_class, socket_text, port_text};
+ghost use Rattle.tta_draw.specs.MachinePlaces.{bus_y};
+ghost use Rattle.tta_draw.specs.MachinePicture.{stem_text, socket_text, port_text, port_if_text};
 ghost use Rattle.tta_draw.specs.MachinePicture.{dots_text};
 
-use crate::machine_places::{bus_y, port_frame, port_x, socket_frame, stem_frame};
+use crate::machine_places::{bus_y, port_spot, socket_spot, stem_frame};
 use crate::svg::{push_box, push_dot, push_label};
 use std::alloc::AllocError;
 use tta_arch::{Machine, Socket, has_bus};
@@ -55,34 +53,24 @@ pub fn push_stem(
     out: &mut Vec<u8>,
     m: &Machine,
     class: &[u8],
-    part: usize,
-    port: u64,
+    x: u64,
     buses: u16,
 ) -> Result<(), AllocError>
-    requires part { part ≤ 64 }
-    requires port { port ≤ 2 }
-    ensures { OnOk result (out.new.items
-        ≡ out.old.items ++ stem_text m.now class.now part port buses) }
+    requires { x ≤ 2000000 }
+    ensures { OnOk result (out.new.items ≡ out.old.items ++ stem_text m.now class.now x buses) }
 {
-    push_box(out, class, stem_frame(m, part, port))?;
-    push_dots(out, m, class, port_x(part, port), buses)
+    push_box(out, class, stem_frame(m, x))?;
+    push_dots(out, m, class, x + 1, buses)
 }
 
 /// Puts a socket at a port: its line and dots, and its name.
-fn push_socket(
-    out: &mut Vec<u8>,
-    m: &Machine,
-    part: usize,
-    port: u64,
-    s: &Socket,
-) -> Result<(), AllocError>
-    requires part { part ≤ 64 }
-    requires port { port ≤ 2 }
-    ensures { OnOk result (out.new.items ≡ out.old.items ++ socket_text m.now part port s.now) }
+fn push_socket(out: &mut Vec<u8>, m: &Machine, x: u64, s: &Socket) -> Result<(), AllocError>
+    requires { x ≤ 2000000 }
+    ensures { OnOk result (out.new.items ≡ out.old.items ++ socket_text m.now x s.now) }
 {
     let class: &[u8] = if s.input { b"in" } else { b"out" };
-    push_stem(out, m, class, part, port, s.buses)?;
-    push_label(out, b"note", socket_frame(m, part, port), s.name.as_bytes())
+    push_stem(out, m, class, x, s.buses)?;
+    push_label(out, b"note", socket_spot(m, x), s.name.as_bytes())
 }
 
 /// Puts a port: its name, and its socket.
@@ -90,19 +78,16 @@ fn push_socket(
 pub fn push_port(
     out: &mut Vec<u8>,
     m: &Machine,
-    part: usize,
-    port: u64,
+    x: u64,
     name: &[u8],
     socket: u8,
 ) -> Result<(), AllocError>
-    requires part { part ≤ 64 }
-    requires port { port ≤ 2 }
-    ensures { OnOk result (out.new.items
-        ≡ out.old.items ++ port_text m.now part port name.now socket) }
+    requires { x ≤ 2000000 }
+    ensures { OnOk result (out.new.items ≡ out.old.items ++ port_text m.now x name.now socket) }
 {
-    push_label(out, b"note", port_frame(m, part, port), name)?;
+    push_label(out, b"port", port_spot(m, x), name)?;
     match entry_at(m.sockets.as_slice(), socket) {
-        Some(s) => push_socket(out, m, part, port, s),
+        Some(s) => push_socket(out, m, x, s),
         None => Ok(()),
     }
 }
@@ -111,18 +96,16 @@ pub fn push_port(
 pub fn push_port_if(
     out: &mut Vec<u8>,
     m: &Machine,
-    part: usize,
-    port: u64,
+    x: u64,
     name: &[u8],
     socket: Option<u8>,
 ) -> Result<(), AllocError>
-    requires part { part ≤ 64 }
-    requires port { port ≤ 2 }
+    requires { x ≤ 2000000 }
     ensures { OnOk result (out.new.items
-        ≡ out.old.items ++ option_map_or (port_text m.now part port name.now) socket []) }
+        ≡ out.old.items ++ port_if_text m.now x name.now socket) }
 {
     match socket {
-        Some(socket) => push_port(out, m, part, port, name, socket),
+        Some(socket) => push_port(out, m, x, name, socket),
         None => Ok(()),
     }
 }

@@ -3,10 +3,10 @@
 ghost use Rattle.std.specs.Prelude.{◌≡◌, ◌++◌, codes, decimal, OnOk};
 ghost use Rattle.tta_draw.specs.Svg.{attribute, size_text, frame_text, box_text, centre_text};
 ghost use Rattle.tta_draw.specs.Svg.{circle_text, dot_text, pair_text, tip_text, measures_text};
-ghost use Rattle.tta_draw.specs.Svg.{label_start, label_end, label_text, count_text, view_text};
-ghost use Rattle.tta_draw.specs.Svg.{style_text, head_text, tail_text};
+ghost use Rattle.tta_draw.specs.Svg.{spot_text, label_start, label_end, label_text, count_text};
+ghost use Rattle.tta_draw.specs.Svg.{view_text, style_text, head_text, tail_text};
 
-use crate::frame::Frame;
+use crate::frame::{Frame, Spot};
 use itoa::Buffer;
 use std::alloc::AllocError;
 
@@ -95,30 +95,39 @@ pub fn push_dot(out: &mut Vec<u8>, class: &[u8], x: u64, y: u64) -> Result<(), A
     out.extend_from_slice(b" r=\"4\"/>\n")
 }
 
+/// Puts the attributes of a spot.
+#[tactic(auto, unfolding(crate::specs::Svg::spot_text))]
+fn push_spot(out: &mut Vec<u8>, p: Spot) -> Result<(), AllocError>
+    ensures { OnOk result (out.new.items ≡ out.old.items ++ spot_text p) }
+{
+    push_attribute(out, b" x=\"", p.x)?;
+    push_attribute(out, b" y=\"", p.y)
+}
+
 /// Puts what stands before the text of a label.
 #[tactic(auto, unfolding(crate::specs::Svg::label_start))]
-pub fn start_label(out: &mut Vec<u8>, class: &[u8], f: Frame) -> Result<(), AllocError>
-    ensures { OnOk result (out.new.items ≡ out.old.items ++ label_start class.now f) }
+pub fn start_label(out: &mut Vec<u8>, class: &[u8], p: Spot) -> Result<(), AllocError>
+    ensures { OnOk result (out.new.items ≡ out.old.items ++ label_start class.now p) }
 {
-    out.extend_from_slice(b"<svg")?;
-    push_frame(out, f)?;
-    out.extend_from_slice(b"><text class=\"")?;
+    out.extend_from_slice(b"<text class=\"")?;
     out.extend_from_slice(class)?;
-    out.extend_from_slice(b"\" x=\"4\" y=\"15\">")
+    out.extend_from_slice(b"\"")?;
+    push_spot(out, p)?;
+    out.extend_from_slice(b">")
 }
 
 /// Puts what stands after it.
 pub fn end_label(out: &mut Vec<u8>) -> Result<(), AllocError>
     ensures { OnOk result (out.new.items ≡ out.old.items ++ label_end) }
 {
-    out.extend_from_slice(b"</text></svg>\n")
+    out.extend_from_slice(b"</text>\n")
 }
 
-/// Puts a label of a class: a text in a frame, at whose edge it is cut off.
-pub fn push_label(out: &mut Vec<u8>, class: &[u8], f: Frame, text: &[u8]) -> Result<(), AllocError>
-    ensures { OnOk result (out.new.items ≡ out.old.items ++ label_text class.now f text.now) }
+/// Puts a label of a class: a text that begins at a spot. Nothing cuts it off.
+pub fn push_label(out: &mut Vec<u8>, class: &[u8], p: Spot, text: &[u8]) -> Result<(), AllocError>
+    ensures { OnOk result (out.new.items ≡ out.old.items ++ label_text class.now p text.now) }
 {
-    start_label(out, class, f)?;
+    start_label(out, class, p)?;
     out.extend_from_slice(text)?;
     end_label(out)
 }
@@ -127,13 +136,13 @@ pub fn push_label(out: &mut Vec<u8>, class: &[u8], f: Frame, text: &[u8]) -> Res
 pub fn push_count(
     out: &mut Vec<u8>,
     class: &[u8],
-    f: Frame,
+    p: Spot,
     name: &[u8],
     n: u64,
 ) -> Result<(), AllocError>
-    ensures { OnOk result (out.new.items ≡ out.old.items ++ count_text class.now f name.now n) }
+    ensures { OnOk result (out.new.items ≡ out.old.items ++ count_text class.now p name.now n) }
 {
-    start_label(out, class, f)?;
+    start_label(out, class, p)?;
     out.extend_from_slice(name)?;
     push_number(out, n)?;
     end_label(out)
@@ -187,9 +196,9 @@ fn push_style(out: &mut Vec<u8>) -> Result<(), AllocError>
 {
     out.extend_from_slice(
         b"<style>\n\
-        .ground{fill:#fff}text{font:11px monospace;fill:#1f2933}.title{font-weight:bold}.note{fill:#616e7c}\n\
+        .ground{fill:#fff}text{font:11px monospace;fill:#1f2933}.title{font-weight:bold}.note{fill:#616e7c}.port{fill:#616e7c;text-anchor:middle}.remark{fill:#2c5282}\n\
         .bus{fill:#3e4c59}.part{fill:#f5f7fa;stroke:#9aa5b1}.in{fill:#2b6cb0}.out{fill:#c05621}.takes{fill:#7b8794}\n\
-        .row{fill:#000;opacity:.1}.move{fill:#f5f7fa}.control{fill:#fde2e2}.taken{fill:#e4e7eb}.long{fill:#e4e7eb}.arrow{fill:#7b8794}\n\
+        .row{fill:#000;opacity:.1}.slot{fill:#fff0ed}.move{fill:#edf1f5}.control{fill:#fbc4bb}.taken{fill:#d9dfe6}.long{fill:#d9dfe6}.arrow{fill:#7b8794}\n\
         .u0{fill:#dbeafe}.u1{fill:#fef3c7}.u2{fill:#d1fae5}.u3{fill:#fce7f3}.u4{fill:#e9d8fd}.u5{fill:#ffe4cc}\n\
         .b0{fill:#3b82f6}.b1{fill:#d69e2e}.b2{fill:#38a169}.b3{fill:#d53f8c}.b4{fill:#805ad5}.b5{fill:#dd6b20}</style>\n\
         ",

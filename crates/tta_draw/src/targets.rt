@@ -1,23 +1,18 @@
 //! Where the jumps and calls of code lead, as far as its text shows it.
 
-ghost use Rattle.std.specs.Prelude.{◌≡◌, ◌≤◌, ◌<◌, ◌==◌, ◌&&◌, ◌++◌, ℕ, Some, if◌then◌else◌, [], length};
+ghost use Rattle.std.specs.Prelude.{◌≡◌, ◌≤◌, ◌==◌, ◌&&◌, ◌++◌, ℕ, Some, if◌then◌else◌, [], length};
 ghost use Rattle.std.specs.Prelude.{slice_get, option_and_then, IfOk, OnOk};
 ghost use Rattle.std.specs.Option.{option_map_or};
 ghost use Rattle.tta_arch.specs.Effects.{first_some};
-ghost use Rattle.tta_draw.specs.Targets.{leads, leading, source_word, target_of, jump_to};
-ghost use Rattle.tta_draw.specs.Targets.{jumps_of};
+ghost use Rattle.tta_draw.specs.Targets.{leads, leading, source_word, target_of, arrow_to};
+ghost use Rattle.tta_draw.specs.Targets.{arrows_of};
 ghost use Rattle.tta_draw.specs.Known.{is_of, known_word, learned, wrote};
 
+use crate::delay_slots::delay_of;
+use crate::span::Span;
 use std::alloc::{AllocError, Global};
 use tta_arch::{Dest, Machine, Source};
 use tta_code::{Instruction, Long, Move};
-
-/// A jump or call by its row, and the row that it leads to.
-#[derive(Clone, Copy, Debug, PartialEq, Eq)]
-pub struct Jump {
-    pub from: u16,
-    pub to: u16,
-}
 
 /// The word that was written last into an immediate register.
 #[derive(Clone, Copy, Debug, PartialEq, Eq)]
@@ -141,56 +136,57 @@ fn learn_from(known: &mut Vec<Known>, m: &Machine, long: Option<Long>) -> Result
     }
 }
 
-/// Puts the jump from a row to a target, if that is known and one of so many rows.
-fn push_jump(
-    jumps: &mut Vec<Jump>,
+/// Puts the arrow from a row to a target, if the row is one of so many, and the target is known and one
+/// of them.
+fn push_arrow_to(
+    arrows: &mut Vec<Span>,
     rows: usize,
     from: usize,
     target: Option<u32>,
 ) -> Result<(), AllocError>
-    requires rows { rows ≤ 65536 }
-    requires from { from < rows }
-    ensures { OnOk result (jumps.new.items ≡ jumps.old.items ++ jump_to rows from target) }
+    requires { rows ≤ 65536 }
+    ensures { OnOk result (arrows.new.items ≡ arrows.old.items ++ arrow_to rows from target) }
 {
     let Some(to) = target else {
         return Ok(());
     };
-    if (to as usize) < rows {
-        jumps.push(Jump {
-            from: from as u16,
-            to: to as u16,
+    if from < rows && (to as usize) < rows {
+        arrows.push(Span {
+            from: from as u32,
+            to,
         })?;
     }
     Ok(())
 }
 
-/// Puts the jumps of rows.
-fn push_jumps(
-    jumps: &mut Vec<Jump>,
+/// Puts the arrows of the jumps of rows.
+fn push_arrows(
+    arrows: &mut Vec<Span>,
     known: &mut Vec<Known>,
     m: &Machine,
     words: &[Instruction],
 ) -> Result<(), AllocError>
     requires few { length words.now ≤ 65536 }
     requires known { known.old.items ≡ [] }
-    ensures { OnOk result (jumps.new.items ≡ jumps.old.items ++ jumps_of m.now words.now) }
+    ensures { OnOk result (arrows.new.items ≡ arrows.old.items ++ arrows_of m.now words.now) }
 {
     let rows = words.len();
-    for (from, i) in words.iter().enumerate() {
+    for (row, i) in words.iter().enumerate() {
         let target = target_of(known.as_slice(), i);
-        push_jump(jumps, rows, from, target)?;
+        push_arrow_to(arrows, rows, row + delay_of(m), target)?;
         learn_from(known, m, i.long)?;
     }
     Ok(())
 }
 
-/// The jumps and calls of code whose targets are known and stand in the code, row by row.
-pub fn jumps_of(alloc: Global, m: &Machine, words: &[Instruction]) -> Result<Vec<Jump>, AllocError>
+/// The arrows of jumps and calls of code whose targets are known and stand in the code, row by row. Each
+/// leads from the last delay slot.
+pub fn arrows_of(alloc: Global, m: &Machine, words: &[Instruction]) -> Result<Vec<Span>, AllocError>
     requires { length words.now ≤ 65536 }
-    ensures { IfOk result (λ v. v.items ≡ jumps_of m.now words.now) }
+    ensures { IfOk result (λ v. v.items ≡ arrows_of m.now words.now) }
 {
-    let mut jumps = Vec::new(alloc);
+    let mut arrows = Vec::new(alloc);
     let mut known = Vec::new(alloc);
-    push_jumps(&mut jumps, &mut known, m, words)?;
-    Ok(jumps)
+    push_arrows(&mut arrows, &mut known, m, words)?;
+    Ok(arrows)
 }

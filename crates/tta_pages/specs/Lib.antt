@@ -1,4 +1,9 @@
-pub mod Pages
 pub mod CommonPieces
+pub mod JoinsPieces
 pub mod StagesPieces
 pub mod RunPieces
+pub mod RunStatesPieces
+pub mod RunCodePieces
+pub mod RunPicturePieces
+pub mod RunShowPieces
+pub mod Pages

@@ -2,8 +2,13 @@
 #![tactic(auto)]
 
 mod common_pieces;
+mod joins_pieces;
 mod pages;
+mod run_code_pieces;
+mod run_picture_pieces;
 mod run_pieces;
+mod run_show_pieces;
+mod run_states_pieces;
 mod stages_pieces;
 
 pub use pages::{page_of_stages, push_run_head, push_run_tail};

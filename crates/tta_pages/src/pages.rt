@@ -1,20 +1,33 @@
 //! Pages: fixed text with data between it.
 
 ghost use Rattle.std.specs.Prelude.{◌≡◌, ◌++◌, IfOk, OnOk};
-ghost use Rattle.tta_pages.specs.Pages.{code_script, joining_script, marks_script, reading_script};
-ghost use Rattle.tta_pages.specs.Pages.{run_head, run_script, run_tail, shared_style, show_script};
-ghost use Rattle.tta_pages.specs.Pages.{stages_head, stages_page, stages_script, stages_tail};
-ghost use Rattle.tta_pages.specs.Pages.{states_script};
+ghost use Rattle.tta_pages.specs.Pages.{code_script, joining_script, marks_script, picture_script};
+ghost use Rattle.tta_pages.specs.Pages.{reading_script, run_head, run_script, run_styles, run_tail};
+ghost use Rattle.tta_pages.specs.Pages.{shared_style, show_script, stages_head, stages_page};
+ghost use Rattle.tta_pages.specs.Pages.{stages_script, stages_tail, states_script, words_script};
 
 use crate::common_pieces::{
-    push_all_joins, push_code_readers, push_end, push_fit, push_follow, push_joins, push_moves,
-    push_open_script, push_parts, push_passes, push_places, push_stages, push_style, push_tints,
+    push_code_readers, push_end, push_fit, push_follow, push_open_script, push_parts, push_passes,
+    push_stages, push_style, push_tints,
+};
+use crate::joins_pieces::{push_all_joins, push_joins, push_moves, push_places};
+use crate::run_code_pieces::{
+    push_run_acts, push_run_code, push_run_source, push_run_variables, push_run_where,
+};
+use crate::run_picture_pieces::{
+    push_run_picture_acts, push_run_picture_machine, push_run_picture_moves,
+    push_run_picture_parts, push_run_picture_places,
 };
 use crate::run_pieces::{
-    push_run_acts, push_run_body, push_run_buttons, push_run_cells, push_run_code,
-    push_run_head as push_run_opening, push_run_kept, push_run_looks, push_run_moves,
-    push_run_playing, push_run_reading, push_run_sections, push_run_show, push_run_source,
-    push_run_state, push_run_style, push_run_variables, push_run_where, push_run_words,
+    push_run_body, push_run_head as push_run_opening, push_run_looks, push_run_picture_looks,
+    push_run_sections, push_run_style,
+};
+use crate::run_show_pieces::{
+    push_run_buttons, push_run_cells, push_run_loads, push_run_playing, push_run_show,
+    push_run_span, push_run_state,
+};
+use crate::run_states_pieces::{
+    push_run_jumps, push_run_lines, push_run_moves, push_run_reading, push_run_words,
 };
 use crate::stages_pieces::{
     push_stages_bands, push_stages_body, push_stages_cells, push_stages_columns,
@@ -101,15 +114,24 @@ fn push_stages_tail(out: &mut Vec<u8>) -> Result<(), AllocError>
     push_end(out)
 }
 
+/// Puts the style of a page that plays a run.
+#[tactic(auto, unfolding(crate::specs::Pages::run_styles))]
+fn push_run_styles(out: &mut Vec<u8>) -> Result<(), AllocError>
+    ensures { OnOk result (out.new.items ≡ out.old.items ++ run_styles) }
+{
+    push_shared_style(out)?;
+    push_run_style(out)?;
+    push_run_looks(out)?;
+    push_run_picture_looks(out)
+}
+
 /// Puts what stands before the text of the stages of the program that is run.
 #[tactic(auto, unfolding(crate::specs::Pages::run_head))]
 pub fn push_run_head(out: &mut Vec<u8>) -> Result<(), AllocError>
     ensures { OnOk result (out.new.items ≡ out.old.items ++ run_head) }
 {
     push_run_opening(out)?;
-    push_shared_style(out)?;
-    push_run_style(out)?;
-    push_run_looks(out)?;
+    push_run_styles(out)?;
     push_run_body(out)?;
     push_run_sections(out)
 }
@@ -120,8 +142,9 @@ fn push_states_script(out: &mut Vec<u8>) -> Result<(), AllocError>
     ensures { OnOk result (out.new.items ≡ out.old.items ++ states_script) }
 {
     push_run_reading(out)?;
+    push_run_lines(out)?;
     push_run_moves(out)?;
-    push_run_kept(out)?;
+    push_run_jumps(out)?;
     push_run_words(out)
 }
 
@@ -137,13 +160,34 @@ fn push_code_script(out: &mut Vec<u8>) -> Result<(), AllocError>
     push_run_variables(out)
 }
 
+/// Puts the script that draws the machine, and on it the moves of a state.
+#[tactic(auto, unfolding(crate::specs::Pages::picture_script))]
+fn push_picture_script(out: &mut Vec<u8>) -> Result<(), AllocError>
+    ensures { OnOk result (out.new.items ≡ out.old.items ++ picture_script) }
+{
+    push_run_picture_places(out)?;
+    push_run_picture_parts(out)?;
+    push_run_picture_machine(out)?;
+    push_run_picture_moves(out)?;
+    push_run_picture_acts(out)
+}
+
+/// Puts the script that shows the words of a state.
+#[tactic(auto, unfolding(crate::specs::Pages::words_script))]
+fn push_words_script(out: &mut Vec<u8>) -> Result<(), AllocError>
+    ensures { OnOk result (out.new.items ≡ out.old.items ++ words_script) }
+{
+    push_run_state(out)?;
+    push_run_cells(out)?;
+    push_run_loads(out)
+}
+
 /// Puts the script that shows a state, and goes from one to another.
 #[tactic(auto, unfolding(crate::specs::Pages::show_script))]
 fn push_show_script(out: &mut Vec<u8>) -> Result<(), AllocError>
     ensures { OnOk result (out.new.items ≡ out.old.items ++ show_script) }
 {
-    push_run_state(out)?;
-    push_run_cells(out)?;
+    push_run_span(out)?;
     push_run_show(out)?;
     push_run_playing(out)?;
     push_run_buttons(out)
@@ -156,6 +200,8 @@ fn push_run_script(out: &mut Vec<u8>) -> Result<(), AllocError>
 {
     push_states_script(out)?;
     push_code_script(out)?;
+    push_picture_script(out)?;
+    push_words_script(out)?;
     push_show_script(out)
 }
 

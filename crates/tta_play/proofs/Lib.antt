@@ -1,2 +1,5 @@
 mod Rows
+mod Sizes
+mod Skipped
 mod Told
+mod Unmade

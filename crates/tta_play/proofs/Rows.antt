@@ -1,10 +1,10 @@
 -- Rows of words, and the states that are left, one after another.
-use Rattle.std.proofs.Common.{◌≡◌, ℕ, suc, ◌+◌, Bool, true, false, List, ◌++◌, Option, sym, ap, ◌∙◌, append-nil}
+use Rattle.std.proofs.Common.{◌≡◌, ℕ, suc, ◌+◌, Bool, true, false, List, ◌++◌, Option, refl, sym, ap, ◌∙◌, append-nil}
 use Rattle.std.specs.Prelude.{if◌then◌else◌}
 use Rattle.std.proofs.lemmas.List.{append_assoc}
 use Rattle.tta_code.specs.Cycle.{State}
 use Rattle.tta_profile.specs.Counts.{is_made}
-use Rattle.tta_play.specs.States.{word_text, words_text, cycle_text, end_text, states_text}
+use Rattle.tta_play.specs.States.{word_text, words_text, spaces_text, cycle_text, end_text, states_text}
 
 -- one word more was put
 pub word_more : (word : ℕ → Option ℕ) (old new all : List ℕ) (k left less : ℕ) → left ≡ suc less → new ≡ old ++ word_text (word k)
@@ -16,6 +16,11 @@ word_more word old new all k left less is put was =
 -- all words were put
 pub words_done : (word : ℕ → Option ℕ) (old all : List ℕ) (k left : ℕ) → left ≡ 0 → old ++ words_text word k left ≡ all → old ≡ all
 words_done word old all k left is was = sym (append-nil old) ∙ sym (ap (λ n. old ++ words_text word k n) is) ∙ was
+
+-- what changed between words is what changed between the states whose they are
+pub changes_of : (out : List ℕ) (s t : State) → {memory frame memory_now frame_now : List ℕ} → memory ≡ s.memory → frame ≡ s.frame → memory_now ≡ t.memory → frame_now ≡ t.frame
+    → out ++ spaces_text memory frame memory_now frame_now ≡ out ++ spaces_text s.memory s.frame t.memory t.frame
+changes_of out s t a b c d = rw (a, b, c, d) refl
 
 module _ (step : State → State) (told : State → List ℕ) where
   -- a state and its cycle were put

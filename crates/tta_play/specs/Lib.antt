@@ -1,3 +1,4 @@
+pub mod Ports
 pub mod States
 pub mod Steps
 pub mod Statement

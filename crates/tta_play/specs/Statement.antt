@@ -1,6 +1,7 @@
 -- What a page that plays a run is.
 use Rattle.std.specs.Prelude.{ℕ, nat_lt, if◌then◌else◌, List, ◌++◌, take, codes, decimal}
 use Rattle.std.specs.List.{flat_map, enumerate_from}
+use Rattle.tta_list.specs.Iterate.{iterate}
 use Rattle.tta_ops.specs.Units.{Units}
 use Rattle.tta_arch.specs.declared.parts.Template.{Template}
 use Rattle.tta_arch.specs.Machine.{Machine}
@@ -9,17 +10,19 @@ use Rattle.tta_code.specs.declared.code.Code.{Code}
 use Rattle.tta_code.specs.Cycle.{State, next}
 use Rattle.tta_asm.specs.Canonical.{imm_name, place_text, instruction_text}
 use Rattle.tta_pages.specs.Pages.{run_page}
-use Rattle.tta_play.specs.States.{whole_text, states_text}
+use Rattle.tta_play.specs.Ports.{ports_text}
+use Rattle.tta_play.specs.States.{before_text, whole_text, states_text}
 
 -- a part of a machine: what it is, and its name
 unfoldable pub name_text : (what name : List ℕ) → List ℕ
 name_text what name = what ++ (name ++ codes "\n")
 
--- the names of a machine's buses, files and units
+-- the names of a machine's buses, files, immediate units and units
 unfoldable pub names_text : Machine → List ℕ
 names_text m =
     flat_map (λ b. name_text (codes "bus ") b.name) m.buses
-    ++ (flat_map (λ f. name_text (codes "file ") f.name) m.files ++ flat_map (λ q. name_text (codes "unit ") q.name) m.units)
+    ++ (flat_map (λ f. name_text (codes "file ") f.name) m.files
+    ++ (flat_map (λ i. name_text (codes "imm ") i.name) m.imms ++ flat_map (λ q. name_text (codes "unit ") q.name) m.units))
 
 -- how many delay slots a jump has
 unfoldable pub delay_text : Machine → List ℕ
@@ -43,17 +46,33 @@ rows_text u m words = flat_map (λ e. row_text u m e.0 e.1) (enumerate_from 0 wo
 
 -- the machine and its code, of which a page has 4096 instructions at most
 unfoldable pub code_part : Units → Machine → List Instruction → List ℕ
-code_part u m words = names_text m ++ (delay_text m ++ (templates_text m m.templates ++ rows_text u m (take 4096 words)))
+code_part u m words =
+    names_text m ++ (ports_text m ++ (delay_text m ++ (templates_text m m.templates ++ rows_text u m (take 4096 words))))
+
+-- which cycles were asked for: after how many the page begins, and how many follow
+unfoldable pub asked_text : (first bound : ℕ) → List ℕ
+asked_text first bound = codes "asked " ++ (decimal first ++ (codes " " ++ (decimal bound ++ codes "\n")))
 
 -- a page plays so many cycles at most, whatever is asked for: so it stays small
 abbrev pub limited : (bound : ℕ) → ℕ
 limited bound = if nat_lt bound 400 then bound else 400
 
--- the data of a page: the machine, its code, and the state and those after each cycle, by the cycle's meaning
-unfoldable pub run_data : Units → Machine → Code → State → (n : ℕ) → List ℕ
-run_data u m code s n = code_part u m code.words ++ states_text (next u m code) (whole_text u m code.words) (limited n) s
+-- the part of the states: what the cycles before them changed, the first state, and those after each cycle, by the cycle's meaning
+unfoldable pub played_text : Units → Machine → Code → (begin : State) → State → (bound : ℕ) → List ℕ
+played_text u m code begin s bound =
+    before_text begin s ++ states_text (next u m code) (whole_text u m code.words) (limited bound) s
 
--- The page that plays at most n cycles of code from a state, with what is told of the program that the code is built of: between the fixed text
--- stand that text, which is empty where there is no program, and the data of the run.
-unfoldable pub page_of : Units → Machine → Code → (told : List ℕ) → State → (n : ℕ) → List ℕ
-page_of u m code told s n = run_page told (run_data u m code s n)
+-- The data of a page: the machine, its code, and the state after so many cycles of a run with those after each of at most so many more, by
+-- the cycle's meaning. A run that is over stays as it is, so where it is over before, this is its last state.
+unfoldable pub run_data : Units → Machine → Code → State → (first bound : ℕ) → List ℕ
+run_data u m code s first bound =
+    code_part u m code.words ++ (asked_text first bound ++ played_text u m code s (iterate first (next u m code) s) bound)
+
+-- The page that plays at most so many cycles of code, after so many from a state, with what is told of the program that the code is built of:
+-- between the fixed text stand that text, which is empty where there is no program, and the data of the run.
+unfoldable pub page_after : Units → Machine → Code → (told : List ℕ) → State → (first bound : ℕ) → List ℕ
+page_after u m code told s first bound = run_page told (run_data u m code s first bound)
+
+-- the page that plays at most so many cycles from a state
+abbrev pub page_of : Units → Machine → Code → (told : List ℕ) → State → (bound : ℕ) → List ℕ
+page_of u m code told s bound = page_after u m code told s 0 bound

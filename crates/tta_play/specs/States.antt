@@ -1,11 +1,12 @@
 -- What a page tells of each state of a run.
-use Rattle.std.specs.Prelude.{ℕ, zero, suc, ◌+◌, ◌==◌, false, if◌then◌else◌, List, [], ◌++◌, Option, None, Some, option_map, length, drop, slice_get, codes, decimal}
+use Rattle.std.specs.Prelude.{ℕ, zero, suc, ◌+◌, ◌==◌, false, if◌then◌else◌, List, [], ◌++◌, Option, None, Some, option_map, length, take, drop, slice_get, codes, decimal}
 use Rattle.std.specs.Option.{option_map_or}
 use Rattle.std.specs.List.{flat_map, enumerate_from}
 use Rattle.tta_ops.specs.Units.{Units}
 use Rattle.tta_arch.specs.declared.parts.File.{File}
+use Rattle.tta_arch.specs.declared.parts.ImmUnit.{ImmUnit}
 use Rattle.tta_arch.specs.declared.parts.Unit.{Unit as OpUnit}
-use Rattle.tta_arch.specs.Effects.{KeptReg, kept}
+use Rattle.tta_arch.specs.Effects.{KeptReg, KeptImm, KeptOperand, KeptRa, kept}
 use Rattle.tta_arch.specs.Machine.{Machine}
 use Rattle.tta_code.specs.declared.code.Instruction.{Instruction}
 use Rattle.tta_code.specs.Cycle.{State, Outcome, Running, Halted, Waiting, Fault, port}
@@ -29,6 +30,14 @@ words_text word first (suc count) = word_text (word first) ++ words_text word (f
 abbrev pub register_word : State → (file index : ℕ) → Option ℕ
 register_word s file index = kept s.written (KeptReg file index)
 
+-- the word of a register of an immediate unit
+abbrev pub immediate_word : State → (unit index : ℕ) → Option ℕ
+immediate_word s unit index = kept s.written (KeptImm unit index)
+
+-- the word at the operand port of a unit
+abbrev pub operand_word : State → (unit : ℕ) → Option ℕ
+operand_word s unit = kept s.written (KeptOperand unit)
+
 -- the result of a unit that is due so many cycles from now
 abbrev pub due_word : State → (unit delay : ℕ) → Option ℕ
 due_word s unit delay = option_map (λ r. r.value) (due_at unit (s.cycle + delay) s.started)
@@ -42,6 +51,26 @@ file_text s file f = codes "registers" ++ (words_text (register_word s file) 0 f
 -- the registers of files
 abbrev pub files_text : State → List File → List ℕ
 files_text s files = flat_map (λ f. file_text s f.0 f.1) (enumerate_from 0 files)
+
+-- the registers of an immediate unit
+unfoldable pub imm_text : State → (unit : ℕ) → ImmUnit → List ℕ
+imm_text s unit i = codes "immediates" ++ (words_text (immediate_word s unit) 0 i.size ++ codes "\n")
+
+-- the registers of immediate units
+abbrev pub imms_text : State → List ImmUnit → List ℕ
+imms_text s imms = flat_map (λ i. imm_text s i.0 i.1) (enumerate_from 0 imms)
+
+-- the words at the operand ports of so many units
+unfoldable pub operands_text : State → (units : ℕ) → List ℕ
+operands_text s units = codes "operands" ++ (words_text (operand_word s) 0 units ++ codes "\n")
+
+-- the return address
+unfoldable pub return_text : State → List ℕ
+return_text s = codes "return" ++ (word_text (kept s.written KeptRa) ++ codes "\n")
+
+-- all words that a machine keeps beside its spaces
+unfoldable pub places_text : Machine → State → List ℕ
+places_text m s = files_text s m.files ++ (imms_text s m.imms ++ (operands_text s (length m.units) ++ return_text s))
 
 -- the results of a unit that are due 1 to 16 cycles from now
 unfoldable pub dues_text : State → (unit : ℕ) → List ℕ
@@ -72,10 +101,10 @@ code_text u m i = codes "code " ++ instruction_text u m i
 abbrev pub code_at_text : Units → Machine → List Instruction → (address : ℕ) → List ℕ
 code_at_text u m words address = option_map_or (code_text u m) (slice_get words address) []
 
--- a state: where it is, its registers, its results, the word of the input and the instruction that come next
+-- a state: where it is, the words that it keeps, its results, the word of the input and the instruction that come next
 unfoldable pub state_text : Units → Machine → List Instruction → (input : Option ℕ) → State → List ℕ
 state_text u m words input s =
-    where_text s ++ (files_text s m.files ++ (units_text s m.units ++ (input_text input ++ code_at_text u m words s.pc)))
+    where_text s ++ (places_text m s ++ (units_text s m.units ++ (input_text input ++ code_at_text u m words s.pc)))
 
 -- the same with the next word of the state's own input
 abbrev pub whole_text : Units → Machine → List Instruction → State → List ℕ
@@ -91,19 +120,28 @@ out_text word = codes "out " ++ (decimal word ++ codes "\n")
 abbrev pub outs_text : (s t : State) → List ℕ
 outs_text s t = flat_map out_text (drop (length s.output) t.output)
 
--- a data word, where another was before
-unfoldable pub store_text : (before : Option ℕ) → (address word : ℕ) → List ℕ
-store_text before address word =
+-- a word of a space, where another was before: the name of the space, the address and the word
+unfoldable pub store_text : (space : List ℕ) → (before : Option ℕ) → (address word : ℕ) → List ℕ
+store_text space before address word =
     if option_map_or (λ b. b == word) before false then []
-    else codes "store " ++ (decimal address ++ (codes " " ++ (decimal word ++ codes "\n")))
+    else space ++ (decimal address ++ (codes " " ++ (decimal word ++ codes "\n")))
 
--- the data words that a cycle changes
-abbrev pub stores_text : (before now : List ℕ) → List ℕ
-stores_text before now = flat_map (λ e. store_text (slice_get before e.0) e.0 e.1) (enumerate_from 0 now)
+-- the words of a space that changed
+abbrev pub stores_text : (space before now : List ℕ) → List ℕ
+stores_text space before now = flat_map (λ e. store_text space (slice_get before e.0) e.0 e.1) (enumerate_from 0 now)
 
--- what a cycle does: the words that it outputs, and the data words that it changes
+-- the data words and the frame words that changed
+unfoldable pub spaces_text : (memory frame memory_now frame_now : List ℕ) → List ℕ
+spaces_text memory frame memory_now frame_now =
+    stores_text (codes "store ") memory memory_now ++ stores_text (codes "slot ") frame frame_now
+
+-- what a cycle does: the words that it outputs, and the data words and frame words that it changes
 abbrev pub cycle_text : (s t : State) → List ℕ
-cycle_text s t = outs_text s t ++ stores_text s.memory t.memory
+cycle_text s t = outs_text s t ++ spaces_text s.memory s.frame t.memory t.frame
+
+-- what is told of the cycles before those that are played: which of the first 4096 data words and frame words they changed
+abbrev pub before_text : (s t : State) → List ℕ
+before_text s t = spaces_text (take 4096 s.memory) (take 4096 s.frame) (take 4096 t.memory) (take 4096 t.frame)
 
 -- why a run is over
 abbrev pub end_text : Outcome → List ℕ

@@ -1,7 +1,7 @@
 -- What a cycle adds to a page.
-use Rattle.std.specs.Prelude.{◌≡◌, ℕ, Bool, true, false, List, [], ◌++◌, Option, None, Some, codes, decimal}
+use Rattle.std.specs.Prelude.{◌≡◌, ◌⊎◌, ℕ, Bool, true, false, List, [], ◌++◌, Option, None, Some, codes, decimal}
 use Rattle.tta_list.specs.Input.{left}
-use Rattle.tta_code.specs.Cycle.{State}
+use Rattle.tta_code.specs.Cycle.{State, Waiting as HasToWait}
 use Rattle.tta_sim.specs.declared.cycle_step.CycleStep.{CycleStep}
 use Rattle.tta_sim.specs.declared.cycle_step.CycleStep.TheVariants.{Ran, Halted, Waiting, Fault}
 use Rattle.tta_profile.specs.Counts.{is_made}
@@ -36,3 +36,22 @@ GoesBy step Stands s told None = IsOver step s told
 -- the same by the answer
 abbrev pub Goes : (step : State → State) → (Stands : State → Type 0) → State → CycleStep → Type 0
 Goes step Stands s answer = GoesBy step Stands s (step_text answer) (went_on answer)
+
+-- ---- many cycles
+
+-- a state that has to wait for a word of the input
+abbrev pub waiting : State → State
+waiting s = record s { outcome = HasToWait }
+
+-- A run is at a state: it stands for that, or, where that has to wait for a word of the input, for the same that tries to go on. So much of the
+-- input is left.
+pub record IsAt (step : State → State) (Stands : State → Type 0) (rest : List ℕ) (goal : State) : Type 0 where
+  pub state : State
+  pub stands : Stands state
+  pub left : state.rest ≡ rest
+  pub is : (goal ≡ state) ⊎ ((step state ≡ waiting state) × (goal ≡ waiting state))
+
+-- words are those of the spaces of a state
+pub record AreSpacesOf (s : State) (memory frame : List ℕ) : Type 0 where
+  pub words : memory ≡ s.memory
+  pub frames : frame ≡ s.frame

@@ -9,7 +9,7 @@ ghost use Rattle.tta_play.specs.States.{out_text, states_text, whole_text};
 ghost use Rattle.tta_play.specs.Steps.{Goes, step_text};
 ghost use Rattle.tta_sim.specs.declared.cycle_step.CycleStep.TheVariants.{Fault};
 
-use crate::memory::{push_changed, remember};
+use crate::memory::{Spaces, push_changed, remember};
 use crate::state::push_state;
 use crate::words::push_number;
 use std::alloc::AllocError;
@@ -66,10 +66,10 @@ fn cycle_once(sim: &mut Sim, basis: &Basis<'_>, next: Option<u32>) -> CycleStep
 }
 
 /// Puts a state of a run, and those after each of at most so many cycles, with what each cycle does.
-/// `memory` keeps the data words of the state before.
+/// `spaces` keeps the words of the spaces of the state before.
 pub fn push_states(
     out: &mut Vec<u8>,
-    memory: &mut Vec<u32>,
+    spaces: &mut Spaces,
     sim: &mut Sim,
     basis: &Basis<'_>,
     input: &[u32],
@@ -82,7 +82,7 @@ pub fn push_states(
         (s : State) → Stands sim.old s → s.rest ≡ input.now → OnOk result (out.new.items
         ≡ out.old.items ++ states_text (next_state U on.m.now on.code.now) told bound s) }
 {
-    remember(memory, sim.memory())?;
+    remember(spaces, &*sim)?;
     let mut left = bound;
     let mut rest = input;
     'cycles: while left > 0 {
@@ -93,7 +93,7 @@ pub fn push_states(
         let Some(took) = went_on(step) else {
             return Ok(());
         };
-        push_changed(out, memory, sim.memory())?;
+        push_changed(out, spaces, &*sim)?;
         rest = left_of(rest, took);
         left -= 1;
     }

@@ -6,6 +6,7 @@ ghost use Rattle.tta_play.specs.Statement.{code_part, delay_text, row_text, rows
 ghost use Rattle.tta_play.specs.Statement.{template_text, templates_text};
 
 use crate::names::push_names;
+use crate::ports::push_ports;
 use crate::words::push_number;
 use std::alloc::AllocError;
 use tta_arch::{Machine, Template};
@@ -103,6 +104,7 @@ pub fn push_code_part(out: &mut Vec<u8>, basis: &Basis<'_>) -> Result<(), AllocE
 {
     let m = basis.m;
     push_names(out, m)?;
+    push_ports(out, m)?;
     push_delay(out, m)?;
     push_templates(out, m, m.templates.as_slice())?;
     push_rows(out, basis.units, m, first_of(basis.code.words.as_slice()))

@@ -5,7 +5,7 @@ ghost use Rattle.std.specs.List.{flat_map};
 ghost use Rattle.tta_play.specs.Statement.{name_text, names_text};
 
 use std::alloc::AllocError;
-use tta_arch::{Bus, File, Machine, Unit};
+use tta_arch::{Bus, File, ImmUnit, Machine, Unit};
 
 /// Puts a part of a machine: what it is, and its name.
 #[tactic(auto, unfolding(crate::specs::Statement::name_text))]
@@ -39,6 +39,17 @@ fn push_files(out: &mut Vec<u8>, files: &[File]) -> Result<(), AllocError>
     Ok(())
 }
 
+/// Puts the names of immediate units.
+fn push_imms(out: &mut Vec<u8>, imms: &[ImmUnit]) -> Result<(), AllocError>
+    ensures { OnOk result (out.new.items
+        ≡ out.old.items ++ flat_map (λ i. name_text (codes "imm ") i.name) imms.now) }
+{
+    for i in imms {
+        push_name(out, b"imm ", i.name.as_bytes())?;
+    }
+    Ok(())
+}
+
 /// Puts the names of units.
 fn push_units(out: &mut Vec<u8>, units: &[Unit]) -> Result<(), AllocError>
     ensures { OnOk result (out.new.items
@@ -50,12 +61,13 @@ fn push_units(out: &mut Vec<u8>, units: &[Unit]) -> Result<(), AllocError>
     Ok(())
 }
 
-/// Puts the names of a machine's buses, files and units.
+/// Puts the names of a machine's buses, files, immediate units and units.
 #[tactic(auto, unfolding(crate::specs::Statement::names_text))]
 pub fn push_names(out: &mut Vec<u8>, m: &Machine) -> Result<(), AllocError>
     ensures { OnOk result (out.new.items ≡ out.old.items ++ names_text m.now) }
 {
     push_buses(out, m.buses.as_slice())?;
     push_files(out, m.files.as_slice())?;
+    push_imms(out, m.imms.as_slice())?;
     push_units(out, m.units.as_slice())
 }

@@ -1,16 +1,17 @@
 //! A state of a run, put at the end of a text.
 
-ghost use Rattle.std.specs.Prelude.{◌≡◌, ◌≤◌, ◌<◌, ◌^◌, ◌++◌, length, slice_get, OnOk, All};
+ghost use Rattle.std.specs.Prelude.{◌≡◌, ◌≤◌, ◌<◌, ◌^◌, ◌++◌, length, slice_get, OnOk};
 ghost use Rattle.std.specs.Option.{option_copied};
 ghost use Rattle.tta_ops.specs.Set.{stated};
 ghost use Rattle.tta_code.specs.Cycle.{State};
 ghost use Rattle.tta_sim.specs.Held.{Stands, IsRunOf};
-ghost use Rattle.tta_play.specs.States.{code_at_text, code_text, file_text, files_text};
-ghost use Rattle.tta_play.specs.States.{input_text, results_text, state_text, units_text, where_text};
+ghost use Rattle.tta_play.specs.States.{code_at_text, code_text, input_text, results_text};
+ghost use Rattle.tta_play.specs.States.{state_text, units_text, where_text};
 
-use crate::words::{push_dues, push_number, push_registers, push_word};
+use crate::places::push_places;
+use crate::words::{push_dues, push_number, push_word};
 use std::alloc::AllocError;
-use tta_arch::{File, Machine, Unit};
+use tta_arch::{Machine, Unit};
 use tta_asm::push_instruction;
 use tta_code::{Code, Instruction};
 use tta_ops::UnitSet;
@@ -28,32 +29,6 @@ fn push_where(out: &mut Vec<u8>, sim: &Sim) -> Result<(), AllocError>
     out.extend_from_slice(b" ")?;
     push_number(out, u64::from(sim.pc()))?;
     out.extend_from_slice(b"\n")
-}
-
-/// Puts the registers of a file.
-#[tactic(auto, unfolding(crate::specs::States::file_text))]
-fn push_file(out: &mut Vec<u8>, sim: &Sim, file: u8, f: &File) -> Result<(), AllocError>
-    requires file { file < 8 }
-    requires size { f.now.size ≤ 64 }
-    ensures { (s : State) → Stands sim.now s
-        → OnOk result (out.new.items ≡ out.old.items ++ file_text s file f.now) }
-{
-    out.extend_from_slice(b"registers")?;
-    push_registers(out, sim, file, f.size)?;
-    out.extend_from_slice(b"\n")
-}
-
-/// Puts the registers of files.
-fn push_files(out: &mut Vec<u8>, sim: &Sim, files: &[File]) -> Result<(), AllocError>
-    requires few { length files.now ≤ 8 }
-    requires sizes { All (λ f. f.size ≤ 64) files.now }
-    ensures { (s : State) → Stands sim.now s
-        → OnOk result (out.new.items ≡ out.old.items ++ files_text s files.now) }
-{
-    for (file, f) in files.iter().enumerate() {
-        push_file(out, sim, file as u8, f)?;
-    }
-    Ok(())
 }
 
 /// Puts the results of a unit: the one that its port shows, and those that are due later.
@@ -138,9 +113,9 @@ fn push_code_at(
     }
 }
 
-/// Puts a state: where it is, its registers, its results, the word of the input and the instruction
-/// that come next.
-#[tactic(auto, unfolding(crate::specs::States::state_text), using(tta_arch::proofs::Sizes::sizes))]
+/// Puts a state: where it is, the words that it keeps, its results, the word of the input and the
+/// instruction that come next.
+#[tactic(auto, unfolding(crate::specs::States::state_text))]
 pub fn push_state(
     out: &mut Vec<u8>,
     basis: &Basis<'_>,
@@ -155,7 +130,7 @@ pub fn push_state(
 {
     let m = basis.m;
     push_where(out, sim)?;
-    push_files(out, sim, m.files.as_slice())?;
+    push_places(out, m, sim)?;
     push_units(out, sim, m.units.as_slice())?;
     push_input(out, next)?;
     push_code_at(out, basis.units, m, basis.code, sim.pc())

@@ -3,8 +3,8 @@
 ghost use Rattle.std.specs.Prelude.{◌≡◌, ◌≤◌, ◌<◌, ◌^◌, ◌++◌, decimal, length, OnOk};
 ghost use Rattle.tta_code.specs.Cycle.{State};
 ghost use Rattle.tta_sim.specs.Held.{Stands};
-ghost use Rattle.tta_play.specs.States.{due_word, dues_text, register_word, word_text};
-ghost use Rattle.tta_play.specs.States.{words_text};
+ghost use Rattle.tta_play.specs.States.{due_word, dues_text, immediate_word, operand_word};
+ghost use Rattle.tta_play.specs.States.{register_word, word_text, words_text};
 
 use itoa::Buffer;
 use std::alloc::AllocError;
@@ -45,6 +45,35 @@ pub fn push_registers(out: &mut Vec<u8>, sim: &Sim, file: u8, size: u8) -> Resul
     'registers: while index < size {
         push_word(out, sim.reg(file, index))?;
         index += 1;
+    }
+    Ok(())
+}
+
+/// Puts the words of the registers of an immediate unit.
+pub fn push_immediates(out: &mut Vec<u8>, sim: &Sim, unit: u8, size: u8) -> Result<(), AllocError>
+    requires unit { unit < 4 }
+    requires size { size ≤ 16 }
+    ensures { (s : State) → Stands sim.now s → OnOk result (out.new.items
+        ≡ out.old.items ++ words_text (immediate_word s unit) 0 size) }
+{
+    let mut index = 0;
+    'registers: while index < size {
+        push_word(out, sim.immediate(unit, index))?;
+        index += 1;
+    }
+    Ok(())
+}
+
+/// Puts the words at the operand ports of so many units.
+pub fn push_operand_words(out: &mut Vec<u8>, sim: &Sim, units: u8) -> Result<(), AllocError>
+    requires units { units ≤ 32 }
+    ensures { (s : State) → Stands sim.now s → OnOk result (out.new.items
+        ≡ out.old.items ++ words_text (operand_word s) 0 units) }
+{
+    let mut unit = 0;
+    'operands: while unit < units {
+        push_word(out, sim.operand(unit))?;
+        unit += 1;
     }
     Ok(())
 }

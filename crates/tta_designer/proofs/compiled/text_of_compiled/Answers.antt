@@ -5,12 +5,14 @@ use Rattle.tta_code.specs.Cycle.{start}
 use Rattle.tta_ops.specs.Set.{stated}
 use Rattle.tta_given.specs.Held.{MadeEnds, no_memory}
 use Rattle.tta_designer.specs.Runs.{IsCompiledShown}
+use Rattle.tta_designer.specs.Spans.{first_of}
 use Rattle.tta_designer.proofs.Laying.{few_cycles}
 use Rattle.tta_designer.proofs.compiled.text_of_compiled.Goals as goal
 
 pub text_of_blocks-requires-clause-few : goal.text_of_blocks-requires-clause-few
 text_of_blocks-requires-clause-few g c =
-    few_cycles _ c.args.on.now.m.now (over (data_of c.args.on.now.p.now) c.args.given.memory.items) c.args.request.now.bound (c.in-Ok.ensures.start []) c.requires.bound
+    few_cycles _ c.args.on.now.m.now (over (data_of c.args.on.now.p.now) c.args.given.memory.items) (first_of c.args.request.now.view) c.args.request.now.bound
+    (c.in-Ok.ensures.start []) c.requires.early c.requires.bound
 
 pub returns-in-Ok : goal.returns-in-Ok
 returns-in-Ok g c =

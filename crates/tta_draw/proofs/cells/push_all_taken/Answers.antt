@@ -7,4 +7,4 @@ use Rattle.tta_draw.proofs.cells.push_all_taken.Goals as goal
 use Rattle.tta_list.proofs.Lists.{number_more}
 
 pub loop-bus-preserved : goal.loop-bus-preserved
-loop-bus-preserved c = number_more (λ bus. if has_bit c.args.buses bus then box_text (codes "taken") (cell_frame c.args.word bus) else []) _ _ _ c.loop-bus.bus c.in_ok-push_taken.ensures c.loop-bus.invariant
+loop-bus-preserved c = number_more (λ bus. if has_bit c.args.buses bus then box_text (codes "taken") (cell_frame c.args.sizes c.args.row bus) else []) _ _ _ c.loop-bus.bus c.in_ok-push_taken.ensures c.loop-bus.invariant

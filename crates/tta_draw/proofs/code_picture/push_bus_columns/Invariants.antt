@@ -5,4 +5,4 @@ use Rattle.tta_draw.proofs.code_picture.push_bus_columns.Given as goal
 
 abbrev pub invariant-loop-bus : goal.invariant-loop-bus
 invariant-loop-bus l =
-    l.out.items ++ flat_map (λ b. bus_column_text b.0 b.1) (enumerate_from l.bus (drop l.bus l.buses)) ≡ l.initial.out.items ++ bus_columns_text l.buses
+    l.out.items ++ flat_map (λ b. bus_column_text l.sizes b.0 b.1) (enumerate_from l.bus (drop l.bus l.buses)) ≡ l.initial.out.items ++ bus_columns_text l.sizes l.buses

@@ -9,5 +9,5 @@ returns c =
     let same = c.as_slice.ensures.value in
     onward c.push_all_labels.result
     (λ put. put ∙ ap (λ t. c.args.out.now.items ++ t)
-    (labels-same c.as_slice.result.now c.args.jumps.now c.args.rows (ap length same ∙ c.in_ok-labels.ensures.size)
+    (labels-same c.as_slice.result.now c.args.spans.now c.args.rows (ap length same ∙ c.in_ok-labels.ensures.size)
     (λ row h. ap (λ l. slice_index_or l row false) same ∙ c.in_ok-labels.ensures.labels row h))) c.push_all_labels.ensures

@@ -1,8 +1,10 @@
-use Rattle.std.proofs.Common.{◌≡◌, ◌+◌, ◌++◌, drop}
-use Rattle.std.specs.List.{flat_map, enumerate_from}
-use Rattle.tta_draw.specs.MachinePicture.{file_text, files_text}
+use Rattle.std.proofs.Common.{◌≡◌, ◌+◌, ◌*◌, ◌≤◌, ◌++◌, drop}
+use Rattle.tta_draw.specs.MachinePicture.{files_text}
 use Rattle.tta_draw.proofs.machine_picture.push_files.Given as goal
 
-abbrev pub invariant-loop-file : goal.invariant-loop-file
-invariant-loop-file l =
-    l.out.items ++ flat_map (λ f. file_text l.m (l.part + f.0) f.1) (enumerate_from l.file (drop l.file l.files)) ≡ l.initial.out.items ++ files_text l.m l.part l.files
+abbrev pub invariant-loop-f : goal.invariant-loop-f
+invariant-loop-f l =
+    record {
+      text : l.out.items ++ files_text l.m l.next (drop l.f-index l.files) ≡ l.initial.out.items ++ files_text l.m l.left l.files;
+      few : l.next ≤ l.left + 21044 * l.f-index;
+    }

@@ -4,11 +4,11 @@ use Rattle.tta_list.specs.Input.{left as unread}
 use Rattle.tta_ops.specs.Set.{stated}
 use Rattle.tta_code.specs.Cycle.{State, next}
 use Rattle.tta_sim.specs.Held.{Stands}
-use Rattle.tta_play.specs.States.{state_text, whole_text, outs_text, stores_text}
+use Rattle.tta_play.specs.States.{state_text, whole_text, outs_text, spaces_text}
 use Rattle.tta_play.specs.Steps.{GoesBy, step_text}
 use Rattle.tta_list.proofs.Lists.{then_more}
 use Rattle.tta_list.proofs.Results.{onward}
-use Rattle.tta_play.proofs.Rows.{state_more, state_over, state_last}
+use Rattle.tta_play.proofs.Rows.{changes_of, state_more, state_over, state_last}
 use Rattle.tta_play.proofs.cycling.push_states.Given as given
 use Rattle.tta_play.proofs.cycling.push_states.Goals.{After-went_on}
 use Rattle.tta_play.proofs.cycling.push_states.Goals as goal
@@ -60,20 +60,21 @@ cycles-preserved g c =
     record {
       loaded = c.cycle_once-step.ensures.loaded;
       few = omega arith;
-      remembers = c.in_ok-push_changed.ensures.keeps ∙ c.memory-in-cycles.ensures;
+      memory = c.in_ok-push_changed.ensures.memory;
+      frame = c.in_ok-push_changed.ensures.frame;
       put = λ s stands given.
           let now = c.cycles.invariant.put s stands given in
           let t = now.0 in
           let on = subst (λ o. GoesBy (step g at) (Stands c.cycle_once-step.new.sim) t (step_text c.cycle_once-step.result) o) (c.in-Some.is)
           (went g at t now.1 now.2) in
+          let new = step g at t in
           let changed = c.in_ok-push_changed.ensures.stores
-          ∙ ap (λ l. c.push_step.new.out.items ++ stores_text l c.memory-in-cycles.result.now) (c.cycles.invariant.remembers ∙ now.1.memory)
-          ∙ ap (λ l. c.push_step.new.out.items ++ stores_text t.memory l) (c.memory-in-cycles.ensures ∙ on.stands.memory) in (
+          ∙ changes_of c.push_step.new.out.items t new (c.cycles.invariant.memory ∙ now.1.memory) (c.cycles.invariant.frame ∙ now.1.frame) on.stands.memory on.stands.frame in (
             step g at t,
             on.stands,
             on.rest ∙ ap (unread c.in-Some.took) now.2 ∙ sym c.left_of-rest.ensures,
             state_more (step g at) (told g at) t _ _ _ _ _ _ (one_less g at) on.made (put g at t now.1 now.2 (c.in_ok-push_state.ensures t now.1))
-                (then_more c.push_state.new.out.items c.push_step.new.out.items c.push_changed.new.out.items (outs_text t (step g at t)) (stores_text t.memory (step g at t).memory)
+                (then_more c.push_state.new.out.items c.push_step.new.out.items c.push_changed.new.out.items (outs_text t new) (spaces_text t.memory t.frame new.memory new.frame)
                 (c.in_ok-push_step.ensures ∙ ap (λ l. c.push_state.new.out.items ++ l) on.tells) changed) now.3,
           );
     }

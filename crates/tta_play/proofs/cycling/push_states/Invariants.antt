@@ -16,7 +16,8 @@ invariant-cycles g l =
     record {
       loaded : IsRunOf l.basis.m.now l.basis.code.now l.sim;
       few : l.sim.cycle + l.left < 2 ^ 62;
-      remembers : l.memory.items ≡ l.sim.memory;
+      memory : l.spaces.memory.items ≡ l.sim.memory;
+      frame : l.spaces.frame.items ≡ l.sim.frame;
       put : (s : State) → Stands l.initial.sim s → s.rest ≡ l.input → (t : State) × Stands l.sim t × (t.rest ≡ l.rest)
           × (l.out.items ++ states_text step told l.left t ≡ l.initial.out.items ++ states_text step told l.bound s);
     }

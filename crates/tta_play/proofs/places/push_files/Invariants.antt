@@ -1,0 +1,10 @@
+use Rattle.std.proofs.Common.{◌≡◌, ◌++◌, drop}
+use Rattle.std.specs.List.{flat_map, enumerate_from}
+use Rattle.tta_code.specs.Cycle.{State}
+use Rattle.tta_sim.specs.Held.{Stands}
+use Rattle.tta_play.specs.States.{file_text}
+use Rattle.tta_play.proofs.places.push_files.Given as goal
+
+abbrev pub invariant-loop-file : goal.invariant-loop-file
+invariant-loop-file l = (s : State) → Stands l.sim s
+    → l.out.items ++ flat_map (λ f. file_text s f.0 f.1) (enumerate_from l.file (drop l.file l.files)) ≡ l.initial.out.items ++ flat_map (λ f. file_text s f.0 f.1) (enumerate_from 0 l.files)

@@ -1,0 +1,64 @@
+use Rattle.std.proofs.Common.{◌≡◌, ◌≤◌, ◌+◌, suc, ◌-◌, sym, ap, ◌∙◌, subst, arith}
+use Rattle.std.specs.Prelude.{slice_get}
+use Rattle.tta_list.specs.Input.{left as unread}
+use Rattle.tta_list.specs.Iterate.{iterate}
+use Rattle.tta_ops.specs.Set.{stated}
+use Rattle.tta_code.specs.Cycle.{State, next}
+use Rattle.tta_sim.specs.Held.{Stands}
+use Rattle.tta_play.specs.Steps.{IsAt}
+use Rattle.tta_play.proofs.Skipped.{on_after, one_first, over, ran_counts}
+use Rattle.tta_play.proofs.skipping.skip.Given as given
+use Rattle.tta_play.proofs.skipping.skip.Goals.{After-went_on}
+use Rattle.tta_play.proofs.skipping.skip.Goals as goal
+
+module _ (g : given.Over) (c : After-went_on g) where
+  abbrev step : State → State
+  step = next (stated (λ v. (goal.OpUnit-dyn g v).unit_meaning v.1) c.args.basis.now.units.now) c.args.basis.now.m.now c.args.basis.now.code.now
+
+  -- with this cycle there is one less
+  one_less : c.cycles.left ≡ suc (c.cycles.left - 1)
+  one_less = let t = c.cycles-test.true in omega arith
+
+  -- the word of the input that comes next is that of the state that the run stood for
+  fed : (t : State) → t.rest ≡ c.cycles.rest.now → slice_get t.rest 0 ≡ c.first_of.result
+  fed t rest = ap (λ l. slice_get l 0) rest ∙ sym c.first_of.ensures
+
+pub returns-in_default-clause-stands : goal.returns-in_default-clause-stands
+returns-in_default-clause-stands g c = λ s stands given.
+    let at = (goal.at.returns-in_default-clause-stands g c).After-went_on in
+    let on = c.args.basis.now in
+    let U = stated (λ v. (goal.OpUnit-dyn g v).unit_meaning v.1) on.units.now in
+    let now = c.cycles.invariant.at s stands given in
+    let t = now.0 in
+    let taken = fed g at t now.2 in
+    let none = sym c.went_on.ensures ∙ c.in_default.is in
+    let done = over U on.m.now on.code.now c.cycle-step.new.self t c.cycle-step.result (c.cycles.left - 1) c.cycles.left (one_less g at) none
+    (c.cycle-step.ensures.next t now.1 taken) (c.cycle-step.ensures.answer t now.1 taken) in
+    subst (λ goal. IsAt (step g at) (Stands c.cycle-step.new.self) c.cycles.rest.now goal) now.3
+    (subst (λ rest. IsAt (step g at) (Stands c.cycle-step.new.self) rest (iterate c.cycles.left (step g at) t)) now.2 done)
+
+pub cycles-preserved : goal.cycles-preserved
+cycles-preserved g c =
+    let at = (goal.at.cycles-preserved g c).After-went_on in
+    let on = c.args.basis.now in
+    let U = stated (λ v. (goal.OpUnit-dyn g v).unit_meaning v.1) on.units.now in
+    let test = c.cycles-test.true in
+    let few = c.cycles.invariant.few in
+    let so = c.cycles.invariant.counted in
+    let more : c.cycle-step.new.self.cycle ≤ c.cycles.sim.cycle + 1 = ran_counts c.cycle-step.result c.cycles.sim.cycle c.cycle-step.new.self.cycle c.cycle-step.ensures.counted in
+    record {
+      loaded = c.cycle-step.ensures.loaded;
+      counted = omega arith;
+      few = omega arith;
+      at = λ s stands given.
+          let now = c.cycles.invariant.at s stands given in
+          let t = now.0 in
+          let taken = fed g at t now.2 in
+          let some = sym c.went_on.ensures ∙ c.in-Some.is in
+          let gone = on_after U on.m.now on.code.now c.cycle-step.new.self t c.cycle-step.result c.in-Some.took some (c.cycle-step.ensures.next t now.1 taken) (c.cycle-step.ensures.answer t now.1 taken) in (
+            step g at t,
+            gone.0,
+            gone.1 ∙ ap (unread c.in-Some.took) now.2 ∙ sym c.left_of-rest.ensures,
+            sym (one_first (c.cycles.left - 1) c.cycles.left (step g at) t (one_less g at)) ∙ now.3,
+          );
+    }

@@ -1,0 +1,21 @@
+use Rattle.std.proofs.Common.{◌≡◌, ◌+◌, ◌≤◌, ◌<◌, ◌^◌}
+use Rattle.tta_ops.specs.Set.{stated}
+use Rattle.tta_list.specs.Iterate.{iterate}
+use Rattle.tta_code.specs.Cycle.{State, next}
+use Rattle.tta_sim.specs.Held.{Stands, IsRunOf}
+use Rattle.tta_play.proofs.skipping.skip.Given as goal
+
+abbrev pub decreases-cycles : goal.decreases-cycles
+decreases-cycles g l = l.left
+
+abbrev pub invariant-cycles : goal.invariant-cycles
+invariant-cycles g l =
+    let U = stated (λ v. (goal.OpUnit-dyn g v).unit_meaning v.1) l.basis.units.now in
+    let step = next U l.basis.m.now l.basis.code.now in
+    record {
+      loaded : IsRunOf l.basis.m.now l.basis.code.now l.sim;
+      counted : l.sim.cycle + l.left ≤ l.initial.sim.cycle + l.cycles;
+      few : l.sim.cycle + l.left < 2 ^ 62;
+      at : (s : State) → Stands l.initial.sim s → s.rest ≡ l.input → (t : State) × Stands l.sim t × (t.rest ≡ l.rest)
+          × (iterate l.left step t ≡ iterate l.cycles step s);
+    }
