@@ -1,5 +1,5 @@
 -- What a page that plays a run is.
-use Rattle.std.specs.Prelude.{ℕ, nat_lt, if◌then◌else◌, List, ◌++◌, take, codes, decimal}
+use Rattle.std.specs.Prelude.{ℕ, nat_lt, if◌then◌else◌, List, [], ◌++◌, length, take, codes, decimal}
 use Rattle.std.specs.List.{flat_map, enumerate_from}
 use Rattle.tta_list.specs.Iterate.{iterate}
 use Rattle.tta_ops.specs.Units.{Units}
@@ -68,10 +68,14 @@ unfoldable pub run_data : Units → Machine → Code → State → (first bound 
 run_data u m code s first bound =
     code_part u m code.words ++ (asked_text first bound ++ played_text u m code s (iterate first (next u m code) s) bound)
 
+-- a page tells nothing of a program of which there are more than 4 MiB to tell: so it stays small
+abbrev pub told_part : (told : List ℕ) → List ℕ
+told_part told = if nat_lt 4194304 (length told) then [] else told
+
 -- The page that plays at most so many cycles of code, after so many from a state, with what is told of the program that the code is built of:
 -- between the fixed text stand that text, which is empty where there is no program, and the data of the run.
 unfoldable pub page_after : Units → Machine → Code → (told : List ℕ) → State → (first bound : ℕ) → List ℕ
-page_after u m code told s first bound = run_page told (run_data u m code s first bound)
+page_after u m code told s first bound = run_page (told_part told) (run_data u m code s first bound)
 
 -- the page that plays at most so many cycles from a state
 abbrev pub page_of : Units → Machine → Code → (told : List ℕ) → State → (bound : ℕ) → List ℕ

@@ -8,7 +8,7 @@ ghost use Rattle.tta_sim.specs.Held.{Stands, IsRunOf};
 ghost use Rattle.tta_pages.specs.Pages.{run_head};
 ghost use Rattle.tta_pages.specs.RunPieces.{run_middle_text};
 ghost use Rattle.tta_play.specs.Statement.{asked_text, limited, page_after, page_of, played_text};
-ghost use Rattle.tta_play.specs.Statement.{run_data};
+ghost use Rattle.tta_play.specs.Statement.{run_data, told_part};
 ghost use Rattle.tta_play.specs.Steps.{AreSpacesOf};
 
 use crate::cycling::push_states;
@@ -30,6 +30,16 @@ fn limited(bound: u64) -> u64
     ensures within { result ≤ bound }
 {
     if bound < LIMIT { bound } else { LIMIT }
+}
+
+/// How many bytes a page tells of a program at most, so that it stays small.
+const MOST_TOLD: usize = 4_194_304;
+
+/// What a page tells of a program: nothing where there is more to tell.
+fn told_part(told: &[u8]) -> &[u8]
+    ensures { result.now ≡ told_part told.now }
+{
+    if told.len() > MOST_TOLD { b"" } else { told }
 }
 
 /// Which cycles of a run a page plays.
@@ -150,7 +160,7 @@ pub fn play_after(
         memory: Vec::new(alloc),
         frame: Vec::new(alloc),
     };
-    push_before(&mut out, told)?;
+    push_before(&mut out, told_part(told))?;
     push_data(&mut out, &mut spaces, sim, basis, input, span)?;
     push_run_tail(&mut out)?;
     Ok(out)
