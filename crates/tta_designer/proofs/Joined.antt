@@ -6,7 +6,7 @@ use Rattle.tta_ports.specs.Output.{Output}
 use Rattle.tta_ports.proofs.Worlds.{same_world}
 use Rattle.tta_ops.specs.Units.{Units}
 use Rattle.tta_cores.specs.declared.cores.Core.{Core}
-use Rattle.tta_net.specs.Loaded.{CanLoad, CanLoadAll}
+use Rattle.tta_net.specs.Loaded.{CanLoad}
 use Rattle.tta_given.specs.declared.status.Status.{Status}
 use Rattle.tta_given.specs.Held.{IsTaken, no_memory}
 use Rattle.tta_given.specs.Ends.{TextEnds}

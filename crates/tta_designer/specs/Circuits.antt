@@ -1,5 +1,5 @@
 -- What `rtl` does, and why it does not.
-use Rattle.std.specs.Prelude.{◌≡◌, ◌↔◌, ℕ, List, Option, None}
+use Rattle.std.specs.Prelude.{◌≡◌, ◌↔◌, ℕ, List, None}
 use Rattle.tta_ports.specs.World.{World, IsUntouched}
 use Rattle.tta_ports.specs.Output.{Output, IsQuiet, IsPut, IsCut}
 use Rattle.tta_ops.specs.Units.{Units}
