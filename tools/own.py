@@ -28,6 +28,9 @@ OWN = [
     Own("source.front.prompt", ["prompt M P IN", "prompt M P IN STREAM"],
         "opens a session, line by line, over the image of the program of P, by its source: with the lines of P, its variables, and cycles back. "
         "At a terminal a session over an image has a sign, history and editing too; else it is the program's own"),
+    Own("depths.depths", ["net --depths N LINKS M IMG IN ..", "net --depths N DEPTHS LINKS M IMG IN .."],
+        "the least queues with which cores put out, as circuits of rtl net, all that net N prints of them, as DEPTHS of rtl net; or whether queues "
+        "of DEPTHS are enough: it ends with 1 where they are not, and tells which cores they hold up"),
     Own("lint.lint", ["lint P", "lint M P"],
         "tells what is legal in the program of P and most likely wrong, a line each; with the machine of M also which addresses lie outside its data "
         "space. Of a program that is refused it tells all that is. It ends with 0 where it has nothing to say, and else with 1"),

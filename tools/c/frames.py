@@ -12,12 +12,21 @@ from sizes import size_of
 
 # The greatest alignment, in bytes, that LLVM gives data and then relies on.
 EVEN = 16
-# The functions of library.c that steps are calls of, of which LLVM's text has no call.
+# The functions of library.c and float.c that steps are calls of, of which LLVM's text has no call. The steps of one need at most those that
+# stand before it here, and all others of the library need these at most.
 RUN_TIME = "@tta_lib_"
+BELOW = [("shl32", "shru32"), ("mul32", "div32", "rem32"), ("udiv", "urem", "sdiv", "srem")]
 
 
 def up(at, grain):
     return -(-at // grain) * grain
+
+
+def rank(f):
+    """How far above the least functions of the library one stands, or above the whole library: its steps call lower ones alone."""
+    if not f.startswith(RUN_TIME):
+        return len(BELOW) + 1
+    return next((at for at, names in enumerate(BELOW) if f[len(RUN_TIME):] in names), len(BELOW))
 
 
 def groups(calls):
@@ -81,8 +90,7 @@ class Frames:
                 calls[f].add(g)
         library = {f for f in calls if f.startswith(RUN_TIME)}
         for f in calls:
-            if f not in library:
-                calls[f] |= library
+            calls[f] |= {g for g in library if rank(g) < rank(f)}
         return calls
 
     def arrays(self, f):

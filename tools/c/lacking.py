@@ -61,9 +61,13 @@ class Lacking:
     # Comparisons.
 
     def without_ne(self, a, b):
-        if self.has("eq"):
-            return self.op("xor", self.op("eq", a, b), 1)
-        return self.op("ltu", 0, self.op("xor", a, b))
+        if not self.has("eq"):
+            return self.op("ltu", 0, self.op("xor", a, b))
+        same = self.op("eq", a, b)
+        if isinstance(same, int):
+            return same ^ 1
+        # Written as it stands: what is simpler than this is `ne`.
+        return self.written("xor", same, 1) if self.has("xor") else self.op("sub", 1, same)
 
     def without_eq(self, a, b):
         return self.op("ltu", self.op("xor", a, b), 1)

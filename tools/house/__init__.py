@@ -1,0 +1,1 @@
+"""What tools for owners know of the sources."""
