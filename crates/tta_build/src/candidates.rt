@@ -10,11 +10,12 @@ ghost use Rattle.tta_build.specs.Trail.{AreRounds, IsTrail, AreTrailsOf, last_of
 ghost use Rattle.tta_build.specs.Placing.{AreOfBlock, AreChoices, IsBound};
 
 use crate::keeping::beside;
-use crate::pushing::{push_bound, push_one, push_some};
+use crate::pushing::{push_bound, push_served, push_some};
 use crate::rounds::Rounder;
-use crate::trail::{Rounds, Start, Trail, copied};
+use crate::trail::{Rounds, Start, Trail};
+use crate::ways::{IN_TURN, LAST_FIRST, PLAINLY};
 use std::alloc::{AllocError, Global};
-use tta_bind::bind;
+use tta_bind::{Dealing, bind};
 use tta_connect::Covered;
 use tta_moves::BlockList;
 use tta_reload::Reloads;
@@ -95,7 +96,7 @@ impl Candidates {
         ensures { OnOk result (AreTrailsOf on.now.machine.now b.now lists.old.items
             → AreTrailsOf on.now.machine.now b.now lists.new.items) }
     {
-        let by_groups = self.rounder.of_groups(alloc, on, b, usize::MAX, false)?;
+        let by_groups = self.rounder.of_groups(alloc, on, b, usize::MAX, PLAINLY)?;
         let most = if by_groups.is_some() {
             FEW_ITEMS
         } else {
@@ -122,14 +123,12 @@ impl Candidates {
             → AreTrailsOf on.now.machine.now b lists.old.items
             → AreTrailsOf on.now.machine.now b lists.new.items) }
     {
-        let rounds = self.rounder.best(alloc, on, served, MANY_ITEMS, false)?;
-        let copy = copied(alloc, served);
-        let (rounds, copy) = beside(rounds, copy)?;
-        let start = Start {
-            served: Some(copy),
-            bound: None,
-        };
-        push_one(lists, start, rounds)?;
+        let rounds = self.rounder.best(alloc, on, served, MANY_ITEMS, PLAINLY)?;
+        push_served(alloc, lists, served, Some(rounds))?;
+        let more = self
+            .rounder
+            .of_way(alloc, on, served, MANY_ITEMS, LAST_FIRST)?;
+        push_served(alloc, lists, served, more)?;
         Ok(())
     }
 
@@ -143,7 +142,7 @@ impl Candidates {
         requires list { is_list on.now.machine.now list.now.items ≡ true }
         ensures { IfOk result (λ r. AreChoices on.now.machine.now list.now r) }
     {
-        let best = self.rounder.best(alloc, on, list, usize::MAX, true)?;
+        let best = self.rounder.best(alloc, on, list, usize::MAX, IN_TURN)?;
         let by_items = self.rounder.of_items(alloc, on, list, FEW_ITEMS);
         let (best, by_items) = beside(best, by_items)?;
         Ok(Choices { best, by_items })
@@ -160,7 +159,7 @@ impl Candidates {
         requires list { is_list on.now.machine.now list.now.items ≡ true }
         ensures { IfOk result (λ o. IfSome o (λ r. IsBound on.now.machine.now list.now r)) }
     {
-        match bind(alloc, list, on.machine, on.net, on.choice)? {
+        match bind(alloc, list, on.machine, on.net, on.choice, Dealing::InTurn)? {
             Some(other) => {
                 let choices = self.choices(alloc, on, &other);
                 let (list, choices) = beside(other, choices)?;
@@ -206,6 +205,8 @@ impl Candidates {
             → AreTrailsOf on.now.machine.now b.now lists.new.items) }
     {
         self.add_own(alloc, on, lists, b)?;
+        let more = self.rounder.of_way(alloc, on, b, usize::MAX, LAST_FIRST)?;
+        push_some(lists, more)?;
         let bound = self.bound(alloc, on, b)?;
         push_bound(alloc, lists, None, bound)?;
         Ok(())

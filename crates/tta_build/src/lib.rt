@@ -25,6 +25,7 @@ mod register;
 mod rounds;
 mod trail;
 mod value;
+mod ways;
 
 pub use choosing::Planned;
 pub use converted::build_converted;

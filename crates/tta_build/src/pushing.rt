@@ -63,6 +63,32 @@ pub fn push_some(lists: &mut Vec<Trail>, rounds: Option<Rounds>) -> Result<(), A
     }
 }
 
+/// One trail more from the selected list with its loads served, if there are rounds.
+pub fn push_served(
+    alloc: Global,
+    lists: &mut Vec<Trail>,
+    served: &BlockList,
+    rounds: Option<Rounds>,
+) -> Result<(), AllocError>
+    ensures { OnOk result ((m : Machine) (b : BlockList) → IsStandIn m b served.now
+        → IfSome rounds (λ r. AreRounds m served.now r)
+        → AreTrailsOf m b lists.old.items → AreTrailsOf m b lists.new.items) }
+{
+    match rounds {
+        Some(rounds) => {
+            let copy = copied(alloc, served);
+            let (rounds, copy) = beside(rounds, copy)?;
+            let start = Start {
+                served: Some(copy),
+                bound: None,
+            };
+            push_one(lists, start, rounds)?;
+            Ok(())
+        }
+        None => Ok(()),
+    }
+}
+
 /// Two trails more, with these rounds from one start.
 fn push_both(
     alloc: Global,

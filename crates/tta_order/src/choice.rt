@@ -6,23 +6,24 @@ use crate::edges::{Edge, flows, number_of, overwrites};
 use crate::graph::{Graph, at};
 use crate::groups::{between, groups_of, is_chain, starts_of};
 use crate::marks::Marks;
-use crate::ready::Ready;
+use crate::ready::{Ready, Ties};
 use crate::uses::{Uses, all_uses};
 use std::alloc::{AllocError, Global};
 use tta_arch::Machine;
 use tta_depend::is_control;
 use tta_moves::Item;
 
-/// By what an order is chosen. Ties go to the first in the list.
+/// By what an order is chosen.
 #[derive(Clone, Copy, Debug, PartialEq, Eq)]
 pub enum Rule {
-    /// Item by item: that with the longest path to the block's end comes first.
-    Items,
-    /// By groups, each of which is what one step of register code became: that with the longest
-    /// path to the block's end comes first.
+    /// Item by item: that with the longest path to the block's end comes first, and of such the
+    /// first or the last of the list.
+    Items(Ties),
+    /// By groups, each of which is what one step of register code became: of those that may be next
+    /// the last of the list comes first.
     Groups,
-    /// By the same groups: that comes first which can begin first beside those before it, and of
-    /// such that with the longest path.
+    /// By the same groups: that comes first which can begin first beside those before it, of such
+    /// that with the longest path to the block's end, and of such the first of the list.
     Cycles,
 }
 
@@ -65,11 +66,12 @@ fn by_items(
     marks: &mut Marks,
     all: &[Uses],
     last: Option<usize>,
+    ties: Ties,
 ) -> Result<Vec<usize>, AllocError> {
     let edges = edges_of(alloc, marks, all)?;
     let graph = Graph::of(alloc, all.len(), edges.as_slice())?;
     let paths = graph.paths(own_paths(alloc, all)?);
-    let mut ready = Ready::new(alloc, all.len(), last, None)?;
+    let mut ready = Ready::new(alloc, all.len(), last, None, ties)?;
     let order = graph.in_turn(alloc, paths.as_slice(), &mut ready);
     // Dropped here as a whole, so that no part of it is left to drop at the end.
     drop(ready);
@@ -128,8 +130,26 @@ fn members(
     Ok(numbers)
 }
 
-/// The numbers of items in an order of groups, of which the last stays last where it has control;
-/// with a number of buses, cycle by cycle. The only error is out of memory.
+/// How far each group is from the end, where the rule looks at that; else all are as far. The only
+/// error is out of memory.
+fn paths_of(
+    alloc: Global,
+    marks: &mut Marks,
+    all: &[Uses],
+    groups: &[u32],
+    count: usize,
+    is_clocked: bool,
+) -> Result<Vec<i32>, AllocError> {
+    if !is_clocked {
+        return Ok(vec![in alloc; 0; count]?);
+    }
+    let paths = flow_paths(alloc, marks, all)?;
+    longest(alloc, groups, count, paths.as_slice())
+}
+
+/// The numbers of items in an order of groups, of which the last stays last where it has control:
+/// with a number of buses, cycle by cycle, and else from the last to the first as far as they can go.
+/// The only error is out of memory.
 fn by_groups(
     alloc: Global,
     marks: &mut Marks,
@@ -148,12 +168,20 @@ fn by_groups(
     if is_chain(alloc, last.unwrap_or(count), kept.as_slice())? {
         return counted(alloc, all.len());
     }
-    let paths = flow_paths(alloc, marks, all.as_slice())?;
-    let most = longest(alloc, groups.as_slice(), count, paths.as_slice())?;
+    let is_clocked = buses.is_some();
+    let paths = paths_of(
+        alloc,
+        marks,
+        all.as_slice(),
+        groups.as_slice(),
+        count,
+        is_clocked,
+    )?;
     let graph = Graph::of(alloc, count, kept.as_slice())?;
+    let ties = if is_clocked { Ties::First } else { Ties::Last };
     let clock = clock_with(alloc, all.as_slice(), starts.as_slice(), marks, buses)?;
-    let mut ready = Ready::new(alloc, count, last, clock)?;
-    let order = graph.in_turn(alloc, most.as_slice(), &mut ready);
+    let mut ready = Ready::new(alloc, count, last, clock, ties)?;
+    let order = graph.in_turn(alloc, paths.as_slice(), &mut ready);
     // Dropped here as a whole, so that no part of it is left to drop at the end.
     drop(ready);
     let order = order?;
@@ -188,7 +216,7 @@ pub fn chosen(
     let is_ended = last.is_some();
     let buses = Some(number_of(m.buses.len()));
     match rule {
-        Rule::Items => by_items(alloc, marks, all.as_slice(), last),
+        Rule::Items(ties) => by_items(alloc, marks, all.as_slice(), last, ties),
         Rule::Groups => by_groups(alloc, marks, hub, &mut all, is_ended, None),
         Rule::Cycles => by_groups(alloc, marks, hub, &mut all, is_ended, buses),
     }

@@ -9,24 +9,32 @@ use std::collections::BinaryHeap;
 /// How many nodes are compared for the next one, at most.
 const WINDOW: usize = 8;
 
+/// Which of some nodes that are as good is taken: the first or the last of the list.
+#[derive(Clone, Copy, Debug, PartialEq, Eq)]
+pub enum Ties {
+    First,
+    Last,
+}
+
 /// A node that may be next: the greater, the sooner it is taken.
 #[derive(Clone, Copy, PartialEq, Eq, PartialOrd, Ord)]
 struct Next {
     /// How early it could begin: the greatest number less its cycle.
     early: u32,
     path: i32,
-    /// How many nodes come after it in the list.
-    behind: u32,
+    /// Its place in the list, which decides between nodes that are as good.
+    rank: u32,
 }
 
 /// The nodes that may be next: with a clock, that which can begin first; of such, or without a
-/// clock, that with the longest path; of such the first of the list.
+/// clock, that with the longest path; of such the first or the last of the list.
 #[derive(Drop)]
 pub struct Ready<'c> {
     nodes: usize,
     /// The node that has to stay last.
     last: Option<usize>,
     clock: Option<Clock<'c>>,
+    ties: Ties,
     heap: BinaryHeap<Next>,
     passed: Vec<Next>,
 }
@@ -38,12 +46,14 @@ impl<'c> Ready<'c> {
         nodes: usize,
         last: Option<usize>,
         clock: Option<Clock<'c>>,
+        ties: Ties,
     ) -> Result<Self, AllocError> {
         let heap = BinaryHeap::with_capacity(alloc, nodes)?;
         Ok(Ready {
             nodes,
             last,
             clock,
+            ties,
             heap,
             passed: Vec::new(alloc),
         })
@@ -62,9 +72,21 @@ impl<'c> Ready<'c> {
         }
     }
 
+    /// The rank of a node: how many nodes come after it in the list, or before it.
+    fn rank(&self, node: usize) -> u32 {
+        match self.ties {
+            Ties::First => number_of(self.nodes.saturating_sub(node)),
+            Ties::Last => number_of(node),
+        }
+    }
+
     /// The node of an entry of the heap.
     fn node(&self, next: Next) -> usize {
-        self.nodes.saturating_sub(next.behind as usize)
+        let rank = next.rank as usize;
+        match self.ties {
+            Ties::First => self.nodes.saturating_sub(rank),
+            Ties::Last => rank,
+        }
     }
 
     /// A node may be next from now on. It fails only where there is no memory.
@@ -73,10 +95,11 @@ impl<'c> Ready<'c> {
             return Ok(());
         }
         let early = self.early(node);
+        let rank = self.rank(node);
         self.heap.push(Next {
             early,
             path: path_at(paths, node),
-            behind: number_of(self.nodes.saturating_sub(node)),
+            rank,
         })?;
         Ok(())
     }
