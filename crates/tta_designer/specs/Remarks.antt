@@ -10,11 +10,17 @@ use Rattle.tta_draw.specs.declared.remark.Remark.{Remark}
 use Rattle.tta_stages.specs.declared.stages.Stages.{Stages}
 use Rattle.tta_stages.specs.RegisterText.{named_text}
 
--- the remark on the row in which a block begins, by its number and its placement, if it has code
+-- the remark on a row in which the block of a number begins: its name, and what it stands for
+abbrev pub remark_at : Program → List Part → (row k : ℕ) → Remark
+remark_at p parts row k = record { row = row; text = named_text p parts k }
+
+-- the remark on the row in which the block of a number begins, if it is known
+abbrev pub start_remark : Program → List Part → (starts : List ℕ) → (k : ℕ) → List Remark
+start_remark p parts starts k = option_map_or (λ start. remark_at p parts start k ∷ []) (slice_get starts k) []
+
+-- the same of a block by its number and its placement, if it has code
 abbrev pub block_remark : Program → List Part → (starts : List ℕ) → (k : ℕ) → Placed → List Remark
-block_remark p parts starts k b =
-    if b.length == 0 then []
-    else option_map_or (λ start. record { row = start; text = named_text p parts k } ∷ []) (slice_get starts k) []
+block_remark p parts starts k b = if b.length == 0 then [] else start_remark p parts starts k
 
 -- those of blocks, whose code begins at these addresses
 abbrev pub block_remarks : Program → List Part → (starts : List ℕ) → List Placed → List Remark

@@ -16,9 +16,8 @@ use Rattle.tta_designer.specs.declared.request.Request.{Request as Asked}
 use Rattle.tta_designer.specs.declared.request.Request.TheVariants as for
 
 -- what can be asked for: a view of a machine, what is told of an image for a machine, the picture of such code or of that of a program,
--- a view of a run of it,
--- a session at a prompt over a run of code, a view of the stages of a program for a machine, the circuit of a machine with the code of
--- an image or of a program, or the circuits of cores that are joined by queues
+-- a view of a run of it, a session at a prompt over a run of code, a view of the stages of a program for a machine, the circuit of a
+-- machine with the code of an image or of a program, or the circuits of cores that are joined by queues
 pub data Request : Type 0 where
   OfMachine : (view : View) (machine : List ℕ) → Request
   OfInfo : (machine image : List ℕ) → Request

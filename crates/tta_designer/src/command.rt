@@ -132,10 +132,10 @@ fn carry_out<F: Files, L: Lines, S: Sink>(
 ///
 /// `picture M` outputs the picture of the machine of the file M, and `picture M IMG` that of the code
 /// of the image in the file IMG for it; `picture M P` that of the code that `build` makes of the program
-/// of the file P, with its blocks and their lines beside it. `info M` outputs what is told of that machine: the bits of the
-/// fields of its instructions, the words that fit into them, what its buses join, its registers, and
-/// what `build` chooses on it or the rule that it breaks; and `info M IMG` what is told of that image:
-/// how many instructions, bytes and data it has, and its digest.
+/// of the file P, with its blocks and their lines beside it. `info M` outputs what is told of that
+/// machine: the bits of the fields of its instructions, the words that fit into them, what its buses
+/// join, its registers, and what `build` chooses on it or the rule that it breaks; and `info M IMG` what
+/// is told of that image: how many instructions, bytes and data it has, and its digest.
 ///
 /// `profile M IMG IN N` runs the code of that image for at most N cycles, from the words of the file IN
 /// in the machine's data space, and outputs where the cycles go: how many moves each bus carried, how

@@ -55,7 +55,8 @@ fn draw_compiled(alloc: Global, on: &Compiled<'_>) -> Result<Vec<u8>, AllocError
         (remarks_of on.now.p.now on.now.stages.now)) }
 {
     let remarks = remarks_of(alloc, on)?;
-    draw_code(alloc, on.m, on.units, &on.stages.code, remarks.as_slice())
+    let text = draw_code(alloc, on.m, on.units, &on.stages.code, remarks.as_slice())?;
+    Ok(text)
 }
 
 /// The picture of the code that is built of a program.

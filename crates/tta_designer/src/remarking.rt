@@ -1,12 +1,13 @@
 //! What is remarked of the rows of the code of a program.
 
-ghost use Rattle.std.specs.Prelude.{◌≡◌, ◌++◌, IfOk, OnOk};
+ghost use Rattle.std.specs.Prelude.{◌≡◌, ◌++◌, [], ◌∷◌, IfOk, OnOk};
 ghost use Rattle.tta_ops.specs.Set.{stated};
 ghost use Rattle.tta_arch.specs.Rules.{IsMachine};
 ghost use Rattle.tta_link.specs.Linked.{starts_from};
 ghost use Rattle.tta_stages.specs.RegisterText.{named_text};
 ghost use Rattle.tta_stages.specs.Stages.{AreStages};
-ghost use Rattle.tta_designer.specs.Remarks.{block_remark, block_remarks, remarks_of};
+ghost use Rattle.tta_designer.specs.Remarks.{block_remark, block_remarks, remark_at, remarks_of};
+ghost use Rattle.tta_designer.specs.Remarks.{start_remark};
 
 use std::alloc::{AllocError, Global};
 use tta_arch::Machine;
@@ -29,6 +30,38 @@ fn named(alloc: Global, p: &Program, parts: &[Part], k: usize) -> Result<Name, A
     Name::new(alloc, text.as_slice())
 }
 
+/// Puts the remark on a row in which the block of a number begins.
+fn push_at(
+    remarks: &mut Vec<Remark>,
+    alloc: Global,
+    on: &Blocks<'_>,
+    row: u32,
+    k: usize,
+) -> Result<(), AllocError>
+    ensures { OnOk result (remarks.new.items ≡ remarks.old.items
+        ++ remark_at on.now.program.now on.now.parts.now row k ∷ []) }
+{
+    let text = named(alloc, on.program, on.parts, k)?;
+    remarks.push(Remark { row, text })?;
+    Ok(())
+}
+
+/// Puts the remark on the row in which the block of a number begins, if it is known.
+fn push_start(
+    remarks: &mut Vec<Remark>,
+    alloc: Global,
+    on: &Blocks<'_>,
+    k: usize,
+) -> Result<(), AllocError>
+    ensures { OnOk result (remarks.new.items ≡ remarks.old.items
+        ++ start_remark on.now.program.now on.now.parts.now on.now.starts.now k) }
+{
+    match on.starts.get(k) {
+        Some(start) => push_at(remarks, alloc, on, *start, k),
+        None => Ok(()),
+    }
+}
+
 /// Puts the remark on the row in which a block begins, if it has code.
 fn push_remark(
     remarks: &mut Vec<Remark>,
@@ -43,12 +76,7 @@ fn push_remark(
     if b.length == 0 {
         return Ok(());
     }
-    let Some(start) = on.starts.get(k) else {
-        return Ok(());
-    };
-    let text = named(alloc, on.program, on.parts, k)?;
-    remarks.push(Remark { row: *start, text })?;
-    Ok(())
+    push_start(remarks, alloc, on, k)
 }
 
 /// Puts the remarks on the rows in which blocks begin.

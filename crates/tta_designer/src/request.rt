@@ -15,10 +15,10 @@ use crate::names::{
 use crate::view::{RunView, StagesView, View};
 use tta_given::bound_of;
 
-/// What is asked for: a view of a machine, what is told of an image for a machine, the picture of such code
-/// or of that of a program, a view of a run of it, a session at a prompt over a run of code, a view of the stages of a program
-/// for a machine, the circuit of a machine with the code of an image or of a program, or the circuits of
-/// cores that are joined by queues.
+/// What is asked for: a view of a machine, what is told of an image for a machine, the picture of such
+/// code or of that of a program, a view of a run of it, a session at a prompt over a run of code, a view
+/// of the stages of a program for a machine, the circuit of a machine with the code of an image or of a
+/// program, or the circuits of cores that are joined by queues.
 #[derive(Clone, Copy)]
 pub enum Request<'w> {
     Machine(MachineRequest<'w>),

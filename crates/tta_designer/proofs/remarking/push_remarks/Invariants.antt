@@ -5,5 +5,5 @@ use Rattle.tta_designer.proofs.remarking.push_remarks.Given as goal
 
 abbrev pub invariant-loop-k : goal.invariant-loop-k
 invariant-loop-k l =
-    l.remarks.items ++ flat_map (λ b. block_remark l.on.program l.on.parts l.on.starts b.0 b.1) (enumerate_from l.k (drop l.k l.on.placed))
-    ≡ l.initial.remarks.items ++ block_remarks l.on.program l.on.parts l.on.starts l.on.placed
+    l.remarks.items ++ flat_map (λ b. block_remark l.on.program.now l.on.parts.now l.on.starts.now b.0 b.1) (enumerate_from l.k (drop l.k l.on.placed.now))
+    ≡ l.initial.remarks.items ++ block_remarks l.on.program.now l.on.parts.now l.on.starts.now l.on.placed.now
