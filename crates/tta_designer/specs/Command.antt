@@ -16,12 +16,13 @@ use Rattle.tta_given.specs.Images.{IsImageFor, RefusesImage}
 use Rattle.tta_given.specs.Ends.{IsUsage, TextEnds, Puts}
 use Rattle.tta_given.specs.Endings as endings
 use Rattle.tta_designer.specs.declared.view.View.{View}
-use Rattle.tta_designer.specs.Views.{machine_view, code_view}
-use Rattle.tta_designer.specs.Request.{Request, OfMachine, OfCode, OfRun, OfPrompt, OfStages, OfRtl, OfNet}
+use Rattle.tta_designer.specs.Views.{machine_view, told_of}
+use Rattle.tta_designer.specs.Request.{Request, OfMachine, OfInfo, OfPicture, OfRun, OfPrompt, OfStages, OfRtl, OfNet}
 use Rattle.tta_designer.specs.Runs.{ShowsRun}
 use Rattle.tta_designer.specs.Prompts.{OpensPrompt}
 use Rattle.tta_designer.specs.Stages.{ShowsStages}
 use Rattle.tta_designer.specs.Circuits.{ShowsCircuit}
+use Rattle.tta_designer.specs.Pictures.{ShowsPicture}
 use Rattle.tta_designer.specs.Joining.{ShowsNet}
 
 -- the machine is refused, and nothing is output; or its view is
@@ -31,17 +32,18 @@ ShowsMachine u view M before after old new s =
     ⊎ ((m : HasMachine u before.contents M)
     × IsUntouched before after × TextEnds (λ text. text ≡ machine_view u view m.value) no_memory old new s)
 
--- a text is the view of code with data for a machine
-abbrev pub IsShown : Units → View → MachineFile → Whole → (text : List ℕ) → Type 0
-IsShown u view file whole text = text ≡ code_view u view file whole
+-- a text is what is told of code with data for a machine
+abbrev pub IsTold : MachineFile → Whole → (text : List ℕ) → Type 0
+IsTold file whole text = text ≡ told_of file whole
 
 -- How a request for a text ends. Either its text is output, or nothing is and there is a cause. Each ending but out of memory comes only where its
 -- cause holds.
 abbrev pub Ends : Units → Option Request → (before after : World) → (old new : Output) → Status → Type 0
 Ends u None before after old new s = IsUsage before after old new s
 Ends u (Some (OfMachine view M)) before after old new s = ShowsMachine u view M before after old new s
-Ends u (Some (OfCode view M IMG)) before after old new s =
-    Puts u IsImageFor RefusesImage (IsShown u view) (λ file whole. no_memory) M IMG before after old new s
+Ends u (Some (OfInfo M IMG)) before after old new s =
+    Puts u IsImageFor RefusesImage IsTold (λ file whole. no_memory) M IMG before after old new s
+Ends u (Some (OfPicture M F)) before after old new s = ShowsPicture u M F before after old new s
 Ends u (Some (OfRun view M F IN STREAM bound)) before after old new s = ShowsRun u view M F IN STREAM bound before after old new s
 Ends u (Some (OfPrompt M IMG IN STREAM)) before after old new s = ⊥
 Ends u (Some (OfStages view M P)) before after old new s = ShowsStages u view M P before after old new s
@@ -68,25 +70,25 @@ MachineEndings u view M before after old new (status.TooLong word) = IsQuiet old
 MachineEndings u view M before after old new status.NoMemory = IsUntouched before after × IsQuiet old new
 MachineEndings u view M before after old new s = ⊥
 
--- what holds where a view of code ends with a status
-abbrev pub CodeEndings : Units → View → (M IMG : List ℕ) → (before after : World) → (old new : Output) → Status → Type 0
-CodeEndings u view M IMG before after old new status.Ok =
+-- what holds where `info M IMG` ends with a status
+abbrev pub InfoEndings : Units → (M IMG : List ℕ) → (before after : World) → (old new : Output) → Status → Type 0
+InfoEndings u M IMG before after old new status.Ok =
     IsUntouched before after
-    × endings.OfPair u IsImageFor before.contents M IMG (λ file whole. IsPut (code_view u view file whole) old new)
-CodeEndings u view M IMG before after old new (status.BadMachine line code) =
+    × endings.OfPair u IsImageFor before.contents M IMG (λ file whole. IsPut (told_of file whole) old new)
+InfoEndings u M IMG before after old new (status.BadMachine line code) =
     IsUntouched before after × IsQuiet old new × HasText before.contents M (λ text. IsBadMachine u text line code)
-CodeEndings u view M IMG before after old new (status.BadImage code word bus) =
+InfoEndings u M IMG before after old new (status.BadImage code word bus) =
     IsUntouched before after × IsQuiet old new
     × endings.OfMachine u before.contents M (λ file. HasText before.contents IMG (λ bytes. decoded_image file.machine file.digest bytes ≡ Err (Refused code word bus)))
-CodeEndings u view M IMG before after old new (status.ReadFault word) =
+InfoEndings u M IMG before after old new (status.ReadFault word) =
     IsQuiet old new × endings.PairFault u before.contents M IMG (λ name. ReadFailed name before after) word
-CodeEndings u view M IMG before after old new status.WriteFault =
+InfoEndings u M IMG before after old new status.WriteFault =
     IsUntouched before after
-    × endings.OfPair u IsImageFor before.contents M IMG (λ file whole. IsCut (code_view u view file whole) old new)
-CodeEndings u view M IMG before after old new (status.TooLong word) =
+    × endings.OfPair u IsImageFor before.contents M IMG (λ file whole. IsCut (told_of file whole) old new)
+InfoEndings u M IMG before after old new (status.TooLong word) =
     IsQuiet old new × endings.PairFault u before.contents M IMG (λ name. IsTooLong name before after) word
-CodeEndings u view M IMG before after old new status.NoMemory = IsUntouched before after × IsQuiet old new
-CodeEndings u view M IMG before after old new s = ⊥
+InfoEndings u M IMG before after old new status.NoMemory = IsUntouched before after × IsQuiet old new
+InfoEndings u M IMG before after old new s = ⊥
 
 -- the command ends so with each status
 abbrev pub MachineByStatus : Type 0
@@ -94,7 +96,7 @@ MachineByStatus =
     (u : Units) (view : View) (M : List ℕ) (before after : World) (old new : Output) (s : Status)
     → Ends u (Some (OfMachine view M)) before after old new s ↔ MachineEndings u view M before after old new s
 
-abbrev pub CodeByStatus : Type 0
-CodeByStatus =
-    (u : Units) (view : View) (M IMG : List ℕ) (before after : World) (old new : Output) (s : Status)
-    → Ends u (Some (OfCode view M IMG)) before after old new s ↔ CodeEndings u view M IMG before after old new s
+abbrev pub InfoByStatus : Type 0
+InfoByStatus =
+    (u : Units) (M IMG : List ℕ) (before after : World) (old new : Output) (s : Status)
+    → Ends u (Some (OfInfo M IMG)) before after old new s ↔ InfoEndings u M IMG before after old new s

@@ -5,6 +5,8 @@ pub mod Stages
 pub mod Subjects
 pub mod Runs
 pub mod Circuits
+pub mod Remarks
+pub mod Pictures
 pub mod Depths
 pub mod Joining
 pub mod Prompts

@@ -15,12 +15,13 @@ use Rattle.tta_designer.specs.declared.view.StagesView.TheVariants.{Lines, Page}
 use Rattle.tta_designer.specs.declared.request.Request.{Request as Asked}
 use Rattle.tta_designer.specs.declared.request.Request.TheVariants as for
 
--- what can be asked for: a view of a machine, one of the code of an image for a machine, one of a run of such code or of a program,
--- a session at a prompt over a run of code, a view of the stages of a program for a machine, the circuit of a machine with the code of
--- an image or of a program, or the circuits of cores that are joined by queues
+-- what can be asked for: a view of a machine, what is told of an image for a machine, the picture of such code or of that of a program,
+-- a view of a run of it, a session at a prompt over a run of code, a view of the stages of a program for a machine, the circuit of a
+-- machine with the code of an image or of a program, or the circuits of cores that are joined by queues
 pub data Request : Type 0 where
   OfMachine : (view : View) (machine : List ℕ) → Request
-  OfCode : (view : View) (machine image : List ℕ) → Request
+  OfInfo : (machine image : List ℕ) → Request
+  OfPicture : (machine subject : List ℕ) → Request
   OfRun : (view : RunView) (machine subject input : List ℕ) (stream : Option (List ℕ)) (bound : ℕ) → Request
   OfPrompt : (machine image input : List ℕ) (stream : Option (List ℕ)) → Request
   OfStages : (view : StagesView) (machine program : List ℕ) → Request
@@ -69,12 +70,22 @@ is_stages word = bytes_eq word (codes "stages")
 abbrev pub is_rtl : (word : List ℕ) → Bool
 is_rtl word = bytes_eq word (codes "rtl")
 
+-- whether a word is the name of the command that draws
+abbrev pub is_picture : (word : List ℕ) → Bool
+is_picture word = bytes_eq word (codes "picture")
+
+-- whether a word is the name of the command that tells
+abbrev pub is_info : (word : List ℕ) → Bool
+is_info word = bytes_eq word (codes "info")
+
 -- the request of the name of a command with two files
 abbrev pub pair_request : (word machine second : List ℕ) → Option Request
 pair_request word machine second =
     if is_stages word then Some (OfStages Lines machine second)
     else if is_rtl word then Some (OfRtl machine second)
-    else option_map (λ view. OfCode view machine second) (view_of word)
+    else if is_picture word then Some (OfPicture machine second)
+    else if is_info word then Some (OfInfo machine second)
+    else None
 
 -- the request of the name of a command that shows stages with a word after its two files, which asks for a page
 abbrev pub page_request : (machine program mark : List ℕ) → Option Request
@@ -138,7 +149,8 @@ is_named (word ∷ words) = is_view word || is_prompt word || is_stages word || 
 -- what the code's request asks for
 abbrev pub asked : Asked → Request
 asked (for.Machine names) = OfMachine names.view names.machine.now
-asked (for.Code names) = OfCode names.view names.machine.now names.image.now
+asked (for.Info names) = OfInfo names.machine.now names.image.now
+asked (for.Picture names) = OfPicture names.machine.now names.subject.now
 asked (for.Run run) = OfRun run.view run.machine.now run.subject.now run.input.now (option_map (λ s. s.now) run.stream) run.bound
 asked (for.Prompt names) = OfPrompt names.machine.now names.image.now names.input.now (option_map (λ s. s.now) names.stream)
 asked (for.Stages names) = OfStages names.view names.machine.now names.program.now

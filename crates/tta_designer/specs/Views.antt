@@ -1,9 +1,8 @@
 -- What is shown of a machine, and of code with data for it.
-use Rattle.std.specs.Prelude.{ℕ, List, []}
+use Rattle.std.specs.Prelude.{ℕ, List}
 use Rattle.tta_ops.specs.Units.{Units}
 use Rattle.tta_code.specs.Whole.{Whole}
 use Rattle.tta_draw.specs.MachinePicture.{picture_of_machine}
-use Rattle.tta_draw.specs.CodePicture.{picture_of_code}
 use Rattle.tta_info.specs.MachineInfo.{info_of_machine}
 use Rattle.tta_info.specs.ImageInfo.{info_of_image}
 use Rattle.tta_given.specs.declared.machine.MachineFile.{MachineFile}
@@ -15,7 +14,6 @@ abbrev pub machine_view : Units → View → MachineFile → List ℕ
 machine_view u Picture file = picture_of_machine u file.machine
 machine_view u Info file = info_of_machine file.machine
 
--- the text of a view of code with data
-abbrev pub code_view : Units → View → MachineFile → Whole → List ℕ
-code_view u Picture file whole = picture_of_code u file.machine whole.code []
-code_view u Info file whole = info_of_image file.machine file.digest whole
+-- what is told of code with data
+abbrev pub told_of : MachineFile → Whole → List ℕ
+told_of file whole = info_of_image file.machine file.digest whole

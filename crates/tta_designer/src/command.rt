@@ -6,12 +6,13 @@ ghost use Rattle.tta_ops.specs.Set.{stated};
 ghost use Rattle.tta_code.specs.Legal.{IsLegalCode};
 ghost use Rattle.tta_code.specs.Whole.{fits};
 ghost use Rattle.tta_given.specs.Held.{MadeEnds, no_memory};
-ghost use Rattle.tta_designer.specs.Request.{OfMachine, OfCode, asked, request_of};
-ghost use Rattle.tta_designer.specs.Views.{machine_view, code_view};
+ghost use Rattle.tta_designer.specs.Request.{OfMachine, OfInfo, asked, request_of};
+ghost use Rattle.tta_designer.specs.Views.{machine_view, told_of};
 ghost use Rattle.tta_designer.specs.Command.{Ends, Shows};
 
+use crate::drawing::put_picture;
 use crate::joining::put_net;
-use crate::names::{CodeRequest, MachineRequest};
+use crate::names::{InfoRequest, MachineRequest};
 use crate::prompting::prompt_image;
 use crate::request::Request;
 use crate::running::run_subject;
@@ -19,7 +20,7 @@ use crate::staging::put_stages;
 use crate::view::View;
 use crate::writing::put_circuit;
 use std::alloc::Global;
-use tta_draw::{draw_code, draw_machine};
+use tta_draw::draw_machine;
 use tta_given::{CodePair, MachineFile, Status, image_pair, machine_file, put_made};
 use tta_info::{tell_image, tell_machine};
 use tta_lines::Lines;
@@ -46,24 +47,14 @@ fn text_of_machine(
     }
 }
 
-/// The text of a view of code for a machine.
-fn text_of_code(
-    alloc: Global,
-    units: &UnitSet,
-    pair: &CodePair,
-    view: View,
-) -> Result<Vec<u8>, Status>
+/// What is told of an image for a machine.
+fn text_of_image(alloc: Global, pair: &CodePair) -> Result<Vec<u8>, Status>
     requires legal { IsLegalCode pair.now.file.machine pair.now.whole.code }
     requires inside { fits pair.now.file.machine.data_words pair.now.whole.init ≡ true }
-    ensures { let U = stated unit_meaning units.now in
-        MadeEnds (λ text. text ≡ code_view U view pair.now.file pair.now.whole) no_memory
+    ensures { MadeEnds (λ text. text ≡ told_of pair.now.file pair.now.whole) no_memory
         (λ v. v.items) result }
 {
-    let text = match view {
-        View::Picture => draw_code(alloc, &pair.file.machine, units, &pair.whole.code, &[]),
-        View::Info => tell_image(alloc, &pair.file.machine, &pair.file.digest, &pair.whole),
-    };
-    match text {
+    match tell_image(alloc, &pair.file.machine, &pair.file.digest, &pair.whole) {
         Ok(text) => Ok(text),
         Err(_) => Err(Status::NoMemory),
     }
@@ -90,21 +81,21 @@ fn put_machine<F: Files, S: Sink>(
     }
 }
 
-/// Puts a view of the code of the image that word 2 names, for the machine that word 1 names.
-fn put_code<F: Files, S: Sink>(
+/// Puts what is told of the image that word 2 names, for the machine that word 1 names.
+fn put_info<F: Files, S: Sink>(
     alloc: Global,
     units: &UnitSet,
     files: &mut F,
     sink: &mut S,
-    names: &CodeRequest<'_>,
+    names: &InfoRequest<'_>,
 ) -> Status
     ensures { Ends (stated unit_meaning units.now)
-        (Some (OfCode names.now.view names.now.machine.now names.now.image.now))
+        (Some (OfInfo names.now.machine.now names.now.image.now))
         (F.world files.old) (F.world files.new) (S.output sink.old) (S.output sink.new) result }
 {
     match image_pair(alloc, units, files, names.machine, names.image) {
         Ok(pair) => {
-            let made = text_of_code(alloc, units, &pair, names.view);
+            let made = text_of_image(alloc, &pair);
             put_made(sink, made)
         }
         Err(status) => status,
@@ -126,7 +117,8 @@ fn carry_out<F: Files, L: Lines, S: Sink>(
 {
     match request {
         Request::Machine(names) => put_machine(alloc, units, files, sink, names),
-        Request::Code(names) => put_code(alloc, units, files, sink, names),
+        Request::Info(names) => put_info(alloc, units, files, sink, names),
+        Request::Picture(names) => put_picture(alloc, units, files, sink, names),
         Request::Run(run) => run_subject(alloc, units, files, sink, run),
         Request::Prompt(names) => prompt_image(alloc, units, files, lines, sink, names),
         Request::Stages(names) => put_stages(alloc, units, files, sink, names),
@@ -139,10 +131,11 @@ fn carry_out<F: Files, L: Lines, S: Sink>(
 /// operation units, files, lines and output.
 ///
 /// `picture M` outputs the picture of the machine of the file M, and `picture M IMG` that of the code
-/// of the image in the file IMG for it. `info M` outputs what is told of that machine: the bits of the
-/// fields of its instructions, the words that fit into them, what its buses join, its registers, and
-/// what `build` chooses on it or the rule that it breaks; and `info M IMG` what is told of that image:
-/// how many instructions, bytes and data it has, and its digest.
+/// of the image in the file IMG for it; `picture M P` that of the code that `build` makes of the program
+/// of the file P, with its blocks and their lines beside it. `info M` outputs what is told of that
+/// machine: the bits of the fields of its instructions, the words that fit into them, what its buses
+/// join, its registers, and what `build` chooses on it or the rule that it breaks; and `info M IMG` what
+/// is told of that image: how many instructions, bytes and data it has, and its digest.
 ///
 /// `profile M IMG IN N` runs the code of that image for at most N cycles, from the words of the file IN
 /// in the machine's data space, and outputs where the cycles go: how many moves each bus carried, how

@@ -5,16 +5,22 @@ ghost use Rattle.tta_designer.specs.Prompts.{PromptByStatus};
 ghost use Rattle.tta_designer.specs.Runs.{RunByStatus};
 ghost use Rattle.tta_designer.specs.Stages.{StagesByStatus};
 ghost use Rattle.tta_designer.specs.Circuits.{CircuitByStatus};
-ghost use Rattle.tta_designer.specs.Command.{MachineByStatus, CodeByStatus};
+ghost use Rattle.tta_designer.specs.Pictures.{PictureByStatus};
+ghost use Rattle.tta_designer.specs.Command.{MachineByStatus, InfoByStatus};
 
 /// What holds where a view of a machine ends with a status, for each status.
 pub fn machine_by_status()
     ensures { MachineByStatus }
 {}
 
-/// What holds where a view of code ends with a status, for each status.
-pub fn code_by_status()
-    ensures { CodeByStatus }
+/// What holds where `info` of an image ends with a status, for each status.
+pub fn info_by_status()
+    ensures { InfoByStatus }
+{}
+
+/// What holds where `picture` of code ends with a status, for each status.
+pub fn picture_by_status()
+    ensures { PictureByStatus }
 {}
 
 /// The number of bytes that `info` tells of an image is that of the image's bytes.

@@ -5,11 +5,13 @@
 mod command;
 mod compiled;
 mod depths;
+mod drawing;
 mod joining;
 mod laws;
 mod more;
 mod names;
 mod prompting;
+mod remarking;
 mod request;
 mod running;
 mod staging;
@@ -19,8 +21,8 @@ mod writing;
 
 pub use command::show;
 pub use laws::{
-    circuit_by_status, code_by_status, image_size, machine_by_status, prompt_by_status,
-    run_by_status, stages_by_status,
+    circuit_by_status, image_size, info_by_status, machine_by_status, picture_by_status,
+    prompt_by_status, run_by_status, stages_by_status,
 };
 pub use request::is_named;
 pub use view::{RunView, StagesView, View};

@@ -13,12 +13,20 @@ pub struct MachineRequest<'w> {
     pub machine: &'w str,
 }
 
-/// A view of code that is asked for, and the names of the machine's file and of the image's.
+/// What is told of an image for a machine that is asked for: the names of the machine's file and of the
+/// image's.
 #[derive(Clone, Copy)]
-pub struct CodeRequest<'w> {
-    pub view: View,
+pub struct InfoRequest<'w> {
     pub machine: &'w str,
     pub image: &'w str,
+}
+
+/// The picture of code that is asked for: the names of the machine's file and of that of the image or the
+/// program.
+#[derive(Clone, Copy)]
+pub struct PictureRequest<'w> {
+    pub machine: &'w str,
+    pub subject: &'w str,
 }
 
 /// A view of the stages of a program for a machine that is asked for, and the names of the machine's

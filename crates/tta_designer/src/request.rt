@@ -2,25 +2,28 @@
 
 ghost use Rattle.std.specs.Prelude.{◌≡◌, ◌∷◌, [], map, option_map};
 ghost use Rattle.std.specs.String.{string_bytes};
-ghost use Rattle.tta_designer.specs.Request.{asked, is_named, is_prompt, is_rtl, is_stages, is_view};
-ghost use Rattle.tta_designer.specs.Request.{page_request, pair_request, prompt_request, request_of};
-ghost use Rattle.tta_designer.specs.Request.{run_request, run_view_of, three_request, view_of};
+ghost use Rattle.tta_designer.specs.Request.{asked, is_info, is_named, is_picture, is_prompt, is_rtl};
+ghost use Rattle.tta_designer.specs.Request.{is_stages, is_view, page_request, pair_request};
+ghost use Rattle.tta_designer.specs.Request.{prompt_request, request_of, run_request, run_view_of};
+ghost use Rattle.tta_designer.specs.Request.{three_request, view_of};
 
 use crate::more::of_more;
 use crate::names::{
-    CodeRequest, MachineRequest, NetRequest, PromptRequest, RtlRequest, RunRequest, StagesRequest,
+    InfoRequest, MachineRequest, NetRequest, PictureRequest, PromptRequest, RtlRequest, RunRequest,
+    StagesRequest,
 };
 use crate::view::{RunView, StagesView, View};
 use tta_given::bound_of;
 
-/// What is asked for: a view of a machine, one of the code of an image for a machine, one of a run of
-/// such code or of a program, a session at a prompt over a run of code, a view of the stages of a program
-/// for a machine, the circuit of a machine with the code of an image or of a program, or the circuits of
-/// cores that are joined by queues.
+/// What is asked for: a view of a machine, what is told of an image for a machine, the picture of such
+/// code or of that of a program, a view of a run of it, a session at a prompt over a run of code, a view
+/// of the stages of a program for a machine, the circuit of a machine with the code of an image or of a
+/// program, or the circuits of cores that are joined by queues.
 #[derive(Clone, Copy)]
 pub enum Request<'w> {
     Machine(MachineRequest<'w>),
-    Code(CodeRequest<'w>),
+    Info(InfoRequest<'w>),
+    Picture(PictureRequest<'w>),
     Run(RunRequest<'w>),
     Prompt(PromptRequest<'w>),
     Stages(StagesRequest<'w>),
@@ -76,6 +79,20 @@ pub fn is_rtl(word: &str) -> bool
     ensures { result ≡ is_rtl word.now }
 {
     word == "rtl"
+}
+
+/// Whether a word is the name of the command that draws.
+fn is_picture(word: &str) -> bool
+    ensures { result ≡ is_picture word.now }
+{
+    word == "picture"
+}
+
+/// Whether a word is the name of the command that tells.
+fn is_info(word: &str) -> bool
+    ensures { result ≡ is_info word.now }
+{
+    word == "info"
 }
 
 /// Whether a word is the name of the command that is a session at a prompt.
@@ -205,12 +222,19 @@ fn of_pair<'w>(word: &str, machine: &'w str, second: &'w str) -> Option<Request<
             subject: second,
         }));
     }
-    let view = view_of(word)?;
-    Some(Request::Code(CodeRequest {
-        view,
-        machine,
-        image: second,
-    }))
+    if is_picture(word) {
+        return Some(Request::Picture(PictureRequest {
+            machine,
+            subject: second,
+        }));
+    }
+    if is_info(word) {
+        return Some(Request::Info(InfoRequest {
+            machine,
+            image: second,
+        }));
+    }
+    None
 }
 
 impl<'w> Request<'w> {

@@ -28,14 +28,15 @@ use Rattle.tta_designer.specs.declared.subject.Subject.{Subject}
 use Rattle.tta_designer.specs.declared.subject.Subject.TheVariants.{Code, Program}
 use Rattle.tta_designer.specs.Subjects.{IsSubject, RefusesSubject}
 use Rattle.tta_designer.specs.Views.{machine_view}
-use Rattle.tta_designer.specs.Command.{IsShown as IsCodeShown}
+use Rattle.tta_designer.specs.Command.{IsTold}
+use Rattle.tta_designer.specs.Pictures.{IsPictureText}
 use Rattle.tta_designer.specs.Runs.{IsShown, Lacks, Tells}
 use Rattle.tta_designer.specs.declared.view.StagesView.{StagesView}
 use Rattle.tta_designer.specs.Stages.{IsStagesOf, ShowsStages, IsCauseOf as IsStageCause}
 use Rattle.tta_designer.specs.Prompts.{StreamFails, GivenFails, Ended, SessionEnds, FilesFail}
 use Rattle.tta_endings.specs.Completes.{showing}
 use Rattle.tta_endings.specs.PutCompletes.{IsUndisturbed}
-use Rattle.tta_endings.specs.ViewCompletes.{MachineViewCompletes, CodeViewCompletes, IsRunnable, IsTooLong, RunViewCompletes}
+use Rattle.tta_endings.specs.ViewCompletes.{MachineViewCompletes, InfoCompletes, PictureCompletes, IsRunnable, IsTooLong, RunViewCompletes}
 use Rattle.tta_endings.specs.ViewCompletes.{StagesCompletes, StagesCompletesWithoutRoom, HasPromptFiles, IsCalm, PromptCompletes}
 use Rattle.tta_endings.proofs.OneProgram.{one_program}
 use Rattle.tta_endings.proofs.FilesTaken.{machine_only, program_only, file_only}
@@ -52,12 +53,12 @@ machine_view_completes_holds u store faults latest view M after old new s has ca
 machine_view_completes_holds u store faults latest view M after old new s has calm (inr (m, same, ends)) =
     text_only (λ text. text ≡ machine_view u view m.value) no_memory old new s calm.output ends
 
-pub code_view_completes_holds : CodeViewCompletes
-code_view_completes_holds u store faults latest view M IMG after old new s pair calm ends =
+pub info_completes_holds : InfoCompletes
+info_completes_holds u store faults latest M IMG after old new s pair calm ends =
     let held = pair.machine.held in
     let file = pair.machine.value in
     let whole = pair.second.value in
-    elim (puts_only u store faults latest after old new calm IsImageFor RefusesImage (IsCodeShown u view) (λ file whole. no_memory) M IMG s pair
+    elim (puts_only u store faults latest after old new calm IsImageFor RefusesImage IsTold (λ file whole. no_memory) M IMG s pair
     (λ bytes is. image_only u held.bytes file bytes whole s held.says is) (λ bytes v. one_whole u held.bytes file bytes v whole held.says) ends) [
       | inl done ↦ inl done
       | inr (inl lacks) ↦ inr lacks
@@ -96,6 +97,18 @@ lacks_only : (u : Units) (file : MachineFile) (subject : Subject) (s : Status) �
     → (s ≡ status.NoMemory) ⊎ IsTooLong u file.machine subject s
 lacks_only u file (Code whole) s runnable lacks = inl lacks
 lacks_only u file (Program p) s runnable lacks = cause_only u file.machine p s runnable (cause_of_build u file.machine p s lacks)
+
+pub picture_completes_holds : PictureCompletes
+picture_completes_holds u store faults latest M F after old new s pair runnable calm ends =
+    let held = pair.machine.held in
+    let file = pair.machine.value in
+    let subject = pair.second.value in
+    elim (puts_only u store faults latest after old new calm (IsSubject u) (RefusesSubject u) (IsPictureText u) (Lacks u) M F s pair
+    (λ bytes is. subject_only u held.bytes file bytes subject s held.says is) (λ bytes v. one_subject u held.bytes file bytes v subject held.says) ends) [
+      | inl done ↦ inl done
+      | inr (inl lacks) ↦ inr (inl lacks)
+      | inr (inr lacks) ↦ inr (lacks_only u file subject s runnable lacks)
+    ]
 
 pub run_view_completes_holds : RunViewCompletes
 run_view_completes_holds u store faults latest view M F IN STREAM bound after old new s has calm ends =

@@ -20,8 +20,9 @@ use Rattle.tta_designer.specs.declared.view.RunView.{RunView}
 use Rattle.tta_designer.specs.declared.subject.Subject.{Subject}
 use Rattle.tta_designer.specs.declared.subject.Subject.TheVariants.{Code, Program}
 use Rattle.tta_designer.specs.Subjects.{IsSubject}
-use Rattle.tta_designer.specs.Request.{OfMachine, OfCode}
+use Rattle.tta_designer.specs.Request.{OfMachine, OfInfo}
 use Rattle.tta_designer.specs.Command.{Ends}
+use Rattle.tta_designer.specs.Pictures.{ShowsPicture}
 use Rattle.tta_designer.specs.Runs.{ShowsRun}
 use Rattle.tta_designer.specs.declared.view.StagesView.{StagesView}
 use Rattle.tta_designer.specs.Stages.{ShowsStages}
@@ -39,12 +40,12 @@ MachineViewCompletes =
     → HasMachine u (Some store) M → IsUndisturbed (showing store faults latest) after old new
     → Ends u (Some (OfMachine view M)) (showing store faults latest) after old new s → (s ≡ status.Ok) ⊎ (s ≡ status.NoMemory)
 
--- and so do both of a machine and an image for it
-abbrev pub CodeViewCompletes : Type 0
-CodeViewCompletes =
-    (u : Units) (store : Store) (faults : ℕ) (latest : Option Fault) (view : View) (M IMG : List ℕ) (after : World) (old new : Output) (s : Status)
+-- and so does `info` of a machine and an image for it
+abbrev pub InfoCompletes : Type 0
+InfoCompletes =
+    (u : Units) (store : Store) (faults : ℕ) (latest : Option Fault) (M IMG : List ℕ) (after : World) (old new : Output) (s : Status)
     → HasPair u IsImageFor (Some store) M IMG → IsUndisturbed (showing store faults latest) after old new
-    → Ends u (Some (OfCode view M IMG)) (showing store faults latest) after old new s → (s ≡ status.Ok) ⊎ (s ≡ status.NoMemory)
+    → Ends u (Some (OfInfo M IMG)) (showing store faults latest) after old new s → (s ≡ status.Ok) ⊎ (s ≡ status.NoMemory)
 
 -- ---- a run
 
@@ -63,6 +64,15 @@ pub record HasRunnable (u : Units) (store : Store) (M F IN : List ℕ) (STREAM :
 abbrev pub IsTooLong : Units → Machine → Subject → Status → Type 0
 IsTooLong u m (Code whole) s = ⊥
 IsTooLong u m (Program p) s = IsFull (LacksRoom u m p) s
+
+-- `picture` of a machine and an image for it, or a program that is accepted with it, where no call fails, puts its text, is out of memory, or
+-- finds the program's code too long; and it ends in no other way
+abbrev pub PictureCompletes : Type 0
+PictureCompletes =
+    (u : Units) (store : Store) (faults : ℕ) (latest : Option Fault) (M F : List ℕ) (after : World) (old new : Output) (s : Status)
+    (pair : HasPair u (IsSubject u) (Some store) M F) → IsRunnable u pair.machine.value.machine pair.second.value
+    → IsUndisturbed (showing store faults latest) after old new → ShowsPicture u M F (showing store faults latest) after old new s
+    → (s ≡ status.Ok) ⊎ (s ≡ status.NoMemory) ⊎ IsTooLong u pair.machine.value.machine pair.second.value s
 
 -- `profile` and `play` of these, where no call fails, put their text, are out of memory, or find the program's code too long; and
 -- they end in no other way

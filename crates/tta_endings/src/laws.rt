@@ -20,7 +20,7 @@ ghost use Rattle.tta_endings.specs.PutCompletes.{ExecCompletes, RunCompletes};
 ghost use Rattle.tta_endings.specs.PutCompletes.{DebugCompletes, CheckCompletes, SampleCompletes};
 ghost use Rattle.tta_endings.specs.PutCompletes.{SampleCompletesWithoutRoom};
 ghost use Rattle.tta_endings.specs.NetCompletes.{NetCompletes};
-ghost use Rattle.tta_endings.specs.ViewCompletes.{MachineViewCompletes, CodeViewCompletes};
+ghost use Rattle.tta_endings.specs.ViewCompletes.{MachineViewCompletes, InfoCompletes, PictureCompletes};
 ghost use Rattle.tta_endings.specs.ViewCompletes.{RunViewCompletes, PromptCompletes};
 ghost use Rattle.tta_endings.specs.ViewCompletes.{StagesCompletes, StagesCompletesWithoutRoom};
 ghost use Rattle.tta_endings.specs.SampleHalts.{SampleHalts};
@@ -118,9 +118,15 @@ pub fn machine_view_completes()
     ensures { MachineViewCompletes }
 {}
 
-/// So do both with every image for a machine.
-pub fn code_view_completes()
-    ensures { CodeViewCompletes }
+/// So does `info` with every image for a machine.
+pub fn info_completes()
+    ensures { InfoCompletes }
+{}
+
+/// `picture` takes every image for a machine, and every program that is accepted with it: where no call
+/// fails, it puts its text, is out of memory, or finds the program's code too long.
+pub fn picture_completes()
+    ensures { PictureCompletes }
 {}
 
 /// `profile` and `play` take every image for a machine, and every program that is accepted with

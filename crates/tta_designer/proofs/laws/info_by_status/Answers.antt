@@ -7,30 +7,29 @@ use Rattle.tta_given.specs.declared.status.Status.TheVariants as status
 use Rattle.tta_given.specs.Held.{ReadFailed, IsTooLong, no_memory}
 use Rattle.tta_given.specs.Images.{IsImageFor, RefusesImage}
 use Rattle.tta_given.proofs.Stages.{none, pair_at, PutStages, put_stages}
-use Rattle.tta_designer.specs.declared.view.View.{View}
-use Rattle.tta_designer.specs.Views.{code_view}
-use Rattle.tta_designer.specs.Request.{OfCode}
-use Rattle.tta_designer.specs.Command.{IsShown, Ends, CodeEndings}
-use Rattle.tta_designer.proofs.laws.code_by_status.Goals as goal
+use Rattle.tta_designer.specs.Views.{told_of}
+use Rattle.tta_designer.specs.Request.{OfInfo}
+use Rattle.tta_designer.specs.Command.{IsTold, Ends, InfoEndings}
+use Rattle.tta_designer.proofs.laws.info_by_status.Goals as goal
 
-module _ (u : Units) (view : View) (M IMG : List ℕ) (before after : World) (old new : Output) where
-  of : (s : Status) (G : Type 0) → PutStages u IsImageFor RefusesImage (IsShown u view) (λ file whole. no_memory) M IMG before after old new s G
-  of s G = put_stages u IsImageFor RefusesImage (IsShown u view) (λ file whole. no_memory) M IMG before after old new s G
+module _ (u : Units) (M IMG : List ℕ) (before after : World) (old new : Output) where
+  of : (s : Status) (G : Type 0) → PutStages u IsImageFor RefusesImage IsTold (λ file whole. no_memory) M IMG before after old new s G
+  of s G = put_stages u IsImageFor RefusesImage IsTold (λ file whole. no_memory) M IMG before after old new s G
 
-  by_status : (s : Status) → Ends u (Some (OfCode view M IMG)) before after old new s ↔ CodeEndings u view M IMG before after old new s
+  by_status : (s : Status) → Ends u (Some (OfInfo M IMG)) before after old new s ↔ InfoEndings u M IMG before after old new s
   by_status status.Ok = (
     of status.Ok _ absurd none (λ m. absurd) (λ m. none) (λ p same e. elim e [
       | inl put ↦ (same, (p, subst (λ text. IsPut text old new) put.1 put.2))
       | inr lacks ↦ let is = lacks.0 in absurd cc
     ]),
-    λ e. inr (e.1.0, e.0, inl (code_view u view e.1.0.machine.value e.1.0.second.value, refl, e.1.1)),
+    λ e. inr (e.1.0, e.0, inl (told_of e.1.0.machine.value e.1.0.second.value, refl, e.1.1)),
   )
   by_status status.WriteFault = (
     of status.WriteFault _ absurd none (λ m. absurd) (λ m. none) (λ p same e. elim e [
       | inl put ↦ (same, (p, subst (λ text. IsCut text old new) put.1 put.2))
       | inr lacks ↦ let is = lacks.0 in absurd cc
     ]),
-    λ e. inr (e.1.0, e.0, inl (code_view u view e.1.0.machine.value e.1.0.second.value, refl, e.1.1)),
+    λ e. inr (e.1.0, e.0, inl (told_of e.1.0.machine.value e.1.0.second.value, refl, e.1.1)),
   )
   by_status (status.BadMachine line code) = (
     of (status.BadMachine line code) _ absurd (λ e quiet. (e.0, quiet, e.1)) (λ m. absurd) (λ m. none) (λ p same e. elim e [
