@@ -9,3 +9,4 @@ pub mod NetTaken
 pub mod TextsPut
 pub mod ViewsTaken
 pub mod SamplesTaken
+pub mod CircuitsTaken

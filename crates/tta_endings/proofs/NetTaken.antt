@@ -47,7 +47,7 @@ abbrev core_of : MachineFile → Whole → Core
 core_of file whole = record { machine = file.machine; code = whole.code }
 
 -- links of cores are refused only for lack of memory
-links_only : (count : ℕ) (bytes : List ℕ) (feeds : Feeds) (s : Status) → AreLinks count bytes feeds → RefusesLinks count bytes s → s ≡ status.NoMemory
+pub links_only : (count : ℕ) (bytes : List ℕ) (feeds : Feeds) (s : Status) → AreLinks count bytes feeds → RefusesLinks count bytes s → s ≡ status.NoMemory
 links_only count bytes feeds (status.BadLinks line code) is bad = absurd cc
 links_only count bytes feeds status.NoMemory is bad = refl
 links_only count bytes feeds s is bad = absurd bad

@@ -68,7 +68,7 @@ info_completes_holds u store faults latest M IMG after old new s pair calm ends 
 -- ---- what is run
 
 -- bytes that give something to run are refused only for lack of memory
-subject_only : (u : Units) (text : List ℕ) (file : MachineFile) (bytes : List ℕ) (subject : Subject) (s : Status) → IsDescribed u text file
+pub subject_only : (u : Units) (text : List ℕ) (file : MachineFile) (bytes : List ℕ) (subject : Subject) (s : Status) → IsDescribed u text file
     → IsSubject u file bytes subject → RefusesSubject u file bytes s → s ≡ status.NoMemory
 subject_only u text file bytes (Code whole) s described is (inl (begins, bad)) = image_only u text file bytes whole s described is.1 bad
 subject_only u text file bytes (Code whole) s described is (inr (begins, bad)) = let other = is.0 in absurd cc
@@ -76,7 +76,7 @@ subject_only u text file bytes (Program p) s described is (inl (begins, bad)) = 
 subject_only u text file bytes (Program p) s described is (inr (begins, bad)) = program_only u file.machine.data_words bytes p s is.1 bad
 
 -- and give one thing at most
-one_subject : (u : Units) (text : List ℕ) (file : MachineFile) (bytes : List ℕ) (a b : Subject) → IsDescribed u text file
+pub one_subject : (u : Units) (text : List ℕ) (file : MachineFile) (bytes : List ℕ) (a b : Subject) → IsDescribed u text file
     → IsSubject u file bytes a → IsSubject u file bytes b → a ≡ b
 one_subject u text file bytes (Code a) (Code b) described is also = ap Code (one_whole u text file bytes a b described is.1 also.1)
 one_subject u text file bytes (Code a) (Program b) described is also = let one = is.0 in let other = also.0 in absurd cc
@@ -93,7 +93,7 @@ cause_of_build u m p status.NoMemory c = c
 cause_of_build u m p s c = absurd c
 
 -- where nothing is shown of what may be run, memory lacks, or the code of a program is too long
-lacks_only : (u : Units) (file : MachineFile) (subject : Subject) (s : Status) → IsRunnable u file.machine subject → Lacks u file subject s
+pub lacks_only : (u : Units) (file : MachineFile) (subject : Subject) (s : Status) → IsRunnable u file.machine subject → Lacks u file subject s
     → (s ≡ status.NoMemory) ⊎ IsTooLong u file.machine subject s
 lacks_only u file (Code whole) s runnable lacks = inl lacks
 lacks_only u file (Program p) s runnable lacks = cause_only u file.machine p s runnable (cause_of_build u file.machine p s lacks)

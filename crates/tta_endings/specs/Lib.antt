@@ -16,3 +16,4 @@ pub mod PutCompletes
 pub mod SampleHalts
 pub mod NetCompletes
 pub mod ViewCompletes
+pub mod CircuitCompletes

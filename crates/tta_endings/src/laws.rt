@@ -23,6 +23,7 @@ ghost use Rattle.tta_endings.specs.NetCompletes.{NetCompletes};
 ghost use Rattle.tta_endings.specs.ViewCompletes.{MachineViewCompletes, InfoCompletes, PictureCompletes};
 ghost use Rattle.tta_endings.specs.ViewCompletes.{RunViewCompletes, PromptCompletes};
 ghost use Rattle.tta_endings.specs.ViewCompletes.{StagesCompletes, StagesCompletesWithoutRoom};
+ghost use Rattle.tta_endings.specs.CircuitCompletes.{CircuitCompletes, NetTextCompletes};
 ghost use Rattle.tta_endings.specs.SampleHalts.{SampleHalts};
 
 /// `build` takes every machine and program that are accepted and have room: where no call on the
@@ -129,8 +130,8 @@ pub fn picture_completes()
     ensures { PictureCompletes }
 {}
 
-/// `profile` and `play` take every image for a machine, and every program that is accepted with
-/// it, with their data words and input: where no call fails, they put their text, are out of memory,
+/// `profile`, `play` and `waves` take every image for a machine, and every program that is accepted
+/// with it, with their data words and input: where no call fails, they put their text, are out of memory,
 /// or find the program's code too long.
 pub fn run_view_completes()
     ensures { RunViewCompletes }
@@ -145,6 +146,18 @@ pub fn stages_completes()
 /// Whatever their room, it may also find the code too long.
 pub fn stages_completes_without_room()
     ensures { StagesCompletesWithoutRoom }
+{}
+
+/// `rtl` takes every image for a machine, and every program that is accepted with it: where no call
+/// fails, it puts its text, is out of memory, or finds the program's code too long.
+pub fn circuit_completes()
+    ensures { CircuitCompletes }
+{}
+
+/// `rtl net` takes all links and the cores that they join: where no call fails, it puts its text or
+/// is out of memory.
+pub fn net_text_completes()
+    ensures { NetTextCompletes }
 {}
 
 /// `prompt` takes every image for a machine with its data words and input: where no call fails and
